@@ -32,12 +32,12 @@ pub struct Observer {
 }
 
 /// What a pass knows: one observer, but several while it takes in another pass, and at closing.
-pub type View = LinkedList<Observer>;
+pub type ControllerView = LinkedList<Observer>;
 
 /// The words are the numbers after one history of calls.
 pub struct OneHistory;
 
-impl Protocol<Numbers, View> for OneHistory {
+impl Protocol<Numbers, ControllerView> for OneHistory {
     ghost use Rattle.engine_controller.specs.Rule.{Kept, others};
 
     ghost holds = { Kept };
@@ -46,15 +46,15 @@ impl Protocol<Numbers, View> for OneHistory {
 }
 
 /// The five words.
-pub type Cell = RuledSeqCell<Numbers, View, OneHistory, 5>;
+pub type Cell = RuledSeqCell<Numbers, ControllerView, OneHistory, 5>;
 
 /// A view of the five words.
-pub type Seat = Pass<Numbers, View>;
+pub type Seat = Pass<Numbers, ControllerView>;
 
 /// A load that shows the history so far, and is no call.
 pub struct Sight;
 
-impl Outcome<Numbers, View> for Sight {
+impl Outcome<Numbers, ControllerView> for Sight {
     ghost use Rattle.engine_controller.specs.Rule.{Sees};
 
     ghost then = { Sees };
@@ -63,7 +63,7 @@ impl Outcome<Numbers, View> for Sight {
 /// A load that is a call itself: `look`.
 pub struct Looking;
 
-impl Outcome<Numbers, View> for Looking {
+impl Outcome<Numbers, ControllerView> for Looking {
     ghost use Rattle.engine_controller.specs.declared.numbers.Action.TheVariants.{Look};
     ghost use Rattle.engine_controller.specs.Rule.{Makes};
 
@@ -73,7 +73,7 @@ impl Outcome<Numbers, View> for Looking {
 /// The load at closing.
 pub struct Closing;
 
-impl Outcome<Numbers, View> for Closing {
+impl Outcome<Numbers, ControllerView> for Closing {
     ghost use Rattle.engine_controller.specs.Rule.{Closes};
 
     ghost then = { λ v _ _ w. Closes v w };
@@ -104,7 +104,7 @@ pub struct Exchange<J: Asking> {
     asking: PhantomData<J>,
 }
 
-impl<J: Asking> Outcome<Numbers, View> for Exchange<J> {
+impl<J: Asking> Outcome<Numbers, ControllerView> for Exchange<J> {
     ghost use Rattle.engine_controller.specs.Rule.{Exchanges};
 
     ghost then = { λ v x _ w. Exchanges J.call J.found v x w };
@@ -113,7 +113,7 @@ impl<J: Asking> Outcome<Numbers, View> for Exchange<J> {
 /// The next client's pass is cut off.
 pub struct NextClient;
 
-impl Split<View> for NextClient {
+impl Split<ControllerView> for NextClient {
     ghost use Rattle.engine_controller.specs.Rule.{fewer_others, next_client};
 
     ghost left = { fewer_others };
@@ -124,7 +124,7 @@ impl Split<View> for NextClient {
 /// What a pass has seen is copied.
 pub struct Copied;
 
-impl Split<View> for Copied {
+impl Split<ControllerView> for Copied {
     ghost use Rattle.engine_controller.specs.Rule.{note_of};
 
     ghost left = { λ v. v };
@@ -135,7 +135,7 @@ impl Split<View> for Copied {
 /// A whole view goes to a new pass, since one that has made calls can't be joined itself.
 pub struct Moved;
 
-impl Split<View> for Moved {
+impl Split<ControllerView> for Moved {
     ghost use Rattle.std.specs.Prelude.{[]};
 
     ghost left = { λ _. [] };
@@ -143,7 +143,7 @@ impl Split<View> for Moved {
     ghost right = { λ v. v };
 }
 
-impl Join<View> for Moved {
+impl Join<ControllerView> for Moved {
     ghost use Rattle.std.specs.Prelude.{[], ◌++◌};
 
     ghost both = { λ v w. v ++ w };

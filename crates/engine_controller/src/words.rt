@@ -10,13 +10,17 @@ ghost use Rattle.engine_controller.specs.Numbers.{numbers_of, action_of};
 ghost use Rattle.engine_controller.specs.Rule.{Kept, Makes, Sees, MayCall, IsClientView, client_in, seen_in, asked_in};
 
 use crate::numbers::{Action, Numbers};
-use crate::rule::{Asking, Cell, Exchange, Moved, Seat, View};
+use crate::rule::{Asking, Cell, ControllerView, Exchange, Moved, Seat};
 use atomic_table::Split;
 use crossbeam_utils::rule::Outcome;
 use std::sync::Wait;
 
 /// Reads the numbers, with an outcome that the caller picks.
-pub fn load<M: Outcome<Numbers, View>, R: Wait>(cell: &Cell, rt: &R, seat: &mut Seat) -> Numbers
+pub fn load<M: Outcome<Numbers, ControllerView>, R: Wait>(
+    cell: &Cell,
+    rt: &R,
+    seat: &mut Seat,
+) -> Numbers
     requires cell { seat.old.table_id ≡ cell.now.table.shared.table_id }
     requires rule { Turns Kept seat.old.id (cell_view seat.old) (λ x. x) M.then }
     ensures cell { seat.new.table_id ≡ seat.old.table_id }
@@ -47,7 +51,7 @@ pub fn exchange<J: Asking, R: Wait>(
 }
 
 // Puts new numbers in place of those found before, where they are still those, with an outcome that the caller picks.
-fn exchange_as<M: Outcome<Numbers, View>, R: Wait>(
+fn exchange_as<M: Outcome<Numbers, ControllerView>, R: Wait>(
     cell: &Cell,
     rt: &R,
     seat: &mut Seat,
@@ -66,7 +70,7 @@ fn exchange_as<M: Outcome<Numbers, View>, R: Wait>(
 }
 
 /// Cuts a pass in two, as the caller picks.
-pub fn split<M: Split<View>>(cell: &Cell, seat: &mut Seat) -> Seat
+pub fn split<M: Split<ControllerView>>(cell: &Cell, seat: &mut Seat) -> Seat
     requires cell { seat.old.table_id ≡ cell.now.table.shared.table_id }
     requires rule { Forks Kept seat.old.id (cell_view seat.old)
         (M.left (cell_view seat.old)) (M.right (cell_view seat.old)) }

@@ -60,4 +60,4 @@ pub use steps::{
     AddVersions, Await, Close, Count, Empty, Give, GroupPlan, Launch, Learn, LockShard, Publish,
     Settle, Take, UnlockShard, VersionPlan,
 };
-pub use view::{Launched, Lock, Opening, SeatState, Stage, View, Work};
+pub use view::{Launched, Lock, Opening, SeatState, Stage, TableView, Work};

@@ -4,7 +4,7 @@ ghost use Rattle.table_rule.specs.Rule.{IsConsistent, newcomers};
 ghost use Rattle.table_rule.specs.Seats.{all_but_first, first_only};
 
 use crate::content::Content;
-use crate::view::{Opening, View};
+use crate::view::{Opening, TableView};
 use atomic_table::{Join, Split, TableRule};
 
 /// What holds versions, as a tree or a member's nodes do.
@@ -20,7 +20,7 @@ pub struct TableLaw;
 
 impl<ShardTree: Versioned, MemberNodes: Versioned> TableRule<
     Content<ShardTree, MemberNodes>,
-    View,
+    TableView,
     Opening,
 > for TableLaw {
     ghost holds = { λ z. IsConsistent ShardTree.versions MemberNodes.versions z };
@@ -31,7 +31,7 @@ impl<ShardTree: Versioned, MemberNodes: Versioned> TableRule<
 /// Cuts the first state of a seat off.
 pub struct First;
 
-impl Split<View> for First {
+impl Split<TableView> for First {
     ghost left = { λ v. all_but_first v };
 
     ghost right = { λ v. first_only v };
@@ -40,7 +40,7 @@ impl Split<View> for First {
 /// Cuts all but the first state of a seat off.
 pub struct AllButFirst;
 
-impl Split<View> for AllButFirst {
+impl Split<TableView> for AllButFirst {
     ghost left = { λ v. first_only v };
 
     ghost right = { λ v. all_but_first v };
@@ -49,7 +49,7 @@ impl Split<View> for AllButFirst {
 /// Takes another seat's states in.
 pub struct Both;
 
-impl Join<View> for Both {
+impl Join<TableView> for Both {
     ghost both = { λ v w. v ++ w };
 
     ghost spent = { [] };

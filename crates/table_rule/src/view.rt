@@ -64,4 +64,4 @@ pub struct SeatState {
 }
 
 /// What a seat knows. A seat has one state, but at opening and closing.
-pub type View = LinkedList<SeatState>;
+pub type TableView = LinkedList<SeatState>;

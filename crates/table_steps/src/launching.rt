@@ -13,12 +13,12 @@ use crossbeam_utils::Backoff;
 use std::marker::Brand;
 use std::sync::Wait;
 use table_calls::{GroupParts, VersionNodes, VersionTree};
-use table_rule::{AllButFirst, Await, Both, Content, Empty, Give, GroupPlan, Launch, View};
+use table_rule::{AllButFirst, Await, Both, Content, Empty, Give, GroupPlan, Launch, TableView};
 
 /// The right to launch. A table has one.
 #[derive(Drop)]
 pub struct Turn<ShardTree, MemberNodes> {
-    pub(crate) seat: Seat<Content<ShardTree, MemberNodes>, View>,
+    pub(crate) seat: Seat<Content<ShardTree, MemberNodes>, TableView>,
     /// The published sequence, where no group is launched.
     pub(crate) last: u64,
 }

@@ -16,7 +16,7 @@ use base_waiting::{Bell, Bells};
 use model_base::NoMemory;
 use std::alloc::Global;
 use table_calls::{Seats, VersionNode, VersionNodes, VersionTree};
-use table_rule::{Content, First, Opening, TableLaw, Versioned, View};
+use table_rule::{Content, First, Opening, TableLaw, TableView, Versioned};
 
 /// The words where no lock is taken and no group is launched.
 fn first_words(alloc: Global, opening: &Opening) -> Result<Vec<u64>, NoMemory>
@@ -70,7 +70,7 @@ impl<
     fn seat_all(
         &self,
         alloc: Global,
-        mut seat: Seat<Content<ShardTree, MemberNodes>, View>,
+        mut seat: Seat<Content<ShardTree, MemberNodes>, TableView>,
     ) -> Result<Seats<TableSeat<ShardTree, MemberNodes>, Turn<ShardTree, MemberNodes>>, NoMemory>
         requires { (seat.table_id ≡ self.now.table.shared.table_id)
             × (seat.me ≡ (newcomers self.now.table.shared.key 1 self.now.table.shared.key.clients, [])) }

@@ -15,12 +15,12 @@ use crossbeam_utils::Backoff;
 use std::alloc::Global;
 use std::sync::Wait;
 use table_calls::{VersionNodes, VersionTree};
-use table_rule::{Content, LockShard, Opening, TableLaw, UnlockShard, Versioned, View};
+use table_rule::{Content, LockShard, Opening, TableLaw, TableView, UnlockShard, Versioned};
 
 /// The words and slots of a table. `ShardTree` are its trees, and `MemberNodes` a member's nodes.
 #[derive(Drop)]
 pub struct SharedTable<ShardTree: Versioned, MemberNodes: Versioned> {
-    pub(crate) table: Table<Content<ShardTree, MemberNodes>, View, Opening, TableLaw, Global>,
+    pub(crate) table: Table<Content<ShardTree, MemberNodes>, TableView, Opening, TableLaw, Global>,
     pub(crate) opening: Opening,
     /// On which a member sleeps until its nodes are handed out.
     pub(crate) handed: Bells,
@@ -35,7 +35,7 @@ pub struct SharedTable<ShardTree: Versioned, MemberNodes: Versioned> {
 #[derive(Drop)]
 pub(crate) struct Client<ShardTree, MemberNodes> {
     pub(crate) number: u64,
-    pub(crate) seat: Seat<Content<ShardTree, MemberNodes>, View>,
+    pub(crate) seat: Seat<Content<ShardTree, MemberNodes>, TableView>,
 }
 
 impl<ShardTree: VersionTree<MemberNodes::Node>, MemberNodes: VersionNodes> SharedTable<

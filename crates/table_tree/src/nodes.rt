@@ -23,6 +23,7 @@ impl Nodes {
         ensures { IfOk result (λ nodes. nodes ≡ reverse (new_versions batch.now.records)) }
     {
         let mut nodes = Nodes::new();
+        // The nodes are those of the records so far, the last one first.
         for view in batch.records() {
             if let Some(node) = Node::of_record(alloc, view)? {
                 nodes.push_front(node);
@@ -40,6 +41,7 @@ impl Nodes {
     {
         let mut numbered = Nodes::new();
         let mut sequence = first + count;
+        // `numbered` has the last nodes in order, from `sequence` on, and `self` those before them, the last one first.
         while let Some(mut node) = self.pop() {
             sequence -= 1;
             node.sequence = sequence;
@@ -76,6 +78,7 @@ impl Nodes {
     {
         let mut count = 0;
         let mut rest = self;
+        // `count` is how many stand before `rest`.
         while let Some(node) = &rest.first {
             count += 1;
             rest = &node.next;
@@ -87,6 +90,7 @@ impl Nodes {
     pub(crate) fn push_all_front(&mut self, mut turned: Nodes)
         ensures { self.new ≡ reverse turned ++ self.old }
     {
+        // Those of `turned` that are gone stand in front, the last one popped first.
         while let Some(node) = turned.pop() {
             self.push_front(node);
         }
@@ -114,6 +118,7 @@ impl Nodes {
             → reverse result ++ v ∷ self.new ≡ insert_older self.old v }
     {
         let mut newer = Nodes::new();
+        // `newer` has the nodes popped so far, all of them newer, the last one popped first.
         while let Some(node) = self.pop() {
             if node.sequence <= sequence {
                 self.push_front(node);

@@ -86,6 +86,7 @@ impl Parts {
         ensures { result ≡ length (versions_in (group_of self.now.parts)) }
     {
         let mut count = 0;
+        // `count` is how many versions the parts so far have.
         for part in &self.parts {
             count += part.nodes.len();
         }
