@@ -135,7 +135,7 @@ commit_request_of x = record { client = x.0; records = x.1.batch.records; option
 abbrev pub commit_requests_of : List (ℕ × Request) → List CommitRequest
 commit_requests_of requests = map commit_request_of requests
 
--- a value as it was snapshot_of
+-- the snapshot of a value
 abbrev pub snapshot_of : {X : Type 0} → X → Snapshot X
 snapshot_of x = record { marker = record {}; value = x }
 

@@ -308,7 +308,7 @@ module _ {Request Reply Log Right : Type 0} where
       → heads gs ≡ lead.taken → m.1 ≡ (0, TheLog l) ∷ slots_of gs ((c, Told p) ∷ t)
       → AtWith c (Settling (debt gs lead.own p)) mine (back_after_log b) m' × (m'.1 ≡ slots_of gs ((c, Told p) ∷ t))
 
-  -- the marker is put where nobody came after the group
+  -- the mark is put where nobody came after the group
   abbrev pub after_mark : List (Handling Request Reply) → Step (LineSlot Request Reply Log Right)
       → Sat Request Reply Log Right → ℕ → Sat Request Reply Log Right → Type 0
   after_mark from st m r m' = (c : ℕ) (lead : Lead Request Reply) (mine : List (Request × Reply))
@@ -317,14 +317,14 @@ module _ {Request Reply Log Right : Type 0} where
       × (m'.1 ≡ m.1))
       × (r ≢ st.first → Walks st.slots c lead mine r m m')
 
-  -- the writers behind the marker, from the newest one on
+  -- the writers behind the mark, from the newest one on
   abbrev pub WalksMarked : ℕ → ℕ → Lead Request Reply → List (Request × Reply) → Back Request Reply → ℕ
       → Sat Request Reply Log Right → Sat Request Reply Log Right → Type 0
   WalksMarked slots c lead mine b r m m' = (walk : List (QueuedWriter Request))
       × AtWith c (Marking (lead_with_walk lead walk)) mine b m'
       × (m'.1 ≡ m.1) × (r ≡ newest_from MARK walk) × (length walk + 1 < slots) × AllBelow slots walk
 
-  -- the marker is taken away where nobody came behind it, and the log is given back
+  -- the mark is taken away where nobody came behind it, and the log is given back
   abbrev pub after_free : Step (LineSlot Request Reply Log Right) → Sat Request Reply Log Right → ℕ
       → Sat Request Reply Log Right → Type 0
   after_free st m r m' = (c : ℕ) (lead : Lead Request Reply) (mine : List (Request × Reply)) (b : Back Request Reply)
@@ -335,7 +335,7 @@ module _ {Request Reply Log Right : Type 0} where
       → (r ≡ st.first → AtWith c (Settling (debt gs lead.own p)) mine (back_after_log b) m'
       × (m'.1 ≡ slots_of gs ((c, Told p) ∷ t))) × (r ≢ st.first → WalksMarked st.slots c lead mine b r m m')
 
-  -- the link of the oldest writer behind the marker is cleared
+  -- the link of the oldest writer behind the mark is cleared
   abbrev pub after_cut_behind_mark : Step (LineSlot Request Reply Log Right) → Sat Request Reply Log Right → ℕ
       → Sat Request Reply Log Right → Type 0
   after_cut_behind_mark st m r m' = (c : ℕ) (lead : Lead Request Reply) (mine : List (Request × Reply))

@@ -29,7 +29,7 @@ pub data Mode (Request : Type 0) : Type 0 where
   cut : ℕ → ℕ → Mode Request
   marked : ℕ → Mode Request
 
--- where the walk ends: at nobody, or at the marker
+-- where the walk ends: at nobody, or at the mark
 abbrev pub base_of : {Request : Type 0} → Mode Request → ℕ
 base_of open_ = 0
 base_of (waits c) = 0

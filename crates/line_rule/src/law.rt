@@ -72,9 +72,9 @@ pub fn opening_and_seats<
         id v other w (v ++ w) [] }
 {}
 
-/// What each step of a list with one stage is, of whatever list that keeps the rule, where its caller may make it: one
-/// of those events, two of them where a link finds nobody before it, or none, and the second list is as it was. A
-/// compare-exchange that fails is none.
+/// What each step of a list with one stage is, and each reading of an older link, of whatever list that keeps the rule,
+/// where its caller may make it: one of those events, two of them where a link finds nobody before it, or none, and the
+/// second list is as it was. A compare-exchange that fails is none.
 pub fn steps_and_events<
     Request: HasGroupingItem,
     Reply: GivesRun,

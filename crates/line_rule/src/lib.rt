@@ -13,7 +13,7 @@
 //! | 0 | NEWEST | the newest writer's number, 0 where there is none, or [`MARK`], a leader's mark |
 //! | 1 | NEWEST of the second list | the newest writer of its newest group, or 0 |
 //! | [`state_word`] `i` | STATE `i` | [`STATE_IN_LIST`], [`STATE_LEADS_LOG`], [`STATE_LEADS_TABLE`] (it leads in the second list), [`STATE_PARALLEL`] or [`STATE_DONE`] |
-//! | [`older_word`] `i` | OLDER `i` | an [`Older`]: the number of the next older writer (0: none, or the mark), and the code of its own item |
+//! | [`older_word`] `i` | OLDER `i` | an [`Older`]: the number of the next older writer (0 where there is none, or [`MARK`]), and the code of its own item |
 //!
 //! # Slots
 //!

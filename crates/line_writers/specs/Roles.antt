@@ -173,7 +173,7 @@ module _ {Request Reply Log Right : Type 0} where
       × (found ≢ old → Walks slots c lead mine found m m')
 
 module _ {Request Reply Log Right : Type 0} where
-  -- the leader has cut its group off, behind its marker, or before the writer next
+  -- the leader has cut its group off, behind its mark, or before the writer next
   abbrev pub HasStage : ℕ → Lead Request Reply → List (Request × Reply) → Back Request Reply → ℕ
       → Sat Request Reply Log Right → Type 0
   HasStage c lead mine back next m = (next ≡ 0 → AtWith c (Marking lead) mine back m)

@@ -26,7 +26,7 @@ impl<
     Log: LogOfGroups<Request, Reply, Right>,
     Right,
 > WriterList<Request, Reply, Log, Right> {
-    // Puts the marker where nobody came after the group, whose newest member is `newest_member`; answers the newest
+    // Puts the mark where nobody came after the group, whose newest member is `newest_member`; answers the newest
     // writer.
     fn mark<B: PickedGiven<Request, Reply>>(
         &self,
@@ -76,7 +76,7 @@ impl<
             .store::<CutAway<B>>(&mut writer.seat, older_word(next), cleared.pack());
     }
 
-    // Cuts the group off from the first list: answers 0 where the marker stands in its place, and else the oldest
+    // Cuts the group off from the first list: answers 0 where the mark stands in its place, and else the oldest
     // writer behind it.
     pub(crate) fn part<B: PickedGiven<Request, Reply>>(
         &self,
@@ -110,7 +110,7 @@ impl<
         next
     }
 
-    // Takes the marker away, and gives the log back, where nobody came behind it; answers the newest writer.
+    // Takes the mark away, and gives the log back, where nobody came behind it; answers the newest writer.
     fn free(&self, writer: &mut Writer<Request, Reply, Log, Right>) -> u64
         requires seat { writer.old.seat.table_id ≡ self.now.table.shared.table_id }
         requires ready { (lead : Lead Request Reply) × (mine : List (Request × Reply)) × (b : Back Request Reply)
@@ -137,7 +137,7 @@ impl<
             .compare_exchange::<Free>(&mut writer.seat, 0, MARK, 0)
     }
 
-    // Clears the link of the oldest writer behind the marker.
+    // Clears the link of the oldest writer behind the mark.
     fn cut_behind(&self, writer: &mut Writer<Request, Reply, Log, Right>, next: u64, code: u64)
         requires seat { (writer.old.seat.table_id ≡ self.now.table.shared.table_id) × (0 < next)
             × (next ≤ self.now.clients) × (code < 2 ^ 56) }
@@ -158,7 +158,7 @@ impl<
             .store::<CutBehindMark>(&mut writer.seat, older_word(next), cleared.pack());
     }
 
-    // Takes the marker away, and gives the log back, or to the oldest writer behind the marker.
+    // Takes the mark away, and gives the log back, or to the oldest writer behind the mark.
     fn free_on(&self, writer: &mut Writer<Request, Reply, Log, Right>, walk: &mut Vec<(u64, u64)>)
         requires seat { (writer.old.seat.table_id ≡ self.now.table.shared.table_id) × (vec_len walk.old ≡ 0)
             × (walk.old.items ≡ []) × (self.now.clients ≤ vec_capacity walk.old) }

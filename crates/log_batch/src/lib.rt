@@ -14,7 +14,8 @@
 //! | 7 | single deletion | key | yes |
 //!
 //! - `batch`, `record_bytes`: a batch that is being made. `view`, `records`, `split`: the bytes of one that is read.
-//! - `effects`: what records do to a map. `run`: the sequences of a batch. `checks`: the refusals of a commit that need nothing but its batch.
+//! - `effects`: what records do to a map. `run`: the sequences of a batch.
+//! - `checks`: the refusals of a commit that need nothing but its batch.
 #![tactic(auto)]
 
 mod add_error;

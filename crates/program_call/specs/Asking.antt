@@ -35,16 +35,16 @@ abbrev pub AskToReplay : List (String Global) → CoreOptions → Type 0
 AskToReplay words options =
     invocation_of words ≡ Some (Replay options.pipelined options.group_bytes options.batch_bytes options.last)
 
--- what is asked for is to run a script, in one stage or two, over such a table
+-- The same of an invocation that was read: to run a script
 abbrev pub IsToRun : Invocation → Options → Type 0
 IsToRun asked options = (pipelined : Bool) × (shards : Option ℕ)
     × (asked ≡ Run pipelined shards options.group_bytes options.batch_bytes options.last)
 
--- to run the script that a seed makes
+-- to run the script of a seed
 abbrev pub IsToGenerate : Invocation → ℕ → ℕ → ℕ → Type 0
 IsToGenerate asked seed clients batches =
     (pipelined : Bool) × (shards : Option ℕ) × (asked ≡ Generate pipelined shards seed clients batches)
 
--- to run a schedule on the core
+-- to run a schedule
 abbrev pub IsToReplay : Invocation → CoreOptions → Type 0
 IsToReplay asked options = asked ≡ Replay options.pipelined options.group_bytes options.batch_bytes options.last

@@ -62,7 +62,7 @@ pub fn commit<E: Engine, R: Wait>(
     }
 }
 
-/// A sequence is a number of 64 bits.
+/// Tells the proof that a sequence is below 2^64. It does nothing.
 fn has_64_bits(sequence: u64)
     ensures { sequence < 2 ^ 64 }
 {}

@@ -23,7 +23,7 @@ first_only (x ∷ xs) = x ∷ []
 abbrev pub Closes : Opening → List SeatState → List (List MemberVersions) → Type 0
 Closes z v history = IsHistory z.start history × ((h : SeatState) → In h v → Begins h.seen history)
 
--- a load of LAST by a seat that has the turn's seat_state, which is free: all that it holds has seen beginnings of the
+-- a load of LAST by a seat that has the turn's state, which is free: all that it holds has seen beginnings of the
 -- turn's history
 abbrev pub after_close : {ShardTree MemberNodes : Type 0} → Step (Content ShardTree MemberNodes)
     → SeatNow ShardTree MemberNodes → ℕ → SeatNow ShardTree MemberNodes → Type 0

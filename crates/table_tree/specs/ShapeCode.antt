@@ -25,12 +25,12 @@ chain_code =
     code_by (Version × List Version) (coded× version_code versions_code) (λ (c : Chain). (c.newest, c.older))
     (λ p. record { newest = p.0; older = p.1 }) (λ _. refl)
 
--- none for a leaf
+-- a shape as a list: `None` for a leaf, and a fork's chain behind its two sides
 abbrev pub code_of_shape : Shape → List (Option Chain)
 code_of_shape leaf = None ∷ []
 code_of_shape (fork left c right) = code_of_shape left ++ (code_of_shape right ++ Some c ∷ [])
 
--- the shapes that are open, the last first, after what is told
+-- the shapes that are open, the last first, after this code
 abbrev pub shapes_after : List (Option Chain) → List Shape → List Shape
 shapes_after [] open_shapes = open_shapes
 shapes_after (None ∷ rest) open_shapes = shapes_after rest (leaf ∷ open_shapes)

@@ -8,8 +8,8 @@ use std::mem;
 
 /// The nodes of a group's batches, while the batches come one behind another. Contracts see their versions in order.
 ///
-/// A batch's nodes are turned round as the next one's come, and once more as all are taken out, so that none is gone
-/// through for each batch behind it. A batch alone is never turned.
+/// A batch's nodes are turned round as the next one's come, and once more as all are taken out, so each node is moved
+/// twice at most, however many batches come behind. A batch alone is never turned.
 #[derive(Drop)]
 pub struct GatheredNodes {
     /// Those of the batches before the last one, with the last node first.

@@ -32,8 +32,8 @@ impl Nodes {
         Ok(nodes)
     }
 
-    /// Turns them round, and gives them sequences: the first one then this, and each the one behind that before it.
-    /// `count` is how many there are.
+    /// Turns them round and gives them sequences: `first` to the one that is then the first, and to each other the one
+    /// after its predecessor's. `count` is how many there are.
     pub fn number(&mut self, first: u64, count: u64)
         requires count { count ≡ length self.old }
         requires fits { first + count ≤ 2 ^ 56 }

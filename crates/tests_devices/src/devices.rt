@@ -104,7 +104,7 @@ fn partly_safe(rt: &impl Abort, alloc: Global) -> Result<MemDisk, NoMemory> {
     Ok(disk)
 }
 
-// How many bytes are left, and the seed, of which 2^31 more draw the same.
+// How many bytes are left, and the seed. Seeds that differ by 2^31 draw alike.
 const TORN: [(u64, u64); 4] = [(72, 2), (54, 2), (48, 2), (72, 2_147_483_650)];
 
 // What seed 2 draws. The bytes were computed by another program.

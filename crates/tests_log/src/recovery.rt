@@ -189,7 +189,7 @@ fn keeps_what_may_follow(rt: HostRuntime) -> Result<(), Fail> {
     Ok(())
 }
 
-// The error where that call of the disk fails, which has the first record.
+// The error where that call fails of a disk that has the first record.
 fn fault_at(alloc: Global, call: u64) -> Result<Option<RecoverError>, Fail> {
     let log = cut_at(&LOG, SECOND_AT)?;
     let mut disk = MemDisk::new(alloc, log.len(), log, &[call])?;

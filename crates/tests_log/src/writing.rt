@@ -194,7 +194,7 @@ fn two_safe_groups(rt: &impl Abort, alloc: Global) -> Result<MemDisk, Fail> {
     Ok(log.into_disk())
 }
 
-// How many bytes torn writes leave, where the seed of those that weren't safe is 2, and what is recovered.
+// How many bytes a crash leaves that tears what wasn't safe, with the seed 2, and what is recovered.
 const TORN: [(u64, Summary); 3] = [
     (48, (2, 2, 48, 48, EndReason::Clean)),
     (54, (2, 2, 48, 48, EndReason::Broken(Damage::ShortHeader))),
