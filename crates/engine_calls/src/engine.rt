@@ -163,9 +163,9 @@ pub trait Engine {
         ensures belongs { belongs self.now client.new }
         ensures back { GivesBack (account client.old) (account client.new) };
 
-    /// Gives the log up. All clients are handed in. Of all that they did and saw there is one trace, in which each batch's
-    /// group ended where its receipt said, and the log was written by just the calls that wrote its history. It takes no
-    /// memory.
+    /// Gives the log up. All clients are handed in. Of all that they did and saw there is one trace, in which each
+    /// batch's group ended where its receipt said, and the log was written by just the calls that wrote its history.
+    /// It takes no memory.
     fn close<R: Wait>(self, rt: &R, clients: Clients<Self::Client, Self::Room>) -> Closed<Self::Log>
         requires all { AreOurs (belongs self) account (settings self).clients clients.clients.items }
         requires room { closes self clients.room }

@@ -20,8 +20,8 @@ use std::alloc::Global;
 use table_memory::MemoryTable;
 
 /// An engine over an opened log and a table of so many shards, at least one, with so many clients, of which none has
-/// done anything. Where memory is short, log, clock and gate come back. Its groups go into the table in a stage of their
-/// own where it is pipelined.
+/// done anything. Where memory is short, log, clock and gate come back. Its groups go into the table in a stage of
+/// their own where it is pipelined.
 pub fn open_engine<D: Disk, C: Clock + Drop, G: Gate + Drop>(
     alloc: Global,
     log: LogWriter<D>,

@@ -46,8 +46,8 @@ pub(crate) enum GroupFate {
     Faulted { count: u64 },
 }
 
-/// Takes the first item out. Answers stand in the order of the requests, the leader's first. A group has few members, so
-/// that moving up those behind costs less than turning its lists round.
+/// Takes the first item out. Answers stand in the order of the requests, the leader's first. A group has few members,
+/// so that moving up those behind costs less than turning its lists round.
 pub fn take_first<Element>(items: &mut Vec<Element>) -> Option<Element>
     ensures first { MatchOption result ((items.old.items ≡ [])
         × (items.new.items ≡ [])) (λ x. items.old.items ≡ x ∷ items.new.items) }

@@ -11,8 +11,8 @@ pub struct Host<'a, R, G> {
     pub gate: &'a G,
 }
 
-/// How the write path is set up: its limits, how many shards its table has, and whether groups go into the table in a stage
-/// of their own.
+/// How the write path is set up: its limits, how many shards its table has, and whether groups go into the table in a
+/// stage of their own.
 #[derive(Drop)]
 pub struct Setup {
     pub options: Options,

@@ -33,8 +33,8 @@ pub fn fill<C>(
         × (vec_capacity replies.new ≡ vec_capacity replies.old)
         × (vec_capacity batches.new ≡ vec_capacity batches.old) }
 {
-    // The jobs so far and what is left are all clients, in their order. They are taken from the front, so that the order
-    // stays without a second pass: there are sixteen at most.
+    // The jobs so far and what is left are all clients, in their order. They are taken from the front, so that the
+    // order stays without a second pass: there are sixteen at most.
     while !clients.is_empty() {
         let client = clients.remove(0);
         jobs.push_reserved(Job {

@@ -17,8 +17,8 @@ use std::alloc::Global;
 use std::mem;
 
 impl Nodes {
-    /// A node for each record of the batch that counts, the last record's first, as `number` takes them. Their sequences
-    /// aren't given yet.
+    /// A node for each record of the batch that counts, the last record's first, as `number` takes them. Their
+    /// sequences aren't given yet.
     pub fn make(alloc: Global, batch: &Batch) -> Result<Nodes, NoMemory>
         ensures { IfOk result (λ nodes. nodes ≡ reverse (new_versions batch.now.records)) }
     {

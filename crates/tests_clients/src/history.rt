@@ -78,6 +78,7 @@ fn map_is_that_of_the_whole_history(rt: HostRuntime) -> Result<(), Fail> {
     let history = whole(rt.alloc())?;
     let state = state_of(rt.alloc(), &history)?;
     let mut left = Vec::new(rt.alloc());
+    // `left` has the keys and values so far, in byte order of the keys.
     for (key, value) in state.iter() {
         left.push(key)?;
         left.push(value)?;

@@ -124,6 +124,7 @@ fn check_torn(rt: &impl Abort, row: usize, left: &MemDisk, len: u64) {
 
 #[test]
 fn torn_writes_leave_drawn_bytes(rt: HostRuntime) -> Result<(), Fail> {
+    // The disks of all rows so far were left as wanted.
     for (row, (len, seed)) in TORN.iter().enumerate() {
         let disk = partly_safe(&rt, rt.alloc())?;
         assert!(rt; disk.synced() <= *len && *len <= disk.content().len() as u64);

@@ -68,6 +68,7 @@ struct Outcome {
 // What so many clients note, each on its own, with nothing noted yet.
 fn empty_notes(rt: &impl Abort, alloc: Global, count: usize) -> Vec<Notes> {
     let mut shared = Vec::with_capacity(alloc, count).expect(rt, "memory");
+    // The notes so far are empty.
     for _ in 0..count {
         shared
             .push(Mutex::new(Vec::new(alloc)))
@@ -79,6 +80,7 @@ fn empty_notes(rt: &impl Abort, alloc: Global, count: usize) -> Vec<Notes> {
 // What each client has noted.
 fn noted(rt: &impl Abort, alloc: Global, shared: Vec<Notes>) -> Vec<Vec<StepAnswer>> {
     let mut notes = Vec::with_capacity(alloc, shared.len()).expect(rt, "memory");
+    // `notes` has what the clients so far have noted, in their order.
     for told in shared {
         notes.push(told.into_inner()).expect(rt, "memory");
     }

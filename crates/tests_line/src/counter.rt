@@ -28,8 +28,8 @@ impl GivesRun for CountReply {
     ghost run_of = { λ a. (0, 0) };
 }
 
-/// How many were counted, and the sum of their sizes, whatever right goes with it. What it says of the handlings is left
-/// to the tests.
+/// How many were counted, and the sum of their sizes, whatever right goes with it. What it says of the handlings is
+/// left to the tests.
 #[derive(Drop)]
 pub struct CountLog {
     pub count: u64,
@@ -107,8 +107,9 @@ pub fn note(told: &mut Vec<CountReply>, answer: CountReply) {
     }
 }
 
-/// Notes each number that a client was told, whose requests have this size. An `Err` has the first answer that is wrong:
-/// its size is another, or its number is one that was noted before, has no place, or isn't above the one before it.
+/// Notes each number that a client was told, whose requests have this size. An `Err` has the first answer that is
+/// wrong: its size is another, or its number is one that was noted before, has no place, or isn't above the one
+/// before it.
 pub fn note_numbers(told: &[CountReply], size: u64, noted: &mut [bool]) -> Result<(), CountReply> {
     let mut next = 0;
     // The numbers so far are noted, and all of them are below `next`.

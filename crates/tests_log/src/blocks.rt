@@ -63,6 +63,7 @@ const CUT: [(&[u8], usize, Seen); 6] = [
 
 #[test]
 fn reads_what_is_cut(rt: HostRuntime) -> Result<(), Fail> {
+    // All rows so far were read as wanted.
     for (row, (bytes, len, wanted)) in CUT.iter().enumerate() {
         check(&rt, row, &seen_first(cut_at(bytes, *len)?), wanted);
     }
@@ -84,6 +85,7 @@ const CHANGED: [([u8; 10], usize, u8, Damage); 3] = [
 
 #[test]
 fn reads_what_is_changed(rt: HostRuntime) -> Result<(), Fail> {
+    // All rows so far were read as wanted.
     for (row, (fragment, at, byte, damage)) in CHANGED.iter().enumerate() {
         let mut changed = *fragment;
         set_byte(&mut changed, *at, *byte)?;

@@ -203,6 +203,7 @@ const TORN: [(u64, Summary); 3] = [
 
 #[test]
 fn torn_writes_leave_what_was_safe(rt: HostRuntime) -> Result<(), Fail> {
+    // All rows so far were recovered as wanted.
     for (row, (len, wanted)) in TORN.iter().enumerate() {
         let disk = two_safe_groups(&rt, rt.alloc())?;
         assert!(rt; disk.synced() == 48 && disk.content().len() == 72 && (48..73).contains(len));

@@ -1,7 +1,7 @@
 //! The tree by hand and against a plain list, and a batch's nodes as parts of a group.
 //!
-//! That the tree stays low has no test: an insertion is proved to leave at each key two sides whose heights differ by at
-//! most one.
+//! That the tree stays low has no test: an insertion is proved to leave at each key two sides whose heights differ by
+//! at most one.
 
 ghost use Rattle.std.specs.Prelude.{◌+◌, ◌<◌, ◌≤◌, ◌^◌, length};
 ghost use Rattle.table_tree.specs.Versions.{AreBelow};
