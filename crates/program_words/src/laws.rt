@@ -40,9 +40,11 @@ pub fn words_that_ask()
     ensures run_in_two_stages { invocation_in (codes "writepath" ∷ codes "run" ∷ codes "--pipelined" ∷ [])
         ≡ Some (Run true None 1048576 16777216 0) }
     ensures recover { invocation_in (codes "writepath" ∷ codes "recover" ∷ []) ≡ Some Recover }
-    ensures replay { invocation_in (codes "writepath" ∷ codes "replay" ∷ codes "--last" ∷ codes "7" ∷ codes "--group-bytes"
+    ensures replay { invocation_in (codes "writepath" ∷ codes "replay" ∷ codes "--last" ∷ codes "7"
+        ∷ codes "--group-bytes"
         ∷ codes "1" ∷ []) ≡ Some (Replay false 1 16777216 7) }
-    ensures pipelined { invocation_in (codes "writepath" ∷ codes "replay" ∷ codes "--last" ∷ codes "7" ∷ codes "--pipelined"
+    ensures pipelined { invocation_in (codes "writepath" ∷ codes "replay" ∷ codes "--last" ∷ codes "7"
+        ∷ codes "--pipelined"
         ∷ []) ≡ Some (Replay true 1048576 16777216 7) }
     ensures with_equals_sign { invocation_in (codes "writepath" ∷ codes "run" ∷ codes "--last=4" ∷ [])
         ≡ Some (Run false None 1048576 16777216 4) }
@@ -62,33 +64,43 @@ pub fn words_that_do_not_ask()
     ensures no_command { invocation_in (codes "writepath" ∷ []) ≡ None }
     ensures unknown_command { invocation_in (codes "writepath" ∷ codes "walk" ∷ []) ≡ None }
     ensures unknown_word { invocation_in (codes "writepath" ∷ codes "run" ∷ codes "x" ∷ []) ≡ None }
-    ensures option_of_another_command { invocation_in (codes "writepath" ∷ codes "recover" ∷ codes "--last" ∷ codes "1" ∷ [])
+    ensures option_of_another_command { invocation_in (codes "writepath" ∷ codes "recover" ∷ codes "--last"
+        ∷ codes "1" ∷ [])
         ≡ None }
     ensures option_without_value { invocation_in (codes "writepath" ∷ codes "run" ∷ codes "--last" ∷ []) ≡ None }
     ensures option_twice { invocation_in (codes "writepath" ∷ codes "run" ∷ codes "--last" ∷ codes "1" ∷ codes "--last"
         ∷ codes "2" ∷ []) ≡ None }
-    ensures flag_twice { invocation_in (codes "writepath" ∷ codes "replay" ∷ codes "--pipelined" ∷ codes "--pipelined" ∷ [])
+    ensures flag_twice { invocation_in (codes "writepath" ∷ codes "replay" ∷ codes "--pipelined"
+        ∷ codes "--pipelined" ∷ [])
         ≡ None }
     ensures flag_of_another_command { invocation_in (codes "writepath" ∷ codes "recover" ∷ codes "--pipelined" ∷ [])
         ≡ None }
-    ensures below_range { invocation_in (codes "writepath" ∷ codes "run" ∷ codes "--batch-bytes" ∷ codes "11" ∷ []) ≡ None }
-    ensures above_range { invocation_in (codes "writepath" ∷ codes "run" ∷ codes "--last" ∷ codes "72057594037927936" ∷ [])
+    ensures below_range { invocation_in (codes "writepath" ∷ codes "run" ∷ codes "--batch-bytes" ∷ codes "11" ∷ [])
+        ≡ None }
+    ensures above_range { invocation_in (codes "writepath" ∷ codes "run" ∷ codes "--last"
+        ∷ codes "72057594037927936" ∷ [])
         ≡ None }
     ensures no_shards { invocation_in (codes "writepath" ∷ codes "run" ∷ codes "--shards" ∷ codes "0" ∷ []) ≡ None }
-    ensures too_many_shards { invocation_in (codes "writepath" ∷ codes "run" ∷ codes "--shards" ∷ codes "65" ∷ []) ≡ None }
-    ensures unknown_table { invocation_in (codes "writepath" ∷ codes "run" ∷ codes "--table" ∷ codes "tree" ∷ []) ≡ None }
-    ensures table_twice { invocation_in (codes "writepath" ∷ codes "run" ∷ codes "--table" ∷ codes "one" ∷ codes "--table"
+    ensures too_many_shards { invocation_in (codes "writepath" ∷ codes "run" ∷ codes "--shards" ∷ codes "65" ∷ [])
+        ≡ None }
+    ensures unknown_table { invocation_in (codes "writepath" ∷ codes "run" ∷ codes "--table" ∷ codes "tree" ∷ [])
+        ≡ None }
+    ensures table_twice { invocation_in (codes "writepath" ∷ codes "run" ∷ codes "--table" ∷ codes "one"
+        ∷ codes "--table"
         ∷ codes "one" ∷ []) ≡ None }
     ensures table_of_recover { invocation_in (codes "writepath" ∷ codes "recover" ∷ codes "--table" ∷ codes "one" ∷ [])
         ≡ None }
     ensures table_of_replay { invocation_in (codes "writepath" ∷ codes "replay" ∷ codes "--table" ∷ codes "shards" ∷ [])
         ≡ None }
-    ensures seed_above_range { invocation_in (codes "writepath" ∷ codes "gen" ∷ codes "2147483648" ∷ codes "1" ∷ codes "1"
+    ensures seed_above_range { invocation_in (codes "writepath" ∷ codes "gen" ∷ codes "2147483648" ∷ codes "1"
+        ∷ codes "1"
         ∷ []) ≡ None }
-    ensures no_clients { invocation_in (codes "writepath" ∷ codes "gen" ∷ codes "0" ∷ codes "0" ∷ codes "1" ∷ []) ≡ None }
+    ensures no_clients { invocation_in (codes "writepath" ∷ codes "gen" ∷ codes "0" ∷ codes "0" ∷ codes "1" ∷ [])
+        ≡ None }
     ensures too_many_clients { invocation_in (codes "writepath" ∷ codes "gen" ∷ codes "0" ∷ codes "17" ∷ codes "1" ∷ [])
         ≡ None }
-    ensures too_many_batches { invocation_in (codes "writepath" ∷ codes "gen" ∷ codes "0" ∷ codes "1" ∷ codes "100001" ∷ [])
+    ensures too_many_batches { invocation_in (codes "writepath" ∷ codes "gen" ∷ codes "0" ∷ codes "1"
+        ∷ codes "100001" ∷ [])
         ≡ None }
     ensures too_few_numbers { invocation_in (codes "writepath" ∷ codes "gen" ∷ codes "7" ∷ codes "2" ∷ []) ≡ None }
     ensures too_many_numbers { invocation_in (codes "writepath" ∷ codes "gen" ∷ codes "7" ∷ codes "2" ∷ codes "3"
