@@ -1,16 +1,36 @@
 //! A bell.
 
-use crossbeam_utils::Backoff;
+use crate::pauses::Pauses;
 use std::sync::Wait;
 use std::sync::atomic::AtomicU64;
 use std::sync::atomic::Ordering::SeqCst;
-use std::time::Duration;
+use std::time::{Duration, Instant};
+use std::{hint, rt, thread};
+
+/// How many pauses of a wait spin, each twice as long as the one before.
+const SPINS: u32 = 7;
+
+/// How many pauses after these yield.
+const YIELDS: u32 = 20;
+
+/// The microseconds of a slow yield: another thread wanted the processor, and had it for a slice of time.
+const SLOW_YIELD: u64 = 200;
+
+/// How many waits sleep without a yield after a first slow one.
+const FEWEST_SKIPS: u64 = 8;
+
+/// And after many slow ones, at most.
+const MOST_SKIPS: u64 = 1024;
 
 /// What any number of threads sleep on.
 #[derive(Drop)]
 pub struct Bell {
     /// 1 where somebody sleeps or is about to, else 0.
     set: AtomicU64,
+    /// How many of the next waits sleep without a yield.
+    skips: AtomicU64,
+    /// How many they were after the last slow yield, less the waits whose first yield was quick since.
+    learned: AtomicU64,
 }
 
 impl Bell {
@@ -18,18 +38,64 @@ impl Bell {
     pub fn new() -> Bell {
         Bell {
             set: AtomicU64::new(0),
+            skips: AtomicU64::new(0),
+            learned: AtomicU64::new(0),
         }
     }
 
-    /// Pauses between two looks. `backoff` counts the turns of one wait.
-    pub fn pause<R: Wait>(&self, rt: &R, backoff: &Backoff) {
-        if !backoff.is_completed() {
-            backoff.snooze();
+    /// Pauses between two looks of a wait.
+    pub fn pause<R: Wait + rt::Clock>(&self, rt: &R, pauses: &Pauses) {
+        let made = pauses.made.get();
+        if made < SPINS {
+            for _ in 0..1u32 << made {
+                hint::spin_loop();
+            }
+            pauses.made.set(made + 1);
+        } else if made < SPINS + YIELDS {
+            let quick = if made == SPINS {
+                self.yield_first(rt)
+            } else {
+                self.yield_again(rt)
+            };
+            pauses
+                .made
+                .set(if quick { made + 1 } else { SPINS + YIELDS });
         } else if self.set.load(SeqCst) == 0 {
             self.set.store(1, SeqCst);
         } else {
             self.set.park_timeout(rt, 1, Duration::from_millis(1));
         }
+    }
+
+    /// The first yield of a wait, where it isn't one of those that sleep without. The answer is whether it was quick.
+    fn yield_first<R: rt::Clock>(&self, rt: &R) -> bool {
+        let skips = self.skips.load(SeqCst);
+        if skips > 0 {
+            self.skips.store(skips - 1, SeqCst);
+            return false;
+        }
+        let quick = self.yield_again(rt);
+        let learned = self.learned.load(SeqCst);
+        if quick && learned > 0 {
+            self.learned.store(learned - 1, SeqCst);
+        }
+        quick
+    }
+
+    /// Yields, and says whether that was quick. Where it was slow, others want the processors, and twice as many of the
+    /// next waits as the last time sleep without.
+    fn yield_again<R: rt::Clock>(&self, rt: &R) -> bool {
+        let quick = is_quick_yield(rt);
+        if !quick {
+            let skips = self
+                .learned
+                .load(SeqCst)
+                .saturating_mul(2)
+                .clamp(FEWEST_SKIPS, MOST_SKIPS);
+            self.learned.store(skips, SeqCst);
+            self.skips.store(skips, SeqCst);
+        }
+        quick
     }
 
     /// Wakes all who sleep on it.
@@ -38,5 +104,17 @@ impl Bell {
             self.set.store(0, SeqCst);
             self.set.wake_all();
         }
+    }
+}
+
+/// Yields, and says whether that was quick. Where the clock can't be read it was not.
+fn is_quick_yield<R: rt::Clock>(rt: &R) -> bool {
+    let Ok(start) = Instant::now(rt) else {
+        return false;
+    };
+    thread::yield_now();
+    match start.elapsed(rt) {
+        Ok(spent) => spent < Duration::from_micros(SLOW_YIELD),
+        Err(_) => false,
     }
 }

@@ -1,9 +1,10 @@
 //! A bell for each client.
 
 use crate::bell::Bell;
-use crossbeam_utils::Backoff;
+use crate::pauses::Pauses;
 use std::alloc::{AllocError, Global};
 use std::sync::Wait;
+use std::{rt, thread};
 
 /// One bell for each client. Clients are numbered from 1.
 #[derive(Drop)]
@@ -26,10 +27,10 @@ impl Bells {
     }
 
     /// Pauses between two looks of a client.
-    pub fn pause<R: Wait>(&self, rt: &R, backoff: &Backoff, client: u64) {
+    pub fn pause<R: Wait + rt::Clock>(&self, rt: &R, pauses: &Pauses, client: u64) {
         match self.of(client) {
-            Some(bell) => bell.pause(rt, backoff),
-            None => backoff.snooze(),
+            Some(bell) => bell.pause(rt, pauses),
+            None => thread::yield_now(),
         }
     }
 

@@ -1,23 +1,22 @@
 //! The calls.
 
-ghost use Rattle.std.specs.Prelude.{◌≡◌, ◌+◌, true, false, List, map, IfOk, IfErr, OnOk, OnErr};
+ghost use Rattle.std.specs.Prelude.{◌≡◌, ◌+◌, true, false, map, IfOk, IfErr, OnOk, OnErr};
 ghost use Rattle.model_base.specs.Batch as model;
-ghost use Rattle.model_base.specs.Groups.{Group};
 ghost use Rattle.model_base.specs.LogContents.{GroupCall};
 ghost use Rattle.model_base.specs.Map.{rows_within, value_at};
 ghost use Rattle.model_base.specs.Controller as controller;
 ghost use Rattle.model_base.specs.Tokens.{holds_stop, holds_slow};
-ghost use Rattle.model_base.specs.Trace.{Trace};
 ghost use Rattle.base_bytes.specs.Answers.{found_value};
 ghost use Rattle.model_accounts.specs.Accounts.{Keeps, Wrote, Refuses, Reads as ReadsAt, Asks, GivesBack};
-ghost use Rattle.model_accounts.specs.Closing.{AreOurs, all_attempts, IsClosing};
-ghost use Rattle.model_runs.specs.Written.{WritesLog, IsSyncedBy};
+ghost use Rattle.model_accounts.specs.Closing.{AreOurs, HasOneTrace};
+ghost use Rattle.model_runs.specs.Written.{IsSyncedBy};
 
 use crate::answers::{Closed, Receipt, Refused};
 use base_bytes::{Bytes, Read, Reads, Rows};
 use engine_controller::{Held, NotHeld};
 use log_batch::Batch;
 use model_base::{NoMemory, WriteOptions};
+use std::rt;
 use std::sync::Wait;
 
 /// All clients of a write path, that of the number 1 first, and the room that closing it takes.
@@ -28,8 +27,8 @@ pub struct Clients<C, R> {
 
 /// A write path that many clients share.
 ///
-/// Each call moves its client's account, and no other's: `Wrote`, `Refuses`, `Reads`, `Asks`, `GivesBack` and `Keeps` say
-/// how. All accounts are parts of one trace, as the closing says.
+/// Each call moves its client's account, and no other's: `Wrote`, `Refuses`, `Reads`, `Asks`, `GivesBack` and `Keeps`
+/// say how. All accounts are parts of one trace, as the closing says.
 pub trait Engine {
     type Client;
 
@@ -64,7 +63,7 @@ pub trait Engine {
     ghost faults: { Self.Log → ℕ };
 
     /// Writes a batch under a run of sequences of its own, and waits until reads see it.
-    fn write<R: Wait>(
+    fn write<R: Wait + rt::Clock>(
         &self,
         rt: &R,
         client: &mut Self::Client,
@@ -85,7 +84,12 @@ pub trait Engine {
         ensures unchanged { IfErr result (λ e. e.batch ≡ batch) };
 
     /// A key's value at the end of what is published.
-    fn get<R: Wait>(&self, rt: &R, client: &mut Self::Client, key: &[u8]) -> Result<Read, NoMemory>
+    fn get<R: Wait + rt::Clock>(
+        &self,
+        rt: &R,
+        client: &mut Self::Client,
+        key: &[u8],
+    ) -> Result<Read, NoMemory>
         requires { belongs self.now client.old }
         ensures belongs { belongs self.now client.new }
         ensures keeps { Keeps (account client.old) (account client.new) }
@@ -93,7 +97,7 @@ pub trait Engine {
             (account client.new)) };
 
     /// The values of keys, all at one end of what is published.
-    fn get_many<R: Wait>(
+    fn get_many<R: Wait + rt::Clock>(
         &self,
         rt: &R,
         client: &mut Self::Client,
@@ -106,7 +110,7 @@ pub trait Engine {
             (account client.new)) };
 
     /// The keys from `lo` on and below `hi` with their values, all at one end of what is published, in byte order.
-    fn scan<R: Wait>(
+    fn scan<R: Wait + rt::Clock>(
         &self,
         rt: &R,
         client: &mut Self::Client,
@@ -119,9 +123,9 @@ pub trait Engine {
         ensures ok { IfOk result (λ rows. ReadsAt rows.at (λ m. rows.rows ≡ rows_within lo.now hi.now m)
             (account client.new)) };
 
-    /// Takes the client's stop token. While anybody holds one, all writes wait, and those that may not are refused. Where
-    /// the client holds one already, nothing is called.
-    fn stop<R: Wait>(&self, rt: &R, client: &mut Self::Client) -> Result<(), Held>
+    /// Takes the client's stop token. While anybody holds one, all writes wait, and those that may not are refused.
+    /// Where the client holds one already, nothing is called.
+    fn stop<R: Wait + rt::Clock>(&self, rt: &R, client: &mut Self::Client) -> Result<(), Held>
         requires { belongs self.now client.old }
         ensures belongs { belongs self.now client.new }
         ensures done { OnOk result ((holds_stop (account client.old).asked ≡ false)
@@ -130,7 +134,7 @@ pub trait Engine {
             × Keeps (account client.old) (account client.new)) };
 
     /// Gives the client's stop token back. Where it holds none, nothing is called.
-    fn unstop<R: Wait>(&self, rt: &R, client: &mut Self::Client) -> Result<(), NotHeld>
+    fn unstop<R: Wait + rt::Clock>(&self, rt: &R, client: &mut Self::Client) -> Result<(), NotHeld>
         requires { belongs self.now client.old }
         ensures belongs { belongs self.now client.new }
         ensures done { OnOk result ((holds_stop (account client.old).asked ≡ true)
@@ -138,9 +142,14 @@ pub trait Engine {
         ensures not_held { OnErr result ((holds_stop (account client.old).asked ≡ false)
             × Keeps (account client.old) (account client.new)) };
 
-    /// Takes the client's slow token, with a rate in bytes a second, of which 0 is 1. While anybody holds one, writes are
-    /// slowed down. Where the client holds one already, nothing is called.
-    fn slow<R: Wait>(&self, rt: &R, client: &mut Self::Client, rate: u64) -> Result<(), Held>
+    /// Takes the client's slow token, with a rate in bytes a second, of which 0 is 1. While anybody holds one, writes
+    /// are slowed down. Where the client holds one already, nothing is called.
+    fn slow<R: Wait + rt::Clock>(
+        &self,
+        rt: &R,
+        client: &mut Self::Client,
+        rate: u64,
+    ) -> Result<(), Held>
         requires { belongs self.now client.old }
         ensures belongs { belongs self.now client.new }
         ensures done { OnOk result ((holds_slow (account client.old).asked ≡ false)
@@ -149,7 +158,7 @@ pub trait Engine {
             × Keeps (account client.old) (account client.new)) };
 
     /// Gives the client's slow token back. Where it holds none, nothing is called.
-    fn unslow<R: Wait>(&self, rt: &R, client: &mut Self::Client) -> Result<(), NotHeld>
+    fn unslow<R: Wait + rt::Clock>(&self, rt: &R, client: &mut Self::Client) -> Result<(), NotHeld>
         requires { belongs self.now client.old }
         ensures belongs { belongs self.now client.new }
         ensures done { OnOk result ((holds_slow (account client.old).asked ≡ true)
@@ -158,7 +167,7 @@ pub trait Engine {
             × Keeps (account client.old) (account client.new)) };
 
     /// Gives back the tokens that the client holds. It has done its last call.
-    fn end<R: Wait>(&self, rt: &R, client: &mut Self::Client)
+    fn end<R: Wait + rt::Clock>(&self, rt: &R, client: &mut Self::Client)
         requires { belongs self.now client.old }
         ensures belongs { belongs self.now client.new }
         ensures back { GivesBack (account client.old) (account client.new) };
@@ -166,12 +175,13 @@ pub trait Engine {
     /// Gives the log up. All clients are handed in. Of all that they did and saw there is one trace, in which each
     /// batch's group ended where its receipt said, and the log was written by just the calls that wrote its history.
     /// It takes no memory.
-    fn close<R: Wait>(self, rt: &R, clients: Clients<Self::Client, Self::Room>) -> Closed<Self::Log>
+    fn close<R: Wait + rt::Clock>(
+        self,
+        rt: &R,
+        clients: Clients<Self::Client, Self::Room>,
+    ) -> Closed<Self::Log>
         requires all { AreOurs (belongs self) account (settings self).clients clients.clients.items }
         requires room { closes self clients.room }
-        ensures { let accounts = map account clients.clients.items in
-            (trace : Trace) × (groups : List Group)
-            × IsClosing (settings self) (faults result.log) trace groups accounts result.last (fault result.log)
-            × WritesLog (settings self).group_bytes (λ calls. wrote self calls result.log) trace (all_attempts accounts)
-            (fault result.log) };
+        ensures { HasOneTrace (settings self) (faults result.log) (map account clients.clients.items) result.last
+            (fault result.log) (λ calls. wrote self calls result.log) };
 }

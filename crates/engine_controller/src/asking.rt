@@ -17,12 +17,12 @@ use crate::words::{join, load, split};
 use base_devices::Clock;
 use std::sync::Wait;
 
-impl<C: Clock> Controller<C> {
+impl<Time: Clock> Controller<Time> {
     /// Asks how long a group of so many bytes has to wait. The clock is asked once for its moment, before the call.
-    pub fn delay<R: Wait>(&self, rt: &R, pass: &mut Pass, clock: &mut C, bytes: u64) -> Look
+    pub fn delay<R: Wait>(&self, rt: &R, pass: &mut Pass, clock: &mut Time, bytes: u64) -> Look
         requires own { IsPassOf self.now pass.old }
         ensures own { IsPassOf self.now pass.new × (client_of pass.new ≡ client_of pass.old) }
-        ensures asked { (now : ℕ) × IfSome (C.last clock.new) (λ moment. moment ≡ now)
+        ensures asked { (now : ℕ) × IfSome (Time.last clock.new) (λ moment. moment ≡ now)
             × EndsWith (client_of pass.old) (seen_by pass.old) (delay now bytes) (Some (look_of result))
             (seen_by pass.new) }
     {

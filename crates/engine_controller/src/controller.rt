@@ -15,16 +15,16 @@ use base_devices::Clock;
 use std::marker::{Brand, PhantomData};
 use std::sync::{Mutex, Wait};
 
-/// A write controller for several clients, which ask a clock of the type `C`.
+/// A write controller for several clients, which ask a clock of the type `Time`.
 #[derive(Drop)]
-pub struct Controller<C> {
+pub struct Controller<Time> {
     pub(crate) cell: Cell,
     pub(crate) clients: u32,
     // No clock is kept. As a lock of it this may be shared by threads, also where the clock may only go to one.
-    pub(crate) clock: PhantomData<Mutex<C>>,
+    pub(crate) clock: PhantomData<Mutex<Time>>,
 }
 
-impl<C: Clock> Controller<C> {
+impl<Time: Clock> Controller<Time> {
     // Makes a call, and says what it was told. Between the load and the exchange others may have called: then it tries
     // again with the numbers that the exchange found.
     pub(crate) fn call<R: Wait>(&self, rt: &R, seat: &mut Seat, action: Action) -> Look

@@ -15,9 +15,9 @@ use std::alloc::Global;
 use std::marker::PhantomData;
 use std::sync::Wait;
 
-impl<C: Clock> Controller<C> {
+impl<Time: Clock> Controller<Time> {
     /// A controller for 1 to 16 clients, with a pass for each. Nobody holds a token.
-    pub fn open(alloc: Global, clients: u32) -> Result<(Controller<C>, Passes), NoMemory>
+    pub fn open(alloc: Global, clients: u32) -> Result<(Controller<Time>, Passes), NoMemory>
         requires clients { (1 ≤ clients) × (clients ≤ MAX_CLIENTS) }
         ensures new { IfOk result (λ r. AreNew r.0 clients r.1) }
     {

@@ -100,14 +100,14 @@ impl Asking for Brand {
 
 /// An exchange that asks for this. That its outcome knows the call is why one step is enough for a call: it tells that
 /// the call was made also where the call changes no number.
-pub struct Exchange<J: Asking> {
-    asking: PhantomData<J>,
+pub struct Exchange<Picked: Asking> {
+    asking: PhantomData<Picked>,
 }
 
-impl<J: Asking> Outcome<Numbers, ControllerView> for Exchange<J> {
+impl<Picked: Asking> Outcome<Numbers, ControllerView> for Exchange<Picked> {
     ghost use Rattle.engine_controller.specs.Rule.{Exchanges};
 
-    ghost then = { λ v x _ w. Exchanges J.call J.found v x w };
+    ghost then = { λ v x _ w. Exchanges Picked.call Picked.found v x w };
 }
 
 /// The next client's pass is cut off.

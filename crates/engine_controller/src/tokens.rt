@@ -12,7 +12,7 @@ use crate::pass::Pass;
 use base_devices::Clock;
 use std::sync::Wait;
 
-impl<C: Clock> Controller<C> {
+impl<Time: Clock> Controller<Time> {
     /// Whether the client holds a stop token.
     pub fn is_stopping(&self, pass: &Pass) -> bool
         requires own { IsPassOf self.now pass.now }

@@ -16,21 +16,21 @@ use crossbeam_utils::rule::Outcome;
 use std::sync::Wait;
 
 /// Reads the numbers, with an outcome that the caller picks.
-pub fn load<M: Outcome<Numbers, ControllerView>, R: Wait>(
+pub fn load<Picked: Outcome<Numbers, ControllerView>, R: Wait>(
     cell: &Cell,
     rt: &R,
     seat: &mut Seat,
 ) -> Numbers
     requires cell { seat.old.table_id ≡ cell.now.table.shared.table_id }
-    requires rule { Turns Kept seat.old.id (cell_view seat.old) (λ x. x) M.then }
+    requires rule { Turns Kept seat.old.id (cell_view seat.old) (λ x. x) Picked.then }
     ensures cell { seat.new.table_id ≡ seat.old.table_id }
-    ensures rule { M.then (cell_view seat.old) result result (cell_view seat.new) }
+    ensures rule { Picked.then (cell_view seat.old) result result (cell_view seat.new) }
 {
-    cell.load_as::<M, R>(rt, seat)
+    cell.load_as::<Picked, R>(rt, seat)
 }
 
 /// One exchange, which makes the call where the numbers are still those found before.
-pub fn exchange<J: Asking, R: Wait>(
+pub fn exchange<Picked: Asking, R: Wait>(
     cell: &Cell,
     rt: &R,
     seat: &mut Seat,
@@ -38,7 +38,7 @@ pub fn exchange<J: Asking, R: Wait>(
     found: Numbers,
     new: Numbers,
 ) -> Result<Numbers, Numbers>
-    requires picked { (J.call ≡ action) × (J.found ≡ found) }
+    requires picked { (Picked.call ≡ action) × (Picked.found ≡ found) }
     requires cell { seat.old.table_id ≡ cell.now.table.shared.table_id }
     requires view { IsClientView (cell_view seat.old) }
     requires may { MayCall action (asked_in (client_in (cell_view seat.old)) (seen_in (cell_view seat.old))) }
@@ -47,11 +47,11 @@ pub fn exchange<J: Asking, R: Wait>(
     ensures ok { IfOk result (λ _. Makes action (cell_view seat.old) found (cell_view seat.new)) }
     ensures err { IfErr result (λ x. Sees (cell_view seat.old) x x (cell_view seat.new)) }
 {
-    exchange_as::<Exchange<J>, R>(cell, rt, seat, found, new)
+    exchange_as::<Exchange<Picked>, R>(cell, rt, seat, found, new)
 }
 
 // Puts new numbers in place of those found before, where they are still those, with an outcome that the caller picks.
-fn exchange_as<M: Outcome<Numbers, ControllerView>, R: Wait>(
+fn exchange_as<Picked: Outcome<Numbers, ControllerView>, R: Wait>(
     cell: &Cell,
     rt: &R,
     seat: &mut Seat,
@@ -61,24 +61,24 @@ fn exchange_as<M: Outcome<Numbers, ControllerView>, R: Wait>(
     requires cell { seat.old.table_id ≡ cell.now.table.shared.table_id }
     requires rule { (eq : Numbers → Numbers → Bool) → ((x y : Numbers) → eq x y ≡ true → x ≡ y)
         → ((x y : Numbers) → x ≡ y → eq x y ≡ true)
-        → Turns Kept seat.old.id (cell_view seat.old) (λ x. if eq x found then new else x) M.then }
+        → Turns Kept seat.old.id (cell_view seat.old) (λ x. if eq x found then new else x) Picked.then }
     ensures cell { seat.new.table_id ≡ seat.old.table_id }
-    ensures ok { IfOk result (λ _. M.then (cell_view seat.old) found new (cell_view seat.new)) }
-    ensures err { IfErr result (λ x. (x ≢ found) × M.then (cell_view seat.old) x x (cell_view seat.new)) }
+    ensures ok { IfOk result (λ _. Picked.then (cell_view seat.old) found new (cell_view seat.new)) }
+    ensures err { IfErr result (λ x. (x ≢ found) × Picked.then (cell_view seat.old) x x (cell_view seat.new)) }
 {
-    cell.compare_exchange_as::<M, R>(rt, seat, found, new)
+    cell.compare_exchange_as::<Picked, R>(rt, seat, found, new)
 }
 
 /// Cuts a pass in two, as the caller picks.
-pub fn split<M: Split<ControllerView>>(cell: &Cell, seat: &mut Seat) -> Seat
+pub fn split<Picked: Split<ControllerView>>(cell: &Cell, seat: &mut Seat) -> Seat
     requires cell { seat.old.table_id ≡ cell.now.table.shared.table_id }
     requires rule { Forks Kept seat.old.id (cell_view seat.old)
-        (M.left (cell_view seat.old)) (M.right (cell_view seat.old)) }
-    ensures kept { (seat.new.table_id ≡ seat.old.table_id) × (cell_view seat.new ≡ M.left (cell_view seat.old)) }
-    ensures given { (result.table_id ≡ seat.old.table_id) × (cell_view result ≡ M.right (cell_view seat.old))
+        (Picked.left (cell_view seat.old)) (Picked.right (cell_view seat.old)) }
+    ensures kept { (seat.new.table_id ≡ seat.old.table_id) × (cell_view seat.new ≡ Picked.left (cell_view seat.old)) }
+    ensures given { (result.table_id ≡ seat.old.table_id) × (cell_view result ≡ Picked.right (cell_view seat.old))
         × (result.me.1 ≡ []) }
 {
-    cell.split_pass::<M>(seat)
+    cell.split_pass::<Picked>(seat)
 }
 
 /// A pass takes in the observers of another, which has made no call.

@@ -9,6 +9,7 @@ use engine_calls::{Clients, Closed, Engine, Gate, Held, NotHeld, Receipt, Refuse
 use log_batch::Batch;
 use log_writer::LogWriter;
 use model_base::{NoMemory, WriteOptions};
+use std::rt;
 use std::sync::Wait;
 use table_calls::Table;
 use table_tree::{Nodes, Parts};
@@ -21,13 +22,10 @@ impl<Device: Disk, Versions: Table<Nodes, Parts>, Time: Clock + Drop, Watch: Gat
 
     type Log = LogWriter<Device>;
 
-    ghost use Rattle.model_base.specs.Trace.{Trace};
-    ghost use Rattle.model_base.specs.Groups.{Group};
-    ghost use Rattle.model_accounts.specs.Closing.{AreOurs, all_attempts, IsClosing};
-    ghost use Rattle.model_runs.specs.Written.{WritesLog};
+    ghost use Rattle.model_accounts.specs.Closing.{AreOurs, HasOneTrace};
     ghost use Rattle.log_writer.specs.Words.{fault_of, disk_of};
     ghost use Rattle.log_writer.specs.Written.{Wrote};
-    ghost use Rattle.line_writers.specs.Seats.{bound_of, clients_of};
+    ghost use Rattle.line_writers.specs.Seats.{clients_of};
     ghost use Rattle.engine_groups.specs.Clients.{IsClientOf, HasRoomToClose, account_in, settings_of, opened_log};
 
     ghost settings = { λ e. settings_of Versions.Table e };
@@ -44,7 +42,7 @@ impl<Device: Disk, Versions: Table<Nodes, Parts>, Time: Clock + Drop, Watch: Gat
 
     ghost faults = { λ log. Device.faults (disk_of log) };
 
-    fn write<R: Wait>(
+    fn write<R: Wait + rt::Clock>(
         &self,
         rt: &R,
         client: &mut EngineClient<Device, Versions, Time>,
@@ -54,7 +52,7 @@ impl<Device: Disk, Versions: Table<Nodes, Parts>, Time: Clock + Drop, Watch: Gat
         self.write(rt, client, batch, options)
     }
 
-    fn get<R: Wait>(
+    fn get<R: Wait + rt::Clock>(
         &self,
         rt: &R,
         client: &mut EngineClient<Device, Versions, Time>,
@@ -63,7 +61,7 @@ impl<Device: Disk, Versions: Table<Nodes, Parts>, Time: Clock + Drop, Watch: Gat
         self.get(rt, client, key)
     }
 
-    fn get_many<R: Wait>(
+    fn get_many<R: Wait + rt::Clock>(
         &self,
         rt: &R,
         client: &mut EngineClient<Device, Versions, Time>,
@@ -72,7 +70,7 @@ impl<Device: Disk, Versions: Table<Nodes, Parts>, Time: Clock + Drop, Watch: Gat
         self.get_many(rt, client, keys)
     }
 
-    fn scan<R: Wait>(
+    fn scan<R: Wait + rt::Clock>(
         &self,
         rt: &R,
         client: &mut EngineClient<Device, Versions, Time>,
@@ -82,7 +80,7 @@ impl<Device: Disk, Versions: Table<Nodes, Parts>, Time: Clock + Drop, Watch: Gat
         self.scan(rt, client, lo, hi)
     }
 
-    fn stop<R: Wait>(
+    fn stop<R: Wait + rt::Clock>(
         &self,
         rt: &R,
         client: &mut EngineClient<Device, Versions, Time>,
@@ -90,7 +88,7 @@ impl<Device: Disk, Versions: Table<Nodes, Parts>, Time: Clock + Drop, Watch: Gat
         self.stop(rt, client)
     }
 
-    fn unstop<R: Wait>(
+    fn unstop<R: Wait + rt::Clock>(
         &self,
         rt: &R,
         client: &mut EngineClient<Device, Versions, Time>,
@@ -98,7 +96,7 @@ impl<Device: Disk, Versions: Table<Nodes, Parts>, Time: Clock + Drop, Watch: Gat
         self.unstop(rt, client)
     }
 
-    fn slow<R: Wait>(
+    fn slow<R: Wait + rt::Clock>(
         &self,
         rt: &R,
         client: &mut EngineClient<Device, Versions, Time>,
@@ -107,7 +105,7 @@ impl<Device: Disk, Versions: Table<Nodes, Parts>, Time: Clock + Drop, Watch: Gat
         self.slow(rt, client, rate)
     }
 
-    fn unslow<R: Wait>(
+    fn unslow<R: Wait + rt::Clock>(
         &self,
         rt: &R,
         client: &mut EngineClient<Device, Versions, Time>,
@@ -115,11 +113,11 @@ impl<Device: Disk, Versions: Table<Nodes, Parts>, Time: Clock + Drop, Watch: Gat
         self.unslow(rt, client)
     }
 
-    fn end<R: Wait>(&self, rt: &R, client: &mut EngineClient<Device, Versions, Time>) {
+    fn end<R: Wait + rt::Clock>(&self, rt: &R, client: &mut EngineClient<Device, Versions, Time>) {
         self.end(rt, client);
     }
 
-    fn close<R: Wait>(
+    fn close<R: Wait + rt::Clock>(
         self,
         rt: &R,
         clients: Clients<EngineClient<Device, Versions, Time>, ClosingRoom<Device, Versions, Time>>,
@@ -127,12 +125,9 @@ impl<Device: Disk, Versions: Table<Nodes, Parts>, Time: Clock + Drop, Watch: Gat
         requires all { AreOurs (IsClientOf Versions.Table self) (account_in Versions.Table)
             (clients_of self.list) clients.clients.items }
         requires room { HasRoomToClose self.controller (clients_of self.list) clients.room }
-        ensures { let accounts = map (account_in Versions.Table) clients.clients.items in
-            (trace : Trace) × (groups : List Group)
-            × IsClosing (settings_of Versions.Table self) (Device.faults (disk_of result.log)) trace groups
-            accounts result.last (fault_of result.log)
-            × WritesLog (bound_of self.list) (λ calls. Wrote (opened_log self) calls result.log) trace
-            (all_attempts accounts) (fault_of result.log) }
+        ensures { HasOneTrace (settings_of Versions.Table self) (Device.faults (disk_of result.log))
+            (map (account_in Versions.Table) clients.clients.items) result.last (fault_of result.log)
+            (λ calls. Wrote (opened_log self) calls result.log) }
     {
         self.close(rt, clients)
     }

@@ -15,6 +15,7 @@ use engine_controller::{Controller, Note, Pass, Passes};
 use engine_parts::{Answer, LogPath, Request, take_first};
 use line_writers::Writer;
 use log_writer::LogWriter;
+use std::rt;
 use std::sync::Wait;
 use table_calls::{Seats, Table};
 use table_tree::{Nodes, Parts};
@@ -53,7 +54,7 @@ pub(crate) fn part_all<Device: Disk, Versions: Table<Nodes, Parts>, Time>(
 }
 
 /// Ends a controller. Its first pass learns what a note shows, so that this begins the one history too.
-fn end_controller<Time: Clock, R: Wait>(
+fn end_controller<Time: Clock, R: Wait + rt::Clock>(
     rt: &R,
     controller: Controller<Time>,
     passes: Passes,
@@ -83,18 +84,15 @@ impl<
     Time: Clock + Drop,
     Watch: Gate + Drop,
 > GroupEngine<Device, Versions, Time, Watch> {
-    ghost use Rattle.model_base.specs.Trace.{Trace};
-    ghost use Rattle.model_base.specs.Groups.{Group};
     ghost use Rattle.log_writer.specs.Words.{fault_of, disk_of};
     ghost use Rattle.log_writer.specs.Written.{Wrote};
-    ghost use Rattle.model_accounts.specs.Closing.{AreOurs, all_attempts, IsClosing};
-    ghost use Rattle.model_runs.specs.Written.{WritesLog};
-    ghost use Rattle.line_writers.specs.Seats.{bound_of, clients_of};
+    ghost use Rattle.model_accounts.specs.Closing.{AreOurs, HasOneTrace};
+    ghost use Rattle.line_writers.specs.Seats.{clients_of};
     ghost use Rattle.engine_groups.specs.Clients.{IsClientOf, account_in, settings_of, opened_log, HasRoomToClose};
 
     /// Gives the log up. All clients are handed in. Of all that they wrote and read there is one trace, and the log was
     /// written by just the calls that wrote its history.
-    pub fn close<R: Wait>(
+    pub fn close<R: Wait + rt::Clock>(
         self,
         rt: &R,
         clients: Clients<EngineClient<Device, Versions, Time>, ClosingRoom<Device, Versions, Time>>,
@@ -102,12 +100,9 @@ impl<
         requires all { AreOurs (IsClientOf Versions.Table self) (account_in Versions.Table)
             (clients_of self.list) clients.clients.items }
         requires room { HasRoomToClose self.controller (clients_of self.list) clients.room }
-        ensures { let accounts = map (account_in Versions.Table) clients.clients.items in
-            (trace : Trace) × (groups : List Group)
-            × IsClosing (settings_of Versions.Table self) (Device.faults (disk_of result.log)) trace groups
-            accounts result.last (fault_of result.log)
-            × WritesLog (bound_of self.list) (λ calls. Wrote (opened_log self) calls result.log) trace
-            (all_attempts accounts) (fault_of result.log) }
+        ensures { HasOneTrace (settings_of Versions.Table self) (Device.faults (disk_of result.log))
+            (map (account_in Versions.Table) clients.clients.items) result.last (fault_of result.log)
+            (λ calls. Wrote (opened_log self) calls result.log) }
     {
         let GroupEngine {
             list,

@@ -8,12 +8,13 @@ ghost use Rattle.engine_parts.specs.Staged.{MayLaunch};
 
 use engine_calls::Gate;
 use engine_memtable::await_group;
+use std::rt;
 use std::sync::Wait;
 use table_calls::Table;
 use table_tree::{Nodes, Parts};
 
 /// Puts the parts of a group into the table, and waits until they are published.
-pub(crate) fn publish_alone<Versions: Table<Nodes, Parts>, Watch: Gate, R: Wait>(
+pub(crate) fn publish_alone<Versions: Table<Nodes, Parts>, Watch: Gate, R: Wait + rt::Clock>(
     rt: &R,
     gate: &Watch,
     table: &Versions,

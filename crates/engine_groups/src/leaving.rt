@@ -16,6 +16,7 @@ use base_devices::{Clock, Disk};
 use engine_calls::Gate;
 use engine_memtable::lead;
 use engine_parts::Answer;
+use std::rt;
 use std::sync::Wait;
 use table_calls::Table;
 use table_tree::{Nodes, Parts};
@@ -58,7 +59,7 @@ impl<
 
     /// Gives the log on, and puts the group into the table once it is the first of those that are logged. Then it tells
     /// the members of the group their replies.
-    pub(crate) fn hand_on<R: Wait>(
+    pub(crate) fn hand_on<R: Wait + rt::Clock>(
         &self,
         rt: &R,
         client: &mut EngineClient<Device, Versions, Time>,

@@ -9,6 +9,7 @@ use base_bytes::{Bytes, Read, Reads, Rows};
 use base_devices::{Clock, Disk};
 use engine_calls::Gate;
 use model_base::NoMemory;
+use std::rt;
 use std::sync::Wait;
 use table_calls::Table;
 use table_tree::{Nodes, Parts};
@@ -23,7 +24,7 @@ impl<
     ghost use Rattle.engine_groups.specs.Clients.{IsClientOf, account_in};
 
     /// A key's value at the end of what is published.
-    pub fn get<R: Wait>(
+    pub fn get<R: Wait + rt::Clock>(
         &self,
         rt: &R,
         client: &mut EngineClient<Device, Versions, Time>,
@@ -39,7 +40,7 @@ impl<
     }
 
     /// The values of keys, all at one end of what is published.
-    pub fn get_many<R: Wait>(
+    pub fn get_many<R: Wait + rt::Clock>(
         &self,
         rt: &R,
         client: &mut EngineClient<Device, Versions, Time>,
@@ -55,7 +56,7 @@ impl<
     }
 
     /// The keys from `lo` on and below `hi` with their values, all at one end of what is published, in byte order.
-    pub fn scan<R: Wait>(
+    pub fn scan<R: Wait + rt::Clock>(
         &self,
         rt: &R,
         client: &mut EngineClient<Device, Versions, Time>,

@@ -14,6 +14,7 @@ use engine_calls::Gate;
 use engine_memtable::work;
 use engine_parts::{Answer, Request};
 use line_writers::{PipelinedRole, Role, Writer};
+use std::rt;
 use std::sync::Wait;
 use table_calls::Table;
 use table_tree::{Nodes, Parts};
@@ -26,7 +27,7 @@ impl<
 > GroupEngine<Device, Versions, Time, Watch> {
     /// Waits until the client leads a group, or has its reply. Until then it works beside its leader, where it is told
     /// to.
-    pub(crate) fn await_own_role<R: Wait>(
+    pub(crate) fn await_own_role<R: Wait + rt::Clock>(
         &self,
         rt: &R,
         writer: &mut Writer<Request, Answer, Leadership<Device, Versions, Time>, Right<Versions>>,

@@ -14,6 +14,7 @@ use crossbeam_utils::Backoff;
 use engine_calls::{Gate, Receipt, Refused};
 use engine_controller::Note;
 use model_base::Refusal;
+use std::rt;
 use std::sync::Wait;
 use table_calls::Table;
 use table_tree::{Nodes, Parts};
@@ -24,7 +25,11 @@ use table_tree::{Nodes, Parts};
 /// It never waits: runs are given one behind the other, and what is published was given runs before. But where groups
 /// go into the table in a stage of their own, no rule speaks of the log and of the table at one moment, and so it isn't
 /// proved that an answer is above. Where it weren't, the call wouldn't return, and no client would be told of it.
-pub(crate) fn await_above<R: Wait>(rt: &R, shown: u64, answer: &Result<Receipt, Refused>)
+pub(crate) fn await_above<R: Wait + rt::Clock>(
+    rt: &R,
+    shown: u64,
+    answer: &Result<Receipt, Refused>,
+)
     ensures { IsAbove shown answer.now }
 {
     let backoff = Backoff::new();
@@ -58,7 +63,7 @@ impl<
     Watch: Gate + Drop,
 > GroupEngine<Device, Versions, Time, Watch> {
     /// Lets the client see what its answer speaks of: its group published, or the delay that it was refused by.
-    pub(crate) fn see<R: Wait>(
+    pub(crate) fn see<R: Wait + rt::Clock>(
         &self,
         rt: &R,
         client: &mut EngineClient<Device, Versions, Time>,
@@ -83,7 +88,7 @@ impl<
     }
 
     /// Waits until the client has seen its group published, if its batch was accepted.
-    fn await_answer<R: Wait>(
+    fn await_answer<R: Wait + rt::Clock>(
         &self,
         rt: &R,
         client: &mut EngineClient<Device, Versions, Time>,
@@ -103,7 +108,7 @@ impl<
     }
 
     /// Waits until the client has seen what is published up to a sequence.
-    fn await_seen<R: Wait>(
+    fn await_seen<R: Wait + rt::Clock>(
         &self,
         rt: &R,
         client: &mut EngineClient<Device, Versions, Time>,

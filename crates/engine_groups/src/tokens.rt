@@ -9,6 +9,7 @@ ghost use Rattle.engine_groups.specs.Clients.{IsClientOf, account_in};
 use crate::engine::{EngineClient, GroupEngine};
 use base_devices::{Clock, Disk};
 use engine_calls::{Gate, Held, NotHeld};
+use std::rt;
 use std::sync::Wait;
 use table_calls::Table;
 use table_tree::{Nodes, Parts};
@@ -20,7 +21,7 @@ impl<
     Watch: Gate + Drop,
 > GroupEngine<Device, Versions, Time, Watch> {
     /// Takes the client's stop token. While anybody holds one, all writes wait, and those that may not are refused.
-    pub fn stop<R: Wait>(
+    pub fn stop<R: Wait + rt::Clock>(
         &self,
         rt: &R,
         client: &mut EngineClient<Device, Versions, Time>,
@@ -36,7 +37,7 @@ impl<
     }
 
     /// Gives the client's stop token back.
-    pub fn unstop<R: Wait>(
+    pub fn unstop<R: Wait + rt::Clock>(
         &self,
         rt: &R,
         client: &mut EngineClient<Device, Versions, Time>,
@@ -52,7 +53,7 @@ impl<
     }
 
     /// Takes the client's slow token, with a rate in bytes a second. While anybody holds one, writes are slowed down.
-    pub fn slow<R: Wait>(
+    pub fn slow<R: Wait + rt::Clock>(
         &self,
         rt: &R,
         client: &mut EngineClient<Device, Versions, Time>,
@@ -70,7 +71,7 @@ impl<
     }
 
     /// Gives the client's slow token back.
-    pub fn unslow<R: Wait>(
+    pub fn unslow<R: Wait + rt::Clock>(
         &self,
         rt: &R,
         client: &mut EngineClient<Device, Versions, Time>,
@@ -86,7 +87,11 @@ impl<
     }
 
     /// Gives back the tokens that the client holds.
-    pub fn end<R: Wait>(&self, rt: &R, client: &mut EngineClient<Device, Versions, Time>)
+    pub fn end<R: Wait + rt::Clock>(
+        &self,
+        rt: &R,
+        client: &mut EngineClient<Device, Versions, Time>,
+    )
         requires { IsClientOf Versions.Table self.now client.old }
         ensures belongs { IsClientOf Versions.Table self.now client.new }
         ensures back { GivesBack (account_in Versions.Table client.old) (account_in Versions.Table client.new) }

@@ -34,6 +34,7 @@ use engine_parts::{
 use line_writers::Role;
 use log_batch::{Batch, Measure, refusal_at_once};
 use model_base::{Item, Refusal, WriteOptions};
+use std::rt;
 use std::snapshot::Snapshot;
 use std::sync::Wait;
 use table_calls::Table;
@@ -54,7 +55,7 @@ impl<
     ghost use Rattle.engine_groups.specs.Clients.{account_in, settings_of};
 
     /// Writes a batch under a run of sequences of its own, and waits until reads see it.
-    pub fn write<R: Wait>(
+    pub fn write<R: Wait + rt::Clock>(
         &self,
         rt: &R,
         client: &mut EngineClient<Device, Versions, Time>,
@@ -117,7 +118,7 @@ impl<
     }
 
     /// Puts a request into the list, and waits for its answer.
-    fn submit<R: Wait>(
+    fn submit<R: Wait + rt::Clock>(
         &self,
         rt: &R,
         client: &mut EngineClient<Device, Versions, Time>,
@@ -151,7 +152,7 @@ impl<
     }
 
     /// Leads a group, and answers the leader's own reply.
-    fn lead<R: Wait>(
+    fn lead<R: Wait + rt::Clock>(
         &self,
         rt: &R,
         client: &mut EngineClient<Device, Versions, Time>,
@@ -212,7 +213,7 @@ impl<
 
     /// Asks the write controller for the leader's group, and writes it, as soon as writes aren't stalled. Members that
     /// may not wait are refused where they are.
-    fn serve<R: Wait>(
+    fn serve<R: Wait + rt::Clock>(
         &self,
         rt: &R,
         client: &mut EngineClient<Device, Versions, Time>,

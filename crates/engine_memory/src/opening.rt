@@ -22,29 +22,29 @@ use table_memory::MemoryTable;
 /// An engine over an opened log and a table of so many shards, at least one, with so many clients, of which none has
 /// done anything. Where memory is short, log, clock and gate come back. Its groups go into the table in a stage of
 /// their own where it is pipelined.
-pub fn open_engine<D: Disk, C: Clock + Drop, G: Gate + Drop>(
+pub fn open_engine<Device: Disk, Time: Clock + Drop, Watch: Gate + Drop>(
     alloc: Global,
-    log: LogWriter<D>,
-    clock: C,
+    log: LogWriter<Device>,
+    clock: Time,
     clients: u32,
-    gate: G,
+    gate: Watch,
     options: Options,
     shards: u32,
     pipelined: bool,
 ) -> Result<
     (
-        GroupEngine<D, MemoryTable, C, G>,
-        Clients<EngineClient<D, MemoryTable, C>, ClosingRoom<D, MemoryTable, C>>,
+        GroupEngine<Device, MemoryTable, Time, Watch>,
+        Clients<EngineClient<Device, MemoryTable, Time>, ClosingRoom<Device, MemoryTable, Time>>,
     ),
-    (LogWriter<D>, C, G),
+    (LogWriter<Device>, Time, Watch),
 >
     requires options { (options.last ≤ max_sequence) × (options.batch_bytes ≤ MAX_SIZE) }
     requires clients { (0 < clients) × (clients ≤ MAX_CLIENTS) }
-    requires log { (disk : D) × HasOpened disk log }
+    requires log { (disk : Device) × HasOpened disk log }
     requires shards { 0 < shards }
     ensures engine { IfOk result (λ r. (opened_log r.0 ≡ log)
         × (settings_of memory_table r.0
-        ≡ settings_with options clients (D.faults (disk_of log)))) }
+        ≡ settings_with options clients (Device.faults (disk_of log)))) }
     ensures table { IfOk result (λ r. (opening_of r.0.table).shards ≡ shards) }
     ensures clients { IfOk result (λ r. AreOurs (IsClientOf memory_table r.0)
         (account_in memory_table) (clients_of r.0.list) r.1.clients.items) }

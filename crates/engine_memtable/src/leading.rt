@@ -17,6 +17,7 @@ ghost use Rattle.line_writers.specs.Second.{HasRight};
 use crate::working::work;
 use line_rule::{GivesRun, HasGroupingItem, LogOfGroups};
 use line_writers::{Writer, WriterList};
+use std::rt;
 use std::sync::Wait;
 use table_calls::{GroupParts, Table};
 use table_rule::Versioned;
@@ -24,10 +25,10 @@ use table_rule::Versioned;
 /// Works on the leader's own part of the group that it launched, and waits until the group is published. `end` is the
 /// group's last sequence.
 pub fn await_group<
-    MemberNodes: Versioned,
-    Parts: GroupParts<MemberNodes>,
-    Versions: Table<MemberNodes, Parts>,
-    R: Wait,
+    NodeList: Versioned,
+    GroupList: GroupParts<NodeList>,
+    Versions: Table<NodeList, GroupList>,
+    R: Wait + rt::Clock,
 >(rt: &R, table: &Versions, seat: &mut Versions::Seat, end: u64) -> Versions::Turn
     requires ours { Versions.ours table.now seat.old }
     requires launched { (number : ℕ) × (seen before : List (List MemberVersions)) × (group : List MemberVersions)
@@ -41,7 +42,7 @@ pub fn await_group<
     ensures ready { IsReady (Versions.account seat.new) }
     ensures reached { end ≤ last_of (Versions.opening table.now).start (Versions.account seat.new).seen }
 {
-    work::<MemberNodes, Parts, Versions, R>(rt, table, seat);
+    work::<NodeList, GroupList, Versions, R>(rt, table, seat);
     table.await_published(rt, seat, end)
 }
 
@@ -54,10 +55,10 @@ pub fn lead<
     Reply: GivesRun,
     Log: LogOfGroups<Request, Reply, Right>,
     Right,
-    MemberNodes: Versioned,
-    Parts: GroupParts<MemberNodes>,
-    Versions: Table<MemberNodes, Parts>,
-    R: Wait,
+    NodeList: Versioned,
+    GroupList: GroupParts<NodeList>,
+    Versions: Table<NodeList, GroupList>,
+    R: Wait + rt::Clock,
 >(
     rt: &R,
     list: &WriterList<Request, Reply, Log, Right>,
@@ -66,7 +67,7 @@ pub fn lead<
     seat: &mut Versions::Seat,
     turn: Versions::Turn,
     members: &[u32],
-    parts: &mut Parts,
+    parts: &mut GroupList,
     end: u64,
 ) -> Versions::Turn
     requires leads { Belongs list.now writer.old × ((d : Debt Request Reply) × (from to : List (Handling Request Reply))
@@ -74,10 +75,10 @@ pub fn lead<
         × AreMembers (clients_of list.now) members.now d.rest) }
     requires ours { Versions.ours table.now seat.old × Versions.our_turn table.now turn
         × IsReady (Versions.account seat.old) }
-    requires next { IsNext (Versions.opening table.now) (Versions.history turn) (Parts.parts parts.old) }
-    requires parts { HaveParts (Versions.account seat.old).number members.now (Parts.parts parts.old) }
+    requires next { IsNext (Versions.opening table.now) (Versions.history turn) (GroupList.parts parts.old) }
+    requires parts { HaveParts (Versions.account seat.old).number members.now (GroupList.parts parts.old) }
     requires end { (end
-        ≡ end_of (last_of (Versions.opening table.now).start (Versions.history turn)) (Parts.parts parts.old))
+        ≡ end_of (last_of (Versions.opening table.now).start (Versions.history turn)) (GroupList.parts parts.old))
         × (end < 2 ^ 64) }
     ensures client { (client_of writer.new ≡ client_of writer.old) × Belongs list.now writer.new }
     ensures leads { (d : Debt Request Reply) (from to : List (Handling Request Reply)) (mine : List (Request × Reply))
@@ -85,13 +86,13 @@ pub fn lead<
         → HasRight (clients_of list.now) d from to mine writer.new }
     ensures ours { Versions.ours table.now seat.new × Versions.our_turn table.now result
         × IsReady (Versions.account seat.new) }
-    ensures published { Versions.history result ≡ Versions.history turn ++ Parts.parts parts.old ∷ [] }
+    ensures published { Versions.history result ≡ Versions.history turn ++ GroupList.parts parts.old ∷ [] }
     ensures seen { ((Versions.account seat.new).number ≡ (Versions.account seat.old).number)
         × Begins (Versions.account seat.old).seen (Versions.account seat.new).seen }
     ensures reached { end ≤ last_of (Versions.opening table.now).start (Versions.account seat.new).seen }
-    ensures emptied { (Parts.parts parts.new ≡ []) × (Parts.room parts.new ≡ Parts.room parts.old) }
+    ensures emptied { (GroupList.parts parts.new ≡ []) × (GroupList.room parts.new ≡ GroupList.room parts.old) }
 {
     table.launch(seat, turn, parts);
     list.launch_roles(writer, members);
-    await_group::<MemberNodes, Parts, Versions, R>(rt, table, seat, end)
+    await_group::<NodeList, GroupList, Versions, R>(rt, table, seat, end)
 }

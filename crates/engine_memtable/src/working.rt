@@ -6,6 +6,7 @@ ghost use Rattle.table_rule.specs.declared.view.Stage.TheVariants.{Stored};
 ghost use Rattle.table_rule.specs.Steps.{MayTake};
 ghost use Rattle.engine_memtable.specs.Working.{HasFinished, Works};
 
+use std::rt;
 use std::sync::Wait;
 use table_calls::{Finished, GroupParts, Table};
 use table_rule::Versioned;
@@ -13,10 +14,10 @@ use table_rule::Versioned;
 /// Waits until the member's own part of a launched group is handed to it, puts it into the table, and finishes. Who
 /// finishes last publishes the group.
 pub fn work<
-    MemberNodes: Versioned,
-    Parts: GroupParts<MemberNodes>,
-    Versions: Table<MemberNodes, Parts>,
-    R: Wait,
+    NodeList: Versioned,
+    GroupList: GroupParts<NodeList>,
+    Versions: Table<NodeList, GroupList>,
+    R: Wait + rt::Clock,
 >(rt: &R, table: &Versions, seat: &mut Versions::Seat)
     requires ours { Versions.ours table.now seat.old }
     requires free { MayTake (Versions.account seat.old).stage }
@@ -25,14 +26,14 @@ pub fn work<
 {
     let part = table.take(rt, seat);
     table.insert(rt, seat, part);
-    finish::<MemberNodes, Parts, Versions>(table, seat);
+    finish::<NodeList, GroupList, Versions>(table, seat);
 }
 
 /// The member's part is finished. Who finishes last publishes the group.
 fn finish<
-    MemberNodes: Versioned,
-    Parts: GroupParts<MemberNodes>,
-    Versions: Table<MemberNodes, Parts>,
+    NodeList: Versioned,
+    GroupList: GroupParts<NodeList>,
+    Versions: Table<NodeList, GroupList>,
 >(table: &Versions, seat: &mut Versions::Seat)
     requires ours { Versions.ours table.now seat.old }
     requires stored { (u : Launched) × ((Versions.account seat.old).stage ≡ Stored u) }

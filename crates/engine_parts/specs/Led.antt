@@ -1,7 +1,8 @@
 -- The group that a leader has in hand.
 use Rattle.std.specs.Prelude.{◌≡◌, ℕ, Bool, true, false, List, [], ◌∷◌}
 use Rattle.std.specs.List.{AllByRecursion}
-use Rattle.engine_rule.specs.Plans.{CommitRequest, AreLawful, AreLogged, AreUnlogged, IsWholeGroup}
+use Rattle.model_base.specs.Controller.{ControllerCall, Look}
+use Rattle.engine_rule.specs.Plans.{CommitRequest, AreLawful, AreLogged, AreUnlogged, ComesAfter, IsAskedFor, IsWholeGroup, ProceedsWith}
 use Rattle.engine_rule.specs.LogCalls.{SyncsFor}
 use Rattle.engine_parts.specs.declared.requests.Request.{Request}
 use Rattle.engine_parts.specs.Handled.{commit_requests_of}
@@ -27,3 +28,14 @@ pub record IsLedGroup (group_bytes clients : ℕ) (requests : List (ℕ × Reque
 abbrev pub LeadsBy : ℕ → List (ℕ × Request) → Type 0
 LeadsBy number [] = ⊥
 LeadsBy number (x ∷ requests) = x.0 ≡ number
+
+-- A leader has this group in hand, has asked for it after all that the leaders before it had seen (`asked`), and goes
+-- on with it. It has seen the controller's history up to the delay that it asked for (`known`), and as far as `went`
+-- when the group goes on.
+pub record GoesOnWith (group_bytes clients : ℕ) (asked : List ControllerCall) (requests : List (ℕ × Request))
+    (known went : List ControllerCall) : Type 0 where
+  pub led : IsLedGroup group_bytes clients requests
+  pub numbers : Look
+  pub comes_after : ComesAfter asked known
+  pub asked_for : IsAskedFor (commit_requests_of requests) numbers known
+  pub proceeds : ProceedsWith (commit_requests_of requests) numbers known went

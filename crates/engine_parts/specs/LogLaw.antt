@@ -1,5 +1,5 @@
 -- What a log stands for, with what it was written for.
-use Rattle.std.specs.Prelude.{ℕ, List, map, ⊤}
+use Rattle.std.specs.Prelude.{ℕ, List, ◌++◌, map, Option, ⊤}
 use Rattle.base_devices.specs.declared.disk.Disk.{Ghosts}
 use Rattle.log_writer.specs.declared.writer.LogWriter.{LogWriter}
 use Rattle.log_writer.specs.Words.{fault_of}
@@ -7,11 +7,13 @@ use Rattle.log_writer.specs.Written.{Wrote}
 use Rattle.model_base.specs.Controller.{ControllerCall}
 use Rattle.model_base.specs.LogContents.{GroupCall}
 use Rattle.table_rule.specs.declared.content.MemberVersions.{MemberVersions}
+use Rattle.table_tree.specs.declared.parts.MemberNodes.{MemberNodes}
 use Rattle.line_rule.specs.declared.view.Handling.{Handling}
 use Rattle.engine_rule.specs.Consistent.{AreConsistent}
 use Rattle.engine_parts.specs.declared.requests.Request.{Request}
 use Rattle.engine_parts.specs.declared.requests.Answer.{Answer}
-use Rattle.engine_parts.specs.Handled.{commit_of}
+use Rattle.engine_parts.specs.Handled.{commit_of, handled_with}
+use Rattle.engine_parts.specs.Staged.{published_with}
 
 -- The right to launch is the table's, calls have written the log since it was opened, and log, table and the last
 -- sequence given are what the requests that were handled made. `asked` is the controller's history as the last leader
@@ -35,3 +37,29 @@ abbrev pub LogStandsFor : {Device : Type 0} {ghosts : Ghosts Device} → LogWrit
 LogStandsFor opened start clients group_bytes asked log published last handled =
     StandsFor (λ (t : ⊤) (u : List (List MemberVersions)). ⊤) (λ u. u) tt opened start clients group_bytes asked log
     published last handled
+
+-- What a log was opened as and for, and what came of it so far: the controller's history as the last leader had seen
+-- it, what is published, and what was handled.
+pub record Past (Log : Type 0) : Type 0 where
+  pub opened : Log
+  pub start : ℕ
+  pub group_bytes : ℕ
+  pub asked : List ControllerCall
+  pub published : List (List MemberVersions)
+  pub handled : List (Handling Request Answer)
+
+-- the log and the last sequence given stand for that, in a write path of so many clients
+abbrev pub StandsForPast : {Device : Type 0} {ghosts : Ghosts Device} → ℕ → Past (LogWriter Device ghosts)
+    → LogWriter Device ghosts → ℕ → Type 0
+StandsForPast clients p log last =
+    LogStandsFor p.opened p.start clients p.group_bytes p.asked log p.published last p.handled
+
+-- The same with a group more: its leader has seen so much of the controller, its parts are published, if it has any,
+-- and its requests have these replies.
+abbrev pub with_group : {Log : Type 0} → Past Log → List ControllerCall → Option ℕ → List MemberNodes
+    → List (ℕ × Request) → List (ℕ × Answer) → Past Log
+with_group p seen end parts requests replies = record p {
+  asked = seen;
+  published = published_with end parts p.published;
+  handled = p.handled ++ handled_with requests replies;
+}

@@ -3,22 +3,17 @@
 ghost use Rattle.std.specs.Prelude.{◌≡◌, ◌≤◌, ◌<◌, ◌+◌, ◌-◌, ◌^◌, ℕ, List, [], ◌∷◌, ◌++◌, true, false, Ok, MatchOption, IfSome, length, vec_len, vec_capacity};
 ghost use Rattle.std.specs.List.{AllByRecursion};
 ghost use Rattle.model_base.specs.History.{max_sequence};
-ghost use Rattle.model_base.specs.Controller.{ControllerCall, Look as Numbers};
+ghost use Rattle.model_base.specs.Controller.{ControllerCall};
 ghost use Rattle.log_writer.specs.declared.writer.LogWriter.{LogWriter as Log};
 ghost use Rattle.log_writer.specs.Groups.{counts_of, body_lens_of};
 ghost use Rattle.log_writer.specs.Adding.{Adds, call_of};
-ghost use Rattle.table_rule.specs.declared.content.MemberVersions.{MemberVersions};
 ghost use Rattle.table_tree.specs.Parts.{group_of};
-ghost use Rattle.line_rule.specs.declared.view.Handling.{Handling};
-ghost use Rattle.engine_parts.specs.declared.requests.Request.{Request as Asked};
-ghost use Rattle.engine_parts.specs.declared.requests.Answer.{Answer as Told};
-ghost use Rattle.engine_parts.specs.Handled.{HandsBack, IsReplyOf, commit_requests_of, seen_at, handled_with, InOrder};
-ghost use Rattle.engine_rule.specs.Plans.{ComesAfter, IsAskedFor, ProceedsWith};
+ghost use Rattle.engine_parts.specs.Handled.{HandsBack, IsReplyOf, seen_at, handled_with, InOrder};
 ghost use Rattle.engine_parts.specs.Numbering.{AreBeside, AreEnough, answers, others_in};
 ghost use Rattle.engine_parts.specs.Layout.{IsClear};
-ghost use Rattle.engine_parts.specs.LogLaw.{LogStandsFor};
-ghost use Rattle.engine_parts.specs.Led.{IsLedGroup, LeadsBy};
-ghost use Rattle.engine_parts.specs.Staged.{published_with, IsStaged};
+ghost use Rattle.engine_parts.specs.LogLaw.{Past, StandsForPast, with_group};
+ghost use Rattle.engine_parts.specs.Led.{GoesOnWith, IsLedGroup, LeadsBy};
+ghost use Rattle.engine_parts.specs.Staged.{IsStaged};
 
 use crate::layout::Layout;
 use crate::numbering::{GroupFate, answer_all, lay_out, refuse_all};
@@ -75,16 +70,11 @@ pub fn log_phase<Device: Disk>(
         × (length requests.old.items ≤ vec_capacity layout.old.batches)
         × (length requests.old.items ≤ vec_capacity layout.old.members) }
     requires replies { (replies.old.items ≡ []) × (length requests.old.items ≤ vec_capacity replies.old) }
-    ensures path { (opened : Log Device ⟦<Device as Disk>⟧) (start group_bytes : ℕ) (asked went : List ControllerCall)
-        (published : List (List MemberVersions)) (handled : List (Handling Asked Told)) (numbers : Numbers)
-        → IsLedGroup group_bytes layout.old.parts.clients requests.old.items
-        → ComesAfter asked (seen_at delay.now)
-        → IsAskedFor (commit_requests_of requests.old.items) numbers (seen_at delay.now)
-        → ProceedsWith (commit_requests_of requests.old.items) numbers (seen_at delay.now) went
-        → LogStandsFor opened start layout.old.parts.clients group_bytes asked path.log published path.last handled
-        → LogStandsFor opened start layout.old.parts.clients group_bytes went result.0.log
-        (published_with result.1 layout.new.parts.parts published) result.0.last
-        (handled ++ handled_with requests.old.items replies.new.items) }
+    ensures path { (past : Past (Log Device ⟦<Device as Disk>⟧)) (went : List ControllerCall)
+        → GoesOnWith past.group_bytes layout.old.parts.clients past.asked requests.old.items (seen_at delay.now) went
+        → StandsForPast layout.old.parts.clients past path.log path.last
+        → StandsForPast layout.old.parts.clients (with_group past went result.1 layout.new.parts.parts
+        requests.old.items replies.new.items) result.0.log result.0.last }
     ensures staged { IsStaged leader layout.old.parts.clients path.last result.0.last result.1 layout.new.members.items
         layout.new.parts.parts replies.new.items }
     ensures beside { IfSome result.1 (λ _. AreBeside apart (others_in requests.old.items) layout.new.members.items) }

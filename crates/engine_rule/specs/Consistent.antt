@@ -1,14 +1,17 @@
 -- How the log, the table and the answers of a write path belong together, at each moment when nobody leads.
-use Rattle.std.specs.Prelude.{◌≡◌, ◌⊎◌, ℕ, List, [], ◌∷◌, ◌++◌, Option, None}
+use Rattle.std.specs.Prelude.{◌≡◌, ◌⊎◌, ℕ, List, [], ◌∷◌, ◌++◌, length, Option, Some, None, slice_get}
 use Rattle.model_base.specs.Controller.{ControllerCall}
 use Rattle.model_base.specs.LogContents.{GroupCall}
+use Rattle.model_base.specs.Trace.{Settings}
 use Rattle.table_rule.specs.declared.content.MemberVersions.{MemberVersions}
 use Rattle.table_rule.specs.declared.content.Version.{Version}
 use Rattle.table_rule.specs.Histories.{Images, versions_in}
+use Rattle.model_accounts.specs.Accounts.{Account}
 use Rattle.engine_rule.specs.Commits.{Commit, last_after_all, fault_after_all, AreAnswered, AreOfClients}
 use Rattle.engine_rule.specs.Asked.{AreInGroups}
-use Rattle.engine_rule.specs.Entries.{versions_made}
+use Rattle.engine_rule.specs.Entries.{versions_made, HasPart}
 use Rattle.engine_rule.specs.LogCalls.{WroteCommits}
+use Rattle.engine_rule.specs.Plans.{LeadersGroup, all_failed, commits_of_plan, last_with_all}
 
 -- All commits were answered rightly, group by group, and `asked` is the controller's history as the last leader had
 -- seen it when it answered. `last` is the last sequence given, the log has the fault that was told, what is published
@@ -27,3 +30,47 @@ pub record AreConsistent (start clients group_bytes : ℕ) (asked : List Control
 abbrev pub Publishes : List Version → List (List MemberVersions) → List (List MemberVersions) → Type 0
 Publishes versions old new = ((versions ≡ []) × (new ≡ old))
     ⊎ ((g : List MemberVersions) × (new ≡ old ++ g ∷ []) × (versions_in g ≡ versions))
+
+-- What stands when nobody leads: the controller's history as the last leader had seen it, the commits, the last
+-- sequence given, the log's fault, what is published, and the log's calls.
+pub record Standing : Type 0 where
+  pub asked : List ControllerCall
+  pub commits : List Commit
+  pub last : ℕ
+  pub fault : Option ℕ
+  pub published : List (List MemberVersions)
+  pub calls : List GroupCall
+
+-- it belongs together, in a write path with these settings
+abbrev pub IsConsistent : Settings → Standing → Type 0
+IsConsistent settings s = AreConsistent settings.start settings.clients settings.group_bytes s.asked s.commits s.last
+    s.fault s.published s.calls
+
+-- what stands once a leader has answered its group with these commits, and has seen so much of the controller
+abbrev pub answered : Standing → List ControllerCall → List Commit → Standing
+answered s seen commits = record s { asked = seen; commits = s.commits ++ commits }
+
+-- the same where the members whose runs fit have them, the log works, this is published then, and the log has these
+-- calls
+abbrev pub with_runs : Standing → LeadersGroup → List (List MemberVersions) → List GroupCall → Standing
+with_runs s g published calls = let end = last_with_all s.last g.requests in
+    record (answered s g.went (commits_of_plan g.known s.last end g.requests)) {
+      last = end;
+      fault = None;
+      published = published;
+      calls = calls;
+    }
+
+-- the same where all members are told this fault of the log, which has these calls
+abbrev pub with_fault : Standing → LeadersGroup → ℕ → List GroupCall → Standing
+with_fault s g count calls = record (answered s g.went (all_failed g.known count g.requests)) {
+  fault = Some count;
+  calls = calls;
+}
+
+-- the accounts of all clients: each is the client's part of what stands, beside this history of the controller
+pub record AreAccountsOf (settings : Settings) (s : Standing) (history : List ControllerCall)
+    (accounts : List Account) : Type 0 where
+  pub all : length accounts ≡ settings.clients
+  pub each : (i : ℕ) (a : Account) → slice_get accounts i ≡ Some a
+      → HasPart settings.start s.commits s.published history i a

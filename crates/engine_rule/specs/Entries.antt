@@ -1,7 +1,8 @@
 -- What commits make: the entries of the one history, their versions, and each client's account.
-use Rattle.std.specs.Prelude.{◌≡◌, ℕ, ◌+◌, ◌≤◌, List, [], ◌∷◌, ◌++◌, flat_map, map}
+use Rattle.std.specs.Prelude.{◌≡◌, ℕ, ◌+◌, ◌≤◌, List, [], ◌∷◌, ◌++◌, flat_map, map, None}
 use Rattle.std.specs.List.{AllByRecursion}
 use mathlib.Core.List.{IsPrefix}
+use Rattle.model_base.specs.declared.write.Refusal.{Refusal}
 use Rattle.model_base.specs.History.{Entry}
 use Rattle.model_base.specs.Attempts.{Attempt, WriteStatus, succeeded, slowed, faulted, full}
 use Rattle.model_base.specs.Controller.{ControllerCall}
@@ -13,9 +14,9 @@ use Rattle.table_rule.specs.declared.content.Version.{Version}
 use Rattle.table_rule.specs.declared.content.MemberVersions.{MemberVersions}
 use Rattle.table_rule.specs.Histories.{Begins}
 use Rattle.table_rule.specs.Batches.{new_versions, number_from}
-use Rattle.model_accounts.specs.Accounts.{Account}
+use Rattle.model_accounts.specs.Accounts.{Account, IsRefused}
 use Rattle.engine_controller.specs.Passes.{GoesOn}
-use Rattle.engine_rule.specs.Commits.{Answer, accepted, held_up, failed, no_room, Commit, commits_of}
+use Rattle.engine_rule.specs.Commits.{Answer, accepted, held_up, failed, no_room, Commit, AreAnswered, commits_of}
 use Rattle.engine_rule.specs.Asked.{place_of, HasAsked}
 
 -- The history
@@ -113,6 +114,36 @@ pub record HasPart (start : ℕ) (commits : List Commit) (published : List (List
 pub record SeesMore (client : ℕ) (known now : List ControllerCall) : Type 0 where
   pub begins : IsPrefix known now
   pub tokens : tokens_of client now ≡ tokens_of client known
+
+-- One call of a client: the sequence before the first batch, the client's number and its own commits before the call;
+-- and what it had seen published and of the controller then, and has seen at the call's end
+pub record ClientCall : Type 0 where
+  pub start : ℕ
+  pub client : ℕ
+  pub own : List Commit
+  pub before : List (List MemberVersions)
+  pub after : List (List MemberVersions)
+  pub known : List ControllerCall
+  pub now : List ControllerCall
+
+-- its account before the call, and after it, with this commit more
+abbrev pub account_before : ClientCall → Account
+account_before k = account_of k.start k.client k.own k.before k.known
+
+abbrev pub account_with : ClientCall → Commit → Account
+account_with k c = account_of k.start k.client (k.own ++ c ∷ []) k.after k.now
+
+-- what it had seen went on, with no token of its own
+abbrev pub HasSeenMore : ClientCall → Type 0
+HasSeenMore k = Begins k.before k.after × SeesMore k.client k.known k.now
+
+-- all of these commits were answered rightly, and the client's newest is this one
+abbrev pub IsNewest : ClientCall → List Commit → Commit → Type 0
+IsNewest k commits c = AreAnswered k.start None commits × (commits_of k.client commits ≡ k.own ++ c ∷ [])
+
+-- the commit was refused for this
+abbrev pub EndsRefused : ClientCall → Commit → Refusal → Type 0
+EndsRefused k c why = IsRefused (account_before k) c.records c.options why (account_with k c)
 
 -- the clients that made these calls have the numbers from 1 to this
 abbrev pub AreCallsOf : ℕ → List ControllerCall → Type 0

@@ -8,6 +8,7 @@ use Rattle.model_base.specs.declared.write.WriteOptions.{WriteOptions}
 use Rattle.model_base.specs.Batch.{Record, count_of, size_of_batch}
 use Rattle.model_base.specs.Grouping.{group_len, size_of}
 use Rattle.model_base.specs.History.{max_sequence}
+use Rattle.model_base.specs.Trace.{Settings}
 use Rattle.table_rule.specs.declared.content.Version.{Version}
 use Rattle.table_rule.specs.Batches.{new_versions, number_from}
 use Rattle.model_base.specs.Controller.{ControllerCall, Look, HoldUp, delay, look}
@@ -148,3 +149,24 @@ pub record ComesAfter (asked known : List ControllerCall) : Type 0 where
   pub more : List ControllerCall
   pub call : ControllerCall
   pub is : known ≡ (asked ++ more) ++ call ∷ []
+
+-- A leader's group: its requests, the controller's history up to the delay that the leader asked for it, what the
+-- leader was told then, and the history as it had seen it when the group went on
+pub record LeadersGroup : Type 0 where
+  pub requests : List CommitRequest
+  pub known : List ControllerCall
+  pub numbers : Look
+  pub went : List ControllerCall
+
+-- It is a whole group of lawful requests, and its leader asked for it after all that the leaders before it had seen
+-- (`asked`).
+pub record IsBuilt (settings : Settings) (asked : List ControllerCall) (g : LeadersGroup) : Type 0 where
+  pub lawful : AreLawful settings.clients g.requests
+  pub whole : IsWholeGroup settings.group_bytes g.requests
+  pub asked_for : IsAskedFor g.requests g.numbers g.known
+  pub comes_after : ComesAfter asked g.known
+
+-- it is so, and what the leader was told lets all of the group go on
+pub record GoesAhead (settings : Settings) (asked : List ControllerCall) (g : LeadersGroup) : Type 0 where
+  pub built : IsBuilt settings asked g
+  pub proceeds : ProceedsWith g.requests g.numbers g.known g.went

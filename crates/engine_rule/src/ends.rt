@@ -1,11 +1,10 @@
 //! What follows of the commits: for each client at its newest answer, and for all clients at the closing.
 
 ghost use mathlib.Core.List.{IsPrefix};
-ghost use Rattle.std.specs.Prelude.{◌≡◌, ◌+◌, ◌<◌, ◌≤◌, ℕ, List, [], ◌∷◌, ◌++◌, length, Option, None, Some, true, false, slice_get, IfSome, ⊤};
+ghost use Rattle.std.specs.Prelude.{◌≡◌, ◌+◌, ◌<◌, ◌≤◌, ℕ, List, [], ◌∷◌, ◌++◌, length, Option, None, Some, true, false};
 ghost use Rattle.model_base.specs.declared.write.Refusal.TheVariants.{Incomplete, LogFault, SequenceFull};
 ghost use Rattle.model_base.specs.declared.write.WriteOptions.{WriteOptions};
 ghost use Rattle.model_base.specs.History.{max_sequence};
-ghost use Rattle.model_base.specs.Counts.{Rose};
 ghost use Rattle.model_base.specs.Batch.{Record};
 ghost use Rattle.model_base.specs.Controller.{ControllerCall, Look, HoldUp, IsLegal, delay, look};
 ghost use Rattle.model_base.specs.Groups.{Group};
@@ -14,17 +13,16 @@ ghost use Rattle.model_base.specs.Progress.{early_refusal};
 ghost use Rattle.model_base.specs.Replies.{IsLater};
 ghost use Rattle.model_base.specs.Tokens.{tokens_of, holds_stop};
 ghost use Rattle.model_base.specs.Trace.{Settings};
-ghost use Rattle.table_rule.specs.declared.content.MemberVersions.{MemberVersions};
 ghost use Rattle.table_rule.specs.Histories.{Begins, made_by, last_of};
 ghost use Rattle.model_accounts.specs.Accounts.{Account, Wrote, IsRefused};
-ghost use Rattle.model_accounts.specs.Closing.{all_attempts, IsClosing};
+ghost use Rattle.model_accounts.specs.Closing.{all_attempts, IsClosing, RoseInRun};
 ghost use Rattle.model_runs.specs.Written.{WritesLog, IsSyncedBy};
 ghost use Rattle.engine_controller.specs.Passes.{EndsWith};
 ghost use Rattle.engine_rule.specs.Commits.{Commit, accepted, held_up, failed, no_room, last_after_all, AreAnswered, commits_of};
 ghost use Rattle.engine_rule.specs.Asked.{place_of};
-ghost use Rattle.engine_rule.specs.Entries.{trace_of, entries_of, versions_made, account_of, HasPart, SeesMore, AreCallsOf};
+ghost use Rattle.engine_rule.specs.Entries.{trace_of, entries_of, versions_made, account_of, ClientCall, account_before, account_with, HasSeenMore, IsNewest, EndsRefused, AreCallsOf};
 ghost use Rattle.engine_rule.specs.LogCalls.{WroteParts};
-ghost use Rattle.engine_rule.specs.Consistent.{AreConsistent};
+ghost use Rattle.engine_rule.specs.Consistent.{Standing, IsConsistent, AreAccountsOf};
 
 /// The commits' versions reach from the sequence before the first up to the one given last, which isn't above the
 /// greatest.
@@ -38,43 +36,27 @@ pub fn numbers_of_commits()
 /// Of right answers the newest to a client is, for its account, an accepted batch or a refusal, whatever the others
 /// were answered, and whatever it has seen published and of the controller since.
 pub fn accounts_of_the_commits()
-    ensures wrote { (settings : Settings) (start client : ℕ) (commits own : List Commit) (c : Commit)
-        (before after : List (List MemberVersions)) (known now : List ControllerCall) (first group_last : ℕ)
-        → AreAnswered start None commits
-        → commits_of client commits ≡ own ++ c ∷ [] → Begins before after → SeesMore client known now
-        → c.answer ≡ accepted first group_last
-        → early_refusal settings.batch_bytes (holds_stop (tokens_of client known)) c.records c.options ≡ None
-        → last_of start before < first → group_last ≤ last_of start after
-        → Wrote settings (account_of start client own before known) c.records c.options first group_last
-        (account_of start client (own ++ c ∷ []) after now) }
+    ensures wrote { (settings : Settings) (k : ClientCall) (commits : List Commit) (c : Commit) (first group_last : ℕ)
+        → IsNewest k commits c → HasSeenMore k → c.answer ≡ accepted first group_last
+        → early_refusal settings.batch_bytes (holds_stop (tokens_of k.client k.known)) c.records c.options ≡ None
+        → last_of k.start k.before < first → group_last ≤ last_of k.start k.after
+        → Wrote settings (account_before k) c.records c.options first group_last (account_with k c) }
     // where writes are held up, or the log failed, the answer alone says so
-    ensures held_up { (start client : ℕ) (own : List Commit) (c : Commit)
-        (before after : List (List MemberVersions)) (known now : List ControllerCall) (numbers : Look)
-        (by moment bytes : ℕ) → Begins before after → SeesMore client known now
+    ensures held_up { (k : ClientCall) (c : Commit) (numbers : Look) (by moment bytes : ℕ) → HasSeenMore k
         → c.answer ≡ held_up numbers → c.options.no_slowdown ≡ true → HoldUp numbers
-        → IsLater now (length known) (place_of c)
+        → IsLater k.now (length k.known) (place_of c)
         (record { client = by; action = delay moment bytes; told = Some numbers })
-        → IsRefused (account_of start client own before known) c.records c.options
-        (Incomplete numbers.stops numbers.delays numbers.wait) (account_of start client (own ++ c ∷ []) after now) }
-    ensures failed { (start client : ℕ) (own : List Commit) (c : Commit)
-        (before after : List (List MemberVersions)) (known now : List ControllerCall) (count : ℕ)
-        → Begins before after → SeesMore client known now → c.answer ≡ failed count
-        → IsRefused (account_of start client own before known) c.records c.options (LogFault count)
-        (account_of start client (own ++ c ∷ []) after now) }
-    ensures full { (start client : ℕ) (commits own : List Commit) (c : Commit)
-        (before after : List (List MemberVersions)) (known now : List ControllerCall) (last : ℕ)
-        → AreAnswered start None commits
-        → commits_of client commits ≡ own ++ c ∷ [] → Begins before after → SeesMore client known now
-        → c.answer ≡ no_room last → last_of start before ≤ last
-        → IsRefused (account_of start client own before known) c.records c.options (SequenceFull last)
-        (account_of start client (own ++ c ∷ []) after now) }
+        → EndsRefused k c (Incomplete numbers.stops numbers.delays numbers.wait) }
+    ensures failed { (k : ClientCall) (c : Commit) (count : ℕ) → HasSeenMore k → c.answer ≡ failed count
+        → EndsRefused k c (LogFault count) }
+    ensures full { (k : ClientCall) (commits : List Commit) (c : Commit) (last : ℕ) → IsNewest k commits c
+        → HasSeenMore k → c.answer ≡ no_room last → last_of k.start k.before ≤ last
+        → EndsRefused k c (SequenceFull last) }
     // a client that looked itself, and made no commit of it
-    ensures looked { (start client : ℕ) (own : List Commit) (records : List Record) (how : WriteOptions)
-        (before after : List (List MemberVersions)) (known now : List ControllerCall) (numbers : Look)
-        → Begins before after → EndsWith client known look (Some numbers) now → how.no_slowdown ≡ true
-        → HoldUp numbers
-        → IsRefused (account_of start client own before known) records how
-        (Incomplete numbers.stops numbers.delays numbers.wait) (account_of start client own after now) }
+    ensures looked { (k : ClientCall) (records : List Record) (how : WriteOptions) (numbers : Look)
+        → Begins k.before k.after → EndsWith k.client k.known look (Some numbers) k.now → how.no_slowdown ≡ true
+        → HoldUp numbers → IsRefused (account_before k) records how
+        (Incomplete numbers.stops numbers.delays numbers.wait) (account_of k.start k.client k.own k.after k.now) }
 {}
 
 /// A commit that was to be synced, and has a run, was written by a call that synced.
@@ -88,24 +70,13 @@ pub fn synced_commits()
 /// Once all clients are at rest, their accounts are parts of the one trace of the commits and of the controller's one
 /// history, and the log was written by just the calls that wrote its history.
 pub fn closings()
-    ensures closing { (settings : Settings) (ended : ℕ) (commits : List Commit) (last : ℕ) (fault : Option ℕ)
-        (published : List (List MemberVersions)) (calls : List GroupCall) (asked history : List ControllerCall)
-        (accounts : List Account)
-        → AreConsistent settings.start settings.clients settings.group_bytes asked commits last fault published calls
-        → length accounts ≡ settings.clients → IsLegal history → AreCallsOf settings.clients history
-        → IsPrefix asked history
-        → ((i : ℕ) (a : Account) → slice_get accounts i ≡ Some a
-        → HasPart settings.start commits published history i a)
-        → IfSome fault (λ count. Rose settings.opened count × (count ≤ ended))
-        → (groups : List Group)
-        × IsClosing settings ended (trace_of settings.start commits history) groups accounts last fault }
-    ensures log { (settings : Settings) (commits : List Commit) (last : ℕ) (fault : Option ℕ)
-        (published : List (List MemberVersions)) (calls : List GroupCall) (asked history : List ControllerCall)
-        (accounts : List Account)
-        → AreConsistent settings.start settings.clients settings.group_bytes asked commits last fault published calls
-        → length accounts ≡ settings.clients
-        → ((i : ℕ) (a : Account) → slice_get accounts i ≡ Some a
-        → HasPart settings.start commits published history i a)
-        → WritesLog settings.group_bytes (λ (made : List GroupCall). made ≡ calls)
-        (trace_of settings.start commits history) (all_attempts accounts) fault }
+    ensures closing { (settings : Settings) (ended : ℕ) (s : Standing) (history : List ControllerCall)
+        (accounts : List Account) → IsConsistent settings s → AreAccountsOf settings s history accounts
+        → IsLegal history → AreCallsOf settings.clients history → IsPrefix s.asked history
+        → RoseInRun settings ended s.fault → (groups : List Group)
+        × IsClosing settings ended (trace_of settings.start s.commits history) groups accounts s.last s.fault }
+    ensures log { (settings : Settings) (s : Standing) (history : List ControllerCall) (accounts : List Account)
+        → IsConsistent settings s → AreAccountsOf settings s history accounts
+        → WritesLog settings.group_bytes (λ (made : List GroupCall). made ≡ s.calls)
+        (trace_of settings.start s.commits history) (all_attempts accounts) s.fault }
 {}

@@ -23,3 +23,4 @@ pub mod CoreExits
 pub mod CoreGroups
 pub mod CoreSteps
 pub mod Handings
+pub mod Owed

@@ -1,14 +1,15 @@
 -- The events of the list, and of the second one, as events of the write path's core: the two lists are the half of the
 -- core that has the writers.
-use Rattle.std.specs.Prelude.{◌≡◌, ℕ, List, [], ◌∷◌, ◌++◌, map, reverse, Option as Answer, Some, ◌==◌, true, find, None}
+use Rattle.std.specs.Prelude.{◌≡◌, ℕ, List, [], ◌∷◌, ◌++◌, map, reverse, Option as Answer, Some, ◌==◌, true, false, find, None}
 use Rattle.model_core.specs.declared.event.Event.{Event as CoreEvent}
 use Rattle.model_base.specs.Calls.{Reply as CoreReply, commit}
-use Rattle.model_core.specs.Core.{Options, Writer, LogPhase, free as nobody, led, built as in_hand, in_log, State as CoreState, item_of as item_of_writer, Client, marked, handed, client_at, next_call, refusal_of}
+use Rattle.model_core.specs.Core.{Options, Writer, LogPhase, free as nobody, led, built as in_hand, in_log, State as CoreState, item_of as item_of_writer, Client, marked, handed, client_at, next_call, refusal_of, with_runs}
 use Rattle.model_core.specs.Halves.{ListHalf, list_half_of}
 use Rattle.line_rule.specs.declared.view.QueuedWriter.{QueuedWriter}
 use Rattle.line_rule.specs.declared.view.Handling.{Handling}
 use Rattle.line_rule.specs.Events.{LogHolder, free, elected, grouped}
 use Rattle.line_rule.specs.Grouping.{item_of}
+use Rattle.line_rule.specs.Chain.{all_answers}
 use Rattle.std.specs.List.{AllZip}
 use mathlib.Core.Option.{Option, none, some}
 use Rattle.model_base.specs.declared.write.WriteOptions.{WriteOptions}
@@ -17,7 +18,7 @@ use Rattle.model_core.specs.Step.{step}
 use Rattle.line_rule.specs.declared.view.Squad.{Squad}
 use Rattle.line_rule.specs.Standing.{Lead2, level, ahead, line_of}
 use Rattle.line_rule.specs.SecondList.{IsPut}
-use Rattle.line_rule.specs.Steps.{Lists}
+use Rattle.line_rule.specs.Steps.{Lists, IsExit}
 
 -- the core's writer of each writer of the list
 module _ {Request : Type 0} (writer_of : QueuedWriter Request → Writer) where
@@ -56,6 +57,16 @@ module _ {Request Reply : Type 0} (reply_of : Reply → CoreReply) where
   abbrev pub AllHave : CoreReply → List (Handling Request Reply) → Type 0
   AllHave reply [] = Unit {0}
   AllHave reply (h ∷ hs) = (reply_of h.reply ≡ reply) × AllHave reply hs
+
+  -- own's group leaves the list, with the answers of these writers
+  abbrev pub LeavesWith : List Writer → QueuedWriter Request → Lists Request Reply → Lists Request Reply → Type 0
+  LeavesWith ws own a b = (p : Reply) × (gs : List (QueuedWriter Request × Reply)) × IsExit own p gs a b
+      × HasReplies (all_answers own p gs) ws
+
+  -- own's group leaves the list, each of it with this reply
+  abbrev pub AllLeaveWith : CoreReply → QueuedWriter Request → Lists Request Reply → Lists Request Reply → Type 0
+  AllLeaveWith reply own a b = (p : Reply) × (gs : List (QueuedWriter Request × Reply)) × IsExit own p gs a b
+      × AllHave reply (all_answers own p gs)
 
 -- the same in any order: the first of the one is somewhere in the other, and the rest are the others
 abbrev pub IsRearranged : {A : Type 0} → List A → List A → Type 0
@@ -121,6 +132,10 @@ module _ {Request Reply : Type 0} (writer_of : QueuedWriter Request → Writer) 
     pub owed : IsRearranged (map (answer_in reply_of) l.0.3 ++ map answer_of (group_handed_on half.log ws))
         (map answer_of (half.leaving ++ writers_in half.second))
 
+  -- the core's writers are of the clients of the list's, and the core stands as both lists show it
+  abbrev pub StandsAs : List Writer → Lists Request Reply → CoreState → Type 0
+  StandsAs ws l s = IsSame writer_of × IsCoreOf ws l (list_half_of s)
+
   -- the event may come in the core, and takes it to what the lists are then
   abbrev pub IsTaken : Options → CoreEvent → CoreState → List Writer → Lists Request Reply → Type 0
   IsTaken o event s ws l = (new : CoreState) × (step o s event ≡ Some new)
@@ -136,3 +151,8 @@ IsCommit o s c w = (client : Client) × (how : WriteOptions) × (client_at s c �
 abbrev pub HasLeft : CoreState → ℕ → CoreReply → Type 0
 HasLeft s c reply = (w : Writer) × (client : Client) × (client_at s c ≡ Some client)
     × (find (λ (x : Writer). x.client == c) s.leaving ≡ Some w) × (w.answer ≡ Some reply)
+
+-- a group is in hand, no append has failed, and these are the group's writers, with their runs
+abbrev pub IsToLog : CoreState → List Writer → Type 0
+IsToLog s ws = (built : List Writer) × (s.log ≡ in_hand built) × (s.log_failed ≡ false)
+    × (ws ≡ with_runs s.assigned built)

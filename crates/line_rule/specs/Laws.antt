@@ -30,12 +30,13 @@ pub record Laws (Request Reply Log Right : Type 0) : Type 1 where
   pub asks : Request → ℕ → Type 0
 
 -- the code is that of the request's item, and the request is lawful for what the law is about
-abbrev pub asks_for : {Request K : Type 0} → (Request → Item) → (K → Request → Type 0) → K → Request → ℕ → Type 0
+abbrev pub asks_for : {Request About : Type 0} → (Request → Item) → (About → Request → Type 0) → About → Request → ℕ
+    → Type 0
 asks_for item_of lawful about q code = (code ≡ code_by item_of q) × lawful about q
 
 -- the same where what the law is about was picked
-abbrev pub asks_picked : {Request K : Type 0} → (Request → Item) → (K → Request → Type 0) → Picked K → Request → ℕ
-    → Type 0
+abbrev pub asks_picked : {Request About : Type 0} → (Request → Item) → (About → Request → Type 0) → Picked About → Request
+    → ℕ → Type 0
 asks_picked item_of lawful None = λ q code. code ≡ code_by item_of q
 asks_picked item_of lawful (Some about) = asks_for item_of lawful about
 
@@ -58,19 +59,19 @@ abbrev pub logs_from : {Request Reply Log : Type 0} → (Log → List (Handling 
 logs_from stands kept number run start l hs = stands l hs × kept hs × (number l ≡ last_run run start hs)
 
 -- the same where what the law is about was picked: `log` is what the log says, as its trait has it
-abbrev pub logs_picked : {Request Reply Log Right K : Type 0} → (Reply → ℕ × ℕ) → Ghosts Log Request Reply Right K → ℕ
-    → Picked K → Log → List (Handling Request Reply) → Type 0
+abbrev pub logs_picked : {Request Reply Log Right About : Type 0} → (Reply → ℕ × ℕ)
+    → Ghosts Log Request Reply Right About → ℕ → Picked About → Log → List (Handling Request Reply) → Type 0
 logs_picked run log start None = λ l hs. Unit {0}
 logs_picked run log start (Some about) = logs_from (log.stands about) (log.kept about) log.number_of run start
 
-abbrev pub serves_picked : {Request Reply Right K : Type 0} → (K → Right → List (Handling Request Reply) → Type 0)
-    → Picked K → Right
+abbrev pub serves_picked : {Request Reply Right About : Type 0}
+    → (About → Right → List (Handling Request Reply) → Type 0) → Picked About → Right
     → List (Handling Request Reply) → Type 0
 serves_picked serves None = λ m hs. Unit {0}
 serves_picked serves (Some about) = serves about
 
-abbrev pub kept_picked : {Request Reply K : Type 0} → (K → List (Handling Request Reply) → Type 0) → Picked K
-    → List (Handling Request Reply) → Type 0
+abbrev pub kept_picked : {Request Reply About : Type 0} → (About → List (Handling Request Reply) → Type 0)
+    → Picked About → List (Handling Request Reply) → Type 0
 kept_picked kept None = λ hs. Unit {0}
 kept_picked kept (Some about) = kept about
 
@@ -92,8 +93,8 @@ laws asks stands kept number run serves start piped bound = record {
 }
 
 -- the laws of a list that is opened so
-abbrev pub laws_for : {Request Reply Log Right K : Type 0} → (Request → Item) → (Reply → ℕ × ℕ)
-    → Ghosts Log Request Reply Right K → Start K → Laws Request Reply Log Right
+abbrev pub laws_for : {Request Reply Log Right About : Type 0} → (Request → Item) → (Reply → ℕ × ℕ)
+    → Ghosts Log Request Reply Right About → Start About → Laws Request Reply Log Right
 laws_for item_of run log k =
     laws (asks_for item_of log.lawful k.about) (log.stands k.about) (log.kept k.about) log.number_of run
     (log.serves k.about) k.log k.pipelined k.group_bytes

@@ -10,3 +10,4 @@ pub mod Between
 pub mod CoreEvents
 pub mod Handing
 pub mod SecondList
+pub mod Before

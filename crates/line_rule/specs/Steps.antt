@@ -1,8 +1,9 @@
 -- What each step makes of the list: an event, two events, or nothing.
-use Rattle.std.specs.Prelude.{◌≡◌, ◌≢◌, ℕ, ◌<◌, List, [], ◌∷◌, ◌++◌, length, slice_index}
+use Rattle.std.specs.Prelude.{◌≡◌, ◌≢◌, ℕ, ◌<◌, ◌==◌, List, [], ◌∷◌, ◌++◌, length, slice_index}
 use mathlib.Core.Option.{Option, none, some}
 use lib.ListN.{get_elem?}
-use Rattle.atomic_table.specs.Table.{State, Act, Valid, stepped, carried_after}
+use Rattle.atomic_table.specs.Table.{State, Act, Valid, Step, step, stepped, carried_after}
+use prog.Atomic.{either}
 use Rattle.line_rule.specs.declared.view.QueuedWriter.{QueuedWriter}
 use Rattle.line_rule.specs.declared.view.LineHold.{LineHold}
 use Rattle.line_rule.specs.declared.content.LineSlot.{LineSlot}
@@ -21,6 +22,11 @@ use Rattle.line_rule.specs.SecondList.{SecondList, second_list_of, IsPut, IsAhea
 -- the first list, and the second one
 abbrev pub Lists : Type 0 → Type 0 → Type 0
 Lists Request Reply = Core Request Reply × SecondList Request Reply
+
+-- what a step tells of the seat before it, the number found or stored, and the seat after it
+abbrev pub Telling : Type 0 → Type 0 → Type 0 → Type 0 → Type 1
+Telling Request Reply Log Right =
+    Step (LineSlot Request Reply Log Right) → Sat Request Reply Log Right → ℕ → Sat Request Reply Log Right → Type 0
 
 -- all is as it was
 abbrev pub Stays : {A : Type 0} → A → A → Type 0
@@ -119,3 +125,20 @@ module _ {Request Reply Log Right : Type 0} (stands : Laws Request Reply Log Rig
       → (w : List (LineHold Request Reply)) × (a : Act (LineSlot Request Reply Log Right)) × Valid s.homes me.1 a
       × Becomes (event (slice_index s.words i)) (now_of s r) (stepped s i (f (slice_index s.words i)) id me.1 w a)
       × then (slice_index s.words i) (w, carried_after me.1 a)
+
+  -- the same of a load of the word i
+  abbrev pub LoadIs : (ℕ → Lists Request Reply → Lists Request Reply → Type 0) → ℕ → ℕ → Sat Request Reply Log Right → ℕ
+      → Telling Request Reply Log Right → Type 0
+  LoadIs event slots id me i then = StepIs event slots id me i (λ x. x) (then (step slots i 0 0 none) me)
+
+  -- of a store of this value
+  abbrev pub StoreIs : (ℕ → Lists Request Reply → Lists Request Reply → Type 0) → ℕ → ℕ → Sat Request Reply Log Right
+      → ℕ → ℕ → Telling Request Reply Log Right → Type 0
+  StoreIs event slots id me i value then = StepIs event slots id me i (λ _. value)
+      (λ _. then (step slots i value 0 none) me value)
+
+  -- of a compare-exchange from `wanted` to this value
+  abbrev pub ExchangeIs : (ℕ → Lists Request Reply → Lists Request Reply → Type 0) → ℕ → ℕ → Sat Request Reply Log Right
+      → ℕ → ℕ → ℕ → Telling Request Reply Log Right → Type 0
+  ExchangeIs event slots id me i wanted value then =
+      StepIs event slots id me i (λ x. either (x == wanted) value x) (then (step slots i wanted value none) me)

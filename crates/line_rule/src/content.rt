@@ -13,10 +13,10 @@ pub enum LineSlot<Request, Reply, Log, Right> {
 /// What a list of writers is made for: how many clients, the log's number at opening, whether it has the second list,
 /// the bound in bytes under which each group is built, and what else the law of log and right is about.
 #[derive(Drop)]
-pub struct Start<K> {
+pub struct Start<About> {
     pub clients: u32,
     pub log: u64,
     pub pipelined: bool,
     pub group_bytes: u64,
-    pub about: K,
+    pub about: About,
 }

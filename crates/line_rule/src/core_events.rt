@@ -1,11 +1,10 @@
 //! The events of the list, and of the second one, are events of the write path's core.
-ghost use Rattle.std.specs.Prelude.{◌≡◌, List, [], ◌∷◌, ◌++◌, true, false, ℕ, Some};
+ghost use Rattle.std.specs.Prelude.{◌≡◌, List, [], true, false, ℕ, Some};
 ghost use Rattle.std.specs.List.{list_any};
-ghost use mathlib.Core.Option.{none};
 ghost use Rattle.model_base.specs.Calls.{Command, Reply as CoreReply, refused};
 ghost use Rattle.model_base.specs.declared.write.Refusal.TheVariants as no;
 ghost use Rattle.model_core.specs.declared.event.Event.TheVariants as core;
-ghost use Rattle.model_core.specs.Core.{Options, Writer, Client, State, item_of, client_at, built as in_hand, in_log, published, opening_state, first_group, with_runs, has_run};
+ghost use Rattle.model_core.specs.Core.{Options, Writer, Client, State, item_of, client_at, built as in_hand, in_log, published, opening_state, first_group, has_run};
 ghost use Rattle.model_core.specs.Halves.{list_half_of};
 ghost use Rattle.model_core.specs.Step.{step, is_no_slowdown};
 ghost use Rattle.line_rule.specs.declared.view.Back.{Back};
@@ -13,13 +12,14 @@ ghost use Rattle.line_rule.specs.declared.view.QueuedWriter.{QueuedWriter};
 ghost use Rattle.line_rule.specs.declared.view.Handling.{Handling};
 ghost use Rattle.line_rule.specs.declared.view.Squad.{Squad};
 ghost use Rattle.line_rule.specs.Chain.{AllCoded, all_answers};
-ghost use Rattle.line_rule.specs.Events.{free, grouped, comes, elects, builds};
-ghost use Rattle.line_rule.specs.Standing.{level, ahead, line_of};
-ghost use Rattle.line_rule.specs.Steps.{Lists, HappensAlone, IsExit, IsComplete, IsBoundary, IsSecond, IsNext, IsServedOut};
+ghost use Rattle.line_rule.specs.Events.{grouped, comes, elects};
+ghost use Rattle.line_rule.specs.Standing.{ahead, line_of};
+ghost use Rattle.line_rule.specs.Steps.{Lists, HappensAlone, IsBuild, IsComplete, IsBoundary, IsSecond, IsNext, IsServedOut};
 ghost use Rattle.line_rule.specs.Handing.{IsInNone, IsJoined};
-ghost use Rattle.line_rule.specs.CoreEvents.{IsSame, HasItems, HasReplies, AllHave, IsGroupOf, IsCoreOf, IsTaken, IsCommit, HasLeft};
+ghost use Rattle.line_rule.specs.CoreEvents.{IsSame, HasItems, HasReplies, LeavesWith, AllLeaveWith, IsGroupOf, IsCoreOf, StandsAs, IsTaken, IsCommit, HasLeft, IsToLog};
 ghost use Rattle.line_rule.specs.Grouping.{code_by};
 ghost use Rattle.model_base.specs.declared.group.Item.{Item};
+ghost use Rattle.line_rule.specs.Before.{lists_at_opening};
 
 use crate::code::codes_stand_for_items;
 
@@ -42,98 +42,69 @@ pub fn list_and_core<Request, Reply>()
         → IsSame {Request = Request} (λ e. writer e.by e.asked)
         × ((queue : List (QueuedWriter Request)) → AllCoded (λ q code. code ≡ code_by items q) queue
         → HasItems (λ e. writer e.by e.asked) queue) }
-    ensures open { (writer_of : QueuedWriter Request → Writer) (reply_of : Reply
-        → CoreReply) (o : Options) (plans : List (List Command))
-        → IsCoreOf {Request = Request} {Reply = Reply} writer_of reply_of []
-        (([], free, [], []), ([], level, λ _. none))
-        (list_half_of (opening_state o plans)) }
-    ensures link { (writer_of : QueuedWriter Request → Writer) (reply_of : Reply
-        → CoreReply) (o : Options) (s : State) (a b : Lists Request Reply)
-        (ws : List Writer) (e : QueuedWriter Request)
+    ensures open { (writer_of : QueuedWriter Request → Writer) (reply_of : Reply → CoreReply) (o : Options)
+        (plans : List (List Command)) → IsCoreOf {Request = Request} {Reply = Reply} writer_of reply_of []
+        lists_at_opening (list_half_of (opening_state o plans)) }
+    ensures link { (writer_of : QueuedWriter Request → Writer) (reply_of : Reply → CoreReply) (o : Options)
+        (s : State) (a b : Lists Request Reply) (ws : List Writer) (e : QueuedWriter Request)
         → IsCoreOf writer_of reply_of ws a (list_half_of s) → HappensAlone (comes e) a b
-        → IsCommit o s e.by (writer_of e)
-        → IsTaken writer_of reply_of o (core.Link e.by) s ws b }
-    ensures elect { (writer_of : QueuedWriter Request → Writer) (reply_of : Reply
-        → CoreReply) (o : Options) (s : State) (a b : Lists Request Reply)
-        (ws : List Writer) (e : QueuedWriter Request)
-        → IsSame writer_of → IsCoreOf writer_of reply_of ws a (list_half_of s) → HappensAlone (elects e) a b
+        → IsCommit o s e.by (writer_of e) → IsTaken writer_of reply_of o (core.Link e.by) s ws b }
+    ensures elect { (writer_of : QueuedWriter Request → Writer) (reply_of : Reply → CoreReply) (o : Options)
+        (s : State) (a b : Lists Request Reply) (ws : List Writer) (e : QueuedWriter Request)
+        → StandsAs writer_of reply_of ws a s → HappensAlone (elects e) a b
         → IsTaken writer_of reply_of o (core.Elect e.by) s [] b }
-    ensures build { (writer_of : QueuedWriter Request → Writer) (reply_of : Reply
-        → CoreReply) (o : Options) (s : State) (a b : Lists Request Reply)
-        (ws : List Writer) (own : QueuedWriter Request) (group left : List (QueuedWriter Request))
-        → IsSame writer_of → HasItems writer_of a.0.0 → IsCoreOf writer_of reply_of ws a (list_half_of s)
-        → HappensAlone (builds o.group_bytes own group left) a b
+    ensures build { (writer_of : QueuedWriter Request → Writer) (reply_of : Reply → CoreReply) (o : Options)
+        (s : State) (a b : Lists Request Reply) (ws : List Writer) (own : QueuedWriter Request)
+        → StandsAs writer_of reply_of ws a s → HasItems writer_of a.0.0 → IsBuild o.group_bytes own a b
         → IsTaken writer_of reply_of o (core.Build own.by) s [] b }
-    ensures log { (writer_of : QueuedWriter Request → Writer) (reply_of : Reply
-        → CoreReply) (o : Options) (s : State) (a : Lists Request Reply)
-        (old ws built : List Writer) (own : QueuedWriter Request) (group : List (QueuedWriter Request))
-        → IsSame writer_of → IsCoreOf writer_of reply_of old a (list_half_of s)
-        → a.0.1 ≡ grouped own group → s.log ≡ in_hand built → s.log_failed ≡ false
-        → ws ≡ with_runs s.assigned built → list_any has_run ws ≡ true
-        → IsTaken writer_of reply_of o (core.Log own.by) s ws a }
-    ensures boundary { (writer_of : QueuedWriter Request → Writer) (reply_of : Reply
-        → CoreReply) (o : Options) (s : State) (a b : Lists Request Reply)
-        (ws : List Writer) (c : ℕ) (g : Squad Request Reply)
-        → o.pipelined ≡ true → IsSame writer_of → IsCoreOf writer_of reply_of ws a (list_half_of s)
-        → s.log ≡ in_log ws → IsBoundary c g a b
+    ensures log { (writer_of : QueuedWriter Request → Writer) (reply_of : Reply → CoreReply) (o : Options)
+        (s : State) (a : Lists Request Reply) (old ws : List Writer) (own : QueuedWriter Request)
+        (group : List (QueuedWriter Request)) → StandsAs writer_of reply_of old a s → a.0.1 ≡ grouped own group
+        → IsToLog s ws → list_any has_run ws ≡ true → IsTaken writer_of reply_of o (core.Log own.by) s ws a }
+    ensures boundary { (writer_of : QueuedWriter Request → Writer) (reply_of : Reply → CoreReply) (o : Options)
+        (s : State) (a b : Lists Request Reply) (ws : List Writer) (c : ℕ) (g : Squad Request Reply)
+        → o.pipelined ≡ true → StandsAs writer_of reply_of ws a s → s.log ≡ in_log ws → IsBoundary c g a b
         → IsTaken writer_of reply_of o (core.Boundary c) s ws b }
-    ensures second { (writer_of : QueuedWriter Request → Writer) (reply_of : Reply
-        → CoreReply) (o : Options) (s : State) (a b : Lists Request Reply)
-        (ws : List Writer) (c : ℕ) (g : Squad Request Reply) (to : List (Handling Request Reply))
-        → IsSame writer_of → IsCoreOf writer_of reply_of ws a (list_half_of s) → IsSecond c g to a b
+    ensures second { (writer_of : QueuedWriter Request → Writer) (reply_of : Reply → CoreReply) (o : Options)
+        (s : State) (a b : Lists Request Reply) (ws : List Writer) (c : ℕ) (g : Squad Request Reply)
+        (to : List (Handling Request Reply)) → StandsAs writer_of reply_of ws a s → IsSecond c g to a b
         → IsTaken writer_of reply_of o (core.Second c) s ws b }
-    ensures next { (writer_of : QueuedWriter Request → Writer) (reply_of : Reply
-        → CoreReply) (o : Options) (s : State) (a b : Lists Request Reply)
-        (ws : List Writer) (back : Back Request Reply) (g : Squad Request Reply) (own : QueuedWriter Request)
-        (p : Reply) (gs : List (QueuedWriter Request × Reply))
-        → IsCoreOf writer_of reply_of ws a (list_half_of s) → IsNext back own p gs a b → IsJoined g back
-        → HasReplies reply_of (all_answers own p gs) ws
-        → IsTaken writer_of reply_of o (core.Next own.by) s [] b }
-    ensures next_of_handed { (writer_of : QueuedWriter Request → Writer) (reply_of : Reply
-        → CoreReply) (o : Options) (s new : State)
-        (a : Lists Request Reply) (ws : List Writer) (c : ℕ)
+    ensures next { (writer_of : QueuedWriter Request → Writer) (reply_of : Reply → CoreReply) (o : Options)
+        (s : State) (a b : Lists Request Reply) (ws : List Writer) (back : Back Request Reply) (g : Squad Request Reply)
+        (own : QueuedWriter Request) (p : Reply) (gs : List (QueuedWriter Request × Reply)) → IsJoined g back
+        → IsCoreOf writer_of reply_of ws a (list_half_of s) → IsNext back own p gs a b
+        → HasReplies reply_of (all_answers own p gs) ws → IsTaken writer_of reply_of o (core.Next own.by) s [] b }
+    ensures next_of_handed { (writer_of : QueuedWriter Request → Writer) (reply_of : Reply → CoreReply)
+        (o : Options) (s new : State) (a : Lists Request Reply) (ws : List Writer) (c : ℕ)
         → IsCoreOf writer_of reply_of ws a (list_half_of s) → step o s (core.Next c) ≡ Some new
         → a.1.1 ≡ ahead c }
-    ensures exit { (writer_of : QueuedWriter Request → Writer) (reply_of : Reply
-        → CoreReply) (o : Options) (s : State) (a b : Lists Request Reply)
-        (ws : List Writer) (own : QueuedWriter Request) (p : Reply) (gs : List (QueuedWriter Request × Reply))
-        → o.pipelined ≡ false → IsSame writer_of → IsCoreOf writer_of reply_of ws a (list_half_of s)
-        → s.log ≡ in_log ws → s.table ≡ published → IsExit own p gs a b → HasReplies reply_of (all_answers own p gs) ws
-        → IsTaken writer_of reply_of o (core.Exit own.by) s [] b }
-    ensures exit_second { (writer_of : QueuedWriter Request → Writer) (reply_of : Reply
-        → CoreReply) (o : Options) (s : State)
-        (a b : Lists Request Reply) (ws : List Writer) (c : ℕ) (g : Squad Request Reply)
-        → o.pipelined ≡ true → IsSame writer_of → IsCoreOf writer_of reply_of ws a (list_half_of s)
-        → s.table ≡ published → IsServedOut c g a b
+    ensures exit { (writer_of : QueuedWriter Request → Writer) (reply_of : Reply → CoreReply) (o : Options)
+        (s : State) (a b : Lists Request Reply) (ws : List Writer) (own : QueuedWriter Request)
+        → o.pipelined ≡ false → StandsAs writer_of reply_of ws a s → s.log ≡ in_log ws → s.table ≡ published
+        → LeavesWith reply_of ws own a b → IsTaken writer_of reply_of o (core.Exit own.by) s [] b }
+    ensures exit_second { (writer_of : QueuedWriter Request → Writer) (reply_of : Reply → CoreReply) (o : Options)
+        (s : State) (a b : Lists Request Reply) (ws : List Writer) (c : ℕ) (g : Squad Request Reply)
+        → o.pipelined ≡ true → StandsAs writer_of reply_of ws a s → s.table ≡ published → IsServedOut c g a b
         → IsGroupOf writer_of (line_of g) (first_group s.second)
         × IsTaken writer_of reply_of o (core.Exit c) s ws b }
-    ensures log_refused { (writer_of : QueuedWriter Request → Writer) (reply_of : Reply
-        → CoreReply) (o : Options) (s : State)
-        (a b : Lists Request Reply) (old ws built : List Writer) (own : QueuedWriter Request) (p : Reply)
-        (gs : List (QueuedWriter Request × Reply))
-        → IsSame writer_of → IsCoreOf writer_of reply_of old a (list_half_of s) → IsExit own p gs a b
-        → s.log ≡ in_hand built → s.log_failed ≡ false
-        → ws ≡ with_runs s.assigned built → list_any has_run ws ≡ false → HasReplies reply_of (all_answers own p gs) ws
-        → IsTaken writer_of reply_of o (core.Log own.by) s [] b }
-    ensures fault { (writer_of : QueuedWriter Request → Writer) (reply_of : Reply
-        → CoreReply) (o : Options) (s : State) (a b : Lists Request Reply)
-        (old built : List Writer) (own : QueuedWriter Request) (p : Reply) (gs : List (QueuedWriter Request × Reply))
-        → IsSame writer_of → IsCoreOf writer_of reply_of old a (list_half_of s) → IsExit own p gs a b
-        → s.log ≡ in_hand built → AllHave reply_of (refused (no.LogFault 1)) (all_answers own p gs)
+    ensures log_refused { (writer_of : QueuedWriter Request → Writer) (reply_of : Reply → CoreReply) (o : Options)
+        (s : State) (a b : Lists Request Reply) (old ws : List Writer) (own : QueuedWriter Request)
+        → StandsAs writer_of reply_of old a s → IsToLog s ws → list_any has_run ws ≡ false
+        → LeavesWith reply_of ws own a b → IsTaken writer_of reply_of o (core.Log own.by) s [] b }
+    ensures fault { (writer_of : QueuedWriter Request → Writer) (reply_of : Reply → CoreReply) (o : Options)
+        (s : State) (a b : Lists Request Reply) (old built : List Writer) (own : QueuedWriter Request)
+        → StandsAs writer_of reply_of old a s → s.log ≡ in_hand built
+        → AllLeaveWith reply_of (refused (no.LogFault 1)) own a b
         → IsTaken writer_of reply_of o (core.Fault own.by) s [] b }
-    ensures refuse { (writer_of : QueuedWriter Request → Writer) (reply_of : Reply
-        → CoreReply) (o : Options) (s : State) (a b : Lists Request Reply)
-        (old built : List Writer) (own : QueuedWriter Request) (p : Reply) (gs : List (QueuedWriter Request × Reply))
-        (stops delays wait : ℕ)
-        → IsSame writer_of → IsCoreOf writer_of reply_of old a (list_half_of s) → IsExit own p gs a b
-        → s.log ≡ in_hand built → is_no_slowdown built ≡ true
-        → AllHave reply_of (refused (no.Incomplete stops delays wait)) (all_answers own p gs)
+    ensures refuse { (writer_of : QueuedWriter Request → Writer) (reply_of : Reply → CoreReply) (o : Options)
+        (s : State) (a b : Lists Request Reply) (old built : List Writer) (own : QueuedWriter Request)
+        (stops delays wait : ℕ) → StandsAs writer_of reply_of old a s → s.log ≡ in_hand built
+        → is_no_slowdown built ≡ true → AllLeaveWith reply_of (refused (no.Incomplete stops delays wait)) own a b
         → IsTaken writer_of reply_of o (core.Refuse own.by stops delays wait) s [] b }
-    ensures complete { (writer_of : QueuedWriter Request → Writer) (reply_of : Reply
-        → CoreReply) (o : Options) (s : State) (a b : Lists Request Reply)
-        (ws : List Writer) (e : QueuedWriter Request) (p : Reply) (client : Client)
-        → IsSame writer_of → IsCoreOf writer_of reply_of ws a (list_half_of s) → IsComplete e p a b
-        → IsInNone e.by a → client_at s e.by ≡ Some client
+    ensures complete { (writer_of : QueuedWriter Request → Writer) (reply_of : Reply → CoreReply) (o : Options)
+        (s : State) (a b : Lists Request Reply) (ws : List Writer) (e : QueuedWriter Request) (p : Reply)
+        (client : Client) → StandsAs writer_of reply_of ws a s → IsComplete e p a b → IsInNone e.by a
+        → client_at s e.by ≡ Some client
         → HasLeft s e.by (reply_of p) × IsTaken writer_of reply_of o (core.Complete e.by) s ws b }
 {
     codes_stand_for_items();

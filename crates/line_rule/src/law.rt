@@ -1,24 +1,23 @@
 //! What the list is at opening and between any two steps, and what each step makes of it.
-ghost use Rattle.std.specs.Prelude.{◌≡◌, ℕ, ◌+◌, ◌*◌, ◌<◌, ◌≤◌, ◌==◌, true, List, [], ◌∷◌, ◌++◌, length, replicate, slice_index, Some};
-ghost use mathlib.Core.Option.{none};
-ghost use prog.Atomic.{either};
-ghost use Rattle.atomic_table.specs.Table.{State, step, opening, Splits, Joins};
-ghost use Rattle.line_rule.specs.declared.content.LineSlot.{LineSlot};
-ghost use Rattle.line_rule.specs.declared.content.LineSlot.TheVariants.{Empty, Asked, Told, TheLog, TheRight};
+ghost use Rattle.std.specs.Prelude.{◌≡◌, ℕ, ◌<◌, List, [], ◌∷◌, ◌++◌};
+ghost use Rattle.atomic_table.specs.Table.{opening, Splits, Joins};
+ghost use Rattle.line_rule.specs.declared.content.LineSlot.TheVariants.{Empty, Asked, Told};
 ghost use Rattle.line_rule.specs.declared.content.Start.{Start};
 ghost use Rattle.line_rule.specs.declared.view.QueuedWriter.{QueuedWriter};
 ghost use Rattle.line_rule.specs.declared.view.Handling.{Handling};
+ghost use Rattle.line_rule.specs.declared.view.Debt.{Debt};
+ghost use Rattle.line_rule.specs.declared.view.Back.TheVariants.{Away};
 ghost use Rattle.line_rule.specs.declared.view.LineHold.{LineHold};
 ghost use Rattle.line_rule.specs.declared.view.Lead.{Lead};
 ghost use Rattle.line_rule.specs.declared.view.LineStage.TheVariants.{Idle, Preparing, Waiting, Helping, Fresh, Leading, Cutting, Settling, Collecting};
-ghost use Rattle.line_rule.specs.Chain.{state_at, older_at, pack, newest, heads, all_answers};
-ghost use Rattle.line_rule.specs.Events.{LineEvent, free};
-ghost use Rattle.line_rule.specs.Laws.{laws_for, asks_for, logs_picked, kept_picked, given_runs, Unnumbered};
-ghost use Rattle.line_rule.specs.Standing.{level};
+ghost use Rattle.line_rule.specs.Chain.{state_at, older_at, pack, newest};
+ghost use Rattle.line_rule.specs.Events.{LineEvent};
+ghost use Rattle.line_rule.specs.Laws.{laws_for};
 ghost use Rattle.line_rule.specs.Rule.{Listed, newcomers, all_but_first, first_only};
-ghost use Rattle.line_rule.specs.Plays.{Sat, At, queued_writer, in_hand, debt, slots_of, after_begin, after_read_newest, after_name_older, after_link, after_read_state, after_read_reply, after_return_slot, after_build, after_read_older, after_fetch, after_leave, after_cut_off, after_wake, after_complete, after_retire};
-ghost use Rattle.line_rule.specs.Steps.{Lists, now_of, IsNow, Stays, HappensWhere, IsLink, IsElect, IsBuild, IsExit, IsComplete, StepIs};
+ghost use Rattle.line_rule.specs.Plays.{Sat, queued_writer, in_hand, debt, after_begin, after_read_newest, after_name_older, after_link, after_read_state, after_read_reply, after_return_slot, after_build, after_read_older, after_fetch, after_leave, after_cut_off, after_wake, after_complete, after_retire};
+ghost use Rattle.line_rule.specs.Steps.{Lists, now_of, IsNow, Stays, HappensWhere, IsLink, IsElect, IsBuild, IsExit, IsComplete, LoadIs, StoreIs, ExchangeIs};
 ghost use Rattle.line_rule.specs.Between.{Between, AreLists};
+ghost use Rattle.line_rule.specs.Before.{ListState, NameNobody, slots_at_opening, lists_at_opening, IsClient, IsNextAfter, IsNextOwed, IsAt, HasWholeGroup, HasFirst, HasHandledAnd};
 
 use crate::rule::{GivesRun, HasGroupingItem, LogOfGroups};
 use crate::words::{STATE_DONE, STATE_IN_LIST, STATE_LEADS_LOG};
@@ -38,11 +37,10 @@ pub fn between_steps<
     Log: LogOfGroups<Request, Reply, Right>,
     Right,
 >()
-    ensures { (k : Start Log.About) (s : State (LineSlot Request Reply Log Right) (List (LineHold Request Reply)))
-        (r : Listed (laws_for Request.item_of Reply.run_of Log.LogOfGroups k) k.clients s)
-        → (between : Between (laws_for Request.item_of Reply.run_of Log.LogOfGroups k) k.clients s)
-        × AreLists (laws_for Request.item_of Reply.run_of Log.LogOfGroups k) between
-        (now_of (laws_for Request.item_of Reply.run_of Log.LogOfGroups k) k.clients s r) }
+    ensures { (z : Start Log.About) (s : ListState Request Reply Log Right)
+        → let law = laws_for Request.item_of Reply.run_of Log.LogOfGroups z in
+        (r : Listed law z.clients s) → (between : Between law z.clients s)
+        × AreLists law between (now_of law z.clients s r) }
 {}
 
 /// At opening nobody has come, the log is free, nothing was handled, and no group is in the second list, or on the way
@@ -54,14 +52,11 @@ pub fn opening_and_seats<
     Log: LogOfGroups<Request, Reply, Right>,
     Right,
 >()
-    ensures open { (z : Start Log.About) (words : List ℕ) (slots : List (LineSlot Request Reply Log Right)) (l : Log)
-        (right : Right)
-        → z.clients < 255 → length words ≡ 2 * z.clients + 4
-        → slice_index words 0 ≡ 0 → slice_index words 1 ≡ 0
-        → slots ≡ TheLog l ∷ (replicate z.clients Empty ++ TheRight right ∷ [])
-        → logs_picked Reply.run_of Log.LogOfGroups z.log (Some z.about) l [] → Log.serves z.about right []
-        → IsNow (laws_for Request.item_of Reply.run_of Log.LogOfGroups z) z.clients
-        (([], free, [], []), ([], level, λ _. none)) (opening words slots (newcomers z.clients)) }
+    ensures open { (z : Start Log.About) (words : List ℕ) (l : Log) (right : Right)
+        → let law = laws_for Request.item_of Reply.run_of Log.LogOfGroups z in
+        z.clients < 255 → NameNobody z.clients words → law.logs l [] → law.rights right []
+        → IsNow law z.clients lists_at_opening
+        (opening words (slots_at_opening z.clients l right) (newcomers z.clients)) }
     ensures split { (z : Start Log.About) (now : Lists Request Reply) (id k : ℕ) (v : List (LineHold Request Reply))
         → 0 < k → v ≡ newcomers k
         → Splits (IsNow (laws_for Request.item_of Reply.run_of Log.LogOfGroups z) z.clients now)
@@ -74,112 +69,76 @@ pub fn opening_and_seats<
 
 /// What each step of a list with one stage is, and each reading of an older link, of whatever list that keeps the rule,
 /// where its caller may make it: one of those events, two of them where a link finds nobody before it, or none, and the
-/// second list is as it was. A compare-exchange that fails is none.
+/// second list is as it was. A compare-exchange that fails is none. In each clause `law` is what the log and the right
+/// stand for in a list that is opened for `z`.
 pub fn steps_and_events<
     Request: HasGroupingItem,
     Reply: GivesRun,
     Log: LogOfGroups<Request, Reply, Right>,
     Right,
 >()
-    ensures begin { (z : Start Log.About) (slots id word c : ℕ) (me : Sat Request Reply Log Right)
-        (mine : List (Request × Reply))
-        → word ≡ state_at c → At c Idle mine me → me.1 ≡ []
-        → StepIs (laws_for Request.item_of Reply.run_of Log.LogOfGroups z) z.clients (λ _. Stays)
-        slots id me word (λ _. STATE_IN_LIST)
-        (λ _. after_begin (step slots word STATE_IN_LIST 0 none) me STATE_IN_LIST) }
+    ensures begin { (z : Start Log.About) (slots id c : ℕ) (me : Sat Request Reply Log Right)
+        → IsAt c Idle me → me.1 ≡ []
+        → StoreIs (laws_for Request.item_of Reply.run_of Log.LogOfGroups z) z.clients (λ _. Stays)
+        slots id me (state_at c) STATE_IN_LIST after_begin }
     ensures read_newest { (z : Start Log.About) (slots id : ℕ) (me : Sat Request Reply Log Right)
-        → StepIs (laws_for Request.item_of Reply.run_of Log.LogOfGroups z) z.clients (λ _. Stays)
-        slots id me 0 (λ x. x) (after_read_newest (step slots 0 0 0 none) me) }
-    ensures name_older { (z : Start Log.About) (slots id word c w new : ℕ) (me : Sat Request Reply Log Right)
-        (mine : List (Request × Reply))
-        → word ≡ older_at c → At c (Preparing w) mine me
-        → StepIs (laws_for Request.item_of Reply.run_of Log.LogOfGroups z) z.clients (λ _. Stays)
-        slots id me word (λ _. new) (λ _. after_name_older (step slots word new 0 none) me new) }
-    ensures link { (z : Start Log.About) (slots id c w saw code : ℕ) (me : Sat Request Reply Log Right) (q : Request)
-        (mine : List (Request × Reply))
-        → w ≡ pack saw code → At c (Preparing w) mine me → me.1 ≡ (c, Asked q) ∷ []
-        → asks_for Request.item_of Log.lawful z.about q code
-        → StepIs (laws_for Request.item_of Reply.run_of Log.LogOfGroups z) z.clients
-        (IsLink saw (queued_writer c code q)) slots id me 0 (λ x. either (x == saw) c x)
-        (after_link (logs_picked Reply.run_of Log.LogOfGroups z.log (Some z.about)) (step slots 0 saw c none) me) }
-    ensures read_state { (z : Start Log.About) (slots id word c : ℕ) (me : Sat Request Reply Log Right) (q : Request)
-        (past : List (LineEvent Request Reply)) (mine : List (Request × Reply))
-        → word ≡ state_at c → At c (Waiting q past) mine me → me.1 ≡ []
-        → StepIs (laws_for Request.item_of Reply.run_of Log.LogOfGroups z) z.clients
-        (HappensWhere STATE_LEADS_LOG (IsElect c q)) slots id me word (λ x. x)
-        (after_read_state (logs_picked Reply.run_of Log.LogOfGroups z.log (Some z.about))
-        (kept_picked Log.kept (Some z.about)) (step slots word 0 0 none) me) }
-    ensures read_reply { (z : Start Log.About) (slots id word c : ℕ) (me : Sat Request Reply Log Right) (q : Request)
-        (mine : List (Request × Reply))
-        → word ≡ state_at c → At c (Helping q) mine me → me.1 ≡ []
-        → StepIs (laws_for Request.item_of Reply.run_of Log.LogOfGroups z) z.clients (λ _. Stays)
-        slots id me word (λ x. x)
-        (after_read_reply (kept_picked Log.kept (Some z.about)) (step slots word 0 0 none) me) }
+        → LoadIs (laws_for Request.item_of Reply.run_of Log.LogOfGroups z) z.clients (λ _. Stays)
+        slots id me 0 after_read_newest }
+    ensures name_older { (z : Start Log.About) (slots id c w new : ℕ) (me : Sat Request Reply Log Right)
+        → IsAt c (Preparing w) me
+        → StoreIs (laws_for Request.item_of Reply.run_of Log.LogOfGroups z) z.clients (λ _. Stays)
+        slots id me (older_at c) new after_name_older }
+    ensures link { (z : Start Log.About) (slots id c saw code : ℕ) (me : Sat Request Reply Log Right) (q : Request)
+        → let law = laws_for Request.item_of Reply.run_of Log.LogOfGroups z in
+        IsAt c (Preparing (pack saw code)) me → me.1 ≡ (c, Asked q) ∷ [] → law.asks q code
+        → ExchangeIs law z.clients (IsLink saw (queued_writer c code q)) slots id me 0 saw c (after_link law.logs) }
+    ensures read_state { (z : Start Log.About) (slots id c : ℕ) (me : Sat Request Reply Log Right) (q : Request)
+        (past : List (LineEvent Request Reply)) → let law = laws_for Request.item_of Reply.run_of Log.LogOfGroups z in
+        IsAt c (Waiting q past) me → me.1 ≡ []
+        → LoadIs law z.clients (HappensWhere STATE_LEADS_LOG (IsElect c q)) slots id me (state_at c)
+        (after_read_state law.logs law.kept) }
+    ensures read_reply { (z : Start Log.About) (slots id c : ℕ) (me : Sat Request Reply Log Right) (q : Request)
+        → let law = laws_for Request.item_of Reply.run_of Log.LogOfGroups z in IsAt c (Helping q) me → me.1 ≡ []
+        → LoadIs law z.clients (λ _. Stays) slots id me (state_at c) (after_read_reply law.kept) }
     ensures rest { (z : Start Log.About) (slots id word c : ℕ) (me : Sat Request Reply Log Right)
-        (mine : List (Request × Reply))
-        → At c Collecting mine me → me.1 ≡ (c, Empty) ∷ []
-        → StepIs (laws_for Request.item_of Reply.run_of Log.LogOfGroups z) z.clients (λ _. Stays)
-        slots id me word (λ x. x) (after_return_slot (step slots word 0 0 none) me) }
+        → IsAt c Collecting me → me.1 ≡ (c, Empty) ∷ []
+        → LoadIs (laws_for Request.item_of Reply.run_of Log.LogOfGroups z) z.clients (λ _. Stays)
+        slots id me word after_return_slot }
     ensures build { (z : Start Log.About) (slots id c : ℕ) (me : Sat Request Reply Log Right)
-        (own : QueuedWriter Request)
-        (seen : List (Handling Request Reply)) (mine : List (Request × Reply))
-        → At c (Fresh own seen) mine me
-        → StepIs (laws_for Request.item_of Reply.run_of Log.LogOfGroups z) z.clients
-        (λ _. IsBuild z.group_bytes own) slots id me 0 (λ x. x)
-        (after_build (asks_for Request.item_of Log.lawful z.about) z.group_bytes (step slots 0 0 0 none) me) }
+        (own : QueuedWriter Request) (seen : List (Handling Request Reply)) → IsAt c (Fresh own seen) me
+        → let law = laws_for Request.item_of Reply.run_of Log.LogOfGroups z in
+        LoadIs law z.clients (λ _. IsBuild z.group_bytes own) slots id me 0 (after_build law.asks z.group_bytes) }
     ensures read_older { (z : Start Log.About) (slots id word : ℕ) (me : Sat Request Reply Log Right)
-        → StepIs (laws_for Request.item_of Reply.run_of Log.LogOfGroups z) z.clients (λ _. Stays)
-        slots id me word (λ x. x) (after_read_older (step slots word 0 0 none) me) }
-    ensures fetch { (z : Start Log.About) (slots id word c : ℕ) (me : Sat Request Reply Log Right)
-        (lead : Lead Request Reply)
-        (mine : List (Request × Reply)) (newer : List (QueuedWriter Request)) (x : QueuedWriter Request)
-        → At c (Leading lead) mine me → lead.walk ≡ newer ++ x ∷ in_hand lead → word ≡ older_at x.by
-        → StepIs (laws_for Request.item_of Reply.run_of Log.LogOfGroups z) z.clients (λ _. Stays)
-        slots id me word (λ x. x) (after_fetch (step slots word 0 0 none) me) }
-    ensures leave { (z : Start Log.About) (slots id c member : ℕ) (me : Sat Request Reply Log Right)
-        (lead : Lead Request Reply)
-        (mine : List (Request × Reply)) (gs : List (QueuedWriter Request × Reply)) (p : Reply) (l : Log)
-        → At c (Leading lead) mine me → lead.taken ≡ lead.group → heads gs ≡ lead.taken
-        → me.1 ≡ (0, TheLog l) ∷ slots_of gs ((c, Told p) ∷ []) → member ≡ newest (in_hand lead)
-        → logs_picked Reply.run_of Log.LogOfGroups z.log (Some z.about) l
-        (lead.seen ++ all_answers lead.own p gs)
-        → Unnumbered z.pipelined (given_runs Reply.run_of) lead.seen (lead.seen ++ all_answers lead.own p gs)
-        → StepIs (laws_for Request.item_of Reply.run_of Log.LogOfGroups z) z.clients
-        (HappensWhere member (IsExit lead.own p gs)) slots id me 0 (λ x. either (x == member) 0 x)
-        (after_leave (step slots 0 member 0 none) me) }
-    ensures cut_off { (z : Start Log.About) (slots id word c new : ℕ) (me : Sat Request Reply Log Right)
-        (lead : Lead Request Reply)
-        (mine : List (Request × Reply)) (newer : List (QueuedWriter Request)) (x : QueuedWriter Request)
-        → At c (Leading lead) mine me → lead.taken ≡ lead.group → lead.walk ≡ newer ++ x ∷ in_hand lead
-        → word ≡ older_at x.by → new ≡ pack 0 x.code
-        → StepIs (laws_for Request.item_of Reply.run_of Log.LogOfGroups z) z.clients (λ _. Stays)
-        slots id me word (λ _. new) (λ _. after_cut_off (step slots word new 0 none) me new) }
-    ensures wake { (z : Start Log.About) (slots id word c : ℕ) (me : Sat Request Reply Log Right)
+        → LoadIs (laws_for Request.item_of Reply.run_of Log.LogOfGroups z) z.clients (λ _. Stays)
+        slots id me word after_read_older }
+    ensures fetch { (z : Start Log.About) (slots id c : ℕ) (me : Sat Request Reply Log Right)
         (lead : Lead Request Reply) (x : QueuedWriter Request)
-        (mine : List (Request × Reply)) (gs : List (QueuedWriter Request × Reply)) (p : Reply) (l : Log)
-        → At c (Cutting lead x) mine me → heads gs ≡ lead.taken
-        → me.1 ≡ (0, TheLog l) ∷ slots_of gs ((c, Told p) ∷ []) → word ≡ state_at x.by → 0 < x.by → x.by ≤ z.clients
-        → logs_picked Reply.run_of Log.LogOfGroups z.log (Some z.about) l
-        (lead.seen ++ all_answers lead.own p gs)
-        → Unnumbered z.pipelined (given_runs Reply.run_of) lead.seen (lead.seen ++ all_answers lead.own p gs)
-        → StepIs (laws_for Request.item_of Reply.run_of Log.LogOfGroups z) z.clients
-        (λ _. IsExit lead.own p gs) slots id me word (λ _. STATE_LEADS_LOG)
-        (λ _. after_wake (step slots word STATE_LEADS_LOG 0 none) me STATE_LEADS_LOG) }
-    ensures complete { (z : Start Log.About) (slots id word c : ℕ) (me : Sat Request Reply Log Right)
-        (member : QueuedWriter Request × Reply)
-        (others : List (QueuedWriter Request × Reply)) (own : QueuedWriter Request) (p : Reply)
-        (mine : List (Request × Reply)) (more : List (ℕ × LineSlot Request Reply Log Right))
-        → At c (Settling (debt (member ∷ others) own p)) mine me
-        → me.1 ≡ (member.0.by, Told member.1) ∷ more → word ≡ state_at member.0.by
-        → 0 < member.0.by → member.0.by ≤ z.clients
-        → StepIs (laws_for Request.item_of Reply.run_of Log.LogOfGroups z) z.clients
-        (λ _. IsComplete member.0 member.1) slots id me word (λ _. STATE_DONE)
-        (λ _. after_complete (step slots word STATE_DONE 0 none) me STATE_DONE) }
-    ensures retire { (z : Start Log.About) (slots id word c : ℕ) (me : Sat Request Reply Log Right)
+        → IsAt c (Leading lead) me → IsNextAfter (in_hand lead) x lead.walk
+        → LoadIs (laws_for Request.item_of Reply.run_of Log.LogOfGroups z) z.clients (λ _. Stays)
+        slots id me (older_at x.by) after_fetch }
+    ensures leave { (z : Start Log.About) (slots id c member : ℕ) (me : Sat Request Reply Log Right)
+        (lead : Lead Request Reply) (gs : List (QueuedWriter Request × Reply)) (p : Reply)
+        → let law = laws_for Request.item_of Reply.run_of Log.LogOfGroups z in
+        HasWholeGroup c lead me → HasHandledAnd law [] c lead Away gs p me → member ≡ newest (in_hand lead)
+        → ExchangeIs law z.clients (HappensWhere member (IsExit lead.own p gs)) slots id me 0 member 0 after_leave }
+    ensures cut_off { (z : Start Log.About) (slots id c : ℕ) (me : Sat Request Reply Log Right)
+        (lead : Lead Request Reply) (x : QueuedWriter Request)
+        → HasWholeGroup c lead me → IsNextAfter (in_hand lead) x lead.walk
+        → StoreIs (laws_for Request.item_of Reply.run_of Log.LogOfGroups z) z.clients (λ _. Stays)
+        slots id me (older_at x.by) (pack 0 x.code) after_cut_off }
+    ensures wake { (z : Start Log.About) (slots id c : ℕ) (me : Sat Request Reply Log Right) (lead : Lead Request Reply)
+        (x : QueuedWriter Request) (gs : List (QueuedWriter Request × Reply)) (p : Reply)
+        → let law = laws_for Request.item_of Reply.run_of Log.LogOfGroups z in
+        IsAt c (Cutting lead x) me → IsClient z.clients x.by → HasHandledAnd law [] c lead Away gs p me
+        → StoreIs law z.clients (λ _. IsExit lead.own p gs) slots id me (state_at x.by) STATE_LEADS_LOG after_wake }
+    ensures complete { (z : Start Log.About) (slots id c : ℕ) (me : Sat Request Reply Log Right)
+        (d : Debt Request Reply) (member : QueuedWriter Request × Reply) → IsAt c (Settling d) me
+        → IsNextOwed member d → HasFirst member.0.by (Told member.1) me → IsClient z.clients member.0.by
+        → let law = laws_for Request.item_of Reply.run_of Log.LogOfGroups z in StoreIs law z.clients
+        (λ _. IsComplete member.0 member.1) slots id me (state_at member.0.by) STATE_DONE after_complete }
+    ensures retire { (z : Start Log.About) (slots id c : ℕ) (me : Sat Request Reply Log Right)
         (own : QueuedWriter Request) (p : Reply)
-        (mine : List (Request × Reply))
-        → At c (Settling (debt [] own p)) mine me → me.1 ≡ (c, Empty) ∷ [] → word ≡ state_at c
-        → StepIs (laws_for Request.item_of Reply.run_of Log.LogOfGroups z) z.clients
-        (λ _. IsComplete own p) slots id me word (λ _. STATE_DONE)
-        (λ _. after_retire (step slots word STATE_DONE 0 none) me STATE_DONE) }
+        → IsAt c (Settling (debt [] own p)) me → me.1 ≡ (c, Empty) ∷ []
+        → StoreIs (laws_for Request.item_of Reply.run_of Log.LogOfGroups z) z.clients (λ _. IsComplete own p)
+        slots id me (state_at c) STATE_DONE after_retire }
 {}

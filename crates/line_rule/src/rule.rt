@@ -46,15 +46,15 @@ pub trait HasGroupingItem {
 }
 
 /// What the law of the log is about, and a number, which the caller picks: the one at opening, or a group's bound.
-pub trait PickedAbout<K> {
+pub trait PickedAbout<About> {
     ghost use Rattle.std.specs.Prelude.{ℕ, Option};
 
     ghost number: { ℕ };
 
-    ghost about: { Option K };
+    ghost about: { Option About };
 }
 
-impl<K> PickedAbout<K> for Brand {
+impl<About> PickedAbout<About> for Brand {
     ghost use Rattle.std.specs.Prelude.{None};
 
     ghost number = { 0 };
@@ -77,16 +77,16 @@ impl<Request, Reply> PickedGiven<Request, Reply> for Brand {
 }
 
 /// What the law of the right is about, and which of what was handled was given runs, which the caller picks.
-pub trait PickedRight<Request, Reply, K> {
+pub trait PickedRight<Request, Reply, About> {
     ghost use Rattle.std.specs.Prelude.{List, Option};
     ghost use Rattle.line_rule.specs.declared.view.Handling.{Handling};
 
-    ghost about: { Option K };
+    ghost about: { Option About };
 
     ghost given: { List (Handling Request Reply) };
 }
 
-impl<Request, Reply, K> PickedRight<Request, Reply, K> for Brand {
+impl<Request, Reply, About> PickedRight<Request, Reply, About> for Brand {
     ghost use Rattle.std.specs.Prelude.{[], None};
 
     ghost about = { None };

@@ -1,30 +1,25 @@
 //! What each step makes of the list that only a list with the second one has.
-ghost use Rattle.std.specs.Prelude.{◌≡◌, ℕ, ◌+◌, ◌≤◌, ◌<◌, ◌==◌, ◌⊎◌, true, List, [], ◌∷◌, ◌++◌, Some};
-ghost use mathlib.Core.Option.{none, some};
-ghost use prog.Atomic.{either};
-ghost use Rattle.atomic_table.specs.Table.{State, step};
-ghost use Rattle.line_rule.specs.declared.content.LineSlot.{LineSlot};
-ghost use Rattle.line_rule.specs.declared.content.LineSlot.TheVariants.{Told, TheLog, TheRight};
+ghost use Rattle.std.specs.Prelude.{◌≡◌, ℕ, ◌≤◌, ◌⊎◌, true, List, []};
+ghost use mathlib.Core.Option.{some};
 ghost use Rattle.line_rule.specs.declared.content.Start.{Start};
 ghost use Rattle.line_rule.specs.declared.view.Back.{Back};
-ghost use Rattle.line_rule.specs.declared.view.Back.TheVariants.{Away, Parting, Queued, Serving, Passing};
+ghost use Rattle.line_rule.specs.declared.view.Back.TheVariants.{Away, Parting, Queued, Passing};
 ghost use Rattle.line_rule.specs.declared.view.Debt.{Debt};
 ghost use Rattle.line_rule.specs.declared.view.QueuedWriter.{QueuedWriter};
 ghost use Rattle.line_rule.specs.declared.view.Handling.{Handling};
 ghost use Rattle.line_rule.specs.declared.view.Lead.{Lead};
 ghost use Rattle.line_rule.specs.declared.view.Squad.{Squad};
 ghost use Rattle.line_rule.specs.declared.view.LineStage.{LineStage};
-ghost use Rattle.line_rule.specs.declared.view.LineStage.TheVariants.{Leading, Cutting, Marking, Settling};
-ghost use Rattle.line_rule.specs.Chain.{AllCoded, state_at, older_at, pack, newest, heads, all_answers};
+ghost use Rattle.line_rule.specs.declared.view.LineStage.TheVariants.{Cutting, Marking, Settling};
+ghost use Rattle.line_rule.specs.Chain.{AllCoded, state_at, older_at, pack, newest};
 ghost use Rattle.line_rule.specs.Standing.{line_of};
-ghost use Rattle.line_rule.specs.Laws.{laws_for, asks_for, logs_picked, given_runs};
-ghost use Rattle.line_rule.specs.Plays.{Sat, At, AtWith, HandsOn, IsCut, squad_at_cut, in_hand, debt, slots_of, after_read_newest, after_cut_as, after_mark, after_wake, after_free, after_cut_behind_mark, after_aim_second, after_join_second, after_summon, after_make_parallel, after_leave_second, after_clear_second, after_call_next};
-ghost use Rattle.line_rule.specs.Steps.{now_of, Stays, HappensWhere, IsBoundary, IsSecond, IsNext, IsServedOut, StepIs};
-ghost use Rattle.line_rule.specs.Handing.{Sees, IsWalked, IsOwn, IsInNone, IsJoined, IsServed, IsNewestGroup, IsOldestGroup};
+ghost use Rattle.line_rule.specs.Laws.{laws_for};
+ghost use Rattle.line_rule.specs.Plays.{Sat, HandsOn, IsCut, squad_at_cut, in_hand, debt, after_read_newest, after_cut_as, after_mark, after_wake, after_free, after_cut_behind_mark, after_aim_second, after_join_second, after_summon, after_make_parallel, after_leave_second, after_clear_second, after_call_next};
+ghost use Rattle.line_rule.specs.Steps.{now_of, Stays, HappensWhere, IsBoundary, IsSecond, IsNext, IsServedOut, LoadIs, StoreIs, ExchangeIs};
+ghost use Rattle.line_rule.specs.Handing.{IsWalked, IsOwn, IsInNone, IsJoined, IsServed, IsNewestGroup, IsOldestGroup};
 ghost use Rattle.line_rule.specs.Events.{grouped};
-ghost use Rattle.line_rule.specs.Rule.{Listed, hold_at};
-ghost use Rattle.line_rule.specs.declared.view.Handling.{Handling};
-ghost use Rattle.line_rule.specs.declared.view.LineHold.{LineHold};
+ghost use Rattle.line_rule.specs.Rule.{Listed};
+ghost use Rattle.line_rule.specs.Before.{ListState, IsClient, IsNextAfter, IsNextOwed, IsOwed, IsAtWith, HasWholeGroup, HasCut, IsServing, HasReadTo, SeesAt, HasHandled, HasRightFor};
 
 use crate::rule::{GivesRun, HasGroupingItem, LogOfGroups};
 use crate::words::{MARK, STATE_LEADS_LOG, STATE_LEADS_TABLE, STATE_PARALLEL};
@@ -40,117 +35,66 @@ pub fn second_steps_and_events<
     Right,
 >()
     ensures read_newest { (z : Start Log.About) (slots id : ℕ) (me : Sat Request Reply Log Right)
-        → StepIs (laws_for Request.item_of Reply.run_of Log.LogOfGroups z) z.clients (λ _. Stays)
-        slots id me 1 (λ x. x) (after_read_newest (step slots 1 0 0 none) me) }
-    ensures cut_away { (z : Start Log.About) (slots id word c new : ℕ) (from : List (Handling Request Reply))
-        (me : Sat Request Reply Log Right) (lead : Lead Request Reply) (mine : List (Request × Reply))
-        (newer : List (QueuedWriter Request)) (x : QueuedWriter Request)
-        → At c (Leading lead) mine me → lead.taken ≡ lead.group → lead.walk ≡ newer ++ x ∷ in_hand lead
-        → word ≡ older_at x.by → new ≡ pack 0 x.code
-        → StepIs (laws_for Request.item_of Reply.run_of Log.LogOfGroups z) z.clients
-        (λ _. IsBoundary c (squad_at_cut lead from))
-        slots id me word (λ _. new) (λ _. after_cut_as (some from) (step slots word new 0 none) me new) }
-    ensures mark { (z : Start Log.About) (slots id c member : ℕ) (from : List (Handling Request Reply))
-        (me : Sat Request Reply Log Right)
-        (lead : Lead Request Reply) (mine : List (Request × Reply))
-        → At c (Leading lead) mine me → lead.taken ≡ lead.group → member ≡ newest (in_hand lead)
-        → StepIs (laws_for Request.item_of Reply.run_of Log.LogOfGroups z) z.clients
-        (HappensWhere member (IsBoundary c (squad_at_cut lead from)))
-        slots id me 0 (λ x. either (x == member) MARK x) (after_mark from (step slots 0 member MARK none) me) }
-    ensures wake { (z : Start Log.About) (slots id word c : ℕ) (me : Sat Request Reply Log Right)
-        (lead : Lead Request Reply) (x : QueuedWriter Request)
-        (mine : List (Request × Reply)) (back : Back Request Reply) (gs : List (QueuedWriter Request × Reply))
-        (p : Reply) (l : Log)
-        (more : List (ℕ × LineSlot Request Reply Log Right))
-        → AtWith c (Cutting lead x) mine back me → heads gs ≡ lead.taken
-        → me.1 ≡ (0, TheLog l) ∷ slots_of gs ((c, Told p) ∷ more)
-        → word ≡ state_at x.by → 0 < x.by → x.by ≤ z.clients
-        → logs_picked Reply.run_of Log.LogOfGroups z.log (Some z.about) l
-        (lead.seen ++ all_answers lead.own p gs)
-        → HandsOn z.pipelined (given_runs Reply.run_of) back lead.seen (lead.seen ++ all_answers lead.own p gs)
-        → StepIs (laws_for Request.item_of Reply.run_of Log.LogOfGroups z) z.clients
-        (λ _. IsNext back lead.own p gs) slots id me word (λ _. STATE_LEADS_LOG)
-        (λ _. after_wake (step slots word STATE_LEADS_LOG 0 none) me STATE_LEADS_LOG) }
+        → LoadIs (laws_for Request.item_of Reply.run_of Log.LogOfGroups z) z.clients (λ _. Stays)
+        slots id me 1 after_read_newest }
+    ensures cut_away { (z : Start Log.About) (slots id c : ℕ) (me : Sat Request Reply Log Right)
+        (lead : Lead Request Reply) (x : QueuedWriter Request) (from : List (Handling Request Reply))
+        → let law = laws_for Request.item_of Reply.run_of Log.LogOfGroups z in HasWholeGroup c lead me
+        → IsNextAfter (in_hand lead) x lead.walk → StoreIs law z.clients (λ _. IsBoundary c (squad_at_cut lead from))
+        slots id me (older_at x.by) (pack 0 x.code) (after_cut_as (some from)) }
+    ensures mark { (z : Start Log.About) (slots id c member : ℕ) (me : Sat Request Reply Log Right)
+        (lead : Lead Request Reply) (from : List (Handling Request Reply))
+        → HasWholeGroup c lead me → member ≡ newest (in_hand lead)
+        → ExchangeIs (laws_for Request.item_of Reply.run_of Log.LogOfGroups z) z.clients
+        (HappensWhere member (IsBoundary c (squad_at_cut lead from))) slots id me 0 member MARK (after_mark from) }
+    ensures wake { (z : Start Log.About) (slots id c : ℕ) (me : Sat Request Reply Log Right) (lead : Lead Request Reply)
+        (x : QueuedWriter Request) (back : Back Request Reply) (gs : List (QueuedWriter Request × Reply)) (p : Reply)
+        → let law = laws_for Request.item_of Reply.run_of Log.LogOfGroups z in IsClient z.clients x.by
+        → IsAtWith c (Cutting lead x) back me → HasHandled law c lead back gs p me → StoreIs law z.clients
+        (λ _. IsNext back lead.own p gs) slots id me (state_at x.by) STATE_LEADS_LOG after_wake }
     ensures free { (z : Start Log.About) (slots id c : ℕ) (me : Sat Request Reply Log Right) (lead : Lead Request Reply)
-        (mine : List (Request × Reply)) (back : Back Request Reply) (gs : List (QueuedWriter Request × Reply))
-        (p : Reply) (l : Log)
-        (more : List (ℕ × LineSlot Request Reply Log Right))
-        → AtWith c (Marking lead) mine back me → heads gs ≡ lead.taken
-        → me.1 ≡ (0, TheLog l) ∷ slots_of gs ((c, Told p) ∷ more)
-        → logs_picked Reply.run_of Log.LogOfGroups z.log (Some z.about) l
-        (lead.seen ++ all_answers lead.own p gs)
-        → HandsOn z.pipelined (given_runs Reply.run_of) back lead.seen (lead.seen ++ all_answers lead.own p gs)
-        → StepIs (laws_for Request.item_of Reply.run_of Log.LogOfGroups z) z.clients
-        (HappensWhere MARK (IsNext back lead.own p gs)) slots id me 0 (λ x. either (x == MARK) 0 x)
-        (after_free (step slots 0 MARK 0 none) me) }
-    ensures cut_behind_mark { (z : Start Log.About) (slots id word c new : ℕ) (me : Sat Request Reply Log Right)
-        (lead : Lead Request Reply)
-        (mine : List (Request × Reply)) (back : Back Request Reply) (newer : List (QueuedWriter Request))
-        (x : QueuedWriter Request)
-        → AtWith c (Marking lead) mine back me → lead.walk ≡ newer ++ x ∷ []
-        → word ≡ older_at x.by → new ≡ pack 0 x.code
-        → StepIs (laws_for Request.item_of Reply.run_of Log.LogOfGroups z) z.clients (λ _. Stays)
-        slots id me word (λ _. new) (λ _. after_cut_behind_mark (step slots word new 0 none) me new) }
-    ensures aim_second { (z : Start Log.About) (slots id word c saw named new : ℕ) (me : Sat Request Reply Log Right)
-        (stage : LineStage Request Reply)
-        (mine : List (Request × Reply)) (g : Squad Request Reply)
-        → AtWith c stage mine (Parting g named) me → word ≡ older_at c → new ≡ pack saw g.own.code
-        → StepIs (laws_for Request.item_of Reply.run_of Log.LogOfGroups z) z.clients (λ _. Stays)
-        slots id me word (λ _. new) (λ _. after_aim_second (step slots word new 0 none) me new) }
-    ensures join_second { (z : Start Log.About) (slots id c saw new : ℕ) (to : List (Handling Request Reply))
-        (me : Sat Request Reply Log Right)
-        (stage : LineStage Request Reply) (lead : Lead Request Reply) (mine : List (Request × Reply))
-        (g : Squad Request Reply)
-        → z.pipelined ≡ true → AtWith c stage mine (Parting g saw) me → IsCut lead stage
-        → g.from ≡ given_runs Reply.run_of lead.seen → new ≡ newest (line_of g)
-        → StepIs (laws_for Request.item_of Reply.run_of Log.LogOfGroups z) z.clients
-        (HappensWhere saw (IsSecond c g to))
-        slots id me 1 (λ x. either (x == saw) new x)
-        (after_join_second (Log.serves z.about) to (step slots 1 saw new none) me) }
-    ensures summon { (z : Start Log.About) (slots id word c : ℕ) (me : Sat Request Reply Log Right)
-        (d : Debt Request Reply) (mine : List (Request × Reply))
-        (g : Squad Request Reply)
-        → z.pipelined ≡ true → AtWith c (Settling d) mine (Queued g) me → word ≡ state_at c
-        → StepIs (laws_for Request.item_of Reply.run_of Log.LogOfGroups z) z.clients (λ _. Stays)
-        slots id me word (λ x. x) (after_summon (Log.serves z.about) (step slots word 0 0 none) me) }
-    ensures make_parallel { (z : Start Log.About) (slots id word c : ℕ) (me : Sat Request Reply Log Right)
-        (member : QueuedWriter Request × Reply)
-        (newer older : List (QueuedWriter Request × Reply)) (own : QueuedWriter Request) (p : Reply)
-        (mine : List (Request × Reply)) (g : Squad Request Reply)
-        (walk : List (QueuedWriter Request))
-        → AtWith c (Settling (debt (newer ++ member ∷ older) own p)) mine (Serving g walk) me
-        → g.rest ≡ heads (newer ++ member ∷ older)
-        → word ≡ state_at member.0.by → member.0.by ≤ z.clients
-        → StepIs (laws_for Request.item_of Reply.run_of Log.LogOfGroups z) z.clients (λ _. Stays)
-        slots id me word (λ _. STATE_PARALLEL)
-        (λ _. after_make_parallel (step slots word STATE_PARALLEL 0 none) me STATE_PARALLEL) }
-    ensures leave_second { (z : Start Log.About) (slots id c member k : ℕ) (me : Sat Request Reply Log Right)
-        (d : Debt Request Reply)
-        (mine : List (Request × Reply)) (g : Squad Request Reply) (walk : List (QueuedWriter Request)) (right : Right)
-        (more : List (ℕ × LineSlot Request Reply Log Right))
-        → z.pipelined ≡ true → AtWith c (Settling d) mine (Serving g walk) me → me.1 ≡ (k, TheRight right) ∷ more
-        → k + 1 ≡ slots → member ≡ newest (line_of g) → Log.serves z.about right g.to
-        → StepIs (laws_for Request.item_of Reply.run_of Log.LogOfGroups z) z.clients
-        (HappensWhere member (IsServedOut c g))
-        slots id me 1 (λ x. either (x == member) 0 x) (after_leave_second (step slots 1 member 0 none) me) }
-    ensures clear_second { (z : Start Log.About) (slots id word c new : ℕ) (me : Sat Request Reply Log Right)
-        (d : Debt Request Reply)
-        (mine : List (Request × Reply)) (g : Squad Request Reply) (walk newer : List (QueuedWriter Request))
-        (x : QueuedWriter Request)
-        → z.pipelined ≡ true → AtWith c (Settling d) mine (Serving g walk) me → walk ≡ newer ++ x ∷ line_of g
-        → word ≡ older_at x.by → new ≡ pack 0 x.code
-        → StepIs (laws_for Request.item_of Reply.run_of Log.LogOfGroups z) z.clients
-        (λ _. Stays)
-        slots id me word (λ _. new) (λ _. after_clear_second (step slots word new 0 none) me new) }
-    ensures call_next { (z : Start Log.About) (slots id word c k : ℕ) (me : Sat Request Reply Log Right)
-        (stage : LineStage Request Reply)
-        (mine : List (Request × Reply)) (g : Squad Request Reply) (x : QueuedWriter Request) (right : Right)
-        (more : List (ℕ × LineSlot Request Reply Log Right))
-        → AtWith c stage mine (Passing g x) me → me.1 ≡ (k, TheRight right) ∷ more → k + 1 ≡ slots
-        → word ≡ state_at x.by → Log.serves z.about right g.to
-        → StepIs (laws_for Request.item_of Reply.run_of Log.LogOfGroups z) z.clients
-        (λ _. IsServedOut c g) slots id me word (λ _. STATE_LEADS_TABLE)
-        (λ _. after_call_next (step slots word STATE_LEADS_TABLE 0 none) me STATE_LEADS_TABLE) }
+        (back : Back Request Reply) (gs : List (QueuedWriter Request × Reply)) (p : Reply)
+        → let law = laws_for Request.item_of Reply.run_of Log.LogOfGroups z in
+        IsAtWith c (Marking lead) back me → HasHandled law c lead back gs p me
+        → ExchangeIs law z.clients (HappensWhere MARK (IsNext back lead.own p gs)) slots id me 0 MARK 0 after_free }
+    ensures cut_behind_mark { (z : Start Log.About) (slots id c : ℕ) (me : Sat Request Reply Log Right)
+        (lead : Lead Request Reply) (back : Back Request Reply) (x : QueuedWriter Request)
+        → IsAtWith c (Marking lead) back me → IsNextAfter [] x lead.walk
+        → StoreIs (laws_for Request.item_of Reply.run_of Log.LogOfGroups z) z.clients (λ _. Stays)
+        slots id me (older_at x.by) (pack 0 x.code) after_cut_behind_mark }
+    ensures aim_second { (z : Start Log.About) (slots id c saw named : ℕ) (me : Sat Request Reply Log Right)
+        (stage : LineStage Request Reply) (g : Squad Request Reply) → IsAtWith c stage (Parting g named) me
+        → StoreIs (laws_for Request.item_of Reply.run_of Log.LogOfGroups z) z.clients (λ _. Stays)
+        slots id me (older_at c) (pack saw g.own.code) after_aim_second }
+    ensures join_second { (z : Start Log.About) (slots id c saw : ℕ) (me : Sat Request Reply Log Right)
+        (lead : Lead Request Reply) (g : Squad Request Reply) (to : List (Handling Request Reply))
+        → let law = laws_for Request.item_of Reply.run_of Log.LogOfGroups z in z.pipelined ≡ true
+        → HasCut c lead (Parting g saw) me → g.from ≡ law.given lead.seen → ExchangeIs law z.clients
+        (HappensWhere saw (IsSecond c g to)) slots id me 1 saw (newest (line_of g)) (after_join_second law.rights to) }
+    ensures summon { (z : Start Log.About) (slots id c : ℕ) (me : Sat Request Reply Log Right) (d : Debt Request Reply)
+        (g : Squad Request Reply) → z.pipelined ≡ true → IsAtWith c (Settling d) (Queued g) me
+        → let law = laws_for Request.item_of Reply.run_of Log.LogOfGroups z in
+        LoadIs law z.clients (λ _. Stays) slots id me (state_at c) (after_summon law.rights) }
+    ensures make_parallel { (z : Start Log.About) (slots id c : ℕ) (me : Sat Request Reply Log Right)
+        (member : QueuedWriter Request × Reply) (d : Debt Request Reply) (g : Squad Request Reply)
+        → IsServing c d g me → IsOwed member d → member.0.by ≤ z.clients
+        → StoreIs (laws_for Request.item_of Reply.run_of Log.LogOfGroups z) z.clients (λ _. Stays)
+        slots id me (state_at member.0.by) STATE_PARALLEL after_make_parallel }
+    ensures leave_second { (z : Start Log.About) (slots id c member : ℕ) (me : Sat Request Reply Log Right)
+        (d : Debt Request Reply) (g : Squad Request Reply) → z.pipelined ≡ true → IsServing c d g me
+        → let law = laws_for Request.item_of Reply.run_of Log.LogOfGroups z in
+        HasRightFor law slots g.to me → member ≡ newest (line_of g)
+        → ExchangeIs law z.clients (HappensWhere member (IsServedOut c g)) slots id me 1 member 0 after_leave_second }
+    ensures clear_second { (z : Start Log.About) (slots id c : ℕ) (me : Sat Request Reply Log Right)
+        (d : Debt Request Reply) (g : Squad Request Reply) (x : QueuedWriter Request)
+        → z.pipelined ≡ true → HasReadTo x c d g me
+        → StoreIs (laws_for Request.item_of Reply.run_of Log.LogOfGroups z) z.clients (λ _. Stays)
+        slots id me (older_at x.by) (pack 0 x.code) after_clear_second }
+    ensures call_next { (z : Start Log.About) (slots id c : ℕ) (me : Sat Request Reply Log Right)
+        (stage : LineStage Request Reply) (g : Squad Request Reply) (x : QueuedWriter Request)
+        → let law = laws_for Request.item_of Reply.run_of Log.LogOfGroups z in IsAtWith c stage (Passing g x) me
+        → HasRightFor law slots g.to me → StoreIs law z.clients (λ _. IsServedOut c g)
+        slots id me (state_at x.by) STATE_LEADS_TABLE after_call_next }
 {}
 
 /// In each state in which the rule holds, by what a leader knows: from where it has cut its group off until it gives
@@ -166,54 +110,38 @@ pub fn handing_on<
     Log: LogOfGroups<Request, Reply, Right>,
     Right,
 >()
-    ensures cut { (z : Start Log.About) (s : State (LineSlot Request Reply Log Right) (List (LineHold Request Reply)))
-        (r : Listed (laws_for Request.item_of Reply.run_of Log.LogOfGroups z) z.clients s)
-        (id c : ℕ) (stage : LineStage Request Reply) (lead : Lead Request Reply) (mine : List (Request × Reply))
-        (back : Back Request Reply)
-        → Sees s id (hold_at c stage mine back) → IsCut lead stage
-        → (now_of (laws_for Request.item_of Reply.run_of Log.LogOfGroups z) z.clients s r).0.1
-        ≡ grouped lead.own lead.taken }
+    ensures cut { (z : Start Log.About) (s : ListState Request Reply Log Right) (id c : ℕ)
+        (stage : LineStage Request Reply) (lead : Lead Request Reply) (back : Back Request Reply)
+        → let law = laws_for Request.item_of Reply.run_of Log.LogOfGroups z in (r : Listed law z.clients s)
+        → SeesAt s id c stage back → IsCut lead stage → (now_of law z.clients s r).0.1 ≡ grouped lead.own lead.taken }
     ensures hands { (last : List (Handling Request Reply) → List (Handling Request Reply)) (back : Back Request Reply)
         (seen now : List (Handling Request Reply))
         → HandsOn true last back seen now
         → (last now ≡ last seen) ⊎ ((g : Squad Request Reply) × IsJoined g back × (g.to ≡ last now)) }
-    ensures joined { (z : Start Log.About)
-        (s : State (LineSlot Request Reply Log Right) (List (LineHold Request Reply)))
-        (id c : ℕ) (stage : LineStage Request Reply) (mine : List (Request × Reply)) (back : Back Request Reply)
-        (g : Squad Request Reply)
+    ensures joined { (z : Start Log.About) (s : ListState Request Reply Log Right) (id c : ℕ)
+        (stage : LineStage Request Reply) (back : Back Request Reply) (g : Squad Request Reply)
         → Listed (laws_for Request.item_of Reply.run_of Log.LogOfGroups z) z.clients s
-        → Sees s id (hold_at c stage mine back) → z.pipelined ≡ true → IsJoined g back → IsNewestGroup g s.words }
-    ensures served { (z : Start Log.About)
-        (s : State (LineSlot Request Reply Log Right) (List (LineHold Request Reply)))
-        (id c : ℕ) (stage : LineStage Request Reply) (mine : List (Request × Reply)) (back : Back Request Reply)
-        (g : Squad Request Reply)
+        → SeesAt s id c stage back → z.pipelined ≡ true → IsJoined g back → IsNewestGroup g s.words }
+    ensures served { (z : Start Log.About) (s : ListState Request Reply Log Right) (id c : ℕ)
+        (stage : LineStage Request Reply) (back : Back Request Reply) (g : Squad Request Reply)
         → Listed (laws_for Request.item_of Reply.run_of Log.LogOfGroups z) z.clients s
-        → Sees s id (hold_at c stage mine back) → IsServed g back → IsOldestGroup g s.words }
-    ensures told { (z : Start Log.About) (s : State (LineSlot Request Reply Log Right) (List (LineHold Request Reply)))
+        → SeesAt s id c stage back → IsServed g back → IsOldestGroup g s.words }
+    ensures told { (z : Start Log.About) (s : ListState Request Reply Log Right) (id c : ℕ) (d : Debt Request Reply)
+        (member : QueuedWriter Request × Reply) → let law = laws_for Request.item_of Reply.run_of Log.LogOfGroups z in
+        (r : Listed law z.clients s) → SeesAt s id c (Settling d) Away → IsNextOwed member d
+        → IsInNone member.0.by (now_of law z.clients s r) }
+    ensures told_last { (z : Start Log.About) (s : ListState Request Reply Log Right) (id c : ℕ)
+        (own : QueuedWriter Request) (p : Reply) → let law = laws_for Request.item_of Reply.run_of Log.LogOfGroups z in
+        (r : Listed law z.clients s) → SeesAt s id c (Settling (debt [] own p)) Away
+        → IsInNone own.by (now_of law z.clients s r) }
+    ensures walked { (z : Start Log.About) (s : ListState Request Reply Log Right)
         (r : Listed (laws_for Request.item_of Reply.run_of Log.LogOfGroups z) z.clients s)
-        (id c : ℕ) (mine : List (Request × Reply)) (member : QueuedWriter Request
-        × Reply) (others : List (QueuedWriter Request × Reply)) (own : QueuedWriter Request) (p : Reply)
-        → Sees s id (hold_at c (Settling (debt (member ∷ others) own p)) mine Away)
-        → IsInNone member.0.by
-        (now_of (laws_for Request.item_of Reply.run_of Log.LogOfGroups z) z.clients s r) }
-    ensures told_last { (z : Start Log.About)
-        (s : State (LineSlot Request Reply Log Right) (List (LineHold Request Reply)))
-        (r : Listed (laws_for Request.item_of Reply.run_of Log.LogOfGroups z) z.clients s)
-        (id c : ℕ) (mine : List (Request × Reply)) (own : QueuedWriter Request) (p : Reply)
-        → Sees s id (hold_at c (Settling (debt [] own p)) mine Away)
-        → IsInNone own.by
-        (now_of (laws_for Request.item_of Reply.run_of Log.LogOfGroups z) z.clients s r) }
-    ensures walked { (z : Start Log.About)
-        (s : State (LineSlot Request Reply Log Right) (List (LineHold Request Reply)))
-        (r : Listed (laws_for Request.item_of Reply.run_of Log.LogOfGroups z) z.clients s)
-        → IsWalked (now_of (laws_for Request.item_of Reply.run_of Log.LogOfGroups z) z.clients s r)
-        s.words }
-    ensures coded { (z : Start Log.About) (s : State (LineSlot Request Reply Log Right) (List (LineHold Request Reply)))
-        (r : Listed (laws_for Request.item_of Reply.run_of Log.LogOfGroups z) z.clients s)
-        → AllCoded (asks_for Request.item_of Log.lawful z.about)
-        (now_of (laws_for Request.item_of Reply.run_of Log.LogOfGroups z) z.clients s r).0.0 }
-    ensures own { (z : Start Log.About) (s : State (LineSlot Request Reply Log Right) (List (LineHold Request Reply)))
-        (id c : ℕ) (stage : LineStage Request Reply) (mine : List (Request × Reply)) (back : Back Request Reply)
+        → IsWalked (now_of (laws_for Request.item_of Reply.run_of Log.LogOfGroups z) z.clients s r) s.words }
+    ensures coded { (z : Start Log.About) (s : ListState Request Reply Log Right)
+        → let law = laws_for Request.item_of Reply.run_of Log.LogOfGroups z in (r : Listed law z.clients s)
+        → AllCoded law.asks (now_of law z.clients s r).0.0 }
+    ensures own { (z : Start Log.About) (s : ListState Request Reply Log Right) (id c : ℕ)
+        (stage : LineStage Request Reply) (back : Back Request Reply)
         → Listed (laws_for Request.item_of Reply.run_of Log.LogOfGroups z) z.clients s
-        → Sees s id (hold_at c stage mine back) → IsOwn c stage }
+        → SeesAt s id c stage back → IsOwn c stage }
 {}

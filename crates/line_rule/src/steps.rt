@@ -41,44 +41,44 @@ impl<Request, Reply, Log, Right> Play<
 }
 
 /// A writer comes into the list at the newest end, with its request, and leads where the list was empty.
-pub struct Link<B>(PhantomData<B>);
+pub struct Link<About>(PhantomData<About>);
 
 impl<
     Request,
     Reply: GivesRun,
     Log: LogOfGroups<Request, Reply, Right>,
     Right,
-    B: PickedAbout<Log::About>,
-> Play<LineSlot<Request, Reply, Log, Right>, LineView<Request, Reply>> for Link<B> {
-    ghost then = { after_link (logs_picked Reply.run_of Log.LogOfGroups B.number B.about) };
+    About: PickedAbout<Log::About>,
+> Play<LineSlot<Request, Reply, Log, Right>, LineView<Request, Reply>> for Link<About> {
+    ghost then = { after_link (logs_picked Reply.run_of Log.LogOfGroups About.number About.about) };
 }
 
 /// A writer in the list reads its state: it leads from here on, or works beside its leader, or it has its reply, or
 /// none of these.
-pub struct ReadState<B>(PhantomData<B>);
+pub struct ReadState<About>(PhantomData<About>);
 
 impl<
     Request,
     Reply: GivesRun,
     Log: LogOfGroups<Request, Reply, Right>,
     Right,
-    B: PickedAbout<Log::About>,
-> Play<LineSlot<Request, Reply, Log, Right>, LineView<Request, Reply>> for ReadState<B> {
-    ghost then = { after_read_state (logs_picked Reply.run_of Log.LogOfGroups B.number B.about)
-        (kept_picked Log.kept B.about) };
+    About: PickedAbout<Log::About>,
+> Play<LineSlot<Request, Reply, Log, Right>, LineView<Request, Reply>> for ReadState<About> {
+    ghost then = { after_read_state (logs_picked Reply.run_of Log.LogOfGroups About.number About.about)
+        (kept_picked Log.kept About.about) };
 }
 
 /// A writer that works beside its leader reads its state: it has its reply, or not yet.
-pub struct ReadReply<B>(PhantomData<B>);
+pub struct ReadReply<About>(PhantomData<About>);
 
 impl<
     Request,
     Reply,
     Log: LogOfGroups<Request, Reply, Right>,
     Right,
-    B: PickedAbout<Log::About>,
-> Play<LineSlot<Request, Reply, Log, Right>, LineView<Request, Reply>> for ReadReply<B> {
-    ghost then = { after_read_reply (kept_picked Log.kept B.about) };
+    About: PickedAbout<Log::About>,
+> Play<LineSlot<Request, Reply, Log, Right>, LineView<Request, Reply>> for ReadReply<About> {
+    ghost then = { after_read_reply (kept_picked Log.kept About.about) };
 }
 
 /// A writer that took its reply gives its empty slot back.
@@ -93,16 +93,16 @@ impl<Request, Reply, Log, Right> Play<
 
 /// A leader reads the newest writer, once, and so builds its group, under the bound that is picked. What the law asks
 /// of each request holds of those of the group.
-pub struct Build<B>(PhantomData<B>);
+pub struct Build<About>(PhantomData<About>);
 
 impl<
     Request: HasGroupingItem,
     Reply,
     Log: LogOfGroups<Request, Reply, Right>,
     Right,
-    B: PickedAbout<Log::About>,
-> Play<LineSlot<Request, Reply, Log, Right>, LineView<Request, Reply>> for Build<B> {
-    ghost then = { after_build (asks_picked Request.item_of Log.lawful B.about) B.number };
+    About: PickedAbout<Log::About>,
+> Play<LineSlot<Request, Reply, Log, Right>, LineView<Request, Reply>> for Build<About> {
+    ghost then = { after_build (asks_picked Request.item_of Log.lawful About.about) About.number };
 }
 
 /// A leader reads the older link of a writer of its walk: of the queue, of those that came after its mark, or, with
@@ -178,24 +178,24 @@ impl<Request, Reply, Log, Right> Play<
 
 /// A pipelined leader clears the older link of the oldest writer after its group, and so cuts its group off. What
 /// was given runs before the group is picked.
-pub struct CutAway<B>(PhantomData<B>);
+pub struct CutAway<Given>(PhantomData<Given>);
 
-impl<Request, Reply, Log, Right, B: PickedGiven<Request, Reply>> Play<
+impl<Request, Reply, Log, Right, Given: PickedGiven<Request, Reply>> Play<
     LineSlot<Request, Reply, Log, Right>,
     LineView<Request, Reply>,
-> for CutAway<B> {
-    ghost then = { after_cut_as (some B.given) };
+> for CutAway<Given> {
+    ghost then = { after_cut_as (some Given.given) };
 }
 
 /// A pipelined leader puts its mark in place of its group, after which nobody came. What was given runs before
 /// the group is picked.
-pub struct Mark<B>(PhantomData<B>);
+pub struct Mark<Given>(PhantomData<Given>);
 
-impl<Request, Reply, Log, Right, B: PickedGiven<Request, Reply>> Play<
+impl<Request, Reply, Log, Right, Given: PickedGiven<Request, Reply>> Play<
     LineSlot<Request, Reply, Log, Right>,
     LineView<Request, Reply>,
-> for Mark<B> {
-    ghost then = { after_mark B.given };
+> for Mark<Given> {
+    ghost then = { after_mark Given.given };
 }
 
 /// A leader whose group is cut off names the newest writer of the second list.
@@ -210,30 +210,30 @@ impl<Request, Reply, Log, Right> Play<
 
 /// A group that is cut off comes into the second list, and its leader takes the right where that was empty. What
 /// was given runs with the group is picked, and what the law of the right is about.
-pub struct JoinSecond<B>(PhantomData<B>);
+pub struct JoinSecond<ForRight>(PhantomData<ForRight>);
 
 impl<
     Request,
     Reply,
     Log: LogOfGroups<Request, Reply, Right>,
     Right,
-    B: PickedRight<Request, Reply, Log::About>,
-> Play<LineSlot<Request, Reply, Log, Right>, LineView<Request, Reply>> for JoinSecond<B> {
-    ghost then = { after_join_second (serves_picked Log.serves B.about) B.given };
+    ForRight: PickedRight<Request, Reply, Log::About>,
+> Play<LineSlot<Request, Reply, Log, Right>, LineView<Request, Reply>> for JoinSecond<ForRight> {
+    ghost then = { after_join_second (serves_picked Log.serves ForRight.about) ForRight.given };
 }
 
 /// A leader in the second list reads its state: it has the right from here on, or not yet. What the law
 /// of the right is about is picked.
-pub struct Summon<B>(PhantomData<B>);
+pub struct Summon<About>(PhantomData<About>);
 
 impl<
     Request,
     Reply,
     Log: LogOfGroups<Request, Reply, Right>,
     Right,
-    B: PickedAbout<Log::About>,
-> Play<LineSlot<Request, Reply, Log, Right>, LineView<Request, Reply>> for Summon<B> {
-    ghost then = { after_summon (serves_picked Log.serves B.about) };
+    About: PickedAbout<Log::About>,
+> Play<LineSlot<Request, Reply, Log, Right>, LineView<Request, Reply>> for Summon<About> {
+    ghost then = { after_summon (serves_picked Log.serves About.about) };
 }
 
 /// A leader gives the right back, where no group came after its own.

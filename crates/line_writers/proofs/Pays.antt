@@ -63,6 +63,6 @@ lawful_both Reply [] ys ok more = more
 lawful_both Reply (x ∷ xs) ys ok more = (ok.0, lawful_both Reply xs ys ok.1 more)
 
 -- what is asked of each of a group holds of what it asks
-pub lawful_asks : {Request K : Type 0} (item_of : Request → Item) (lawful : K → Request → Type 0) (about : K) (own : QueuedWriter Request) (group : List (QueuedWriter Request)) → AllCoded (asks_for item_of lawful about) (group ++ own ∷ []) → AllByRecursion (λ (x : ℕ × Request). lawful about x.1) (asks own group)
+pub lawful_asks : {Request About : Type 0} (item_of : Request → Item) (lawful : About → Request → Type 0) (about : About) (own : QueuedWriter Request) (group : List (QueuedWriter Request)) → AllCoded (asks_for item_of lawful about) (group ++ own ∷ []) → AllByRecursion (λ (x : ℕ × Request). lawful about x.1) (asks own group)
 lawful_asks item_of lawful about own [] ok = (ok.0.1, tt)
 lawful_asks {Request} item_of lawful about own (e ∷ es) ok = lawful_both (λ (x : ℕ × Request). lawful about x.1) (asks own es) ((e.by, e.asked) ∷ []) (lawful_asks item_of lawful about own es ok.1) (ok.0.1, tt)

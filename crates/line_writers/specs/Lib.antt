@@ -1,3 +1,4 @@
+pub mod Groups
 pub mod Roles
 pub mod Rooms
 pub mod Seats

@@ -142,6 +142,14 @@ module _ {Request Reply Log Right : Type 0} where
       × (own.by ≡ c) × (0 < c) × Within n group × IsWhole law max own group left
       × (m.1 ≡ blanks (bys group) ((c, Empty) ∷ (0, Empty) ∷ [])) × HasBuilt max own group left seen (past_in m.0)
 
+  -- the leader has read the queue, and built its group of it; these were left then
+  abbrev pub Built : (Request → ℕ → Type 0) → ℕ → ℕ → QueuedWriter Request → List (QueuedWriter Request)
+      → List (QueuedWriter Request) → List (Handling Request Reply)
+      → List (Request × Reply) → Sat Request Reply Log Right → Type 0
+  Built law max c own group left seen mine m = (past : List (LineEvent Request Reply))
+      × At c (Leading (lead_at_build own seen past (left ++ (group ++ own ∷ [])) group)) mine m
+      × HasBuilt max own group left seen past × IsWhole law max own group left
+
   -- the leader has its own request alone, and knows its group
   abbrev pub Gathering : (Request → ℕ → Type 0) → ℕ → ℕ → ℕ → ℕ → Sat Request Reply Log Right → List (ℕ × ℕ)
       → List (ℕ × Request) → Type 0

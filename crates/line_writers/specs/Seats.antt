@@ -9,7 +9,8 @@ use Rattle.line_rule.specs.Chain.{of}
 use Rattle.line_rule.specs.declared.content.Start.{Start}
 use Rattle.line_rule.specs.declared.rule.LogOfGroups.{Ghosts}
 use Rattle.line_rule.specs.Rule.{hold, logs_from, asks_for, given_runs, Unnumbered}
-use Rattle.line_rule.specs.Plays.{At}
+use Rattle.line_rule.specs.declared.view.Back.{Back}
+use Rattle.line_rule.specs.Plays.{At, HandsOn}
 use Rattle.model_base.specs.declared.group.Item.{Item}
 use Rattle.line_writers.specs.declared.writer.Writer.{Writer}
 use Rattle.line_writers.specs.declared.writer.Task.TheVariants.{Awaits, Helps}
@@ -38,61 +39,67 @@ module _ {Request Reply Log Right : Type 0} where
   abbrev pub StandsStill : Writer Request Reply Log Right → Writer Request Reply Log Right → Type 0
   StandsStill new old = Stays new old × (new.task ≡ old.task) × (new.seat.me ≡ old.seat.me)
 
-module _ {Request Reply Log Right K : Type 0} where
-  abbrev pub table_of : WriterList Request Reply Log Right K → TableId
+module _ {Request Reply Log Right About : Type 0} where
+  abbrev pub table_of : WriterList Request Reply Log Right About → TableId
   table_of list = list.table.shared.table_id
 
-  abbrev pub clients_of : WriterList Request Reply Log Right K → ℕ
+  abbrev pub clients_of : WriterList Request Reply Log Right About → ℕ
   clients_of list = list.clients
 
   -- what the log's law is about
-  abbrev pub about_of : WriterList Request Reply Log Right K → K
+  abbrev pub about_of : WriterList Request Reply Log Right About → About
   about_of list = list.table.shared.key.about
 
   -- the log's number at opening
-  abbrev pub start_of : WriterList Request Reply Log Right K → ℕ
+  abbrev pub start_of : WriterList Request Reply Log Right About → ℕ
   start_of list = list.table.shared.key.log
 
   -- whether it has the second list
-  abbrev pub piped_of : WriterList Request Reply Log Right K → Bool
+  abbrev pub piped_of : WriterList Request Reply Log Right About → Bool
   piped_of list = list.table.shared.key.pipelined
 
   -- what the log of this list stands for, with its number
-  abbrev pub law_of : (Reply → ℕ × ℕ) → Ghosts Log Request Reply Right K → WriterList Request Reply Log Right K → Log
-      → List (Handling Request Reply) → Type 0
+  abbrev pub law_of : (Reply → ℕ × ℕ) → Ghosts Log Request Reply Right About
+      → WriterList Request Reply Log Right About → Log → List (Handling Request Reply) → Type 0
   law_of run log list =
       logs_from (log.stands (about_of list)) (log.kept (about_of list)) log.number_of run (start_of list)
 
   -- the bound in bytes under which each of its groups is built
-  abbrev pub bound_of : WriterList Request Reply Log Right K → ℕ
+  abbrev pub bound_of : WriterList Request Reply Log Right About → ℕ
   bound_of list = list.group_bytes
 
   -- what holds of each request that is in this list, and of its code
-  abbrev pub asks_of : (Request → Item) → (K → Request → Type 0) → WriterList Request Reply Log Right K → Request → ℕ
-      → Type 0
+  abbrev pub asks_of : (Request → Item) → (About → Request → Type 0) → WriterList Request Reply Log Right About → Request
+      → ℕ → Type 0
   asks_of item_of lawful list = asks_for item_of lawful (about_of list)
 
   -- what holds of all that this list's leaders handle, wherever the log is
-  abbrev pub kept_of : (K → List (Handling Request Reply) → Type 0) → WriterList Request Reply Log Right K
+  abbrev pub kept_of : (About → List (Handling Request Reply) → Type 0) → WriterList Request Reply Log Right About
       → List (Handling Request Reply) → Type 0
   kept_of kept list = kept (about_of list)
 
   -- where there is a second list, no reply of a group that is refused gives a number
-  abbrev pub flat_of : (Reply → ℕ × ℕ) → WriterList Request Reply Log Right K → List (Handling Request Reply)
+  abbrev pub flat_of : (Reply → ℕ × ℕ) → WriterList Request Reply Log Right About → List (Handling Request Reply)
       → List (Handling Request Reply) → Type 0
   flat_of run list = Unnumbered (piped_of list) (given_runs run)
 
-  abbrev pub AllNew : WriterList Request Reply Log Right K → List (Writer Request Reply Log Right) → Type 0
+  -- what a leader needs that gives the log on, while its group stands so in the second list
+  abbrev pub hands_of : (Reply → ℕ × ℕ) → WriterList Request Reply Log Right About → Back Request Reply
+      → List (Handling Request Reply) → List (Handling Request Reply) → Type 0
+  hands_of run list = HandsOn (piped_of list) (given_runs run)
+
+  abbrev pub AllNew : WriterList Request Reply Log Right About → List (Writer Request Reply Log Right) → Type 0
   AllNew list ws = AreNew list.table.shared.table_id list.clients ws
 
   -- it is the list that was asked for, and these are its writers, of whom none has done anything
-  abbrev pub HasOpened : Start K → WriterList Request Reply Log Right K → List (Writer Request Reply Log Right) → Type 0
+  abbrev pub HasOpened : Start About → WriterList Request Reply Log Right About → List (Writer Request Reply Log Right)
+      → Type 0
   HasOpened start list ws = (clients_of list ≡ start.clients) × (start_of list ≡ start.log)
       × (about_of list ≡ start.about)
       × (piped_of list ≡ start.pipelined) × AllNew list ws × (bound_of list ≡ start.group_bytes)
 
   -- it is a writer of this list
-  abbrev pub Belongs : WriterList Request Reply Log Right K → Writer Request Reply Log Right → Type 0
+  abbrev pub Belongs : WriterList Request Reply Log Right About → Writer Request Reply Log Right → Type 0
   Belongs list w = (w.seat.table_id ≡ table_of list) × (0 < w.client) × (w.client ≤ clients_of list)
 
 module _ {Request Reply Log Right : Type 0} where

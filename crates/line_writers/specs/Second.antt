@@ -5,7 +5,7 @@ use Rattle.line_rule.specs.declared.view.Debt.{Debt}
 use Rattle.line_rule.specs.declared.view.Squad.{Squad}
 use Rattle.line_rule.specs.declared.view.Back.TheVariants.{Queued, Serving}
 use Rattle.line_rule.specs.declared.view.LineStage.TheVariants.{Settling}
-use Rattle.line_rule.specs.declared.content.LineSlot.TheVariants.{Empty, Told, TheRight}
+use Rattle.line_rule.specs.declared.content.LineSlot.TheVariants.{Empty, Told}
 use Rattle.line_rule.specs.Chain.{heads, Within}
 use Rattle.line_rule.specs.Plays.{Sat, AtWith, slots_of}
 use Rattle.line_writers.specs.declared.writer.Writer.{Writer}
@@ -15,6 +15,7 @@ use Rattle.line_writers.specs.declared.room.Room.{Room}
 use Rattle.line_writers.specs.declared.second.PipelinedRole.{PipelinedRole}
 use Rattle.line_writers.specs.declared.second.PipelinedRole.TheVariants.{LogLeader, MemLeader, Parallel, Done}
 use Rattle.line_writers.specs.Roles.{bys, Turns}
+use Rattle.line_writers.specs.Groups.{HasRightOver}
 
 -- the group of a leader that has given the log on, with what was given runs before it, and with it
 abbrev pub squad : {Request Reply : Type 0} → Debt Request Reply → List (Handling Request Reply)
@@ -31,9 +32,8 @@ module _ {Request Reply Log Right : Type 0} where
   Sent serves n c Helps d mine g m = ⊥
   Sent serves n c Queues d mine g m = AtWith c (Settling d) mine (Queued g) m
       × (m.1 ≡ slots_of d.rest ((c, Told d.reply) ∷ []))
-  Sent serves n c Serves d mine g m = (right : Right) × serves right g.from
-      × AtWith c (Settling d) mine (Serving g []) m
-      × (m.1 ≡ (n + 1, TheRight right) ∷ slots_of d.rest ((c, Told d.reply) ∷ []))
+  Sent serves n c Serves d mine g m =
+      HasRightOver serves n c d mine g (slots_of d.rest ((c, Told d.reply) ∷ [])) m
 
   -- its leader has taken the right out
   abbrev pub Served : ℕ → ℕ → Debt Request Reply → List (Request × Reply) → Squad Request Reply
@@ -46,6 +46,12 @@ module _ {Request Reply Log Right : Type 0} where
       → List (Handling Request Reply) → List (Handling Request Reply)
       → List (Request × Reply) → Writer Request Reply Log Right → Type 0
   IsSent serves n d from to mine w = Sent serves n w.client w.task d mine (squad d from to) w.seat.me
+
+  -- its group is in the second list, whatever it is
+  abbrev pub HasSentGroup : (Right → List (Handling Request Reply) → Type 0) → ℕ → Writer Request Reply Log Right
+      → Type 0
+  HasSentGroup serves n w = (d : Debt Request Reply) × (from to : List (Handling Request Reply))
+      × (mine : List (Request × Reply)) × IsSent serves n d from to mine w
 
   -- and it has the right
   abbrev pub HasRight : ℕ → Debt Request Reply → List (Handling Request Reply) → List (Handling Request Reply)

@@ -1,12 +1,12 @@
 //! How a list is closed.
-ghost use Rattle.std.specs.Prelude.{◌≡◌, ℕ, ◌+◌, ◌<◌, ◌≤◌, List, [], ◌++◌, true, false, vec_len, length, reverse};
+ghost use Rattle.std.specs.Prelude.{◌≡◌, ℕ, ◌+◌, ◌<◌, ◌≤◌, [], ◌++◌, true, false, vec_len, length, reverse};
 ghost use Rattle.std.specs.Slots.{slots_items, slots_len, IsFull};
 ghost use mathlib.Core.Option.{some};
 ghost use lib.ListN.{get_elem?};
 ghost use Rattle.line_rule.specs.declared.content.LineSlot.TheVariants.{Empty, TheLog, TheRight};
-ghost use Rattle.line_rule.specs.declared.view.Handling.{Handling};
 ghost use Rattle.line_rule.specs.Rule.{given_runs};
 ghost use Rattle.line_writers.specs.Seats.{table_of, clients_of, about_of, piped_of, law_of, AllOut, AllThere, Merged, holds_of};
+ghost use Rattle.line_writers.specs.Groups.{Handled};
 
 use crate::line_writers::WriterList;
 use crate::slots::{log_of, nothing_of, right_of};
@@ -26,7 +26,7 @@ impl<
     pub fn close(self, mut writers: Vec<Writer<Request, Reply, Log, Right>>) -> (Log, Right)
         requires out { AllOut (table_of self) writers.items × AllThere (clients_of self) writers.items
             × (vec_len writers ≡ length writers.items) }
-        ensures { (handled : List (Handling Request Reply))
+        ensures { (handled : Handled Request Reply)
             × law_of Reply.run_of Log.LogOfGroups self result.0 handled
             × (piped_of self ≡ false → Log.serves (about_of self) result.1 [])
             × (piped_of self ≡ true → Log.serves (about_of self) result.1 (given_runs Reply.run_of handled))

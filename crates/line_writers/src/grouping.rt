@@ -1,21 +1,19 @@
 //! How a leader reads the queue and takes the requests of its group.
-ghost use Rattle.std.specs.Prelude.{◌≡◌, ℕ, ◌+◌, ◌/◌, ◌<◌, ◌≤◌, List, [], ◌∷◌, ◌++◌, vec_len, vec_capacity, length, Some};
+ghost use Rattle.std.specs.Prelude.{◌≡◌, ℕ, ◌+◌, ◌<◌, ◌≤◌, [], ◌∷◌, vec_len, vec_capacity, length, Some};
 ghost use Rattle.std.specs.List.{AllByRecursion};
 ghost use Rattle.line_rule.specs.declared.content.LineSlot.{LineSlot};
 ghost use Rattle.line_rule.specs.declared.content.LineSlot.TheVariants.{Empty, Asked};
 ghost use Rattle.line_rule.specs.declared.view.QueuedWriter.{QueuedWriter};
-ghost use Rattle.line_rule.specs.declared.view.Handling.{Handling};
 ghost use Rattle.line_rule.specs.declared.view.Lead.{Lead};
 ghost use Rattle.line_rule.specs.declared.view.LineStage.TheVariants.{Fresh, Leading};
 ghost use Rattle.line_rule.specs.Chain.{pairs};
-ghost use Rattle.line_rule.specs.declared.view.LineEvent.{LineEvent};
-ghost use Rattle.line_rule.specs.Events.{HasBuilt};
-ghost use Rattle.line_rule.specs.Grouping.{item_of, IsWhole};
+ghost use Rattle.line_rule.specs.Grouping.{item_of};
 ghost use Rattle.line_rule.specs.Rule.{asks_for, asks_picked};
-ghost use Rattle.line_rule.specs.Plays.{At, SeesTo, lead_at_build, Builds, lead_with_one_more};
-ghost use Rattle.line_writers.specs.Roles.{Chosen, HasRead, CodesFit, NextIs, Grouped, Gathering, asks};
+ghost use Rattle.line_rule.specs.Plays.{At, SeesTo, Builds, lead_with_one_more};
+ghost use Rattle.line_writers.specs.Roles.{Chosen, HasRead, CodesFit, NextIs, Grouped, Gathering, asks, Built};
 ghost use Rattle.line_writers.specs.Rooms.{HasRoom, TakesRequests};
 ghost use Rattle.line_writers.specs.Seats.{about_of, asks_of, bound_of, client_of, clients_of, Belongs, IsChosen, HasGroup, Stays, answers_told};
+ghost use Rattle.line_writers.specs.Groups.{Queue, Handled, Answers, Slots};
 
 use crate::line_writers::WriterList;
 use crate::room::{Requests, Room};
@@ -44,19 +42,16 @@ impl<
         room: &mut Room,
     )
         requires leads { Belongs self.now writer.old
-            × ((own : QueuedWriter Request) × (seen : List (Handling Request Reply))
+            × ((own : QueuedWriter Request) × (seen : Handled Request Reply)
             × IsChosen own seen (answers_told writer.old) writer.old) }
         requires room { HasRoom (clients_of self.now) room.old × TakesRequests (clients_of self.now) requests.old }
         ensures room { HasRoom (clients_of self.now) room.new
             × (vec_capacity requests.new.list ≡ vec_capacity requests.old.list) }
         ensures client { client_of writer.new ≡ client_of writer.old }
-        ensures group { Belongs self.now writer.new
-            × ((own : QueuedWriter Request) (seen : List (Handling Request Reply))
-            → IsChosen own seen (answers_told writer.old) writer.old
-            → (group left : List (QueuedWriter Request))
+        ensures group { Belongs self.now writer.new × ((own : QueuedWriter Request) (seen : Handled Request Reply)
+            → IsChosen own seen (answers_told writer.old) writer.old → (group left : Queue Request)
             × HasGroup (asks_of Request.item_of Log.lawful self.now) (clients_of self.now) (bound_of self.now) own group
-            left seen (answers_told writer.old) writer.new
-            × (requests.new.list.items ≡ asks own group)) }
+            left seen (answers_told writer.old) writer.new × (requests.new.list.items ≡ asks own group)) }
         ensures lawful { AllByRecursion (λ (x : ℕ
             × Request). Log.lawful (about_of self.now) x.1) requests.new.list.items }
         ensures few { length requests.new.list.items ≤ clients_of self.now }
@@ -65,34 +60,31 @@ impl<
     }
 
     // The bound and what the law is about are picked, since a load knows neither.
-    fn group_from<B: PickedAbout<Log::About>>(
+    fn group_from<About: PickedAbout<Log::About>>(
         &self,
         writer: &mut Writer<Request, Reply, Log, Right>,
         max: u64,
         requests: &mut Vec<(u32, Request)>,
         room: &mut Room,
     )
-        requires max { (B.number ≡ max) × (max ≡ self.now.table.shared.key.group_bytes) }
-        requires about { B.about ≡ Some self.now.table.shared.key.about }
+        requires max { (About.number ≡ max) × (max ≡ self.now.table.shared.key.group_bytes) }
+        requires about { About.about ≡ Some self.now.table.shared.key.about }
         requires seat { (writer.old.seat.table_id ≡ self.now.table.shared.table_id)
             × (0 < writer.old.client) × (writer.old.client ≤ self.now.clients) }
-        requires leads { (own : QueuedWriter Request) × (seen : List (Handling Request Reply))
-            × (mine : List (Request × Reply))
+        requires leads { (own : QueuedWriter Request) × (seen : Handled Request Reply)
+            × (mine : Answers Request Reply)
             × Chosen writer.old.client own seen mine writer.old.seat.me }
         requires room { HasRoom (clients_of self.now) room.old × (vec_len requests.old ≡ 0)
             × (requests.old.items ≡ []) × (clients_of self.now ≤ vec_capacity requests.old) }
         ensures seat { Stays writer.new writer.old }
         ensures room { HasRoom (clients_of self.now) room.new
             × (vec_capacity requests.new ≡ vec_capacity requests.old) }
-        ensures group { (own : QueuedWriter Request) (seen : List (Handling Request Reply))
-            (mine : List (Request × Reply))
-            → Chosen writer.old.client own seen mine writer.old.seat.me
-            → (group left : List (QueuedWriter Request))
-            × Grouped (asks_for Request.item_of Log.lawful self.now.table.shared.key.about) self.now.clients max
-            writer.old.client own group left seen mine writer.new.seat.me
-            × (requests.new.items ≡ asks own group) }
+        ensures group { (own : QueuedWriter Request) (seen : Handled Request Reply) (mine : Answers Request Reply)
+            → Chosen writer.old.client own seen mine writer.old.seat.me → (group left : Queue Request)
+            × Grouped (asks_of Request.item_of Log.lawful self.now) self.now.clients max writer.old.client own group
+            left seen mine writer.new.seat.me × (requests.new.items ≡ asks own group) }
     {
-        let first = self.build::<B>(writer);
+        let first = self.build::<About>(writer);
         self.survey(writer, first, 0, &mut room.walk);
         let Some((by, code)) = room.walk.pop() else {
             unreachable!()
@@ -104,24 +96,24 @@ impl<
     }
 
     // Reads the newest writer, and so builds the group.
-    fn build<B: PickedAbout<Log::About>>(
+    fn build<About: PickedAbout<Log::About>>(
         &self,
         writer: &mut Writer<Request, Reply, Log, Right>,
     ) -> u64
-        requires bound { self.now.table.shared.key.group_bytes ≡ B.number }
-        requires about { B.about ≡ Some self.now.table.shared.key.about }
+        requires bound { self.now.table.shared.key.group_bytes ≡ About.number }
+        requires about { About.about ≡ Some self.now.table.shared.key.about }
         requires seat { writer.old.seat.table_id ≡ self.now.table.shared.table_id }
-        requires leads { (own : QueuedWriter Request) × (seen : List (Handling Request Reply))
-            × (mine : List (Request × Reply))
+        requires leads { (own : QueuedWriter Request) × (seen : Handled Request Reply)
+            × (mine : Answers Request Reply)
             × At writer.old.client (Fresh own seen) mine writer.old.seat.me }
         ensures seat { Stays writer.new writer.old }
-        ensures built { (own : QueuedWriter Request) (seen : List (Handling Request Reply))
-            (mine : List (Request × Reply))
+        ensures built { (own : QueuedWriter Request) (seen : Handled Request Reply)
+            (mine : Answers Request Reply)
             → At writer.old.client (Fresh own seen) mine writer.old.seat.me
-            → Builds (asks_picked Request.item_of Log.lawful B.about) self.now.table.shared.table_id.slots B.number
+            → Builds (asks_picked Request.item_of Log.lawful About.about) self.now.table.shared.table_id.slots About.number
             writer.old.client own seen mine result writer.old.seat.me writer.new.seat.me }
     {
-        self.table.shared.load::<Build<B>>(&mut writer.seat, 0)
+        self.table.shared.load::<Build<About>>(&mut writer.seat, 0)
     }
 
     // Walks the writers that were read, from this newest one down to the end that the oldest one's link names: each
@@ -139,7 +131,7 @@ impl<
         ensures seat { (writer.new.seat.table_id ≡ writer.old.seat.table_id)
             × (writer.new.client ≡ writer.old.client) × (writer.new.seat.me ≡ writer.old.seat.me)
             × (vec_capacity walk.new ≡ vec_capacity walk.old) }
-        ensures walk { (line : List (QueuedWriter Request)) → SeesTo end writer.old.client writer.old.seat.me line
+        ensures walk { (line : Queue Request) → SeesTo end writer.old.client writer.old.seat.me line
             → walk.new.items ≡ pairs line }
         ensures codes { CodesFit walk.new.items }
     {
@@ -161,11 +153,11 @@ impl<
     // Takes the leader's own request.
     fn own_request(&self, writer: &mut Writer<Request, Reply, Log, Right>) -> Request
         requires seat { writer.old.seat.table_id ≡ self.now.table.shared.table_id }
-        requires held { (q : Request) × (t : List (ℕ × LineSlot Request Reply Log Right))
+        requires held { (q : Request) × (t : Slots Request Reply Log Right)
             × (writer.old.seat.me.1 ≡ (writer.old.client, Asked q) ∷ t) }
         ensures seat { (writer.new.seat.table_id ≡ writer.old.seat.table_id)
             × (writer.new.client ≡ writer.old.client) × (writer.new.seat.me.0 ≡ writer.old.seat.me.0) }
-        ensures taken { (q : Request) (t : List (ℕ × LineSlot Request Reply Log Right))
+        ensures taken { (q : Request) (t : Slots Request Reply Log Right)
             → writer.old.seat.me.1 ≡ (writer.old.client, Asked q) ∷ t
             → (writer.new.seat.me.1 ≡ (writer.old.client, Empty) ∷ t) × (result ≡ q) }
     {
@@ -199,15 +191,11 @@ impl<
         ensures seat { (writer.new.seat.table_id ≡ writer.old.seat.table_id)
             × (writer.new.client ≡ writer.old.client) × (vec_capacity asked.new ≡ vec_capacity asked.old)
             × (vec_capacity walk.new ≡ vec_capacity walk.old) }
-        ensures gathered { (own : QueuedWriter Request) (group left : List (QueuedWriter Request))
-            (seen : List (Handling Request Reply))
-            (past : List (LineEvent Request Reply)) (mine : List (Request × Reply))
-            → At writer.old.client (Leading (lead_at_build own seen past (left ++ (group ++ own ∷ [])) group)) mine
-            writer.old.seat.me → HasBuilt max own group left seen past
-            → IsWhole (asks_for Request.item_of Log.lawful self.now.table.shared.key.about) max own group left
-            → Grouped (asks_for Request.item_of Log.lawful self.now.table.shared.key.about) self.now.clients max
-            writer.old.client own group left seen mine writer.new.seat.me
-            × (asked.new.items ≡ asks own group) }
+        ensures gathered { (own : QueuedWriter Request) (group left : Queue Request) (seen : Handled Request Reply)
+            (mine : Answers Request Reply) → Built (asks_of Request.item_of Log.lawful self.now) max writer.old.client
+            own group left seen mine writer.old.seat.me
+            → Grouped (asks_of Request.item_of Log.lawful self.now) self.now.clients max writer.old.client own group
+            left seen mine writer.new.seat.me × (asked.new.items ≡ asks own group) }
     {
         let leader = item_of(leader_code);
         let mut sum = leader.size;
@@ -229,11 +217,11 @@ impl<
     // Takes the request of the oldest writer whose request the leader does not have.
     fn fetch(&self, writer: &mut Writer<Request, Reply, Log, Right>, member: u64) -> Request
         requires seat { (writer.old.seat.table_id ≡ self.now.table.shared.table_id) × (member ≤ self.now.clients) }
-        requires next { (lead : Lead Request Reply) × (mine : List (Request × Reply))
-            × (pre : List (QueuedWriter Request)) × (x : QueuedWriter Request)
+        requires next { (lead : Lead Request Reply) × (mine : Answers Request Reply)
+            × (pre : Queue Request) × (x : QueuedWriter Request)
             × NextIs writer.old.client lead mine pre x writer.old.seat.me × (x.by ≡ member) }
         ensures seat { Stays writer.new writer.old }
-        ensures taken { (lead : Lead Request Reply) (mine : List (Request × Reply)) (pre : List (QueuedWriter Request))
+        ensures taken { (lead : Lead Request Reply) (mine : Answers Request Reply) (pre : Queue Request)
             (x : QueuedWriter Request)
             → NextIs writer.old.client lead mine pre x writer.old.seat.me → x.by ≡ member
             → At writer.old.client (Leading (lead_with_one_more lead x)) mine writer.new.seat.me

@@ -1,22 +1,19 @@
 //! How a group comes into the second list.
-ghost use Rattle.std.specs.Prelude.{◌≡◌, ◌≢◌, ℕ, ◌+◌, ◌^◌, ◌<◌, ◌≤◌, List, [], ◌∷◌, ◌++◌, true, vec_len, vec_capacity, length, Some};
-ghost use Rattle.line_rule.specs.declared.content.LineSlot.{LineSlot};
-ghost use Rattle.line_rule.specs.declared.content.LineSlot.TheVariants.{Told, TheLog, TheRight};
-ghost use Rattle.line_rule.specs.declared.view.Back.TheVariants.{Parting, Joining, Holding};
-ghost use Rattle.line_rule.specs.declared.view.QueuedWriter.{QueuedWriter};
-ghost use Rattle.line_rule.specs.declared.view.Handling.{Handling};
+ghost use Rattle.std.specs.Prelude.{◌≡◌, ℕ, ◌+◌, ◌^◌, ◌<◌, ◌≤◌, [], ◌∷◌, ◌++◌, true, vec_len, vec_capacity, length, Some};
+ghost use Rattle.line_rule.specs.declared.view.Back.TheVariants.{Parting};
 ghost use Rattle.line_rule.specs.declared.view.Lead.{Lead};
 ghost use Rattle.line_rule.specs.declared.view.Squad.{Squad};
 ghost use Rattle.line_rule.specs.declared.view.LineStage.{LineStage};
 ghost use Rattle.line_rule.specs.declared.view.LineStage.TheVariants.{Leading};
-ghost use Rattle.line_rule.specs.Chain.{newest, heads, all_answers};
+ghost use Rattle.line_rule.specs.Chain.{newest, heads};
 ghost use Rattle.line_rule.specs.Standing.{line_of};
 ghost use Rattle.line_rule.specs.Laws.{given_runs};
-ghost use Rattle.line_rule.specs.Plays.{At, AtWith, in_hand, debt, slots_of, squad_at_cut, squad_with_end, IsCut};
-ghost use Rattle.line_writers.specs.Roles.{HasJoined, HasSent, lead_with_group, past_in, pays, bys};
+ghost use Rattle.line_rule.specs.Plays.{At, AtWith, debt, IsCut};
+ghost use Rattle.line_writers.specs.Roles.{HasJoined, HasSent, bys};
 ghost use Rattle.line_writers.specs.Rooms.{HasRoom};
-ghost use Rattle.line_writers.specs.Seats.{about_of, asks_of, client_of, clients_of, law_of, piped_of, Belongs, HasGroup, Stays, answers_told};
+ghost use Rattle.line_writers.specs.Seats.{about_of, asks_of, client_of, clients_of, law_of, piped_of, Belongs, Stays, answers_told};
 ghost use Rattle.line_writers.specs.Second.{IsSent, ListsMembers};
+ghost use Rattle.line_writers.specs.Groups.{Queue, Answers, Members, Slots, all_handled, squad_sent, AreGiven, LeadsWhole, HasHandled, ForHandled, Joins, HasReplies, ForReplies};
 
 use crate::line_writers::WriterList;
 use crate::room::{Replies, Room};
@@ -27,6 +24,7 @@ use line_rule::{
     ReadNewest, ReadOlder, older_word,
 };
 use std::marker::Brand;
+use std::rt;
 use std::sync::Wait;
 
 impl<
@@ -38,7 +36,7 @@ impl<
     /// Moves a group to the second list, with its replies in its slots. The log, which stands for all that was handled
     /// before and for the group, goes back, or on to the next leader. The writer waits for the right then, which it has
     /// already where its group came alone.
-    pub fn exit_pipelined<R: Wait>(
+    pub fn exit_pipelined<R: Wait + rt::Clock>(
         &self,
         rt: &R,
         writer: &mut Writer<Request, Reply, Log, Right>,
@@ -47,24 +45,17 @@ impl<
         room: &mut Room,
     )
         requires piped { piped_of self.now ≡ true }
-        requires group { Belongs self.now writer.old × ((max : ℕ) × (own : QueuedWriter Request)
-            × (group left : List (QueuedWriter Request)) × (seen : List (Handling Request Reply))
-            × (gs : List (QueuedWriter Request × Reply)) × (p : Reply)
-            × HasGroup (asks_of Request.item_of Log.lawful self.now) (clients_of self.now) max own group left seen
-            (answers_told writer.old) writer.old × (heads gs ≡ group) × (replies.old.list.items ≡ pays own p gs)
-            × law_of Reply.run_of Log.LogOfGroups self.now log (seen ++ all_answers own p gs)) }
+        requires group { Belongs self.now writer.old × HasReplies (asks_of Request.item_of Log.lawful self.now)
+            (clients_of self.now) replies.old.list.items
+            (λ lead d. law_of Reply.run_of Log.LogOfGroups self.now log (all_handled lead d)) writer.old }
         requires room { HasRoom (clients_of self.now) room.old × (vec_len replies.old.list ≤ clients_of self.now) }
         ensures replies { (replies.new.list.items ≡ [])
             × (vec_capacity replies.new.list ≡ vec_capacity replies.old.list) }
         ensures client { (client_of writer.new ≡ client_of writer.old) × Belongs self.now writer.new }
-        ensures sent { (max : ℕ) (own : QueuedWriter Request) (group left : List (QueuedWriter Request))
-            (seen : List (Handling Request Reply)) (gs : List
-            (QueuedWriter Request × Reply)) (p : Reply)
-            → HasGroup (asks_of Request.item_of Log.lawful self.now) (clients_of self.now) max own group left seen
-            (answers_told writer.old) writer.old → heads gs ≡ group → replies.old.list.items ≡ pays own p gs
-            → IsSent (Log.serves (about_of self.now)) (clients_of self.now) (debt gs own p) (given_runs Reply.run_of
-            seen) (given_runs Reply.run_of (seen ++ all_answers own p gs)) (answers_told writer.old) writer.new
-            × ListsMembers (clients_of self.now) (debt gs own p) room.new }
+        ensures sent { ForReplies (asks_of Request.item_of Log.lawful self.now) (clients_of self.now)
+            replies.old.list.items writer.old (λ lead d. IsSent (Log.serves (about_of self.now)) (clients_of self.now) d
+            (given_runs Reply.run_of lead.seen) (given_runs Reply.run_of (all_handled lead d))
+            (answers_told writer.old) writer.new × ListsMembers (clients_of self.now) d room.new) }
     {
         let alone = self.exit_from::<Brand, Brand, R>(rt, writer, log, &mut replies.list, room);
         if alone {
@@ -78,9 +69,9 @@ impl<
     // The same, where what was given runs before the group, and with it, is picked: true where the leader has the
     // right.
     fn exit_from<
-        B: PickedGiven<Request, Reply>,
-        D: PickedRight<Request, Reply, Log::About>,
-        R: Wait,
+        Given: PickedGiven<Request, Reply>,
+        ForRight: PickedRight<Request, Reply, Log::About>,
+        R: Wait + rt::Clock,
     >(
         &self,
         rt: &R,
@@ -90,37 +81,26 @@ impl<
         room: &mut Room,
     ) -> bool
         requires piped { piped_of self.now ≡ true }
-        requires about { D.about ≡ Some (about_of self.now) }
-        requires group { Belongs self.now writer.old × ((max : ℕ) × (own : QueuedWriter Request)
-            × (group left : List (QueuedWriter Request)) × (seen : List (Handling Request Reply))
-            × (gs : List (QueuedWriter Request × Reply)) × (p : Reply)
-            × HasGroup (asks_of Request.item_of Log.lawful self.now) (clients_of self.now) max own group left seen
-            (answers_told writer.old) writer.old × (heads gs ≡ group) × (replies.old.items ≡ pays own p gs)
-            × law_of Reply.run_of Log.LogOfGroups self.now log (seen ++ all_answers own p gs)
-            × (B.given ≡ given_runs Reply.run_of seen)
-            × (D.given ≡ given_runs Reply.run_of (seen ++ all_answers own p gs))) }
+        requires about { ForRight.about ≡ Some (about_of self.now) }
+        requires group { Belongs self.now writer.old × HasReplies (asks_of Request.item_of Log.lawful self.now)
+            (clients_of self.now) replies.old.items
+            (λ lead d. law_of Reply.run_of Log.LogOfGroups self.now log (all_handled lead d)
+            × AreGiven Reply.run_of Given.given ForRight.given lead.seen (all_handled lead d)) writer.old }
         requires room { HasRoom (clients_of self.now) room.old × (vec_len replies.old ≤ clients_of self.now) }
         ensures seat { Stays writer.new writer.old }
         ensures replies { (replies.new.items ≡ []) × (vec_capacity replies.new ≡ vec_capacity replies.old) }
         ensures room { (vec_len room.new.walk ≡ 0) × (room.new.walk.items ≡ [])
             × (clients_of self.now ≤ vec_capacity room.new.walk)
             × (clients_of self.now ≤ vec_capacity room.new.members) }
-        ensures sent { (max : ℕ) (own : QueuedWriter Request) (group left : List (QueuedWriter Request))
-            (seen : List (Handling Request Reply)) (gs :
-            List (QueuedWriter Request × Reply)) (p : Reply)
-            → HasGroup (asks_of Request.item_of Log.lawful self.now) (clients_of self.now) max own group left seen
-            (answers_told writer.old) writer.old → heads gs ≡ group → replies.old.items ≡ pays own p gs
-            → HasSent (Log.serves (about_of self.now)) self.now.clients writer.old.client result (debt gs own p)
-            (answers_told writer.old)
-            (squad_with_end (squad_at_cut (lead_with_group own seen (past_in writer.old.seat.me.0) left group) B.given)
-            D.given)
-            writer.new.seat.me
-            × (room.new.members.items ≡ bys (heads gs ++ own ∷ [])) }
+        ensures sent { ForReplies (asks_of Request.item_of Log.lawful self.now) (clients_of self.now) replies.old.items
+            writer.old (λ lead d. HasSent (Log.serves (about_of self.now)) self.now.clients writer.old.client result d
+            (answers_told writer.old) (squad_sent lead Given.given ForRight.given) writer.new.seat.me
+            × (room.new.members.items ≡ bys (heads d.rest ++ d.own ∷ []))) }
     {
         let code = self.own_code(writer);
         self.fill(writer, replies, &mut room.members);
         self.put_log(writer, log);
-        self.send_on::<B, D, R>(
+        self.send_on::<Given, ForRight, R>(
             rt,
             writer,
             code,
@@ -136,7 +116,7 @@ impl<
             × (writer.old.client ≤ self.now.clients) }
         ensures seat { (writer.new.seat.table_id ≡ writer.old.seat.table_id)
             × (writer.new.client ≡ writer.old.client) × (writer.new.seat.me ≡ writer.old.seat.me) }
-        ensures code { (lead : Lead Request Reply) (mine : List (Request × Reply)) (newer : List (QueuedWriter Request))
+        ensures code { (lead : Lead Request Reply) (mine : Answers Request Reply) (newer : Queue Request)
             → At writer.old.client (Leading lead) mine writer.old.seat.me → lead.walk ≡ newer ++ lead.own ∷ []
             → lead.own.by ≡ writer.old.client → result ≡ lead.own.code }
         ensures small { result < 2 ^ 56 }
@@ -150,7 +130,11 @@ impl<
     }
 
     // Moves the group to the second list, and gives the log on: true where the leader has taken the right.
-    fn send_on<B: PickedGiven<Request, Reply>, D: PickedRight<Request, Reply, Log::About>, R: Wait>(
+    fn send_on<
+        Given: PickedGiven<Request, Reply>,
+        ForRight: PickedRight<Request, Reply, Log::About>,
+        R: Wait + rt::Clock,
+    >(
         &self,
         rt: &R,
         writer: &mut Writer<Request, Reply, Log, Right>,
@@ -160,31 +144,24 @@ impl<
         walk: &mut Vec<(u64, u64)>,
     ) -> bool
         requires piped { piped_of self.now ≡ true }
-        requires about { D.about ≡ Some (about_of self.now) }
+        requires about { ForRight.about ≡ Some (about_of self.now) }
         requires seat { (writer.old.seat.table_id ≡ self.now.table.shared.table_id) × (0 < writer.old.client)
             × (writer.old.client ≤ self.now.clients) × (code < 2 ^ 56) }
         requires room { (vec_len walk.old ≡ 0) × (walk.old.items ≡ []) × (self.now.clients ≤ vec_capacity walk.old) }
-        requires ready { (lead : Lead Request Reply) × (mine : List (Request × Reply))
-            × (gs : List (QueuedWriter Request × Reply)) × (p : Reply) × (l : Log)
-            × At writer.old.client (Leading lead) mine writer.old.seat.me
-            × (newest_member ≡ newest (in_hand lead)) × (lead.taken ≡ lead.group)
-            × (count ≡ length (in_hand lead)) × (lead.own.code ≡ code) × (heads gs ≡ lead.taken)
-            × (writer.old.seat.me.1 ≡ (0, TheLog l) ∷ slots_of gs ((writer.old.client, Told p) ∷ []))
-            × law_of Reply.run_of Log.LogOfGroups self.now l (lead.seen ++ all_answers lead.own p gs)
-            × (B.given ≡ given_runs Reply.run_of lead.seen)
-            × (D.given ≡ given_runs Reply.run_of (lead.seen ++ all_answers lead.own p gs)) }
+        requires ready { (lead : Lead Request Reply) × (mine : Answers Request Reply) × (gs : Members Request Reply)
+            × (p : Reply) × (l : Log) × LeadsWhole writer.old.client newest_member count lead mine writer.old.seat.me
+            × (lead.own.code ≡ code) × HasHandled writer.old.client lead gs p l writer.old.seat.me
+            × law_of Reply.run_of Log.LogOfGroups self.now l (all_handled lead (debt gs lead.own p))
+            × AreGiven Reply.run_of Given.given ForRight.given lead.seen (all_handled lead (debt gs lead.own p)) }
         ensures seat { (writer.new.seat.table_id ≡ writer.old.seat.table_id)
             × (writer.new.client ≡ writer.old.client) × (walk.new.items ≡ []) × (vec_len walk.new ≡ 0)
             × (vec_capacity walk.new ≡ vec_capacity walk.old) }
-        ensures sent { (lead : Lead Request Reply) (mine : List (Request × Reply))
-            (gs : List (QueuedWriter Request × Reply)) (p : Reply) (l : Log)
-            → At writer.old.client (Leading lead) mine writer.old.seat.me → heads gs ≡ lead.taken
-            → writer.old.seat.me.1 ≡ (0, TheLog l) ∷ slots_of gs ((writer.old.client, Told p) ∷ [])
-            → HasSent (Log.serves (about_of self.now)) self.now.clients writer.old.client result (debt gs lead.own p)
-            mine (squad_with_end (squad_at_cut lead B.given) D.given) writer.new.seat.me }
+        ensures sent { ForHandled writer.old.client writer.old.seat.me (λ lead mine d.
+            HasSent (Log.serves (about_of self.now)) self.now.clients writer.old.client result d mine
+            (squad_sent lead Given.given ForRight.given) writer.new.seat.me) }
     {
-        let next = self.part::<B>(writer, newest_member, count, walk);
-        let alone = self.join_second::<D, R>(rt, writer, code, newest_member);
+        let next = self.part::<Given>(writer, newest_member, count, walk);
+        let alone = self.join_second::<ForRight, R>(rt, writer, code, newest_member);
         if alone {
             writer.seat.turn();
             self.go_on(writer, next, walk);
@@ -195,7 +172,7 @@ impl<
     }
 
     // Puts the group, which is cut off from the first list, into the second: true where its leader takes the right.
-    fn join_second<B: PickedRight<Request, Reply, Log::About>, R: Wait>(
+    fn join_second<ForRight: PickedRight<Request, Reply, Log::About>, R: Wait + rt::Clock>(
         &self,
         rt: &R,
         writer: &mut Writer<Request, Reply, Log, Right>,
@@ -203,20 +180,18 @@ impl<
         newest_member: u64,
     ) -> bool
         requires piped { piped_of self.now ≡ true }
-        requires about { B.about ≡ Some (about_of self.now) }
+        requires about { ForRight.about ≡ Some (about_of self.now) }
         requires seat { (writer.old.seat.table_id ≡ self.now.table.shared.table_id) × (0 < writer.old.client)
             × (writer.old.client ≤ self.now.clients) × (code < 2 ^ 56) }
-        requires parted { (st : LineStage Request Reply) × (lead : Lead Request Reply) × (mine : List (Request × Reply))
+        requires parted { (st : LineStage Request Reply) × (lead : Lead Request Reply) × (mine : Answers Request Reply)
             × (g : Squad Request Reply) × (b : ℕ)
             × AtWith writer.old.client st mine (Parting g b) writer.old.seat.me × (g.own.code ≡ code)
             × IsCut lead st × (g.from ≡ given_runs Reply.run_of lead.seen) × (newest_member ≡ newest (line_of g)) }
         ensures seat { Stays writer.new writer.old }
-        ensures joined { (st : LineStage Request Reply) (mine : List (Request × Reply)) (g : Squad Request Reply)
-            (b : ℕ)
+        ensures joined { (st : LineStage Request Reply) (mine : Answers Request Reply) (g : Squad Request Reply) (b : ℕ)
             → AtWith writer.old.client st mine (Parting g b) writer.old.seat.me
-            → HasJoined (Log.serves (about_of self.now)) self.now.clients writer.old.client B.given result st mine g
-            writer.old.seat.me
-            writer.new.seat.me }
+            → HasJoined (Log.serves (about_of self.now)) self.now.clients writer.old.client ForRight.given result st
+            mine g writer.old.seat.me writer.new.seat.me }
     {
         let shared = &self.table.shared;
         let backoff = Backoff::new();
@@ -224,7 +199,7 @@ impl<
         for _ in rt.forever() {
             let older = shared.load::<ReadNewest>(&mut writer.seat, 1);
             self.aim_second(writer, older, code);
-            let found = self.enter_second::<B>(writer, older, newest_member);
+            let found = self.enter_second::<ForRight>(writer, older, newest_member);
             if found == older {
                 return older == 0;
             }
@@ -237,11 +212,11 @@ impl<
     fn aim_second(&self, writer: &mut Writer<Request, Reply, Log, Right>, older: u64, code: u64)
         requires seat { (writer.old.seat.table_id ≡ self.now.table.shared.table_id) × (0 < writer.old.client)
             × (writer.old.client ≤ self.now.clients) × (older < 256) × (code < 2 ^ 56) }
-        requires parted { (st : LineStage Request Reply) × (mine : List (Request × Reply)) × (g : Squad Request Reply)
+        requires parted { (st : LineStage Request Reply) × (mine : Answers Request Reply) × (g : Squad Request Reply)
             × (b : ℕ)
             × AtWith writer.old.client st mine (Parting g b) writer.old.seat.me × (g.own.code ≡ code) }
         ensures seat { Stays writer.new writer.old }
-        ensures aimed { (st : LineStage Request Reply) (mine : List (Request × Reply)) (g : Squad Request Reply) (b : ℕ)
+        ensures aimed { (st : LineStage Request Reply) (mine : Answers Request Reply) (g : Squad Request Reply) (b : ℕ)
             → AtWith writer.old.client st mine (Parting g b) writer.old.seat.me → g.own.code ≡ code
             → AtWith writer.old.client st mine (Parting g older) writer.new.seat.me
             × (writer.new.seat.me.1 ≡ writer.old.seat.me.1) }
@@ -257,42 +232,38 @@ impl<
     }
 
     // Puts the group into the second list where its newest writer is still `older`; answers the newest writer.
-    fn enter_second<B: PickedRight<Request, Reply, Log::About>>(
+    fn enter_second<ForRight: PickedRight<Request, Reply, Log::About>>(
         &self,
         writer: &mut Writer<Request, Reply, Log, Right>,
         older: u64,
         newest_member: u64,
     ) -> u64
         requires piped { piped_of self.now ≡ true }
-        requires about { B.about ≡ Some (about_of self.now) }
+        requires about { ForRight.about ≡ Some (about_of self.now) }
         requires seat { writer.old.seat.table_id ≡ self.now.table.shared.table_id }
-        requires parted { (st : LineStage Request Reply) × (lead : Lead Request Reply) × (mine : List (Request × Reply))
+        requires parted { (st : LineStage Request Reply) × (lead : Lead Request Reply) × (mine : Answers Request Reply)
             × (g : Squad Request Reply)
             × AtWith writer.old.client st mine (Parting g older) writer.old.seat.me × IsCut lead st
             × (g.from ≡ given_runs Reply.run_of lead.seen) × (newest_member ≡ newest (line_of g)) }
         ensures seat { Stays writer.new writer.old }
-        ensures entered { (st : LineStage Request Reply) (mine : List (Request × Reply)) (g : Squad Request Reply)
-            → AtWith writer.old.client st mine (Parting g older) writer.old.seat.me → (result ≡ older → older ≢ 0
-            → AtWith writer.old.client st mine (Joining (squad_with_end g B.given)) writer.new.seat.me
-            × (writer.new.seat.me.1 ≡ writer.old.seat.me.1)) × (result ≡ older → older ≡ 0 → (right : Right)
-            × Log.serves (about_of self.now) right g.from
-            × AtWith writer.old.client st mine (Holding (squad_with_end g B.given)) writer.new.seat.me
-            × (writer.new.seat.me.1 ≡ (self.now.clients + 1, TheRight right) ∷ writer.old.seat.me.1))
-            × (result ≢ older → writer.new.seat.me ≡ writer.old.seat.me) }
+        ensures entered { (st : LineStage Request Reply) (mine : Answers Request Reply) (g : Squad Request Reply)
+            → AtWith writer.old.client st mine (Parting g older) writer.old.seat.me
+            → Joins (Log.serves (about_of self.now)) self.now.clients writer.old.client ForRight.given older result st
+            mine g writer.old.seat.me writer.new.seat.me }
     {
         self.table
             .shared
-            .compare_exchange::<JoinSecond<B>>(&mut writer.seat, 1, older, newest_member)
+            .compare_exchange::<JoinSecond<ForRight>>(&mut writer.seat, 1, older, newest_member)
     }
 
     // Lets the first `count` slots go behind the others.
     fn rotate(&self, writer: &mut Writer<Request, Reply, Log, Right>, count: usize)
-        requires first { (a : List (ℕ × LineSlot Request Reply Log Right))
-            × (b : List (ℕ × LineSlot Request Reply Log Right))
+        requires first { (a : Slots Request Reply Log Right)
+            × (b : Slots Request Reply Log Right)
             × (writer.old.seat.me.1 ≡ a ++ b) × (length a ≡ count) }
         ensures seat { (writer.new.seat.table_id ≡ writer.old.seat.table_id)
             × (writer.new.client ≡ writer.old.client) × (writer.new.seat.me.0 ≡ writer.old.seat.me.0) }
-        ensures turned { (a b : List (ℕ × LineSlot Request Reply Log Right)) → writer.old.seat.me.1 ≡ a ++ b
+        ensures turned { (a b : Slots Request Reply Log Right) → writer.old.seat.me.1 ≡ a ++ b
             → length a ≡ count
             → writer.new.seat.me.1 ≡ b ++ a }
     {

@@ -1,16 +1,15 @@
 //! How a leader leaves: the replies into the slots, the log back or on, and each member told.
-ghost use Rattle.std.specs.Prelude.{◌≡◌, ℕ, ◌+◌, ◌^◌, ◌<◌, ◌≤◌, List, [], ◌∷◌, ◌++◌, vec_len, vec_capacity, length, reverse};
+ghost use Rattle.std.specs.Prelude.{◌≡◌, ℕ, ◌+◌, ◌^◌, ◌<◌, ◌≤◌, [], ◌∷◌, ◌++◌, vec_len, vec_capacity, length, reverse};
 ghost use Rattle.line_rule.specs.declared.content.LineSlot.{LineSlot};
 ghost use Rattle.line_rule.specs.declared.content.LineSlot.TheVariants.{Empty, Told, TheLog};
 ghost use Rattle.line_rule.specs.declared.view.QueuedWriter.{QueuedWriter};
-ghost use Rattle.line_rule.specs.declared.view.Handling.{Handling};
-ghost use Rattle.line_rule.specs.declared.view.Lead.{Lead};
-ghost use Rattle.line_rule.specs.declared.view.LineStage.TheVariants.{Idle, Leading, Settling};
-ghost use Rattle.line_rule.specs.Chain.{heads, Within, all_answers};
-ghost use Rattle.line_rule.specs.Plays.{At, debt, slots_of, blanks};
-ghost use Rattle.line_writers.specs.Roles.{Leaves, MayLeave, MayWake, MayHandOn, bys, pays, firsts, fills};
+ghost use Rattle.line_rule.specs.declared.view.LineStage.TheVariants.{Idle};
+ghost use Rattle.line_rule.specs.Chain.{heads, Within};
+ghost use Rattle.line_rule.specs.Plays.{At, debt, blanks};
+ghost use Rattle.line_writers.specs.Roles.{Leaves, MayLeave, MayWake, MayHandOn, bys, firsts, fills};
 ghost use Rattle.line_writers.specs.Rooms.{HasRoom};
-ghost use Rattle.line_writers.specs.Seats.{asks_of, client_of, clients_of, law_of, flat_of, Belongs, IsOut, HasGroup, Stays, answers_told};
+ghost use Rattle.line_writers.specs.Seats.{asks_of, client_of, clients_of, law_of, flat_of, Belongs, IsOut, Stays, answers_told, table_of};
+ghost use Rattle.line_writers.specs.Groups.{Answers, Members, Slots, all_handled, Owes, ForHandled, HasReplies, ForReplies};
 
 use crate::line_writers::WriterList;
 use crate::room::{Replies, Room};
@@ -35,25 +34,18 @@ impl<
         replies: &mut Replies<Reply>,
         room: &mut Room,
     ) -> Reply
-        requires group { Belongs self.now writer.old
-            × ((max : ℕ) × (own : QueuedWriter Request) × (group left : List (QueuedWriter Request))
-            × (seen : List (Handling Request Reply)) × (gs : List (QueuedWriter Request × Reply)) × (p : Reply)
-            × HasGroup (asks_of Request.item_of Log.lawful self.now) (clients_of self.now) max own group left seen
-            (answers_told writer.old) writer.old
-            × (heads gs ≡ group) × (replies.old.list.items ≡ pays own p gs)
-            × law_of Reply.run_of Log.LogOfGroups self.now log (seen ++ all_answers own p gs)
-            × flat_of Reply.run_of self.now seen (seen ++ all_answers own p gs)) }
+        requires group { Belongs self.now writer.old × HasReplies (asks_of Request.item_of Log.lawful self.now)
+            (clients_of self.now) replies.old.list.items
+            (λ lead d. law_of Reply.run_of Log.LogOfGroups self.now log (all_handled lead d)
+            × flat_of Reply.run_of self.now lead.seen (all_handled lead d)) writer.old }
         requires room { HasRoom (clients_of self.now) room.old × (vec_len replies.old.list ≤ clients_of self.now) }
         ensures room { HasRoom (clients_of self.now) room.new × (replies.new.list.items ≡ []) }
         ensures replies_room { vec_capacity replies.new.list ≡ vec_capacity replies.old.list }
         ensures client { client_of writer.new ≡ client_of writer.old }
-        ensures out { Belongs self.now writer.new × IsOut writer.new × ((max : ℕ) (own : QueuedWriter Request)
-            (group left : List (QueuedWriter Request)) (seen : List (Handling Request Reply))
-            (gs : List (QueuedWriter Request × Reply)) (p : Reply)
-            → HasGroup (asks_of Request.item_of Log.lawful self.now) (clients_of self.now) max own group left seen
-            (answers_told writer.old) writer.old
-            → heads gs ≡ group → replies.old.list.items ≡ pays own p gs
-            → (answers_told writer.new ≡ answers_told writer.old ++ (own.asked, p) ∷ []) × (result ≡ p)) }
+        ensures out { Belongs self.now writer.new × IsOut writer.new
+            × ForReplies (asks_of Request.item_of Log.lawful self.now) (clients_of self.now) replies.old.list.items
+            writer.old (λ lead d. (answers_told writer.new ≡ answers_told writer.old ++ (d.own.asked, d.reply) ∷ [])
+            × (result ≡ d.reply)) }
     {
         self.fill(writer, &mut replies.list, &mut room.members);
         self.put_log(writer, log);
@@ -106,10 +98,10 @@ impl<
     // Puts the log into its slot.
     pub(crate) fn put_log(&self, writer: &mut Writer<Request, Reply, Log, Right>, log: Log)
         requires seat { writer.old.seat.table_id ≡ self.now.table.shared.table_id }
-        requires held { (t : List (ℕ × LineSlot Request Reply Log Right)) × (writer.old.seat.me.1 ≡ (0, Empty) ∷ t) }
+        requires held { (t : Slots Request Reply Log Right) × (writer.old.seat.me.1 ≡ (0, Empty) ∷ t) }
         ensures seat { (writer.new.seat.table_id ≡ writer.old.seat.table_id)
             × (writer.new.client ≡ writer.old.client) × (writer.new.seat.me.0 ≡ writer.old.seat.me.0) }
-        ensures put { (t : List (ℕ × LineSlot Request Reply Log Right)) → writer.old.seat.me.1 ≡ (0, Empty) ∷ t
+        ensures put { (t : Slots Request Reply Log Right) → writer.old.seat.me.1 ≡ (0, Empty) ∷ t
             → writer.new.seat.me.1 ≡ (0, TheLog log) ∷ t }
     {
         match self
@@ -137,12 +129,8 @@ impl<
         ensures seat { (writer.new.seat.table_id ≡ writer.old.seat.table_id)
             × (writer.new.client ≡ writer.old.client) × (walk.new.items ≡ []) × (vec_len walk.new ≡ 0)
             × (vec_capacity walk.new ≡ vec_capacity walk.old) }
-        ensures settling { (lead : Lead Request Reply) (mine : List (Request × Reply))
-            (gs : List (QueuedWriter Request × Reply)) (p : Reply) (l : Log)
-            → At writer.old.client (Leading lead) mine writer.old.seat.me → heads gs ≡ lead.taken
-            → writer.old.seat.me.1 ≡ (0, TheLog l) ∷ slots_of gs ((writer.old.client, Told p) ∷ [])
-            → At writer.old.client (Settling (debt gs lead.own p)) mine writer.new.seat.me
-            × (writer.new.seat.me.1 ≡ slots_of gs ((writer.old.client, Told p) ∷ [])) }
+        ensures settling { ForHandled writer.old.client writer.old.seat.me (λ lead mine d.
+            Owes writer.old.client d mine writer.new.seat.me) }
     {
         let found = self.leave(writer, newest_member);
         if found == newest_member {
@@ -160,12 +148,9 @@ impl<
         requires ready { MayLeave (law_of Reply.run_of Log.LogOfGroups self.now) (flat_of Reply.run_of self.now)
             writer.old.client newest_member writer.old.seat.me }
         ensures seat { Stays writer.new writer.old }
-        ensures left { (lead : Lead Request Reply) (mine : List (Request × Reply))
-            (gs : List (QueuedWriter Request × Reply)) (p : Reply) (l : Log)
-            → At writer.old.client (Leading lead) mine writer.old.seat.me → heads gs ≡ lead.taken
-            → writer.old.seat.me.1 ≡ (0, TheLog l) ∷ slots_of gs ((writer.old.client, Told p) ∷ [])
-            → Leaves writer.old.client lead gs p mine self.now.table.shared.table_id.slots newest_member result
-            writer.old.seat.me writer.new.seat.me }
+        ensures left { ForHandled writer.old.client writer.old.seat.me (λ lead mine d.
+            Leaves writer.old.client lead d.rest d.reply mine (table_of self.now).slots newest_member result
+            writer.old.seat.me writer.new.seat.me) }
     {
         self.table
             .shared
@@ -179,12 +164,8 @@ impl<
         requires ready { MayWake (law_of Reply.run_of Log.LogOfGroups self.now) (flat_of Reply.run_of self.now)
             writer.old.client next code writer.old.seat.me }
         ensures seat { Stays writer.new writer.old }
-        ensures left { (lead : Lead Request Reply) (mine : List (Request × Reply))
-            (gs : List (QueuedWriter Request × Reply)) (p : Reply) (l : Log)
-            → At writer.old.client (Leading lead) mine writer.old.seat.me → heads gs ≡ lead.taken
-            → writer.old.seat.me.1 ≡ (0, TheLog l) ∷ slots_of gs ((writer.old.client, Told p) ∷ [])
-            → At writer.old.client (Settling (debt gs lead.own p)) mine writer.new.seat.me
-            × (writer.new.seat.me.1 ≡ slots_of gs ((writer.old.client, Told p) ∷ [])) }
+        ensures left { ForHandled writer.old.client writer.old.seat.me (λ lead mine d.
+            Owes writer.old.client d mine writer.new.seat.me) }
     {
         let shared = &self.table.shared;
         let cleared = Older { client: 0, code };
@@ -196,59 +177,55 @@ impl<
     // Tells each member but the leader its reply.
     pub(crate) fn tell_all(&self, writer: &mut Writer<Request, Reply, Log, Right>, members: &[u32])
         requires seat { writer.old.seat.table_id ≡ self.now.table.shared.table_id }
-        requires owed { (mine : List (Request × Reply)) × (gs : List (QueuedWriter Request × Reply))
-            × (own : QueuedWriter Request) × (p : Reply)
-            × At writer.old.client (Settling (debt gs own p)) mine writer.old.seat.me
-            × (writer.old.seat.me.1 ≡ slots_of gs ((writer.old.client, Told p) ∷ []))
+        requires owed { (mine : Answers Request Reply) × (gs : Members Request Reply) × (own : QueuedWriter Request)
+            × (p : Reply) × Owes writer.old.client (debt gs own p) mine writer.old.seat.me
             × (members.now ≡ bys (heads gs ++ own ∷ [])) × Within self.now.clients (heads gs) }
         ensures seat { Stays writer.new writer.old }
-        ensures told { (mine : List (Request × Reply)) (gs : List (QueuedWriter Request × Reply))
-            (own : QueuedWriter Request) (p : Reply)
-            → At writer.old.client (Settling (debt gs own p)) mine writer.old.seat.me
-            → writer.old.seat.me.1 ≡ slots_of gs ((writer.old.client, Told p) ∷ [])
-            → At writer.old.client (Settling (debt [] own p)) mine writer.new.seat.me
-            × (writer.new.seat.me.1 ≡ (writer.old.client, Told p) ∷ []) }
+        ensures told { (mine : Answers Request Reply) (gs : Members Request Reply) (own : QueuedWriter Request)
+            (p : Reply) → Owes writer.old.client (debt gs own p) mine writer.old.seat.me
+            → Owes writer.old.client (debt [] own p) mine writer.new.seat.me }
     {
         // The newest `i` members are told.
         for i in 0..members.len() - 1 {
             self.complete(writer, members[i]);
         }
+        self.ring_all(members);
     }
 
-    // Tells one member its reply, which lies in its slot.
+    // Wakes members, once all were told: who still looks isn't kept waiting by the calls that wake the others.
+    fn ring_all(&self, members: &[u32]) {
+        for member in members {
+            self.bells.ring(*member as u64);
+        }
+    }
+
+    // Tells one member its reply, which lies in its slot. It isn't woken here.
     pub(crate) fn complete(&self, writer: &mut Writer<Request, Reply, Log, Right>, member: u32)
         requires seat { (writer.old.seat.table_id ≡ self.now.table.shared.table_id)
             × (0 < member) × (member ≤ self.now.clients) }
-        requires owed { (mine : List (Request × Reply)) × (g : QueuedWriter Request × Reply)
-            × (gs : List (QueuedWriter Request × Reply)) × (own : QueuedWriter Request)
-            × (p : Reply) × At writer.old.client (Settling (debt (g ∷ gs) own p)) mine writer.old.seat.me
-            × (g.0.by ≡ member)
-            × (writer.old.seat.me.1 ≡ slots_of (g ∷ gs) ((writer.old.client, Told p) ∷ [])) }
+        requires owed { (mine : Answers Request Reply) × (g : QueuedWriter Request × Reply)
+            × (gs : Members Request Reply) × (own : QueuedWriter Request) × (p : Reply)
+            × Owes writer.old.client (debt (g ∷ gs) own p) mine writer.old.seat.me × (g.0.by ≡ member) }
         ensures seat { Stays writer.new writer.old }
-        ensures told { (mine : List (Request × Reply)) (g : QueuedWriter Request
-            × Reply) (gs : List (QueuedWriter Request × Reply)) (own : QueuedWriter Request) (p : Reply)
-            → At writer.old.client (Settling (debt (g ∷ gs) own p)) mine writer.old.seat.me
-            → writer.old.seat.me.1 ≡ slots_of (g ∷ gs) ((writer.old.client, Told p) ∷ [])
-            → At writer.old.client (Settling (debt gs own p)) mine writer.new.seat.me
-            × (writer.new.seat.me.1 ≡ slots_of gs ((writer.old.client, Told p) ∷ [])) }
+        ensures told { (mine : Answers Request Reply) (g : QueuedWriter Request × Reply) (gs : Members Request Reply)
+            (own : QueuedWriter Request) (p : Reply)
+            → Owes writer.old.client (debt (g ∷ gs) own p) mine writer.old.seat.me
+            → Owes writer.old.client (debt gs own p) mine writer.new.seat.me }
     {
         self.table
             .shared
             .store::<Complete>(&mut writer.seat, state_word(member as u64), STATE_DONE);
-        self.bells.ring(member as u64);
     }
 
     // The leader's own last step, with its reply.
     pub(crate) fn retire(&self, writer: &mut Writer<Request, Reply, Log, Right>) -> Reply
         requires seat { (writer.old.seat.table_id ≡ self.now.table.shared.table_id)
             × (0 < writer.old.client) × (writer.old.client ≤ self.now.clients) }
-        requires owed { (mine : List (Request × Reply)) × (own : QueuedWriter Request) × (p : Reply)
-            × At writer.old.client (Settling (debt [] own p)) mine writer.old.seat.me
-            × (writer.old.seat.me.1 ≡ (writer.old.client, Told p) ∷ []) }
+        requires owed { (mine : Answers Request Reply) × (own : QueuedWriter Request) × (p : Reply)
+            × Owes writer.old.client (debt [] own p) mine writer.old.seat.me }
         ensures seat { Stays writer.new writer.old }
-        ensures idle { (mine : List (Request × Reply)) (own : QueuedWriter Request) (p : Reply)
-            → At writer.old.client (Settling (debt [] own p)) mine writer.old.seat.me
-            → writer.old.seat.me.1 ≡ (writer.old.client, Told p) ∷ []
+        ensures idle { (mine : Answers Request Reply) (own : QueuedWriter Request) (p : Reply)
+            → Owes writer.old.client (debt [] own p) mine writer.old.seat.me
             → At writer.old.client Idle (mine ++ (own.asked, p) ∷ []) writer.new.seat.me
             × (writer.new.seat.me.1 ≡ []) × (result ≡ p) }
     {

@@ -1,5 +1,5 @@
 //! How a writer links itself, and waits for its role.
-ghost use Rattle.std.specs.Prelude.{◌≡◌, ℕ, ◌+◌, ◌*◌, ◌^◌, ◌<◌, ◌≤◌, ◌≢◌, true, List, [], ◌∷◌, Some};
+ghost use Rattle.std.specs.Prelude.{◌≡◌, ℕ, ◌^◌, ◌<◌, ◌≤◌, ◌≢◌, true, List, [], ◌∷◌, Some};
 ghost use Rattle.line_rule.specs.declared.content.LineSlot.{LineSlot};
 ghost use Rattle.line_rule.specs.declared.content.LineSlot.TheVariants.{Empty, Asked, Told, TheLog};
 ghost use Rattle.line_rule.specs.declared.view.LineStage.TheVariants.{Idle, Waiting, Helping, Collecting};
@@ -11,10 +11,12 @@ ghost use Rattle.line_writers.specs.Roles.{IsLinked, Becomes, Turns, HasReply};
 ghost use Rattle.line_writers.specs.Seats.{client_of, about_of, law_of, kept_of, Belongs, IsOut, IsIn, HasRole, Stays, answers_told};
 ghost use Rattle.line_writers.specs.declared.second.PipelinedRole.TheVariants.{Parallel};
 ghost use Rattle.line_writers.specs.declared.writer.Task.TheVariants.{Awaits, Leads, Helps};
+ghost use Rattle.line_writers.specs.Groups.{Answers};
 
 use crate::line_writers::WriterList;
 use crate::second::PipelinedRole;
 use crate::writer::{Role, Task, Writer};
+use base_waiting::Pauses;
 use crossbeam_utils::Backoff;
 use line_rule::{
     Begin, GivesRun, HasGroupingItem, LineSlot, Link, LogOfGroups, NameOlder, Older, PickedAbout,
@@ -23,6 +25,7 @@ use line_rule::{
 };
 use model_base::{Item, MAX_SIZE};
 use std::marker::Brand;
+use std::rt;
 use std::sync::Wait;
 
 impl<
@@ -33,7 +36,7 @@ impl<
 > WriterList<Request, Reply, Log, Right> {
     /// Puts the writer, which is in no list, at the newest end, with a request of which grouping sees this item, and
     /// which is lawful for this list.
-    pub fn link<R: Wait>(
+    pub fn link<R: Wait + rt::Clock>(
         &self,
         rt: &R,
         writer: &mut Writer<Request, Reply, Log, Right>,
@@ -51,7 +54,7 @@ impl<
     }
 
     /// Waits until the writer, which is in the list, leads, or its request is done.
-    pub fn await_role<R: Wait>(
+    pub fn await_role<R: Wait + rt::Clock>(
         &self,
         rt: &R,
         writer: &mut Writer<Request, Reply, Log, Right>,
@@ -75,24 +78,24 @@ impl<
     }
 
     // The number and what the law is about are picked, since a step of the table knows neither.
-    fn link_from<B: PickedAbout<Log::About>, R: Wait>(
+    fn link_from<About: PickedAbout<Log::About>, R: Wait + rt::Clock>(
         &self,
         rt: &R,
         writer: &mut Writer<Request, Reply, Log, Right>,
         code: u64,
         request: Request,
     )
-        requires start { B.number ≡ self.now.table.shared.key.log }
-        requires about { B.about ≡ Some self.now.table.shared.key.about }
+        requires start { About.number ≡ self.now.table.shared.key.log }
+        requires about { About.about ≡ Some self.now.table.shared.key.about }
         requires seat { (writer.old.seat.table_id ≡ self.now.table.shared.table_id)
             × (0 < writer.old.client) × (writer.old.client ≤ self.now.clients) × (code < 2 ^ 40) }
         requires code { code ≡ code_by Request.item_of request }
         requires lawful { Log.lawful self.now.table.shared.key.about request }
-        requires idle { (mine : List (Request × Reply))
+        requires idle { (mine : Answers Request Reply)
             × At writer.old.client Idle mine writer.old.seat.me × (writer.old.seat.me.1 ≡ []) }
         ensures seat { Stays writer.new writer.old }
-        ensures linked { (mine : List (Request × Reply)) → At writer.old.client Idle mine writer.old.seat.me
-            → IsLinked (logs_picked Reply.run_of Log.LogOfGroups B.number B.about)
+        ensures linked { (mine : Answers Request Reply) → At writer.old.client Idle mine writer.old.seat.me
+            → IsLinked (logs_picked Reply.run_of Log.LogOfGroups About.number About.about)
             writer.old.client writer.new.task request mine writer.new.seat.me }
     {
         let shared = &self.table.shared;
@@ -111,7 +114,12 @@ impl<
                 code,
             };
             shared.store::<NameOlder>(&mut writer.seat, older_word(c as u64), older.pack());
-            let found = shared.compare_exchange::<Link<B>>(&mut writer.seat, 0, newest, c as u64);
+            let found = shared.compare_exchange::<Link<About>>(
+                &mut writer.seat,
+                0,
+                newest,
+                c as u64,
+            );
             if found == newest {
                 writer.task = task_of(newest);
                 return;
@@ -122,120 +130,120 @@ impl<
     }
 
     // A member that is told to work beside its leader waits for its reply.
-    fn await_alone<B: PickedAbout<Log::About>, R: Wait>(
+    fn await_alone<About: PickedAbout<Log::About>, R: Wait + rt::Clock>(
         &self,
         rt: &R,
         writer: &mut Writer<Request, Reply, Log, Right>,
     ) -> Role<Log, Reply>
-        requires start { B.number ≡ self.now.table.shared.key.log }
-        requires about { B.about ≡ Some self.now.table.shared.key.about }
+        requires start { About.number ≡ self.now.table.shared.key.log }
+        requires about { About.about ≡ Some self.now.table.shared.key.about }
         requires seat { (writer.old.seat.table_id ≡ self.now.table.shared.table_id)
             × (0 < writer.old.client) × (writer.old.client ≤ self.now.clients) }
-        requires waits { (q : Request) × (past : List (LineEvent Request Reply)) × (mine : List (Request × Reply))
+        requires waits { (q : Request) × (past : List (LineEvent Request Reply)) × (mine : Answers Request Reply)
             × At writer.old.client (Waiting q past) mine writer.old.seat.me × (writer.old.seat.me.1 ≡ []) }
         ensures seat { Stays writer.new writer.old }
-        ensures role { (q : Request) (past : List (LineEvent Request Reply)) (mine : List (Request × Reply))
+        ensures role { (q : Request) (past : List (LineEvent Request Reply)) (mine : Answers Request Reply)
             → At writer.old.client (Waiting q past) mine writer.old.seat.me → writer.old.seat.me.1 ≡ []
-            → Becomes (logs_picked Reply.run_of Log.LogOfGroups B.number B.about)
-            (kept_picked Log.kept B.about) writer.old.client q mine result writer.new.seat.me }
+            → Becomes (logs_picked Reply.run_of Log.LogOfGroups About.number About.about)
+            (kept_picked Log.kept About.about) writer.old.client q mine result writer.new.seat.me }
     {
-        match self.await_from::<B, R>(rt, writer) {
+        match self.await_from::<About, R>(rt, writer) {
             PipelinedRole::LogLeader(log) => Role::LogLeader(log),
-            PipelinedRole::Parallel => Role::Done(self.await_reply::<B, R>(rt, writer)),
+            PipelinedRole::Parallel => Role::Done(self.await_reply::<About, R>(rt, writer)),
             PipelinedRole::Done(reply) => Role::Done(reply),
             _ => unreachable!(),
         }
     }
 
     // Waits for the writer's role.
-    pub(crate) fn await_from<B: PickedAbout<Log::About>, R: Wait>(
+    pub(crate) fn await_from<About: PickedAbout<Log::About>, R: Wait + rt::Clock>(
         &self,
         rt: &R,
         writer: &mut Writer<Request, Reply, Log, Right>,
     ) -> PipelinedRole<Log, Right, Reply>
-        requires start { B.number ≡ self.now.table.shared.key.log }
-        requires about { B.about ≡ Some self.now.table.shared.key.about }
+        requires start { About.number ≡ self.now.table.shared.key.log }
+        requires about { About.about ≡ Some self.now.table.shared.key.about }
         requires seat { (writer.old.seat.table_id ≡ self.now.table.shared.table_id)
             × (0 < writer.old.client) × (writer.old.client ≤ self.now.clients) }
-        requires waits { (q : Request) × (past : List (LineEvent Request Reply)) × (mine : List (Request × Reply))
+        requires waits { (q : Request) × (past : List (LineEvent Request Reply)) × (mine : Answers Request Reply)
             × At writer.old.client (Waiting q past) mine writer.old.seat.me × (writer.old.seat.me.1 ≡ []) }
         ensures seat { Stays writer.new writer.old }
-        ensures role { (q : Request) (past : List (LineEvent Request Reply)) (mine : List (Request × Reply))
+        ensures role { (q : Request) (past : List (LineEvent Request Reply)) (mine : Answers Request Reply)
             → At writer.old.client (Waiting q past) mine writer.old.seat.me → writer.old.seat.me.1 ≡ []
-            → Turns (logs_picked Reply.run_of Log.LogOfGroups B.number B.about)
-            (kept_picked Log.kept B.about) writer.old.client writer.new.task q mine result writer.new.seat.me }
+            → Turns (logs_picked Reply.run_of Log.LogOfGroups About.number About.about)
+            (kept_picked Log.kept About.about) writer.old.client writer.new.task q mine result writer.new.seat.me }
         ensures parallel { result ≡ Parallel → writer.new.task ≡ Helps }
     {
         let c = writer.client;
-        let backoff = Backoff::new();
+        let pauses = Pauses::new();
         // Until a look shows a role the writer knows what it knew at first.
         for _ in rt.forever() {
             let state = self
                 .table
                 .shared
-                .load::<ReadState<B>>(&mut writer.seat, state_word(c as u64));
+                .load::<ReadState<About>>(&mut writer.seat, state_word(c as u64));
             if state == STATE_DONE {
                 return PipelinedRole::Done(self.collect(writer));
             }
             if state == STATE_LEADS_LOG {
-                return PipelinedRole::LogLeader(self.claim::<B>(writer));
+                return PipelinedRole::LogLeader(self.claim::<About>(writer));
             }
             if state == STATE_PARALLEL {
                 writer.task = Task::Helps;
                 return PipelinedRole::Parallel;
             }
-            self.bells.pause(rt, &backoff, c as u64);
+            self.bells.pause(rt, &pauses, c as u64);
         }
         unreachable!()
     }
 
     // Waits for the reply of a writer that was told to work beside its leader.
-    pub(crate) fn await_reply<B: PickedAbout<Log::About>, R: Wait>(
+    pub(crate) fn await_reply<About: PickedAbout<Log::About>, R: Wait + rt::Clock>(
         &self,
         rt: &R,
         writer: &mut Writer<Request, Reply, Log, Right>,
     ) -> Reply
-        requires about { B.about ≡ Some self.now.table.shared.key.about }
+        requires about { About.about ≡ Some self.now.table.shared.key.about }
         requires seat { (writer.old.seat.table_id ≡ self.now.table.shared.table_id)
             × (0 < writer.old.client) × (writer.old.client ≤ self.now.clients) }
-        requires helps { (q : Request) × (mine : List (Request × Reply))
+        requires helps { (q : Request) × (mine : Answers Request Reply)
             × At writer.old.client (Helping q) mine writer.old.seat.me × (writer.old.seat.me.1 ≡ []) }
         ensures seat { Stays writer.new writer.old }
-        ensures reply { (q : Request) (mine : List (Request × Reply))
+        ensures reply { (q : Request) (mine : Answers Request Reply)
             → At writer.old.client (Helping q) mine writer.old.seat.me → writer.old.seat.me.1 ≡ []
-            → HasReply (kept_picked Log.kept B.about) writer.old.client q mine result writer.new.seat.me }
+            → HasReply (kept_picked Log.kept About.about) writer.old.client q mine result writer.new.seat.me }
     {
         let c = writer.client;
-        let backoff = Backoff::new();
+        let pauses = Pauses::new();
         // Until a look shows `STATE_DONE` the member knows what it knew at first.
         for _ in rt.forever() {
             let state = self
                 .table
                 .shared
-                .load::<ReadReply<B>>(&mut writer.seat, state_word(c as u64));
+                .load::<ReadReply<About>>(&mut writer.seat, state_word(c as u64));
             if state == STATE_DONE {
                 return self.collect(writer);
             }
-            self.bells.pause(rt, &backoff, c as u64);
+            self.bells.pause(rt, &pauses, c as u64);
         }
         unreachable!()
     }
 
     // Takes the log out of its slot.
-    pub(crate) fn claim<B: PickedAbout<Log::About>>(
+    pub(crate) fn claim<About: PickedAbout<Log::About>>(
         &self,
         writer: &mut Writer<Request, Reply, Log, Right>,
     ) -> Log
         requires seat { writer.old.seat.table_id ≡ self.now.table.shared.table_id }
-        requires elected { (q : Request) × (mine : List (Request × Reply))
-            × Elected (logs_picked Reply.run_of Log.LogOfGroups B.number B.about)
+        requires elected { (q : Request) × (mine : Answers Request Reply)
+            × Elected (logs_picked Reply.run_of Log.LogOfGroups About.number About.about)
             writer.old.client q mine writer.old.seat.me }
         ensures seat { Stays writer.new writer.old }
-        ensures leads { (q : Request) (mine : List (Request × Reply))
-            → Elected (logs_picked Reply.run_of Log.LogOfGroups B.number B.about)
+        ensures leads { (q : Request) (mine : Answers Request Reply)
+            → Elected (logs_picked Reply.run_of Log.LogOfGroups About.number About.about)
             writer.old.client q mine writer.old.seat.me
-            → Becomes (logs_picked Reply.run_of Log.LogOfGroups B.number B.about)
-            (kept_picked Log.kept B.about) writer.old.client q mine (Role.LogLeader result) writer.new.seat.me }
+            → Becomes (logs_picked Reply.run_of Log.LogOfGroups About.number About.about)
+            (kept_picked Log.kept About.about) writer.old.client q mine (Role.LogLeader result) writer.new.seat.me }
     {
         match self
             .table
@@ -254,12 +262,12 @@ impl<
     fn collect(&self, writer: &mut Writer<Request, Reply, Log, Right>) -> Reply
         requires seat { (writer.old.seat.table_id ≡ self.now.table.shared.table_id)
             × (writer.old.client ≤ self.now.clients) }
-        requires told { (p : Reply) × (mine : List (Request × Reply))
+        requires told { (p : Reply) × (mine : Answers Request Reply)
             × At writer.old.client Collecting mine writer.old.seat.me
             × (writer.old.seat.me.1 ≡ (writer.old.client, Told p) ∷ []) }
         ensures seat { Stays writer.new writer.old }
         ensures reply { writer.old.seat.me.1 ≡ (writer.old.client, Told result) ∷ [] }
-        ensures idle { (mine : List (Request × Reply)) → At writer.old.client Collecting mine writer.old.seat.me
+        ensures idle { (mine : Answers Request Reply) → At writer.old.client Collecting mine writer.old.seat.me
             → At writer.old.client Idle mine writer.new.seat.me × (writer.new.seat.me.1 ≡ []) }
     {
         let shared = &self.table.shared;

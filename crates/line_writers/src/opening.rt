@@ -1,5 +1,5 @@
 //! How a list is opened.
-ghost use Rattle.std.specs.Prelude.{◌≡◌, ℕ, ◌+◌, ◌<◌, ◌≤◌, List, [], ◌∷◌, ◌++◌, true, false, vec_len, vec_capacity, replicate, IfOk, IfErr};
+ghost use Rattle.std.specs.Prelude.{◌≡◌, ℕ, ◌+◌, ◌<◌, ◌≤◌, [], ◌∷◌, ◌++◌, true, vec_len, vec_capacity, replicate, IfOk, IfErr};
 ghost use Rattle.line_rule.specs.declared.content.LineSlot.TheVariants.{Empty, TheLog, TheRight};
 ghost use Rattle.line_rule.specs.Rule.{newcomers};
 ghost use Rattle.line_writers.specs.Roles.{AreNew};

@@ -1,17 +1,15 @@
 //! How a leader cuts its group off from the first list, and gives the log on.
-ghost use Rattle.std.specs.Prelude.{◌≡◌, ◌≢◌, ℕ, ◌^◌, ◌<◌, ◌≤◌, List, [], ◌∷◌, ◌++◌, vec_len, vec_capacity, length};
-ghost use Rattle.line_rule.specs.declared.content.LineSlot.{LineSlot};
-ghost use Rattle.line_rule.specs.declared.content.LineSlot.TheVariants.{Told, TheLog};
+ghost use Rattle.std.specs.Prelude.{◌≡◌, ◌≢◌, ℕ, ◌^◌, ◌<◌, ◌≤◌, [], ◌∷◌, ◌++◌, vec_len, vec_capacity};
 ghost use Rattle.line_rule.specs.declared.view.Back.{Back};
 ghost use Rattle.line_rule.specs.declared.view.Back.TheVariants.{Parting};
 ghost use Rattle.line_rule.specs.declared.view.QueuedWriter.{QueuedWriter};
 ghost use Rattle.line_rule.specs.declared.view.Lead.{Lead};
-ghost use Rattle.line_rule.specs.declared.view.LineStage.TheVariants.{Leading, Cutting, Marking, Settling};
-ghost use Rattle.line_rule.specs.Chain.{newest, heads, all_answers};
-ghost use Rattle.line_rule.specs.Laws.{given_runs};
-ghost use Rattle.line_rule.specs.Plays.{At, AtWith, lead_with_walk, in_hand, debt, slots_of, squad_at_cut, back_after_log, HandsOn, Walks, WalksMarked};
+ghost use Rattle.line_rule.specs.declared.view.LineStage.TheVariants.{Leading, Cutting, Marking};
+ghost use Rattle.line_rule.specs.Chain.{newest};
+ghost use Rattle.line_rule.specs.Plays.{At, AtWith, lead_with_walk, in_hand, squad_at_cut, back_after_log, Walks, WalksMarked};
 ghost use Rattle.line_writers.specs.Roles.{NextIs, HasStage};
-ghost use Rattle.line_writers.specs.Seats.{law_of, piped_of, Stays};
+ghost use Rattle.line_writers.specs.Seats.{law_of, Stays, hands_of, table_of};
+ghost use Rattle.line_writers.specs.Groups.{Queue, Answers, OwesWith, LeadsWhole, CutsOff, ForCutOff, GivesLogOn, MayGiveLogOn};
 
 use crate::line_writers::WriterList;
 use crate::writer::Writer;
@@ -28,30 +26,29 @@ impl<
 > WriterList<Request, Reply, Log, Right> {
     // Puts the mark where nobody came after the group, whose newest member is `newest_member`; answers the newest
     // writer.
-    fn mark<B: PickedGiven<Request, Reply>>(
+    fn mark<Given: PickedGiven<Request, Reply>>(
         &self,
         writer: &mut Writer<Request, Reply, Log, Right>,
         newest_member: u64,
     ) -> u64
         requires seat { writer.old.seat.table_id ≡ self.now.table.shared.table_id }
-        requires leads { (lead : Lead Request Reply) × (mine : List (Request × Reply))
+        requires leads { (lead : Lead Request Reply) × (mine : Answers Request Reply)
             × At writer.old.client (Leading lead) mine writer.old.seat.me
             × (newest_member ≡ newest (in_hand lead)) × (lead.taken ≡ lead.group) }
         ensures seat { Stays writer.new writer.old }
-        ensures marked { (lead : Lead Request Reply) (mine : List (Request × Reply))
-            → At writer.old.client (Leading lead) mine writer.old.seat.me → (result ≡ newest_member
-            → AtWith writer.old.client (Marking (lead_with_walk lead [])) mine (Parting (squad_at_cut lead B.given) 0)
-            writer.new.seat.me × (writer.new.seat.me.1 ≡ writer.old.seat.me.1)) × (result ≢ newest_member
-            → Walks self.now.table.shared.table_id.slots writer.old.client lead mine result writer.old.seat.me
-            writer.new.seat.me) }
+        ensures marked { (lead : Lead Request Reply) (mine : Answers Request Reply)
+            → At writer.old.client (Leading lead) mine writer.old.seat.me
+            → (result ≡ newest_member → CutsOff Given.given writer.old.client (Marking (lead_with_walk lead [])) lead
+            mine writer.old.seat.me writer.new.seat.me) × (result ≢ newest_member → Walks (table_of self.now).slots
+            writer.old.client lead mine result writer.old.seat.me writer.new.seat.me) }
     {
         self.table
             .shared
-            .compare_exchange::<Mark<B>>(&mut writer.seat, 0, newest_member, MARK)
+            .compare_exchange::<Mark<Given>>(&mut writer.seat, 0, newest_member, MARK)
     }
 
     // Clears the link of the oldest writer behind the group, which is to go to the second list.
-    fn cut_away<B: PickedGiven<Request, Reply>>(
+    fn cut_away<Given: PickedGiven<Request, Reply>>(
         &self,
         writer: &mut Writer<Request, Reply, Log, Right>,
         next: u64,
@@ -59,26 +56,25 @@ impl<
     )
         requires seat { (writer.old.seat.table_id ≡ self.now.table.shared.table_id) × (0 < next)
             × (next ≤ self.now.clients) × (code < 2 ^ 56) }
-        requires next { (lead : Lead Request Reply) × (mine : List (Request × Reply))
-            × (pre : List (QueuedWriter Request)) × (x : QueuedWriter Request)
+        requires next { (lead : Lead Request Reply) × (mine : Answers Request Reply)
+            × (pre : Queue Request) × (x : QueuedWriter Request)
             × NextIs writer.old.client lead mine pre x writer.old.seat.me × (x.by ≡ next) × (x.code ≡ code)
             × (lead.taken ≡ lead.group) }
         ensures seat { Stays writer.new writer.old }
-        ensures cut { (lead : Lead Request Reply) (mine : List (Request × Reply)) (pre : List (QueuedWriter Request))
+        ensures cut { (lead : Lead Request Reply) (mine : Answers Request Reply) (pre : Queue Request)
             (x : QueuedWriter Request)
             → NextIs writer.old.client lead mine pre x writer.old.seat.me → x.by ≡ next
-            → AtWith writer.old.client (Cutting lead x) mine (Parting (squad_at_cut lead B.given) 0) writer.new.seat.me
-            × (writer.new.seat.me.1 ≡ writer.old.seat.me.1) }
+            → CutsOff Given.given writer.old.client (Cutting lead x) lead mine writer.old.seat.me writer.new.seat.me }
     {
         let cleared = Older { client: 0, code };
         self.table
             .shared
-            .store::<CutAway<B>>(&mut writer.seat, older_word(next), cleared.pack());
+            .store::<CutAway<Given>>(&mut writer.seat, older_word(next), cleared.pack());
     }
 
     // Cuts the group off from the first list: answers 0 where the mark stands in its place, and else the oldest
     // writer behind it.
-    pub(crate) fn part<B: PickedGiven<Request, Reply>>(
+    pub(crate) fn part<Given: PickedGiven<Request, Reply>>(
         &self,
         writer: &mut Writer<Request, Reply, Log, Right>,
         newest_member: u64,
@@ -87,50 +83,40 @@ impl<
     ) -> u64
         requires seat { (writer.old.seat.table_id ≡ self.now.table.shared.table_id) × (vec_len walk.old ≡ 0)
             × (walk.old.items ≡ []) × (self.now.clients ≤ vec_capacity walk.old) }
-        requires ready { (lead : Lead Request Reply) × (mine : List (Request × Reply))
-            × At writer.old.client (Leading lead) mine writer.old.seat.me
-            × (newest_member ≡ newest (in_hand lead)) × (lead.taken ≡ lead.group) × (count ≡ length (in_hand lead)) }
+        requires ready { (lead : Lead Request Reply) × (mine : Answers Request Reply)
+            × LeadsWhole writer.old.client newest_member count lead mine writer.old.seat.me }
         ensures seat { (writer.new.seat.table_id ≡ writer.old.seat.table_id)
             × (writer.new.client ≡ writer.old.client) × (walk.new.items ≡ []) × (vec_len walk.new ≡ 0)
             × (vec_capacity walk.new ≡ vec_capacity walk.old) }
         ensures next { result ≤ self.now.clients }
-        ensures parted { (lead : Lead Request Reply) (mine : List (Request × Reply))
-            → At writer.old.client (Leading lead) mine writer.old.seat.me → (w : List (QueuedWriter Request))
-            × HasStage writer.old.client (lead_with_walk lead w) mine (Parting (squad_at_cut lead B.given) 0) result
+        ensures parted { (lead : Lead Request Reply) (mine : Answers Request Reply)
+            → At writer.old.client (Leading lead) mine writer.old.seat.me → (w : Queue Request)
+            × HasStage writer.old.client (lead_with_walk lead w) mine (Parting (squad_at_cut lead Given.given) 0) result
             writer.new.seat.me × (writer.new.seat.me.1 ≡ writer.old.seat.me.1) }
     {
-        let found = self.mark::<B>(writer, newest_member);
+        let found = self.mark::<Given>(writer, newest_member);
         if found == newest_member {
             return 0;
         }
         self.survey(writer, found, 0, walk);
         let (next, code) = walk[walk.len() - count - 1];
         walk.clear();
-        self.cut_away::<B>(writer, next, code);
+        self.cut_away::<Given>(writer, next, code);
         next
     }
 
     // Takes the mark away, and gives the log back, where nobody came behind it; answers the newest writer.
     fn free(&self, writer: &mut Writer<Request, Reply, Log, Right>) -> u64
         requires seat { writer.old.seat.table_id ≡ self.now.table.shared.table_id }
-        requires ready { (lead : Lead Request Reply) × (mine : List (Request × Reply)) × (b : Back Request Reply)
-            × (gs : List (QueuedWriter Request × Reply))
-            × (p : Reply) × (l : Log) × (t : List (ℕ × LineSlot Request Reply Log Right))
-            × AtWith writer.old.client (Marking lead) mine b writer.old.seat.me × (heads gs ≡ lead.taken)
-            × (writer.old.seat.me.1 ≡ (0, TheLog l) ∷ slots_of gs ((writer.old.client, Told p) ∷ t))
-            × law_of Reply.run_of Log.LogOfGroups self.now l (lead.seen ++ all_answers lead.own p gs)
-            × HandsOn (piped_of self.now) (given_runs Reply.run_of) b lead.seen (lead.seen ++ all_answers lead.own
-            p gs) }
+        requires ready { MayGiveLogOn (λ lead mine b. AtWith writer.old.client (Marking lead) mine b writer.old.seat.me)
+            writer.old.client (law_of Reply.run_of Log.LogOfGroups self.now) (hands_of Reply.run_of self.now)
+            writer.old.seat.me }
         ensures seat { Stays writer.new writer.old }
-        ensures freed { (lead : Lead Request Reply) (mine : List (Request × Reply)) (b : Back Request Reply)
-            (gs : List (QueuedWriter Request
-            × Reply)) (p : Reply) (l : Log) (t : List (ℕ × LineSlot Request Reply Log Right))
-            → AtWith writer.old.client (Marking lead) mine b writer.old.seat.me → heads gs ≡ lead.taken
-            → writer.old.seat.me.1 ≡ (0, TheLog l) ∷ slots_of gs ((writer.old.client, Told p) ∷ t) → (result ≡ MARK
-            → AtWith writer.old.client (Settling (debt gs lead.own p)) mine (back_after_log b) writer.new.seat.me
-            × (writer.new.seat.me.1 ≡ slots_of gs ((writer.old.client, Told p) ∷ t))) × (result ≢ MARK
-            → WalksMarked self.now.table.shared.table_id.slots writer.old.client lead mine b result
-            writer.old.seat.me writer.new.seat.me) }
+        ensures freed { ForCutOff (λ lead mine b. AtWith writer.old.client (Marking lead) mine b writer.old.seat.me)
+            writer.old.client writer.old.seat.me (λ lead mine b d t.
+            (result ≡ MARK → OwesWith writer.old.client d mine (back_after_log b) t writer.new.seat.me)
+            × (result ≢ MARK → WalksMarked (table_of self.now).slots writer.old.client lead mine b result
+            writer.old.seat.me writer.new.seat.me)) }
     {
         self.table
             .shared
@@ -141,13 +127,13 @@ impl<
     fn cut_behind(&self, writer: &mut Writer<Request, Reply, Log, Right>, next: u64, code: u64)
         requires seat { (writer.old.seat.table_id ≡ self.now.table.shared.table_id) × (0 < next)
             × (next ≤ self.now.clients) × (code < 2 ^ 56) }
-        requires next { (lead : Lead Request Reply) × (mine : List (Request × Reply)) × (b : Back Request Reply)
-            × (pre : List (QueuedWriter Request))
+        requires next { (lead : Lead Request Reply) × (mine : Answers Request Reply) × (b : Back Request Reply)
+            × (pre : Queue Request)
             × (x : QueuedWriter Request) × AtWith writer.old.client (Marking lead) mine b writer.old.seat.me
             × (lead.walk ≡ pre ++ x ∷ []) × (x.by ≡ next) × (x.code ≡ code) }
         ensures seat { Stays writer.new writer.old }
-        ensures cut { (lead : Lead Request Reply) (mine : List (Request × Reply)) (b : Back Request Reply)
-            (pre : List (QueuedWriter Request)) (x : QueuedWriter Request)
+        ensures cut { (lead : Lead Request Reply) (mine : Answers Request Reply) (b : Back Request Reply)
+            (pre : Queue Request) (x : QueuedWriter Request)
             → AtWith writer.old.client (Marking lead) mine b writer.old.seat.me → lead.walk ≡ pre ++ x ∷ []
             → x.by ≡ next → AtWith writer.old.client (Cutting lead x) mine b writer.new.seat.me
             × (writer.new.seat.me.1 ≡ writer.old.seat.me.1) }
@@ -162,24 +148,14 @@ impl<
     fn free_on(&self, writer: &mut Writer<Request, Reply, Log, Right>, walk: &mut Vec<(u64, u64)>)
         requires seat { (writer.old.seat.table_id ≡ self.now.table.shared.table_id) × (vec_len walk.old ≡ 0)
             × (walk.old.items ≡ []) × (self.now.clients ≤ vec_capacity walk.old) }
-        requires ready { (lead : Lead Request Reply) × (mine : List (Request × Reply)) × (b : Back Request Reply)
-            × (gs : List (QueuedWriter Request × Reply))
-            × (p : Reply) × (l : Log) × (t : List (ℕ × LineSlot Request Reply Log Right))
-            × AtWith writer.old.client (Marking lead) mine b writer.old.seat.me × (heads gs ≡ lead.taken)
-            × (writer.old.seat.me.1 ≡ (0, TheLog l) ∷ slots_of gs ((writer.old.client, Told p) ∷ t))
-            × law_of Reply.run_of Log.LogOfGroups self.now l (lead.seen ++ all_answers lead.own p gs)
-            × HandsOn (piped_of self.now) (given_runs Reply.run_of) b lead.seen (lead.seen ++ all_answers lead.own
-            p gs) }
+        requires ready { MayGiveLogOn (λ lead mine b. AtWith writer.old.client (Marking lead) mine b writer.old.seat.me)
+            writer.old.client (law_of Reply.run_of Log.LogOfGroups self.now) (hands_of Reply.run_of self.now)
+            writer.old.seat.me }
         ensures seat { (writer.new.seat.table_id ≡ writer.old.seat.table_id)
             × (writer.new.client ≡ writer.old.client) × (walk.new.items ≡ []) × (vec_len walk.new ≡ 0)
             × (vec_capacity walk.new ≡ vec_capacity walk.old) }
-        ensures settling { (lead : Lead Request Reply) (mine : List (Request × Reply)) (b : Back Request Reply)
-            (gs : List (QueuedWriter Request
-            × Reply)) (p : Reply) (l : Log) (t : List (ℕ × LineSlot Request Reply Log Right))
-            → AtWith writer.old.client (Marking lead) mine b writer.old.seat.me → heads gs ≡ lead.taken
-            → writer.old.seat.me.1 ≡ (0, TheLog l) ∷ slots_of gs ((writer.old.client, Told p) ∷ t)
-            → AtWith writer.old.client (Settling (debt gs lead.own p)) mine (back_after_log b) writer.new.seat.me
-            × (writer.new.seat.me.1 ≡ slots_of gs ((writer.old.client, Told p) ∷ t)) }
+        ensures settling { GivesLogOn (λ lead mine b. AtWith writer.old.client (Marking lead) mine b writer.old.seat.me)
+            writer.old.client writer.old.seat.me writer.new.seat.me }
     {
         let found = self.free(writer);
         if found == MARK {
@@ -196,23 +172,14 @@ impl<
     fn wake_on(&self, writer: &mut Writer<Request, Reply, Log, Right>, next: u64)
         requires seat { (writer.old.seat.table_id ≡ self.now.table.shared.table_id) × (0 < next)
             × (next ≤ self.now.clients) }
-        requires ready { (lead : Lead Request Reply) × (x : QueuedWriter Request) × (mine : List (Request × Reply))
-            × (b : Back Request Reply)
-            × (gs : List (QueuedWriter Request × Reply)) × (p : Reply) × (l : Log)
-            × (t : List (ℕ × LineSlot Request Reply Log Right))
-            × AtWith writer.old.client (Cutting lead x) mine b writer.old.seat.me × (heads gs ≡ lead.taken)
-            × (writer.old.seat.me.1 ≡ (0, TheLog l) ∷ slots_of gs ((writer.old.client, Told p) ∷ t))
-            × law_of Reply.run_of Log.LogOfGroups self.now l (lead.seen ++ all_answers lead.own p gs)
-            × HandsOn (piped_of self.now) (given_runs Reply.run_of) b lead.seen (lead.seen ++ all_answers lead.own
-            p gs) × (x.by ≡ next) }
+        requires ready { (x : QueuedWriter Request) × (x.by ≡ next)
+            × MayGiveLogOn (λ lead mine b. AtWith writer.old.client (Cutting lead x) mine b writer.old.seat.me)
+            writer.old.client (law_of Reply.run_of Log.LogOfGroups self.now) (hands_of Reply.run_of self.now)
+            writer.old.seat.me }
         ensures seat { Stays writer.new writer.old }
-        ensures woken { (lead : Lead Request Reply) (x : QueuedWriter Request) (mine : List (Request × Reply))
-            (b : Back Request Reply) (gs : List (QueuedWriter Request
-            × Reply)) (p : Reply) (l : Log) (t : List (ℕ × LineSlot Request Reply Log Right))
-            → AtWith writer.old.client (Cutting lead x) mine b writer.old.seat.me → heads gs ≡ lead.taken
-            → writer.old.seat.me.1 ≡ (0, TheLog l) ∷ slots_of gs ((writer.old.client, Told p) ∷ t)
-            → AtWith writer.old.client (Settling (debt gs lead.own p)) mine (back_after_log b) writer.new.seat.me
-            × (writer.new.seat.me.1 ≡ slots_of gs ((writer.old.client, Told p) ∷ t)) }
+        ensures woken { (x : QueuedWriter Request)
+            → GivesLogOn (λ lead mine b. AtWith writer.old.client (Cutting lead x) mine b writer.old.seat.me)
+            writer.old.client writer.old.seat.me writer.new.seat.me }
     {
         self.table
             .shared
@@ -229,24 +196,14 @@ impl<
     )
         requires seat { (writer.old.seat.table_id ≡ self.now.table.shared.table_id) × (vec_len walk.old ≡ 0)
             × (walk.old.items ≡ []) × (self.now.clients ≤ vec_capacity walk.old) × (next ≤ self.now.clients) }
-        requires ready { (lead : Lead Request Reply) × (mine : List (Request × Reply)) × (b : Back Request Reply)
-            × (gs : List (QueuedWriter Request × Reply))
-            × (p : Reply) × (l : Log) × (t : List (ℕ × LineSlot Request Reply Log Right))
-            × HasStage writer.old.client lead mine b next writer.old.seat.me × (heads gs ≡ lead.taken)
-            × (writer.old.seat.me.1 ≡ (0, TheLog l) ∷ slots_of gs ((writer.old.client, Told p) ∷ t))
-            × law_of Reply.run_of Log.LogOfGroups self.now l (lead.seen ++ all_answers lead.own p gs)
-            × HandsOn (piped_of self.now) (given_runs Reply.run_of) b lead.seen (lead.seen ++ all_answers lead.own
-            p gs) }
+        requires ready { MayGiveLogOn (λ lead mine b. HasStage writer.old.client lead mine b next writer.old.seat.me)
+            writer.old.client (law_of Reply.run_of Log.LogOfGroups self.now) (hands_of Reply.run_of self.now)
+            writer.old.seat.me }
         ensures seat { (writer.new.seat.table_id ≡ writer.old.seat.table_id)
             × (writer.new.client ≡ writer.old.client) × (walk.new.items ≡ []) × (vec_len walk.new ≡ 0)
             × (vec_capacity walk.new ≡ vec_capacity walk.old) }
-        ensures settling { (lead : Lead Request Reply) (mine : List (Request × Reply)) (b : Back Request Reply)
-            (gs : List (QueuedWriter Request
-            × Reply)) (p : Reply) (l : Log) (t : List (ℕ × LineSlot Request Reply Log Right))
-            → HasStage writer.old.client lead mine b next writer.old.seat.me → heads gs ≡ lead.taken
-            → writer.old.seat.me.1 ≡ (0, TheLog l) ∷ slots_of gs ((writer.old.client, Told p) ∷ t)
-            → AtWith writer.old.client (Settling (debt gs lead.own p)) mine (back_after_log b) writer.new.seat.me
-            × (writer.new.seat.me.1 ≡ slots_of gs ((writer.old.client, Told p) ∷ t)) }
+        ensures settling { GivesLogOn (λ lead mine b. HasStage writer.old.client lead mine b next writer.old.seat.me)
+            writer.old.client writer.old.seat.me writer.new.seat.me }
     {
         if next == 0 {
             self.free_on(writer, walk);

@@ -1,5 +1,5 @@
 //! The lists that a leader works with.
-ghost use Rattle.std.specs.Prelude.{◌≡◌, ℕ, ◌<◌, ◌≤◌, List, vec_len, IfOk};
+ghost use Rattle.std.specs.Prelude.{◌≡◌, ℕ, ◌<◌, vec_len, IfOk};
 ghost use Rattle.line_writers.specs.Rooms.{AreReady, AllReady};
 
 use std::alloc::{AllocError, Global};

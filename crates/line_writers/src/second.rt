@@ -1,15 +1,16 @@
 //! What a writer of a list with a second one is asked to do, and how it waits for it.
-ghost use Rattle.std.specs.Prelude.{◌≡◌, ◌⊎◌, ℕ, true, List};
+ghost use Rattle.std.specs.Prelude.{◌≡◌, ◌⊎◌, ℕ, true};
 ghost use Rattle.line_rule.specs.declared.view.Debt.{Debt};
-ghost use Rattle.line_rule.specs.declared.view.Handling.{Handling};
 ghost use Rattle.line_writers.specs.Seats.{client_of, clients_of, about_of, piped_of, law_of, kept_of, AwaitsRole, Belongs, IsHelping, IsIn, StandsStill, answers_told};
 ghost use Rattle.line_writers.specs.declared.second.PipelinedRole.TheVariants.{Parallel, Done};
-ghost use Rattle.line_writers.specs.Second.{IsSent, GetsRight, HasPipelinedRole};
+ghost use Rattle.line_writers.specs.Second.{IsSent, GetsRight, HasPipelinedRole, HasSentGroup};
+ghost use Rattle.line_writers.specs.Groups.{Handled, Answers};
 
 use crate::line_writers::WriterList;
 use crate::writer::{Task, Writer};
 use line_rule::{GivesRun, HasGroupingItem, LogOfGroups, ReadNewest};
 use std::marker::Brand;
+use std::rt;
 use std::sync::Wait;
 
 /// What a writer of a list with a second one is asked to do.
@@ -33,7 +34,7 @@ impl<
     /// Waits until the writer leads, or is told to work beside its leader, or its request is done, or its group, which
     /// is in the second list, is the first there. A writer is told once to work beside its leader, and only its reply
     /// comes then.
-    pub fn await_pipelined_role<R: Wait>(
+    pub fn await_pipelined_role<R: Wait + rt::Clock>(
         &self,
         rt: &R,
         writer: &mut Writer<Request, Reply, Log, Right>,
@@ -41,9 +42,8 @@ impl<
         requires { Belongs self.now writer.old
             × (((q : Request)
             × IsIn (law_of Reply.run_of Log.LogOfGroups self.now) q (answers_told writer.old) writer.old)
-            ⊎ ((piped_of self.now ≡ true) × ((d : Debt Request Reply) × (from to : List (Handling Request Reply)) ×
-            (mine : List (Request × Reply))
-            × IsSent (Log.serves (about_of self.now)) (clients_of self.now) d from to mine writer.old))) }
+            ⊎ ((piped_of self.now ≡ true)
+            × HasSentGroup (Log.serves (about_of self.now)) (clients_of self.now) writer.old)) }
         ensures client { (client_of writer.new ≡ client_of writer.old) × Belongs self.now writer.new }
         ensures role { (q : Request)
             → IsIn (law_of Reply.run_of Log.LogOfGroups self.now) q (answers_told writer.old) writer.old
@@ -51,8 +51,8 @@ impl<
             q (answers_told writer.old) result writer.new }
         ensures parallel { result ≡ Parallel → AwaitsRole writer.old × IsHelping writer.new }
         ensures helping { IsHelping writer.old → (p : Reply) × (result ≡ Done p) }
-        ensures right { (d : Debt Request Reply) (from to : List (Handling Request Reply))
-            (mine : List (Request × Reply))
+        ensures right { (d : Debt Request Reply) (from to : Handled Request Reply)
+            (mine : Answers Request Reply)
             → IsSent (Log.serves (about_of self.now)) (clients_of self.now) d from to mine writer.old
             → GetsRight (Log.serves (about_of self.now)) (clients_of self.now) d from to mine result writer.new }
     {

@@ -1,12 +1,10 @@
 //! How the leader of a group of the second list gets the right, has its members beside it, and leaves.
-ghost use Rattle.std.specs.Prelude.{◌≡◌, ◌≢◌, ℕ, ◌+◌, ◌^◌, ◌<◌, ◌≤◌, List, [], ◌∷◌, ◌++◌, true, vec_len, vec_capacity, length, Some};
+ghost use Rattle.std.specs.Prelude.{◌≡◌, ◌≢◌, ℕ, ◌+◌, ◌^◌, ◌<◌, ◌≤◌, [], ◌∷◌, ◌++◌, true, vec_len, vec_capacity, length, Some};
 ghost use Rattle.line_rule.specs.declared.content.LineSlot.{LineSlot};
 ghost use Rattle.line_rule.specs.declared.content.LineSlot.TheVariants.{Empty, TheRight};
-ghost use Rattle.line_rule.specs.declared.view.Back.{Back};
 ghost use Rattle.line_rule.specs.declared.view.Back.TheVariants.{Queued, Serving, Passing};
 ghost use Rattle.line_rule.specs.declared.view.Debt.{Debt};
 ghost use Rattle.line_rule.specs.declared.view.QueuedWriter.{QueuedWriter};
-ghost use Rattle.line_rule.specs.declared.view.Handling.{Handling};
 ghost use Rattle.line_rule.specs.declared.view.Squad.{Squad};
 ghost use Rattle.line_rule.specs.declared.view.LineStage.{LineStage};
 ghost use Rattle.line_rule.specs.declared.view.LineStage.TheVariants.{Settling};
@@ -15,18 +13,20 @@ ghost use Rattle.line_rule.specs.Standing.{line_of};
 ghost use Rattle.line_rule.specs.Plays.{At, AtWith, debt, WalksSecond};
 ghost use Rattle.line_writers.specs.Roles.{AreMembers};
 ghost use Rattle.line_writers.specs.Rooms.{HasRoom};
-ghost use Rattle.line_writers.specs.Seats.{about_of, client_of, clients_of, piped_of, Belongs, IsOut, Stays, answers_told};
+ghost use Rattle.line_writers.specs.Seats.{about_of, client_of, clients_of, piped_of, Belongs, IsOut, Stays, answers_told, table_of};
 ghost use Rattle.line_writers.specs.Second.{HasRight, ListsMembers};
+ghost use Rattle.line_writers.specs.Groups.{Queue, Handled, Answers, Members, Slots, HasRightOver, ServesWith, ForServing};
 
 use crate::line_writers::WriterList;
 use crate::room::Room;
 use crate::writer::Writer;
-use crossbeam_utils::Backoff;
+use base_waiting::Pauses;
 use line_rule::{
     CallNext, ClearSecond, GivesRun, HasGroupingItem, LeaveSecond, LineSlot, LogOfGroups,
     MakeParallel, Older, PickedAbout, STATE_LEADS_TABLE, STATE_PARALLEL, Summon, older_word,
     state_word,
 };
+use std::rt;
 use std::sync::Wait;
 
 impl<
@@ -38,12 +38,12 @@ impl<
     /// Tells these members of the group to work beside the leader, which has the right.
     pub fn launch_roles(&self, writer: &mut Writer<Request, Reply, Log, Right>, members: &[u32])
         requires leads { Belongs self.now writer.old
-            × ((d : Debt Request Reply) × (from to : List (Handling Request Reply))
-            × (mine : List (Request × Reply)) × HasRight (clients_of self.now) d from to mine writer.old
+            × ((d : Debt Request Reply) × (from to : Handled Request Reply)
+            × (mine : Answers Request Reply) × HasRight (clients_of self.now) d from to mine writer.old
             × AreMembers (clients_of self.now) members.now d.rest) }
         ensures client { (client_of writer.new ≡ client_of writer.old) × Belongs self.now writer.new }
-        ensures leads { (d : Debt Request Reply) (from to : List (Handling Request Reply))
-            (mine : List (Request × Reply))
+        ensures leads { (d : Debt Request Reply) (from to : Handled Request Reply)
+            (mine : Answers Request Reply)
             → HasRight (clients_of self.now) d from to mine writer.old
             → HasRight (clients_of self.now) d from to mine writer.new }
     {
@@ -63,14 +63,14 @@ impl<
     ) -> Reply
         requires piped { piped_of self.now ≡ true }
         requires serves { Belongs self.now writer.old
-            × ((d : Debt Request Reply) × (from to : List (Handling Request Reply))
-            × (mine : List (Request × Reply)) × HasRight (clients_of self.now) d from to mine writer.old
+            × ((d : Debt Request Reply) × (from to : Handled Request Reply)
+            × (mine : Answers Request Reply) × HasRight (clients_of self.now) d from to mine writer.old
             × Log.serves (about_of self.now) right to
             × ListsMembers (clients_of self.now) d room.old) }
         ensures room { HasRoom (clients_of self.now) room.new }
         ensures client { (client_of writer.new ≡ client_of writer.old) × Belongs self.now writer.new }
         ensures out { IsOut writer.new
-            × ((d : Debt Request Reply) (from to : List (Handling Request Reply)) (mine : List (Request × Reply))
+            × ((d : Debt Request Reply) (from to : Handled Request Reply) (mine : Answers Request Reply)
             → HasRight (clients_of self.now) d from to mine writer.old
             → (answers_told writer.new ≡ mine ++ (d.own.asked, d.reply) ∷ []) × (result ≡ d.reply)) }
     {
@@ -90,12 +90,10 @@ impl<
     fn make_parallel(&self, writer: &mut Writer<Request, Reply, Log, Right>, member: u32)
         requires seat { (writer.old.seat.table_id ≡ self.now.table.shared.table_id) × (0 < member)
             × (member ≤ self.now.clients) }
-        requires member { (pre : List (QueuedWriter Request × Reply)) × (post : List (QueuedWriter Request × Reply))
-            × (y : QueuedWriter Request × Reply)
-            × (own : QueuedWriter Request) × (p : Reply) × (mine : List (Request × Reply)) × (g : Squad Request Reply)
-            × (walk : List (QueuedWriter Request))
-            × AtWith writer.old.client (Settling (debt (pre ++ y ∷ post) own p)) mine (Serving g walk)
-            writer.old.seat.me × (y.0.by ≡ member) }
+        requires member { (pre post : Members Request Reply) × (y : QueuedWriter Request × Reply)
+            × (own : QueuedWriter Request) × (p : Reply) × (mine : Answers Request Reply) × (g : Squad Request Reply)
+            × (walk : Queue Request) × AtWith writer.old.client (Settling (debt (pre ++ y ∷ post) own p)) mine
+            (Serving g walk) writer.old.seat.me × (y.0.by ≡ member) }
         ensures seat { Stays writer.new writer.old }
         ensures same { writer.new.seat.me ≡ writer.old.seat.me }
     {
@@ -108,72 +106,69 @@ impl<
     }
 
     // Waits until the group is the first of the second list, and takes the right.
-    pub(crate) fn await_right<B: PickedAbout<Log::About>, R: Wait>(
+    pub(crate) fn await_right<About: PickedAbout<Log::About>, R: Wait + rt::Clock>(
         &self,
         rt: &R,
         writer: &mut Writer<Request, Reply, Log, Right>,
     ) -> Right
         requires piped { piped_of self.now ≡ true }
-        requires about { B.about ≡ Some (about_of self.now) }
+        requires about { About.about ≡ Some (about_of self.now) }
         requires seat { (writer.old.seat.table_id ≡ self.now.table.shared.table_id) × (0 < writer.old.client)
             × (writer.old.client ≤ self.now.clients) }
-        requires queued { (d : Debt Request Reply) × (mine : List (Request × Reply)) × (g : Squad Request Reply)
+        requires queued { (d : Debt Request Reply) × (mine : Answers Request Reply) × (g : Squad Request Reply)
             × AtWith writer.old.client (Settling d) mine (Queued g) writer.old.seat.me }
         ensures seat { Stays writer.new writer.old }
-        ensures right { (d : Debt Request Reply) (mine : List (Request × Reply)) (g : Squad Request Reply)
+        ensures right { (d : Debt Request Reply) (mine : Answers Request Reply) (g : Squad Request Reply)
             → AtWith writer.old.client (Settling d) mine (Queued g) writer.old.seat.me
             → AtWith writer.old.client (Settling d) mine (Serving g []) writer.new.seat.me
             × (writer.new.seat.me.1 ≡ (self.now.clients + 1, Empty) ∷ writer.old.seat.me.1)
             × Log.serves (about_of self.now) result g.from }
     {
         let c = writer.client;
-        let backoff = Backoff::new();
+        let pauses = Pauses::new();
         // Until a look shows `STATE_LEADS_TABLE` the group waits after others.
         for _ in rt.forever() {
-            let state = self.summon::<B>(writer);
+            let state = self.summon::<About>(writer);
             if state == STATE_LEADS_TABLE {
                 return self.take_right(writer);
             }
-            self.bells.pause(rt, &backoff, c as u64);
+            self.bells.pause(rt, &pauses, c as u64);
         }
         unreachable!()
     }
 
     // Looks whether the group is the first of the second list: at `STATE_LEADS_TABLE` its leader has the right.
-    fn summon<B: PickedAbout<Log::About>>(
+    fn summon<About: PickedAbout<Log::About>>(
         &self,
         writer: &mut Writer<Request, Reply, Log, Right>,
     ) -> u64
         requires piped { piped_of self.now ≡ true }
-        requires about { B.about ≡ Some (about_of self.now) }
+        requires about { About.about ≡ Some (about_of self.now) }
         requires seat { (writer.old.seat.table_id ≡ self.now.table.shared.table_id) × (0 < writer.old.client)
             × (writer.old.client ≤ self.now.clients) }
-        requires queued { (d : Debt Request Reply) × (mine : List (Request × Reply)) × (g : Squad Request Reply)
+        requires queued { (d : Debt Request Reply) × (mine : Answers Request Reply) × (g : Squad Request Reply)
             × AtWith writer.old.client (Settling d) mine (Queued g) writer.old.seat.me }
         ensures seat { Stays writer.new writer.old }
-        ensures role { (d : Debt Request Reply) (mine : List (Request × Reply)) (g : Squad Request Reply)
+        ensures role { (d : Debt Request Reply) (mine : Answers Request Reply) (g : Squad Request Reply)
             → AtWith writer.old.client (Settling d) mine (Queued g) writer.old.seat.me
-            → (result ≡ STATE_LEADS_TABLE → (right : Right)
-            × Log.serves (about_of self.now) right g.from
-            × AtWith writer.old.client (Settling d) mine (Serving g []) writer.new.seat.me
-            × (writer.new.seat.me.1 ≡ (self.now.clients + 1, TheRight right) ∷ writer.old.seat.me.1))
-            × (result ≢ STATE_LEADS_TABLE
-            → writer.new.seat.me ≡ writer.old.seat.me) }
+            → (result ≡ STATE_LEADS_TABLE → HasRightOver (Log.serves (about_of self.now)) self.now.clients
+            writer.old.client d mine g writer.old.seat.me.1 writer.new.seat.me)
+            × (result ≢ STATE_LEADS_TABLE → writer.new.seat.me ≡ writer.old.seat.me) }
     {
         let c = writer.client;
         self.table
             .shared
-            .load::<Summon<B>>(&mut writer.seat, state_word(c as u64))
+            .load::<Summon<About>>(&mut writer.seat, state_word(c as u64))
     }
 
     // Takes the right out of its slot.
     pub(crate) fn take_right(&self, writer: &mut Writer<Request, Reply, Log, Right>) -> Right
         requires seat { writer.old.seat.table_id ≡ self.now.table.shared.table_id }
-        requires held { (r : Right) × (t : List (ℕ × LineSlot Request Reply Log Right))
+        requires held { (r : Right) × (t : Slots Request Reply Log Right)
             × (writer.old.seat.me.1 ≡ (self.now.clients + 1, TheRight r) ∷ t) }
         ensures seat { (writer.new.seat.table_id ≡ writer.old.seat.table_id)
             × (writer.new.client ≡ writer.old.client) × (writer.new.seat.me.0 ≡ writer.old.seat.me.0) }
-        ensures taken { (r : Right) (t : List (ℕ × LineSlot Request Reply Log Right))
+        ensures taken { (r : Right) (t : Slots Request Reply Log Right)
             → writer.old.seat.me.1 ≡ (self.now.clients + 1, TheRight r) ∷ t
             → (writer.new.seat.me.1 ≡ (self.now.clients + 1, Empty) ∷ t) × (result ≡ r) }
     {
@@ -190,11 +185,11 @@ impl<
     // Puts the right into its slot.
     fn put_right(&self, writer: &mut Writer<Request, Reply, Log, Right>, right: Right)
         requires seat { writer.old.seat.table_id ≡ self.now.table.shared.table_id }
-        requires held { (t : List (ℕ × LineSlot Request Reply Log Right))
+        requires held { (t : Slots Request Reply Log Right)
             × (writer.old.seat.me.1 ≡ (self.now.clients + 1, Empty) ∷ t) }
         ensures seat { (writer.new.seat.table_id ≡ writer.old.seat.table_id)
             × (writer.new.client ≡ writer.old.client) × (writer.new.seat.me.0 ≡ writer.old.seat.me.0) }
-        ensures put { (t : List (ℕ × LineSlot Request Reply Log Right))
+        ensures put { (t : Slots Request Reply Log Right)
             → writer.old.seat.me.1 ≡ (self.now.clients + 1, Empty) ∷ t
             → writer.new.seat.me.1 ≡ (self.now.clients + 1, TheRight right) ∷ t }
     {
@@ -219,22 +214,13 @@ impl<
         requires piped { piped_of self.now ≡ true }
         requires seat { (writer.old.seat.table_id ≡ self.now.table.shared.table_id) × (vec_len walk.old ≡ 0)
             × (walk.old.items ≡ []) × (self.now.clients ≤ vec_capacity walk.old) }
-        requires ready { (d : Debt Request Reply) × (mine : List (Request × Reply)) × (g : Squad Request Reply)
-            × (line : List (QueuedWriter Request))
-            × (right : Right) × (t : List (ℕ × LineSlot Request Reply Log Right))
-            × AtWith writer.old.client (Settling d) mine (Serving g line) writer.old.seat.me
-            × (writer.old.seat.me.1 ≡ (self.now.clients + 1, TheRight right) ∷ t)
-            × (newest_member ≡ newest (line_of g)) × Log.serves (about_of self.now) right g.to
-            × (count ≡ length (line_of g)) }
+        requires ready { ServesWith self.now.clients writer.old.client (λ g right. (newest_member ≡ newest (line_of g))
+            × Log.serves (about_of self.now) right g.to × (count ≡ length (line_of g))) writer.old.seat.me }
         ensures seat { (writer.new.seat.table_id ≡ writer.old.seat.table_id)
             × (writer.new.client ≡ writer.old.client) × (walk.new.items ≡ []) × (vec_len walk.new ≡ 0)
             × (vec_capacity walk.new ≡ vec_capacity walk.old) }
-        ensures passed { (d : Debt Request Reply) (mine : List (Request × Reply)) (g : Squad Request Reply)
-            (line : List (QueuedWriter Request)) (right : Right) (t : List (ℕ
-            × LineSlot Request Reply Log Right))
-            → AtWith writer.old.client (Settling d) mine (Serving g line) writer.old.seat.me
-            → writer.old.seat.me.1 ≡ (self.now.clients + 1, TheRight right) ∷ t
-            → At writer.old.client (Settling d) mine writer.new.seat.me × (writer.new.seat.me.1 ≡ t) }
+        ensures passed { ForServing writer.old.client writer.old.seat.me (λ d mine g t.
+            At writer.old.client (Settling d) mine writer.new.seat.me × (writer.new.seat.me.1 ≡ t)) }
     {
         let found = self.leave_second(writer, newest_member);
         if found == newest_member {
@@ -256,22 +242,13 @@ impl<
     ) -> u64
         requires piped { piped_of self.now ≡ true }
         requires seat { writer.old.seat.table_id ≡ self.now.table.shared.table_id }
-        requires serves { (d : Debt Request Reply) × (mine : List (Request × Reply)) × (g : Squad Request Reply)
-            × (walk : List (QueuedWriter Request))
-            × (right : Right) × (t : List (ℕ × LineSlot Request Reply Log Right))
-            × AtWith writer.old.client (Settling d) mine (Serving g walk) writer.old.seat.me
-            × (writer.old.seat.me.1 ≡ (self.now.clients + 1, TheRight right) ∷ t)
-            × (newest_member ≡ newest (line_of g)) × Log.serves (about_of self.now) right g.to }
+        requires serves { ServesWith self.now.clients writer.old.client (λ g right. (newest_member ≡ newest (line_of g))
+            × Log.serves (about_of self.now) right g.to) writer.old.seat.me }
         ensures seat { Stays writer.new writer.old }
-        ensures left { (d : Debt Request Reply) (mine : List (Request × Reply)) (g : Squad Request Reply)
-            (walk : List (QueuedWriter Request)) (y : ℕ
-            × LineSlot Request Reply Log Right) (t : List (ℕ × LineSlot Request Reply Log Right))
-            → AtWith writer.old.client (Settling d) mine (Serving g walk) writer.old.seat.me
-            → writer.old.seat.me.1 ≡ y ∷ t → (result ≡ newest_member
-            → At writer.old.client (Settling d) mine writer.new.seat.me × (writer.new.seat.me.1 ≡ t))
-            × (result ≢ newest_member
-            → WalksSecond self.now.table.shared.table_id.slots writer.old.client d mine g result writer.old.seat.me
-            writer.new.seat.me) }
+        ensures left { ForServing writer.old.client writer.old.seat.me (λ d mine g t.
+            (result ≡ newest_member → At writer.old.client (Settling d) mine writer.new.seat.me
+            × (writer.new.seat.me.1 ≡ t)) × (result ≢ newest_member → WalksSecond (table_of self.now).slots
+            writer.old.client d mine g result writer.old.seat.me writer.new.seat.me)) }
     {
         self.table
             .shared
@@ -283,19 +260,16 @@ impl<
         requires piped { piped_of self.now ≡ true }
         requires seat { (writer.old.seat.table_id ≡ self.now.table.shared.table_id) × (0 < next)
             × (next ≤ self.now.clients) × (code < 2 ^ 56) }
-        requires next { (d : Debt Request Reply) × (mine : List (Request × Reply)) × (g : Squad Request Reply)
-            × (walk : List (QueuedWriter Request))
-            × (pre : List (QueuedWriter Request)) × (x : QueuedWriter Request)
+        requires next { (d : Debt Request Reply) × (mine : Answers Request Reply) × (g : Squad Request Reply)
+            × (walk pre : Queue Request) × (x : QueuedWriter Request)
             × AtWith writer.old.client (Settling d) mine (Serving g walk) writer.old.seat.me
             × (walk ≡ pre ++ x ∷ line_of g) × (x.by ≡ next) × (x.code ≡ code) }
         ensures seat { Stays writer.new writer.old }
-        ensures cleared { (d : Debt Request Reply) (mine : List (Request × Reply)) (g : Squad Request Reply)
-            (walk : List (QueuedWriter Request)) (pre : List (QueuedWriter Request))
-            (x : QueuedWriter Request)
+        ensures cleared { (d : Debt Request Reply) (mine : Answers Request Reply) (g : Squad Request Reply)
+            (walk pre : Queue Request) (x : QueuedWriter Request)
             → AtWith writer.old.client (Settling d) mine (Serving g walk) writer.old.seat.me
-            → walk ≡ pre ++ x ∷ line_of g → x.by ≡ next
-            → AtWith writer.old.client (Settling d) mine (Passing g x) writer.new.seat.me
-            × (writer.new.seat.me.1 ≡ writer.old.seat.me.1) }
+            → walk ≡ pre ++ x ∷ line_of g → x.by ≡ next → AtWith writer.old.client (Settling d) mine (Passing g x)
+            writer.new.seat.me × (writer.new.seat.me.1 ≡ writer.old.seat.me.1) }
     {
         let cleared = Older { client: 0, code };
         self.table
@@ -307,16 +281,15 @@ impl<
     fn call_next(&self, writer: &mut Writer<Request, Reply, Log, Right>, next: u64)
         requires seat { (writer.old.seat.table_id ≡ self.now.table.shared.table_id) × (0 < next)
             × (next ≤ self.now.clients) }
-        requires passes { (st : LineStage Request Reply) × (mine : List (Request × Reply)) × (g : Squad Request Reply)
-            × (x : QueuedWriter Request) × (right : Right)
-            × (t : List (ℕ × LineSlot Request Reply Log Right))
+        requires passes { (st : LineStage Request Reply) × (mine : Answers Request Reply) × (g : Squad Request Reply)
+            × (x : QueuedWriter Request) × (right : Right) × (t : Slots Request Reply Log Right)
             × AtWith writer.old.client st mine (Passing g x) writer.old.seat.me
             × (writer.old.seat.me.1 ≡ (self.now.clients + 1, TheRight right) ∷ t) × (x.by ≡ next)
             × Log.serves (about_of self.now) right g.to }
         ensures seat { Stays writer.new writer.old }
-        ensures called { (st : LineStage Request Reply) (mine : List (Request × Reply)) (g : Squad Request Reply)
+        ensures called { (st : LineStage Request Reply) (mine : Answers Request Reply) (g : Squad Request Reply)
             (x : QueuedWriter Request) (y : ℕ
-            × LineSlot Request Reply Log Right) (t : List (ℕ × LineSlot Request Reply Log Right))
+            × LineSlot Request Reply Log Right) (t : Slots Request Reply Log Right)
             → AtWith writer.old.client st mine (Passing g x) writer.old.seat.me → writer.old.seat.me.1 ≡ y ∷ t
             → At writer.old.client st mine writer.new.seat.me × (writer.new.seat.me.1 ≡ t) }
     {

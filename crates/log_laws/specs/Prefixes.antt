@@ -1,7 +1,9 @@
 -- What a crash may leave of a log: a front of the records that were written, each of them whole.
 use Rattle.std.specs.Prelude.{◌≡◌, ℕ, ◌≤◌, List, length, take, map, None}
+use Rattle.std.specs.List.{AllByRecursion}
+use Rattle.model_base.specs.Batch.{IsBatch}
 use Rattle.model_base.specs.Log.{plain_log}
-use Rattle.model_base.specs.Recovery.{logged_bytes, Recovered, IsRecovered, IsRead}
+use Rattle.model_base.specs.Recovery.{Logged, logged_bytes, AreInOrder, Recovered, IsRecovered, IsRead}
 
 -- These are the first n of the records, none left out and none in part, and P holds of their number.
 pub record IsPrefix (found records : List (List ℕ)) (P : ℕ → Type 0) : Type 0 where
@@ -18,3 +20,12 @@ RecoversPrefix records file P = (r : Recovered) → IsRecovered plain_log file r
 -- what a reader of records gets of the file is one
 abbrev pub ReadsPrefix : List (List ℕ) → List ℕ → (ℕ → Type 0) → Type 0
 ReadsPrefix records file P = (found : List (List ℕ)) → IsRead plain_log file found → IsPrefix found records P
+
+-- the image begins with this text
+abbrev pub BeginsWith : List ℕ → List ℕ → Type 0
+BeginsWith t image = (length t ≤ length image) × (take (length t) image ≡ t)
+
+-- the records are these batches, whose runs rise
+abbrev pub AreRisingBatches : List (List ℕ) → List Logged → Type 0
+AreRisingBatches records batches = (map logged_bytes batches ≡ records)
+    × AllByRecursion (λ b. IsBatch (logged_bytes b) b.first b.records) batches × AreInOrder 0 batches

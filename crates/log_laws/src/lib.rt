@@ -14,7 +14,7 @@ ghost use Rattle.model_base.specs.Batch.{IsBatch};
 ghost use Rattle.model_base.specs.Varint.{IsVarint, varint};
 ghost use Rattle.model_base.specs.Log.{SpellsWhole, text, plain_log};
 ghost use Rattle.model_base.specs.Recovery.{Logged, logged_bytes, AreInOrder, Recovered, IsRecovered, IsRead, NoChance, NoChanceForReader};
-ghost use Rattle.log_laws.specs.Prefixes.{RecoversPrefix, ReadsPrefix};
+ghost use Rattle.log_laws.specs.Prefixes.{RecoversPrefix, ReadsPrefix, BeginsWith, AreRisingBatches};
 
 /// The spelling of a number is a varint, and none begins another.
 pub fn number_spelling()
@@ -51,12 +51,8 @@ pub fn a_prefix()
 /// What stands in the synced bytes is among it. Recovery keeps it where it is batches whose runs rise.
 pub fn the_synced()
     ensures recovered { (number : Option ℕ) (image : List ℕ) (synced : List (List ℕ)) (batches : List Logged)
-        (r : Recovered) → IsRecovered number image r
-        → length (text number synced) ≤ length image → take (length (text number synced)) image ≡ text number synced
-        → map logged_bytes batches ≡ synced → AllByRecursion (λ b. IsBatch (logged_bytes b) b.first b.records) batches
-        → AreInOrder 0 batches
-        → length batches ≤ length r.batches }
+        (r : Recovered) → IsRecovered number image r → BeginsWith (text number synced) image
+        → AreRisingBatches synced batches → length batches ≤ length r.batches }
     ensures read { (number : Option ℕ) (image : List ℕ) (synced found : List (List ℕ)) → IsRead number image found
-        → length (text number synced) ≤ length image → take (length (text number synced)) image ≡ text number synced
-        → length synced ≤ length found }
+        → BeginsWith (text number synced) image → length synced ≤ length found }
 {}

@@ -7,6 +7,8 @@ use Rattle.model_base.specs.Trace.{Trace, Settings}
 use Rattle.model_base.specs.Attempts.{Attempt}
 use Rattle.model_base.specs.Groups.{Group, AreGroups, AreStatuses}
 use Rattle.model_base.specs.Outcomes.{entries_of_client, IsTrace}
+use Rattle.model_base.specs.LogContents.{GroupCall}
+use Rattle.model_runs.specs.Written.{WritesLog}
 use Rattle.model_accounts.specs.Sights.{Saw}
 use Rattle.model_accounts.specs.Accounts.{Account}
 use Rattle.model_accounts.specs.Parts.{AreParts, ends_in}
@@ -31,6 +33,10 @@ pub record IsAccountOf (trace : Trace) (groups : List Group) (parts : List (List
 abbrev pub all_attempts : List Account → List (List Attempt)
 all_attempts accounts = map (λ (a : Account). a.attempts) accounts
 
+-- if the log has a fault, the disk's count rose to it in this run
+abbrev pub RoseInRun : Settings → ℕ → Option ℕ → Type 0
+RoseInRun settings ended fault = IfSome fault (λ count. Rose settings.opened count × (count ≤ ended))
+
 -- There was one trace, and groups of commits beside it, each of which made a part of the trace's entries, and of these
 -- the accounts are what each client did and saw.
 pub record IsClosing (settings : Settings) (ended : ℕ) (trace : Trace) (groups : List Group) (accounts : List Account)
@@ -41,4 +47,11 @@ pub record IsClosing (settings : Settings) (ended : ℕ) (trace : Trace) (groups
   pub are_parts : AreParts (all_attempts accounts) groups trace.entries parts
   pub each : (i : ℕ) (a : Account) → slice_get accounts i ≡ Some a → IsAccountOf trace groups parts fault a
   pub last_is : last ≡ last_sequence trace.start trace.entries
-  pub fault_is : IfSome fault (λ count. Rose settings.opened count × (count ≤ ended))
+  pub fault_is : RoseInRun settings ended fault
+
+-- Of all that the clients did and saw there is one trace, and the log was written by just the calls that wrote its
+-- history.
+abbrev pub HasOneTrace : Settings → ℕ → List Account → ℕ → Option ℕ → (List GroupCall → Type 0) → Type 0
+HasOneTrace settings ended accounts last fault wrote = (trace : Trace) × (groups : List Group)
+    × IsClosing settings ended trace groups accounts last fault
+    × WritesLog settings.group_bytes wrote trace (all_attempts accounts) fault

@@ -12,6 +12,7 @@ ghost use Rattle.model_base.specs.Attempts.{Attempt, slowed};
 ghost use Rattle.model_base.specs.Groups.{Member, Group, AreGroups, Holds};
 ghost use Rattle.model_base.specs.Progress.{Progress};
 ghost use Rattle.model_base.specs.Runs.{IsTranscript};
+ghost use Rattle.model_base.specs.Script.{Script};
 ghost use Rattle.model_base.specs.Calls.{Command, Call, Outcome};
 ghost use Rattle.model_base.specs.Outcomes.{outcome_of, IsLegalIn};
 ghost use Rattle.model_base.specs.LogContents.{GroupCall, AreGroupsOf, records_of, record_of_call};
@@ -27,12 +28,11 @@ ghost use Rattle.model_accounts.specs.Answered.{IsAmong};
 /// Where each client has run its part of the script, and the closing says that their accounts are parts of one trace,
 /// that is a legal outcome.
 pub fn closed_runs_are_legal()
-    ensures legal { (settings : Settings) (ended : ℕ) (script : List (List Command)) (transcripts : List (List Call))
+    ensures legal { (settings : Settings) (ended : ℕ) (script : Script) (calls : List (List Call))
         (accounts : List Account) (trace : Trace) (groups : List Group) (last log_len : ℕ) (fault : Option ℕ)
-        → settings.clients ≡ length script → HaveRun settings script transcripts accounts
+        → settings.clients ≡ length script → HaveRun settings script calls accounts
         → IsClosing settings ended trace groups accounts last fault
-        → IsLegalIn settings ended script trace (all_attempts accounts)
-        (outcome_of trace transcripts last log_len fault) }
+        → IsLegalIn settings ended script trace (all_attempts accounts) (outcome_of trace calls last log_len fault) }
 {}
 
 /// The groups of an outcome, from what the log's holder knew, one leader after another.

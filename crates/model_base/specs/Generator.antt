@@ -19,7 +19,7 @@ number_at state = state / 65536
 abbrev pub first_state : ℕ → ℕ → ℕ
 first_state seed client = (seed + client) % 2 ^ 31
 
--- the first draws of a client, in order
+-- the first draws from a state, in order
 abbrev pub numbers_from : ℕ → ℕ → List ℕ
 numbers_from zero state = []
 numbers_from (suc n) state = number_at (next_state state) ∷ numbers_from n (next_state state)

@@ -3,7 +3,7 @@ use Rattle.std.specs.Prelude.{ℕ, codes, List, [], ◌∷◌, Option, Some, Non
 use Rattle.model_base.specs.declared.limits.TheConstants.{MAX_SIZE}
 use Rattle.model_base.specs.declared.history.Flag.TheVariants.{Log}
 use Rattle.model_base.specs.declared.write.Refusal.TheVariants as no
-use Rattle.model_base.specs.Batch.{Record}
+use Rattle.model_base.specs.Batch.{Record, value}
 use Rattle.model_base.specs.Calls.{Command, add, clear, commit, get, stop, unstop, quiet, accepted, refused, found, done, Call, Outcome}
 use Rattle.model_base.specs.Controller as controller
 use Rattle.model_base.specs.Controller.{ControllerCall}
@@ -31,6 +31,17 @@ entry_at ordinal first r = record {
   count = 1;
   flag = Log;
   records = r ∷ [];
+}
+
+-- a run that wrote two records in one batch
+abbrev pub two_records : Outcome
+two_records = record {
+  transcripts = [] ∷ [];
+  history = record (entry_at 1 1 put_a1) { count = 2; records = put_a1 ∷ value (codes "b") (codes "22") ∷ [] } ∷ [];
+  last = 2;
+  state = (codes "a", codes "1") ∷ (codes "b", codes "22") ∷ [];
+  log_len = 0;
+  fault = None;
 }
 
 -- a commit that was accepted, a commit that met the log's fault, one for which no sequences were left behind this one,

@@ -1,11 +1,11 @@
 //! What a seed draws, and the script that it makes.
 
-ghost use Rattle.std.specs.Prelude.{◌≡◌, List, [], ◌∷◌, codes, None};
-ghost use Rattle.model_base.specs.declared.history.Flag.TheVariants.{Log};
+ghost use Rattle.std.specs.Prelude.{◌≡◌, [], ◌∷◌, codes};
 ghost use Rattle.model_base.specs.Batch.{value};
 ghost use Rattle.model_base.specs.Calls.{add, commit};
 ghost use Rattle.model_base.specs.Generator.{first_state, numbers_from, script_of_seed, summary_text};
-ghost use Rattle.model_rows.specs.Examples.{put_a1, put_b2, plain};
+ghost use Rattle.model_rows.specs.Examples.{plain};
+ghost use Rattle.model_rows.specs.Runs.{two_records};
 
 /// The first draws of client 1 of the seed 1.
 pub fn first_draws()
@@ -21,13 +21,6 @@ pub fn first_batch()
 
 /// The summary of a run of one client that wrote two records in one batch.
 pub fn summary()
-    ensures of_one_batch { summary_text (record {
-      transcripts = [] ∷ [];
-      history = record { client = 1; ordinal = 1; first = 1; count = 2; flag = Log; records = put_a1 ∷ put_b2 ∷ [] }
-          ∷ [];
-      last = 2;
-      state = (codes "a", codes "1") ∷ (codes "b", codes "22") ∷ [];
-      log_len = 0;
-      fault = None;
-    }) ≡ codes "clients 1\nbatches 1\nrecords 2\nlast 2\nkeys 2\nsum 23\n" }
+    ensures of_one_batch { summary_text two_records
+        ≡ codes "clients 1\nbatches 1\nrecords 2\nlast 2\nkeys 2\nsum 23\n" }
 {}

@@ -1,12 +1,11 @@
 //! What recovery finds of the groups that were to be synced.
 
-ghost use Rattle.std.specs.Prelude.{◌≡◌, ◌+◌, ◌<◌, ◌≤◌, ℕ, List, length, map, take, None, Some, slice_get};
-ghost use Rattle.std.specs.List.{AllByRecursion};
+ghost use Rattle.std.specs.Prelude.{◌≡◌, ◌+◌, ◌<◌, ◌≤◌, ℕ, List, length, take, Some, slice_get};
 ghost use Rattle.model_base.specs.Log.{plain_log};
-ghost use Rattle.model_base.specs.Batch.{IsBatch};
 ghost use Rattle.model_base.specs.History.{Entry};
 ghost use Rattle.model_base.specs.LogContents.{records_of};
-ghost use Rattle.model_base.specs.Recovery.{Logged, logged_bytes, AreInOrder, Recovered, IsRecovered};
+ghost use Rattle.model_base.specs.Recovery.{Logged, Recovered, IsRecovered};
+ghost use Rattle.log_laws.specs.Prefixes.{AreRisingBatches};
 ghost use Rattle.model_runs.specs.Crashes.{HasSync, HoldsSynced, text_through};
 
 /// Where anything of an image stands after a group that was to be synced, recovery finds that group and all before it,
@@ -15,7 +14,6 @@ pub fn synced_groups_are_recovered()
     ensures recovered { (groups : List (List Entry)) (reached : ℕ) (image : List ℕ) → HoldsSynced groups reached image
         → (k : ℕ) (group : List Entry) → slice_get groups k ≡ Some group → HasSync group
         → length (text_through groups k) < length image → reached < length image
-        → (batches : List Logged) → map logged_bytes batches ≡ records_of (take (k + 1) groups)
-        → AllByRecursion (λ b. IsBatch (logged_bytes b) b.first b.records) batches → AreInOrder 0 batches
+        → (batches : List Logged) → AreRisingBatches (records_of (take (k + 1) groups)) batches
         → (r : Recovered) → IsRecovered plain_log image r → k + 1 ≤ length r.batches }
 {}

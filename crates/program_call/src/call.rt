@@ -21,6 +21,7 @@ use program_words::{Invocation, WordsError, read_words};
 use replay_core::CoreOptions;
 use run_execution::{Host, Setup};
 use std::alloc::Global;
+use std::rt;
 use std::sync::Wait;
 use std::thread::Threads;
 
@@ -47,7 +48,13 @@ use std::thread::Threads;
 ///
 /// SEED is from 0 to 2147483647, CLIENTS from 1 to 16, and BATCHES from 1 to 100000, for each client. A text has at
 /// most 16777216 bytes.
-pub fn run<S: Source, D: Disk + Send, K: Sink, C: Clock + Send + Drop, R: Threads + Wait + Sync>(
+pub fn run<
+    S: Source,
+    D: Disk + Send,
+    K: Sink,
+    C: Clock + Send + Drop,
+    R: Threads + Wait + rt::Clock + Sync,
+>(
     rt: &R,
     alloc: Global,
     words: &[String],
@@ -82,7 +89,7 @@ pub fn run_gated<
     K: Sink,
     C: Clock + Send + Drop,
     G: Gate + Sync,
-    R: Threads + Wait + Sync,
+    R: Threads + Wait + rt::Clock + Sync,
 >(
     rt: &R,
     alloc: Global,
@@ -127,7 +134,7 @@ fn carry_out<
     K: Sink,
     C: Clock + Send + Drop,
     G: Gate + Sync,
-    R: Threads + Wait + Sync,
+    R: Threads + Wait + rt::Clock + Sync,
 >(
     host: &Host<'_, R, G>,
     asked: Invocation,

@@ -19,6 +19,7 @@ use model_base::{MAX_CLIENTS, MAX_SIZE, Options};
 use run_execution::{Host, Setup};
 use run_generator::generate;
 use run_laws::summaries_are_one;
+use std::rt;
 use std::sync::Wait;
 use std::thread::Threads;
 
@@ -35,7 +36,7 @@ pub fn run_generated<
     K: Sink,
     C: Clock + Send + Drop,
     G: Gate + Sync,
-    R: Threads + Wait + Sync,
+    R: Threads + Wait + rt::Clock + Sync,
 >(
     host: &Host<'_, R, G>,
     seed: u64,

@@ -20,6 +20,7 @@ use engine_calls::Gate;
 use model_base::{MAX_CLIENTS, MAX_SIZE};
 use run_execution::{Host, Setup, execute};
 use run_scripts::Script;
+use std::rt;
 use std::sync::Wait;
 use std::thread::Threads;
 
@@ -30,7 +31,7 @@ pub fn run_script<
     K: Sink,
     C: Clock + Send + Drop,
     G: Gate + Sync,
-    R: Threads + Wait + Sync,
+    R: Threads + Wait + rt::Clock + Sync,
 >(host: &Host<'_, R, G>, setup: Setup, source: &mut S, disk: D, sink: &mut K, clock: C) -> Ended<D>
     requires options { (setup.options.last ≤ max_sequence) × (setup.options.batch_bytes ≤ MAX_SIZE) }
     requires shards { 0 < setup.shards }
@@ -81,7 +82,7 @@ pub fn run_and_tell<
     K: Sink,
     C: Clock + Send + Drop,
     G: Gate + Sync,
-    R: Threads + Wait + Sync,
+    R: Threads + Wait + rt::Clock + Sync,
 >(
     host: &Host<'_, R, G>,
     script: Script,

@@ -1,7 +1,6 @@
 -- The bytes of commands, as the table at the head of `src/lib.rt` has them.
-use Rattle.std.specs.Prelude.{ℕ, ◌+◌, ◌*◌, Bool, true, false, List, [], ◌∷◌, ◌++◌, length, flat_map}
+use Rattle.std.specs.Prelude.{ℕ, List, [], ◌∷◌, ◌++◌, length, flat_map}
 use Rattle.std.specs.Int.{w32, w64, to_le_bytes}
-use Rattle.model_base.specs.declared.write.WriteOptions.{WriteOptions}
 use Rattle.model_base.specs.OptionBits.{option_bits}
 use Rattle.model_base.specs.Batch.{value, deletion, single_deletion, log_data}
 use Rattle.model_base.specs.Calls.{Command, add, clear, commit, get, many, scan, stop, unstop, slow, unslow}

@@ -1,18 +1,15 @@
 //! From what a run over an opened log comes to, to how the whole run ends.
 
-ghost use Rattle.std.specs.Prelude.{◌≤◌, List, length};
+ghost use Rattle.std.specs.Prelude.{◌≤◌, ℕ, List, length};
 ghost use Rattle.model_base.specs.Calls.{Command};
 ghost use Rattle.model_base.specs.declared.options.Options.{Options as RunOptions};
-ghost use Rattle.model_base.specs.Settings.{settings_of};
 ghost use Rattle.log_writer.specs.declared.writer.LogWriter.{LogWriter as Log};
-ghost use Rattle.log_writer.specs.Words.{disk_of, fault_of};
+ghost use Rattle.log_writer.specs.Words.{disk_of};
 ghost use Rattle.log_writer.specs.Opening.{HasOpened};
-ghost use Rattle.log_writer.specs.Written.{IsWrittenFrom, Wrote};
-ghost use Rattle.model_runs.specs.Crashes.{IsImageSince};
 ghost use Rattle.run_outcome.specs.Running.{GoesOn};
 ghost use Rattle.run_threads.specs.declared.run.ClientsEnd.{ClientsEnd as Ended};
-ghost use Rattle.run_threads.specs.Runs.{ComesTo, log_of};
-ghost use Rattle.run_execution.specs.Ends.{IsEnd, end_of_run};
+ghost use Rattle.run_threads.specs.Runs.{log_of};
+ghost use Rattle.run_execution.specs.Ends.{EndsOn, HasRunOver, end_of_run};
 
 use base_devices::Disk;
 use log_writer::{crashes_between_calls, written_by_calls};
@@ -21,19 +18,13 @@ use model_base::{MAX_CLIENTS, MAX_SIZE};
 /// A log was opened on a disk, and all clients of a script have run over it, or none has.
 pub fn runs_leave_safe_logs<D: Disk>()
     // Then the run ends as it should, and the log is left as it should be.
-    ensures ends { (disk : D) (opened : Log D ⟦<D as Disk>⟧) (options : RunOptions)
-        (script : List (List Command)) (ran : Ended (Log D ⟦<D as Disk>⟧))
-        → HasOpened disk opened → length script ≤ MAX_CLIENTS → options.batch_bytes ≤ MAX_SIZE
-        → ComesTo (settings_of options (length script) (D.faults disk)) script (Wrote opened) fault_of
-        (λ log. D.faults (disk_of log)) ran
-        → IsEnd options script (D.told disk) (D.told (disk_of (log_of ran))) (D.faults disk)
-        (D.faults (disk_of (log_of ran))) (IsImageSince D.moment D.from D.since disk (disk_of (log_of ran)))
-        (IsWrittenFrom ⟦<D as Disk>⟧ disk (disk_of (log_of ran))) (end_of_run ran) }
+    ensures ends { (disk : D) (opened : Log D ⟦<D as Disk>⟧) (options : RunOptions) (script : List (List Command))
+        (ran : Ended (Log D ⟦<D as Disk>⟧)) → HasOpened disk opened → length script ≤ MAX_CLIENTS
+        → options.batch_bytes ≤ MAX_SIZE → HasRunOver opened options (D.faults disk) script ran
+        → EndsOn ⟦<D as Disk>⟧ options script disk (disk_of (log_of ran)) (end_of_run ran) }
     // The disk's time has gone on, and its count of faults hasn't fallen.
-    ensures time { (opened : Log D ⟦<D as Disk>⟧) (options : RunOptions) (script : List (List Command))
-        (counted : _) (ran : Ended (Log D ⟦<D as Disk>⟧))
-        → ComesTo (settings_of options (length script) counted) script (Wrote opened) fault_of
-        (λ log. D.faults (disk_of log)) ran
+    ensures time { (opened : Log D ⟦<D as Disk>⟧) (options : RunOptions) (script : List (List Command)) (counted : ℕ)
+        (ran : Ended (Log D ⟦<D as Disk>⟧)) → HasRunOver opened options counted script ran
         → GoesOn D.moment D.from (disk_of opened) (disk_of (log_of ran))
         × (D.faults (disk_of opened) ≤ D.faults (disk_of (log_of ran))) }
 {

@@ -5,10 +5,8 @@ ghost use Rattle.model_base.specs.History.{max_sequence};
 ghost use Rattle.run_scripts.specs.Scripts.{commands_of, FitsBatches};
 ghost use Rattle.log_writer.specs.Words.{disk_of};
 ghost use Rattle.log_writer.specs.Opening.{HasOpened};
-ghost use Rattle.log_writer.specs.Written.{IsWrittenFrom};
-ghost use Rattle.model_runs.specs.Crashes.{IsImageSince};
 ghost use Rattle.run_outcome.specs.Running.{GoesOn};
-ghost use Rattle.run_execution.specs.Ends.{IsEnd};
+ghost use Rattle.run_execution.specs.Ends.{EndsOn};
 
 use crate::end::{RunEnd, end_run};
 use crate::laws::runs_leave_safe_logs;
@@ -21,25 +19,23 @@ use log_writer::LogWriter;
 use model_base::{MAX_CLIENTS, MAX_SIZE};
 use run_scripts::Script;
 use run_threads::run_engine;
+use std::rt;
 use std::sync::Wait;
 use std::thread::Threads;
 
 /// Runs a script over the write path of a disk's log, each client in a thread of its own, and gives the disk back. The
 /// log must be empty. The gate is told of what happens.
-pub fn execute<D: Disk + Send, C: Clock + Send + Drop, G: Gate + Sync, R: Threads + Wait + Sync>(
-    host: &Host<'_, R, G>,
-    disk: D,
-    clock: C,
-    script: &Script,
-    setup: Setup,
-) -> (D, RunEnd)
+pub fn execute<
+    D: Disk + Send,
+    C: Clock + Send + Drop,
+    G: Gate + Sync,
+    R: Threads + Wait + rt::Clock + Sync,
+>(host: &Host<'_, R, G>, disk: D, clock: C, script: &Script, setup: Setup) -> (D, RunEnd)
     requires clients { (1 ≤ length script.now.clients.items) × (length script.now.clients.items ≤ MAX_CLIENTS) }
     requires fits { FitsBatches script.now }
     requires options { (setup.options.last ≤ max_sequence) × (setup.options.batch_bytes ≤ MAX_SIZE) }
     requires shards { 0 < setup.shards }
-    ensures end { IsEnd setup.options (commands_of script.now) (D.told disk) (D.told result.0) (D.faults disk)
-        (D.faults result.0) (IsImageSince D.moment D.from D.since disk result.0)
-        (IsWrittenFrom ⟦<D as Disk>⟧ disk result.0) result.1 }
+    ensures end { EndsOn ⟦<D as Disk>⟧ setup.options (commands_of script.now) disk result.0 result.1 }
     ensures later { D.faults disk ≤ D.faults result.0 }
     ensures time { GoesOn D.moment D.from disk result.0 }
 {
@@ -58,7 +54,7 @@ fn run_over<
     C: Clock + Send + Drop,
     H: Gate + Sync + Drop,
     G: Gate + Sync,
-    R: Threads + Wait + Sync,
+    R: Threads + Wait + rt::Clock + Sync,
 >(
     host: &Host<'_, R, G>,
     log: LogWriter<D>,
@@ -72,10 +68,8 @@ fn run_over<
     requires options { (setup.options.last ≤ max_sequence) × (setup.options.batch_bytes ≤ MAX_SIZE) }
     requires shards { 0 < setup.shards }
     requires opened { (disk : D) × HasOpened disk log }
-    ensures end { (disk : D) → HasOpened disk log → IsEnd setup.options (commands_of script.now) (D.told disk)
-        (D.told result.0) (D.faults disk) (D.faults result.0)
-        (IsImageSince D.moment D.from D.since disk result.0)
-        (IsWrittenFrom ⟦<D as Disk>⟧ disk result.0) result.1 }
+    ensures end { (disk : D) → HasOpened disk log
+        → EndsOn ⟦<D as Disk>⟧ setup.options (commands_of script.now) disk result.0 result.1 }
     ensures later { D.faults (disk_of log) ≤ D.faults result.0 }
     ensures time { GoesOn D.moment D.from (disk_of log) result.0 }
 {

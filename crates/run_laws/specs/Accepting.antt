@@ -1,5 +1,5 @@
 -- What may stand against a commit, by the script and the clients' calls.
-use Rattle.std.specs.Prelude.{◌≡◌, ℕ, ◌+◌, ◌≤◌, Bool, true, false, List, [], ◌∷◌, ◌++◌, fold, sum_by, Some, slice_get}
+use Rattle.std.specs.Prelude.{◌≡◌, ◌⊎◌, ℕ, ◌+◌, ◌≤◌, Bool, true, false, List, [], ◌∷◌, ◌++◌, fold, sum_by, Some, slice_get}
 use Rattle.std.specs.List.{AllByRecursion}
 use Rattle.model_base.specs.declared.write.WriteOptions.{WriteOptions}
 use Rattle.model_base.specs.Batch.{Record, count_of, size_of_batch}
@@ -37,6 +37,10 @@ asks_to_wait other = false
 -- no client of a script does
 abbrev pub HoldsNothingUp : Script → Type 0
 HoldsNothingUp script = AllByRecursion (AllByRecursion (λ command. asks_to_wait command ≡ false)) script
+
+-- a commit that may wait, or a script in which no client does
+abbrev pub IsNotHeldUp : Script → WriteOptions → Type 0
+IsNotHeldUp script how = (how.no_slowdown ≡ false) ⊎ HoldsNothingUp script
 
 -- The tokens that a client took and gave back, by its calls that were answered `done`: with one more call, and after
 -- all of them

@@ -4,14 +4,14 @@
 //! causes holds of it, each of which is seen from the script and from what the clients were told. `specs/Accepting` has
 //! the causes.
 
-ghost use Rattle.std.specs.Prelude.{◌≡◌, ◌⊎◌, ℕ, false, List, None};
+ghost use Rattle.std.specs.Prelude.{◌≡◌, ◌⊎◌, ℕ, List, None};
 ghost use Rattle.model_base.specs.declared.write.WriteOptions.{WriteOptions};
 ghost use Rattle.model_base.specs.Calls.{Reply, no_memory, Call, Outcome};
 ghost use Rattle.model_base.specs.Trace.{Settings};
 ghost use Rattle.model_base.specs.Progress.{batch_after};
 ghost use Rattle.model_base.specs.Outcomes.{IsLegal};
 ghost use Rattle.model_base.specs.Script.{Script};
-ghost use Rattle.run_laws.specs.Accepting.{HasRoom, HoldsNothingUp, ComesTo, PassesChecks, IsAccepted};
+ghost use Rattle.run_laws.specs.Accepting.{HasRoom, IsNotHeldUp, ComesTo, PassesChecks, IsAccepted};
 
 /// In a legal outcome without a fault of the log, a commit is accepted, or finds no memory, where its batch and its
 /// options pass the checks, there are sequences for all batches that the clients came to commit, and either the commit
@@ -20,7 +20,6 @@ pub fn commits_are_accepted()
     ensures accepted { (settings : Settings) (ended : ℕ) (script : Script) (o : Outcome) (client : ℕ)
         (before : List Call) (how : WriteOptions) (reply : Reply)
         → IsLegal settings ended script o → o.fault ≡ None → ComesTo o client before how reply
-        → PassesChecks settings before how → HasRoom settings o
-        → (how.no_slowdown ≡ false) ⊎ HoldsNothingUp script
+        → PassesChecks settings before how → HasRoom settings o → IsNotHeldUp script how
         → IsAccepted (batch_after before) reply ⊎ (reply ≡ no_memory) }
 {}

@@ -15,10 +15,11 @@ use model_base::NoMemory;
 use run_command_list::CommandView;
 use run_outcome::Reply;
 use std::alloc::Global;
+use std::rt;
 use std::sync::Wait;
 
 /// What a client is told of one command.
-pub fn answer<E: Engine, R: Wait>(
+pub fn answer<E: Engine, R: Wait + rt::Clock>(
     rt: &R,
     alloc: Global,
     engine: &E,

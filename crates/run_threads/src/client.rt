@@ -16,11 +16,12 @@ use model_base::MAX_SIZE;
 use run_command_list::CommandList;
 use run_outcome::Reply;
 use std::alloc::Global;
+use std::rt;
 use std::sync::Wait;
 
 /// Runs a client's commands, up to the first that finds no memory. Then it gives back what tokens it holds. There is
 /// room for its replies. All that it adds fits one batch, so no addition is too large.
-pub fn run_client<E: Engine, G: Gate, R: Wait>(
+pub fn run_client<E: Engine, G: Gate, R: Wait + rt::Clock>(
     rt: &R,
     alloc: Global,
     engine: &E,

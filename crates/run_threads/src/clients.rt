@@ -16,8 +16,8 @@ use run_command_list::CommandList;
 use run_outcome::Reply;
 use std::alloc::Global;
 use std::sync::Wait;
-use std::thread;
 use std::thread::Threads;
+use std::{rt, thread};
 
 /// How many bytes of room a client's list has at first for each of its commits: a batch's header and its flag take 13,
 /// and the others are for a short record. A list with longer ones grows.
@@ -28,7 +28,7 @@ const BYTES_A_COMMIT: usize = 32;
 ///
 /// A client that finds no memory stops there. Want of memory for the run itself is answered before any call, with the
 /// clients as they were.
-pub fn run_clients<E: Engine + Sync, G: Gate + Sync, R: Threads + Wait + Sync>(
+pub fn run_clients<E: Engine + Sync, G: Gate + Sync, R: Threads + Wait + rt::Clock + Sync>(
     rt: &R,
     alloc: Global,
     engine: &E,
@@ -93,7 +93,7 @@ fn batches_for(alloc: Global, script: &[CommandList]) -> Result<Vec<ClientBatche
 }
 
 /// Runs each client in a thread of its own.
-fn work_all<E: Engine + Sync, G: Gate + Sync, R: Threads + Wait + Sync>(
+fn work_all<E: Engine + Sync, G: Gate + Sync, R: Threads + Wait + rt::Clock + Sync>(
     rt: &R,
     alloc: Global,
     engine: &E,
@@ -119,7 +119,7 @@ where
 }
 
 /// Runs one client.
-fn work<E: Engine, G: Gate, R: Wait>(
+fn work<E: Engine, G: Gate, R: Wait + rt::Clock>(
     rt: &R,
     alloc: Global,
     engine: &E,

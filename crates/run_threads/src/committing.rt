@@ -13,11 +13,11 @@ use model_accounts::{commits_are_steps, earlier_sights};
 use model_base::{NoMemory, Refusal, WriteOptions};
 use run_batches::AcceptedBatch;
 use run_outcome::Reply;
-use std::mem;
 use std::sync::Wait;
+use std::{mem, rt};
 
 /// Commits the batch in the making. An accepted one stays at hand, and a refused one is still in the making.
-pub fn commit<E: Engine, R: Wait>(
+pub fn commit<E: Engine, R: Wait + rt::Clock>(
     rt: &R,
     engine: &E,
     client: &mut E::Client,

@@ -13,10 +13,11 @@ use model_base::NoMemory;
 use run_command_list::Words;
 use run_outcome::Reply;
 use std::alloc::Global;
+use std::rt;
 use std::sync::Wait;
 
 /// Reads a key.
-pub fn get<E: Engine, R: Wait>(
+pub fn get<E: Engine, R: Wait + rt::Clock>(
     rt: &R,
     engine: &E,
     client: &mut E::Client,
@@ -47,7 +48,7 @@ fn value_of(found: Found) -> Option<Bytes>
 }
 
 /// Reads several keys, all at one sequence.
-pub fn get_many<E: Engine, R: Wait>(
+pub fn get_many<E: Engine, R: Wait + rt::Clock>(
     rt: &R,
     alloc: Global,
     engine: &E,
@@ -70,7 +71,7 @@ pub fn get_many<E: Engine, R: Wait>(
 }
 
 /// Reads the keys from `lo` on and below `hi`.
-pub fn scan<E: Engine, R: Wait>(
+pub fn scan<E: Engine, R: Wait + rt::Clock>(
     rt: &R,
     engine: &E,
     client: &mut E::Client,

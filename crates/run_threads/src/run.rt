@@ -19,6 +19,7 @@ use model_base::NoMemory;
 use run_command_list::CommandList;
 use run_outcome::{History, Reply};
 use std::alloc::Global;
+use std::rt;
 use std::sync::Wait;
 use std::thread::Threads;
 
@@ -47,7 +48,7 @@ pub enum ClientsEnd<L> {
 /// Runs a script's clients over a write path, closes it, and puts together what they were told.
 ///
 /// The write path is closed also where there is no memory.
-pub fn run_engine<E: Engine + Sync, G: Gate + Sync, R: Threads + Wait + Sync>(
+pub fn run_engine<E: Engine + Sync, G: Gate + Sync, R: Threads + Wait + rt::Clock + Sync>(
     rt: &R,
     alloc: Global,
     engine: E,

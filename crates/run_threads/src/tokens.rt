@@ -8,10 +8,11 @@ ghost use Rattle.run_threads.specs.Answers.{GoesOn};
 use engine_calls::{Engine, Held, NotHeld};
 use model_accounts::{slowdowns_are_steps, stops_are_steps};
 use run_outcome::Reply;
+use std::rt;
 use std::sync::Wait;
 
 /// Takes the stop token.
-pub fn stop<E: Engine, R: Wait>(rt: &R, engine: &E, client: &mut E::Client) -> Reply
+pub fn stop<E: Engine, R: Wait + rt::Clock>(rt: &R, engine: &E, client: &mut E::Client) -> Reply
     requires { E.belongs engine.now client.old }
     ensures belongs { E.belongs engine.now client.new }
     ensures goes { (pending : List Record) → GoesOn (E.settings engine.now) (E.account client.old) pending calls.stop
@@ -26,7 +27,7 @@ pub fn stop<E: Engine, R: Wait>(rt: &R, engine: &E, client: &mut E::Client) -> R
 }
 
 /// Gives it back.
-pub fn unstop<E: Engine, R: Wait>(rt: &R, engine: &E, client: &mut E::Client) -> Reply
+pub fn unstop<E: Engine, R: Wait + rt::Clock>(rt: &R, engine: &E, client: &mut E::Client) -> Reply
     requires { E.belongs engine.now client.old }
     ensures belongs { E.belongs engine.now client.new }
     ensures goes { (pending : List Record) → GoesOn (E.settings engine.now) (E.account client.old) pending calls.unstop
@@ -41,7 +42,12 @@ pub fn unstop<E: Engine, R: Wait>(rt: &R, engine: &E, client: &mut E::Client) ->
 }
 
 /// Takes the slow token, with a rate.
-pub fn slow<E: Engine, R: Wait>(rt: &R, engine: &E, client: &mut E::Client, rate: u64) -> Reply
+pub fn slow<E: Engine, R: Wait + rt::Clock>(
+    rt: &R,
+    engine: &E,
+    client: &mut E::Client,
+    rate: u64,
+) -> Reply
     requires { E.belongs engine.now client.old }
     ensures belongs { E.belongs engine.now client.new }
     ensures goes { (pending : List Record) → GoesOn (E.settings engine.now) (E.account client.old) pending
@@ -56,7 +62,7 @@ pub fn slow<E: Engine, R: Wait>(rt: &R, engine: &E, client: &mut E::Client, rate
 }
 
 /// Gives it back.
-pub fn unslow<E: Engine, R: Wait>(rt: &R, engine: &E, client: &mut E::Client) -> Reply
+pub fn unslow<E: Engine, R: Wait + rt::Clock>(rt: &R, engine: &E, client: &mut E::Client) -> Reply
     requires { E.belongs engine.now client.old }
     ensures belongs { E.belongs engine.now client.new }
     ensures goes { (pending : List Record) → GoesOn (E.settings engine.now) (E.account client.old) pending calls.unslow

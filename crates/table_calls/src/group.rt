@@ -5,7 +5,7 @@ ghost use Rattle.table_rule.specs.Histories.{versions_in};
 use table_rule::Versioned;
 
 /// The members of a group with their nodes, each member once.
-pub trait GroupParts<MemberNodes: Versioned> {
+pub trait GroupParts<NodeList: Versioned> {
     ghost use Rattle.std.specs.Prelude.{ℕ, List};
     ghost use Rattle.table_rule.specs.declared.content.MemberVersions.{MemberVersions};
 
@@ -24,9 +24,9 @@ pub trait GroupParts<MemberNodes: Versioned> {
         ensures { result ≡ length (versions_in (Self.parts self.now)) };
 
     /// Takes the first member out, with its nodes.
-    fn pop(&mut self) -> Option<(u64, MemberNodes)>
+    fn pop(&mut self) -> Option<(u64, NodeList)>
         ensures room { Self.room self.new ≡ Self.room self.old }
         ensures first { MatchOption result ((Self.parts self.old ≡ [])
             × (Self.parts self.new ≡ [])) (λ taken. Self.parts self.old
-            ≡ (record { member = taken.0; versions = MemberNodes.versions taken.1 }) ∷ Self.parts self.new) };
+            ≡ (record { member = taken.0; versions = NodeList.versions taken.1 }) ∷ Self.parts self.new) };
 }

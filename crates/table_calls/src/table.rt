@@ -16,15 +16,16 @@ use crate::seats::Seats;
 use base_bytes::{Bytes, Read, Reads, Rows};
 use model_base::NoMemory;
 use std::alloc::Global;
+use std::rt;
 use std::sync::Wait;
 use table_rule::Versioned;
 
-/// A table of versions, which groups are published to. `Parts` is a list of a group's members with their nodes.
+/// A table of versions, which groups are published to. `GroupList` is a list of a group's members with their nodes.
 ///
 /// Each client has one seat. A group is launched by the client that has the turn. Each member takes its part, inserts
 /// it and finishes. Who finishes last publishes the group. The client that launched it waits for that, and has the turn
 /// again.
-pub trait Table<MemberNodes: Versioned, Parts: GroupParts<MemberNodes>> {
+pub trait Table<NodeList: Versioned, GroupList: GroupParts<NodeList>> {
     /// A client's seat.
     type Seat;
 
@@ -69,7 +70,7 @@ pub trait Table<MemberNodes: Versioned, Parts: GroupParts<MemberNodes>> {
         ensures { result ≡ (opening self.now).shards };
 
     /// The value of a key, with the published sequence that it is of. Want of memory leaves the table as it was.
-    fn read<R: Wait>(
+    fn read<R: Wait + rt::Clock>(
         &self,
         alloc: Global,
         rt: &R,
@@ -83,7 +84,7 @@ pub trait Table<MemberNodes: Versioned, Parts: GroupParts<MemberNodes>> {
         ensures value { IfOk result (λ read. found_value read.value ≡ value_in key.now (account seat.new).seen) };
 
     /// The values of keys, all of one published sequence.
-    fn read_many<R: Wait>(
+    fn read_many<R: Wait + rt::Clock>(
         &self,
         alloc: Global,
         rt: &R,
@@ -98,7 +99,7 @@ pub trait Table<MemberNodes: Versioned, Parts: GroupParts<MemberNodes>> {
             ≡ map (λ key. value_in key (account seat.new).seen) keys.now) };
 
     /// The keys from `lo` on and below `hi` with their values, all of one published sequence, in byte order.
-    fn scan<R: Wait>(
+    fn scan<R: Wait + rt::Clock>(
         &self,
         alloc: Global,
         rt: &R,
@@ -115,26 +116,26 @@ pub trait Table<MemberNodes: Versioned, Parts: GroupParts<MemberNodes>> {
 
     /// Launches a group, and hands each member its nodes: each takes its own part next, by its own seat. The client
     /// that launches needn't have a part. Its seat keeps the turn until `await_published`.
-    fn launch(&self, seat: &mut Self::Seat, turn: Self::Turn, parts: &mut Parts)
+    fn launch(&self, seat: &mut Self::Seat, turn: Self::Turn, parts: &mut GroupList)
         requires ours { ours self.now seat.old × our_turn self.now turn }
         requires ready { IsReady (account seat.old) }
-        requires next { IsNext (opening self.now) (history turn) (Parts.parts parts.old) }
-        requires fits { end_of (last_of (opening self.now).start (history turn)) (Parts.parts parts.old) < 2 ^ 64 }
+        requires next { IsNext (opening self.now) (history turn) (GroupList.parts parts.old) }
+        requires fits { end_of (last_of (opening self.now).start (history turn)) (GroupList.parts parts.old) < 2 ^ 64 }
         ensures ours { ours self.now seat.new }
-        ensures launched { Launches (opening self.now).start (account seat.old) (history turn) (Parts.parts parts.old)
-            (account seat.new) }
-        ensures emptied { Parts.parts parts.new ≡ [] }
-        ensures room { Parts.room parts.new ≡ Parts.room parts.old };
+        ensures launched { Launches (opening self.now).start (account seat.old) (history turn)
+            (GroupList.parts parts.old) (account seat.new) }
+        ensures emptied { GroupList.parts parts.new ≡ [] }
+        ensures room { GroupList.room parts.new ≡ GroupList.room parts.old };
 
     /// Waits until the client's part is handed out, and takes it.
-    fn take<R: Wait>(&self, rt: &R, seat: &mut Self::Seat) -> Self::Part
+    fn take<R: Wait + rt::Clock>(&self, rt: &R, seat: &mut Self::Seat) -> Self::Part
         requires ours { ours self.now seat.old }
         requires free { MayTake (account seat.old).stage }
         ensures ours { ours self.now seat.new }
         ensures taken { Takes (opening self.now) (account seat.old) (versions result) (account seat.new) };
 
     /// Puts the part's nodes into their trees, each under its lock.
-    fn insert<R: Wait>(&self, rt: &R, seat: &mut Self::Seat, part: Self::Part)
+    fn insert<R: Wait + rt::Clock>(&self, rt: &R, seat: &mut Self::Seat, part: Self::Part)
         requires ours { ours self.now seat.old }
         requires taken { (u : Launched) × ((account seat.old).stage ≡ Holding (work u [] (versions part))) }
         ensures ours { ours self.now seat.new }
@@ -159,7 +160,12 @@ pub trait Table<MemberNodes: Versioned, Parts: GroupParts<MemberNodes>> {
 
     /// Waits until the group that this client launched is published, and takes the turn back. `last` is the group's
     /// last sequence.
-    fn await_published<R: Wait>(&self, rt: &R, seat: &mut Self::Seat, last: u64) -> Self::Turn
+    fn await_published<R: Wait + rt::Clock>(
+        &self,
+        rt: &R,
+        seat: &mut Self::Seat,
+        last: u64,
+    ) -> Self::Turn
         requires ours { ours self.now seat.old }
         requires idle { (account seat.old).stage ≡ Idle }
         requires launched { (u : Launched) × ((account seat.old).launched ≡ Some u) × (last ≡ u.last) }
@@ -171,7 +177,7 @@ pub trait Table<MemberNodes: Versioned, Parts: GroupParts<MemberNodes>> {
         ensures reached { last ≤ last_of (opening self.now).start (account seat.new).seen };
 
     /// Waits until the client has seen what is published up to a sequence.
-    fn await_seen<R: Wait>(&self, rt: &R, seat: &mut Self::Seat, at_least: u64)
+    fn await_seen<R: Wait + rt::Clock>(&self, rt: &R, seat: &mut Self::Seat, at_least: u64)
         requires { ours self.now seat.old }
         ensures ours { ours self.now seat.new }
         ensures seen { Learns (opening self.now).start (account seat.old) (account seat.new) }

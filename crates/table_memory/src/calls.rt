@@ -9,6 +9,7 @@ use crate::memory_table::MemoryTable;
 use base_bytes::{Bytes, Read, Reads, Rows};
 use model_base::NoMemory;
 use std::alloc::Global;
+use std::rt;
 use std::sync::Wait;
 use table_calls::{Finished, Seats, Table};
 use table_steps::{TableSeat, Turn};
@@ -44,7 +45,7 @@ impl Table<Nodes, Parts> for MemoryTable {
         self.steps.shards()
     }
 
-    fn read<R: Wait>(
+    fn read<R: Wait + rt::Clock>(
         &self,
         alloc: Global,
         rt: &R,
@@ -56,7 +57,7 @@ impl Table<Nodes, Parts> for MemoryTable {
         Ok(Read { at, value })
     }
 
-    fn read_many<R: Wait>(
+    fn read_many<R: Wait + rt::Clock>(
         &self,
         alloc: Global,
         rt: &R,
@@ -68,7 +69,7 @@ impl Table<Nodes, Parts> for MemoryTable {
         Ok(Reads { at, values })
     }
 
-    fn scan<R: Wait>(
+    fn scan<R: Wait + rt::Clock>(
         &self,
         alloc: Global,
         rt: &R,
@@ -89,11 +90,11 @@ impl Table<Nodes, Parts> for MemoryTable {
         seat.launch(&self.steps, turn, parts);
     }
 
-    fn take<R: Wait>(&self, rt: &R, seat: &mut TableSeat<Tree, Nodes>) -> Nodes {
+    fn take<R: Wait + rt::Clock>(&self, rt: &R, seat: &mut TableSeat<Tree, Nodes>) -> Nodes {
         seat.take(&self.steps, rt)
     }
 
-    fn insert<R: Wait>(&self, rt: &R, seat: &mut TableSeat<Tree, Nodes>, part: Nodes) {
+    fn insert<R: Wait + rt::Clock>(&self, rt: &R, seat: &mut TableSeat<Tree, Nodes>, part: Nodes) {
         self.add_all(rt, seat, part);
         seat.settle(&self.steps);
     }
@@ -106,7 +107,7 @@ impl Table<Nodes, Parts> for MemoryTable {
         seat.publish(&self.steps);
     }
 
-    fn await_published<R: Wait>(
+    fn await_published<R: Wait + rt::Clock>(
         &self,
         rt: &R,
         seat: &mut TableSeat<Tree, Nodes>,
@@ -115,7 +116,12 @@ impl Table<Nodes, Parts> for MemoryTable {
         seat.await_published(&self.steps, rt, last)
     }
 
-    fn await_seen<R: Wait>(&self, rt: &R, seat: &mut TableSeat<Tree, Nodes>, at_least: u64) {
+    fn await_seen<R: Wait + rt::Clock>(
+        &self,
+        rt: &R,
+        seat: &mut TableSeat<Tree, Nodes>,
+        at_least: u64,
+    ) {
         seat.await_seen(&self.steps, rt, at_least);
     }
 

@@ -9,15 +9,15 @@ ghost use Rattle.table_calls.specs.Account.{Steps};
 ghost use Rattle.table_memory.specs.Meaning.{opening_of, account_of, IsOurs};
 
 use crate::memory_table::MemoryTable;
-use std::mem;
 use std::sync::Wait;
+use std::{mem, rt};
 use table_steps::TableSeat;
 use table_tree::{Nodes, Tree};
 
 impl MemoryTable {
     /// Puts all nodes of the client's part into the trees. They go in in the order of their sequences, as the table's
     /// rule has it, so run by run: a run is of one shard, and goes in under one hold of its lock.
-    pub(crate) fn add_all<R: Wait>(
+    pub(crate) fn add_all<R: Wait + rt::Clock>(
         &self,
         rt: &R,
         seat: &mut TableSeat<Tree, Nodes>,

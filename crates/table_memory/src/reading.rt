@@ -8,6 +8,7 @@ use crate::memory_table::MemoryTable;
 use base_bytes::{Bytes, Found, FoundList, crc32c};
 use model_base::NoMemory;
 use std::alloc::Global;
+use std::rt;
 use std::sync::Wait;
 use table_steps::TableSeat;
 use table_tree::{Nodes, Tree};
@@ -27,7 +28,7 @@ impl MemoryTable {
     }
 
     /// The key's value as of `at`, the end of what the seat has seen.
-    pub(crate) fn value<R: Wait>(
+    pub(crate) fn value<R: Wait + rt::Clock>(
         &self,
         alloc: Global,
         rt: &R,
@@ -47,7 +48,7 @@ impl MemoryTable {
     }
 
     /// The same of several keys, in their order, each in its own shard.
-    pub(crate) fn values<R: Wait>(
+    pub(crate) fn values<R: Wait + rt::Clock>(
         &self,
         alloc: Global,
         rt: &R,

@@ -10,6 +10,7 @@ use crate::memory_table::MemoryTable;
 use base_bytes::{Bytes, PairList, Rows};
 use model_base::NoMemory;
 use std::alloc::Global;
+use std::rt;
 use std::sync::Wait;
 use table_steps::TableSeat;
 use table_tree::{Nodes, Tree};
@@ -25,7 +26,7 @@ fn in_byte_order(mut rows: Vec<(Bytes, Bytes)>) -> PairList
 impl MemoryTable {
     /// The keys from `lo` on and below `hi` with their values, as of `at`, the end of what the seat has seen. A tree's
     /// rows are in byte order, so that those of one shard are as they should be.
-    pub(crate) fn rows<R: Wait>(
+    pub(crate) fn rows<R: Wait + rt::Clock>(
         &self,
         alloc: Global,
         rt: &R,
@@ -52,7 +53,7 @@ impl MemoryTable {
     }
 
     // The same rows, shard after shard.
-    fn gather<R: Wait>(
+    fn gather<R: Wait + rt::Clock>(
         &self,
         alloc: Global,
         rt: &R,

@@ -46,7 +46,7 @@ gone_open p gone is = ⊎_elim (λ (t : p ≡ out). absurd (subst IsOpen t is)) 
 gone_coming : (p : Place) → IsGone p → IsComing p → ⊥
 gone_coming p gone is = ⊎_elim (λ (t : p ≡ out). absurd (subst IsComing t is)) (λ (t : (l : ℕ) × (vs : List Version) × (p ≡ finished l vs)). absurd (subst IsComing t.2 is)) gone
 
-module _ {ShardTree MemberNodes : Type 0} (held_by : ShardTree → List Version) (nodes_of : MemberNodes → List Version) (z : Opening) where
+module _ {ShardTree NodeList : Type 0} (held_by : ShardTree → List Version) (nodes_of : NodeList → List Version) (z : Opening) where
   -- the last part is finished: what others know
   knows_ended : (published : List (List MemberVersions)) (mode : Mode) (place : ℕ → Place) (lock : ℕ → ShardState) (g : List MemberVersions) (c k : ℕ) → mode ≡ running g → ((i : ℕ) → IsGone (place i)) → (seen : List (List MemberVersions)) (st : Stage)
       → Knows z.shards z.start published mode place lock k seen st → Knows z.shards z.start published (ended c g) place lock k seen st
@@ -148,7 +148,7 @@ module _ {ShardTree MemberNodes : Type 0} (held_by : ShardTree → List Version)
       as_open (finished l vs) = refl
 
   -- the fetch-sub of RUNNING
-  pub counts_is : (slots id : ℕ) (me : SeatNow ShardTree MemberNodes) (c k : ℕ) (seen : List (List MemberVersions)) (u : Launched) → k ≡ z.shards + 1 → IsAt c z seen Free (Stored u) me → StepIs held_by nodes_of (IsFinish c) z slots id me k (λ n. (n + (2 ^ 64 - 1)) % 2 ^ 64) (after_count (step slots k 1 0 none) me)
+  pub counts_is : (slots id : ℕ) (me : SeatNow ShardTree NodeList) (c k : ℕ) (seen : List (List MemberVersions)) (u : Launched) → k ≡ z.shards + 1 → IsAt c z seen Free (Stored u) me → StepIs held_by nodes_of (IsFinish c) z slots id me k (λ n. (n + (2 ^ 64 - 1)) % 2 ^ 64) (after_count (step slots k 1 0 none) me)
   counts_is slots id me c k seen u is mid s r long at fits =
       let h : SeatState = seat_state c z seen Free (Stored u) in
       let at' : get_elem? s.views id ≡ some (h ∷ []) = at ∙ ap some mid in
@@ -209,7 +209,7 @@ module _ {ShardTree MemberNodes : Type 0} (held_by : ShardTree → List Version)
       all_gone : (n word : ℕ) (place : ℕ → Place) (last : ℕ) (g : List MemberVersions) → AllFinished place (end_of last g) g → IsLaunched n word place last g → (i : ℕ) → IsGone (place i)
       all_gone n word place last g all fit i = all_done n word place last g all fit i
 
-  pub counts : (slots id : ℕ) (me : SeatNow ShardTree MemberNodes) (c k : ℕ) (seen : List (List MemberVersions)) (u : Launched) → k ≡ z.shards + 1 → IsAt c z seen Free (Stored u) me → Allows (Rule held_by nodes_of z) slots id me k (λ n. (n + (2 ^ 64 - 1)) % 2 ^ 64) (after_count (step slots k 1 0 none) me)
+  pub counts : (slots id : ℕ) (me : SeatNow ShardTree NodeList) (c k : ℕ) (seen : List (List MemberVersions)) (u : Launched) → k ≡ z.shards + 1 → IsAt c z seen Free (Stored u) me → Allows (Rule held_by nodes_of z) slots id me k (λ n. (n + (2 ^ 64 - 1)) % 2 ^ 64) (after_count (step slots k 1 0 none) me)
   counts slots id me c k seen u is mid = allows held_by nodes_of (IsFinish c) z slots id me k (λ n. (n + (2 ^ 64 - 1)) % 2 ^ 64) (after_count (step slots k 1 0 none) me) (counts_is slots id me c k seen u is mid)
 
   -- all that a published group leaves: each place is out
@@ -240,7 +240,7 @@ module _ {ShardTree MemberNodes : Type 0} (held_by : ShardTree → List Version)
   knows_published published mode place lock g c k ne is gone seen (Filling h p ps) ok = absurd (gone_open (place p.member) (gone p.member) (subst IsOpen (sym ok.3) tt))
 
   -- the store of LAST
-  pub publishes_is : (slots id : ℕ) (me : SeatNow ShardTree MemberNodes) (c k : ℕ) (seen : List (List MemberVersions)) (u : Launched) (l : ℕ) → l ≡ u.last → k ≡ z.shards → IsAt c z seen Free (Publishing u) me → StepIs held_by nodes_of (λ _. IsPublish c) z slots id me k (λ _. l) (λ _. after_publish (step slots k l 0 none) me l)
+  pub publishes_is : (slots id : ℕ) (me : SeatNow ShardTree NodeList) (c k : ℕ) (seen : List (List MemberVersions)) (u : Launched) (l : ℕ) → l ≡ u.last → k ≡ z.shards → IsAt c z seen Free (Publishing u) me → StepIs held_by nodes_of (λ _. IsPublish c) z slots id me k (λ _. l) (λ _. after_publish (step slots k l 0 none) me l)
   publishes_is slots id me c k seen u l l_is is mid s r long at fits =
       let h : SeatState = seat_state c z seen Free (Publishing u) in
       let at' : get_elem? s.views id ≡ some (h ∷ []) = at ∙ ap some mid in
@@ -308,5 +308,5 @@ module _ {ShardTree MemberNodes : Type 0} (held_by : ShardTree → List Version)
             ),
       )
 
-  pub publishes_all : (slots id : ℕ) (me : SeatNow ShardTree MemberNodes) (c k : ℕ) (seen : List (List MemberVersions)) (u : Launched) (l : ℕ) → l ≡ u.last → k ≡ z.shards → IsAt c z seen Free (Publishing u) me → Allows (Rule held_by nodes_of z) slots id me k (λ _. l) (λ _. after_publish (step slots k l 0 none) me l)
+  pub publishes_all : (slots id : ℕ) (me : SeatNow ShardTree NodeList) (c k : ℕ) (seen : List (List MemberVersions)) (u : Launched) (l : ℕ) → l ≡ u.last → k ≡ z.shards → IsAt c z seen Free (Publishing u) me → Allows (Rule held_by nodes_of z) slots id me k (λ _. l) (λ _. after_publish (step slots k l 0 none) me l)
   publishes_all slots id me c k seen u l l_is is mid = allows held_by nodes_of (λ _. IsPublish c) z slots id me k (λ _. l) (λ _. after_publish (step slots k l 0 none) me l) (publishes_is slots id me c k seen u l l_is is mid)

@@ -38,7 +38,7 @@ coming_not (busy l d m) ok = absurd ok
 coming_not (inserted l vs) ok = absurd ok
 coming_not (finished l vs) ok = absurd ok
 
-module _ {ShardTree MemberNodes : Type 0} (held_by : ShardTree → List Version) (nodes_of : MemberNodes → List Version) (z : Opening) where
+module _ {ShardTree NodeList : Type 0} (held_by : ShardTree → List Version) (nodes_of : NodeList → List Version) (z : Opening) where
   -- what clients know stays where the turn moves one part
   pub knows_turn : (published : List (List MemberVersions)) (mode : Mode) (place : ℕ → Place) (lock : ℕ → ShardState) (m : ℕ) (new : Place) (k : ℕ) → k ≢ 0 → IsComing (place m) → IsComing new
       → (seen : List (List MemberVersions)) (st : Stage) → Knows z.shards z.start published mode place lock k seen st → Knows z.shards z.start published mode (put place m new) lock k seen st
@@ -103,7 +103,7 @@ module _ {ShardTree MemberNodes : Type 0} (held_by : ShardTree → List Version)
         }
 
   -- the turn's load of RUN_m takes the empty slot
-  pub empties_is : (slots id : ℕ) (me : SeatNow ShardTree MemberNodes) (k : ℕ) (seen : List (List MemberVersions)) (g : List MemberVersions) (p : MemberVersions) (ps : List MemberVersions) → k ≡ z.shards + 1 + p.member → 0 < p.member → p.member ≤ z.clients → IsAt 0 z seen Free (Handing g (p ∷ ps)) me → StepIs held_by nodes_of (λ _. Stays) z slots id me k (λ y. y) (after_empty (step slots k 0 0 none) me)
+  pub empties_is : (slots id : ℕ) (me : SeatNow ShardTree NodeList) (k : ℕ) (seen : List (List MemberVersions)) (g : List MemberVersions) (p : MemberVersions) (ps : List MemberVersions) → k ≡ z.shards + 1 + p.member → 0 < p.member → p.member ≤ z.clients → IsAt 0 z seen Free (Handing g (p ∷ ps)) me → StepIs held_by nodes_of (λ _. Stays) z slots id me k (λ y. y) (after_empty (step slots k 0 0 none) me)
   empties_is slots id me k seen g p ps is lo hi mid s r long at fits =
       let h : SeatState = seat_state 0 z seen Free (Handing g (p ∷ ps)) in
       let at' : get_elem? s.views id ≡ some (h ∷ []) = at ∙ ap some mid in
@@ -133,7 +133,7 @@ module _ {ShardTree MemberNodes : Type 0} (held_by : ShardTree → List Version)
             let e = sym mid ∙ mid' in
             let z_is : z ≡ z' = ap (λ l. (own l).opening) e in
             let p_is : p ≡ p' = ap (λ l. next_part p (own l).stage) e in
-            let same : Path (List (ℕ × Content ShardTree MemberNodes)) ((z.shards + m, Blank) ∷ me.1) ((z'.shards + p'.member, Blank) ∷ me.1) = λ i. ((z_is i).shards + (p_is i).member, Blank) ∷ me.1 in
+            let same : Path (List (ℕ × Content ShardTree NodeList)) ((z.shards + m, Blank) ∷ me.1) ((z'.shards + p'.member, Blank) ∷ me.1) = λ i. ((z_is i).shards + (p_is i).member, Blank) ∷ me.1 in
             (ap (one (λ y. seat_state y.client y.opening y.seen y.lock (filled y.stage))) e, zero_now, same),
       )
     where
@@ -159,11 +159,11 @@ module _ {ShardTree MemberNodes : Type 0} (held_by : ShardTree → List Version)
       filled (Handing g (p ∷ ps)) = Filling g p ps
       filled (Filling g p ps) = Idle
 
-  pub empties : (slots id : ℕ) (me : SeatNow ShardTree MemberNodes) (k : ℕ) (seen : List (List MemberVersions)) (g : List MemberVersions) (p : MemberVersions) (ps : List MemberVersions) → k ≡ z.shards + 1 + p.member → 0 < p.member → p.member ≤ z.clients → IsAt 0 z seen Free (Handing g (p ∷ ps)) me → Allows (Rule held_by nodes_of z) slots id me k (λ y. y) (after_empty (step slots k 0 0 none) me)
+  pub empties : (slots id : ℕ) (me : SeatNow ShardTree NodeList) (k : ℕ) (seen : List (List MemberVersions)) (g : List MemberVersions) (p : MemberVersions) (ps : List MemberVersions) → k ≡ z.shards + 1 + p.member → 0 < p.member → p.member ≤ z.clients → IsAt 0 z seen Free (Handing g (p ∷ ps)) me → Allows (Rule held_by nodes_of z) slots id me k (λ y. y) (after_empty (step slots k 0 0 none) me)
   empties slots id me k seen g p ps is lo hi mid = allows held_by nodes_of (λ _. Stays) z slots id me k (λ y. y) (after_empty (step slots k 0 0 none) me) (empties_is slots id me k seen g p ps is lo hi mid)
 
   -- the turn's store of RUN_m gives the nodes
-  pub gives_nodes_is : (slots id : ℕ) (me : SeatNow ShardTree MemberNodes) (k : ℕ) (seen : List (List MemberVersions)) (g : List MemberVersions) (p : MemberVersions) (ps : List MemberVersions) (x : MemberNodes) (l : ℕ) (more : List (ℕ × Content ShardTree MemberNodes)) → k ≡ z.shards + 1 + p.member → 0 < p.member → p.member ≤ z.clients → IsAt 0 z seen Free (Filling g p ps) me
+  pub gives_nodes_is : (slots id : ℕ) (me : SeatNow ShardTree NodeList) (k : ℕ) (seen : List (List MemberVersions)) (g : List MemberVersions) (p : MemberVersions) (ps : List MemberVersions) (x : NodeList) (l : ℕ) (more : List (ℕ × Content ShardTree NodeList)) → k ≡ z.shards + 1 + p.member → 0 < p.member → p.member ≤ z.clients → IsAt 0 z seen Free (Filling g p ps) me
       → me.1 ≡ (z.shards + p.member, Nodes x l) ∷ more → nodes_of x ≡ p.versions → l ≡ end_of (last_of z.start seen) g → StepIs held_by nodes_of (λ _. Stays) z slots id me k (λ _. 1) (λ _. after_give (step slots k 1 0 none) me 1)
   gives_nodes_is slots id me k seen g p ps x l more is lo hi mid slot nodes last s r long at fits =
       let h : SeatState = seat_state 0 z seen Free (Filling g p ps) in
@@ -175,7 +175,7 @@ module _ {ShardTree MemberNodes : Type 0} (held_by : ShardTree → List Version)
       let new : Place = handed end p.versions in
       let now : r.place m ≡ old = fit.5.3 in
       let h' : SeatState = seat_state 0 z seen Free (Handing g ps) in
-      let y : Option (Content ShardTree MemberNodes) = some (Nodes x l) in
+      let y : Option (Content ShardTree NodeList) = some (Nodes x l) in
       let hs = set s.homes (z.shards + m) y in
       let wide : length s.words ≡ z.shards + 2 + z.clients = r.wide in
       let many : length s.homes ≡ z.shards + 1 + z.clients = r.many in
@@ -186,7 +186,7 @@ module _ {ShardTree MemberNodes : Type 0} (held_by : ShardTree → List Version)
         (
           table_now r.published r.mode (put r.place m new),
           (refl, refl, progress_stays r.place m new (ap progress_of (sym now))),
-          subst (λ (c : List (ℕ × Content ShardTree MemberNodes)). IsNow held_by nodes_of z (table_now r.published r.mode (put r.place m new)) (stepped s k 1 id c (h' ∷ []) gives)) (sym slot)
+          subst (λ (c : List (ℕ × Content ShardTree NodeList)). IsNow held_by nodes_of z (table_now r.published r.mode (put r.place m new)) (stepped s k 1 id c (h' ∷ []) gives)) (sym slot)
               (row_moves s r m old new now tt tt (λ _ _ o. o) (λ _ o. o) (λ _ o. o) id k 1 hs h h' at' refl refl refl refl refl is lo hi (length-set s.homes (z.shards + m) y) (λ i ne. set_else s.homes (z.shards + m) i y ne)
               (ap (λ (j : ℕ). get_or (set s.words k 1) j 0) (sym is) ∙ get_or-set_same s.words k 1 0 (omega arith), (x, set_here s.homes (z.shards + m) y (omega arith) ∙ (λ i. some (some (Nodes x (l_is i)))), nodes))
               (on ps (put r.place m new) fit.5.1 fit.5.2 (coming_apart_of r.place m new end ps fit.5.4 now))
@@ -213,7 +213,7 @@ module _ {ShardTree MemberNodes : Type 0} (held_by : ShardTree → List Version)
       on [] place mode_is same ok = (refl, inl (mode_is, same))
       on (q ∷ qs) place mode_is same ok = (refl, mode_is, same, ok)
 
-  pub gives_nodes : (slots id : ℕ) (me : SeatNow ShardTree MemberNodes) (k : ℕ) (seen : List (List MemberVersions)) (g : List MemberVersions) (p : MemberVersions) (ps : List MemberVersions) (x : MemberNodes) (l : ℕ) (more : List (ℕ × Content ShardTree MemberNodes)) → k ≡ z.shards + 1 + p.member → 0 < p.member → p.member ≤ z.clients → IsAt 0 z seen Free (Filling g p ps) me
+  pub gives_nodes : (slots id : ℕ) (me : SeatNow ShardTree NodeList) (k : ℕ) (seen : List (List MemberVersions)) (g : List MemberVersions) (p : MemberVersions) (ps : List MemberVersions) (x : NodeList) (l : ℕ) (more : List (ℕ × Content ShardTree NodeList)) → k ≡ z.shards + 1 + p.member → 0 < p.member → p.member ≤ z.clients → IsAt 0 z seen Free (Filling g p ps) me
       → me.1 ≡ (z.shards + p.member, Nodes x l) ∷ more → nodes_of x ≡ p.versions → l ≡ end_of (last_of z.start seen) g → Allows (Rule held_by nodes_of z) slots id me k (λ _. 1) (λ _. after_give (step slots k 1 0 none) me 1)
   gives_nodes slots id me k seen g p ps x l more is lo hi mid slot nodes last = allows held_by nodes_of (λ _. Stays) z slots id me k (λ _. 1) (λ _. after_give (step slots k 1 0 none) me 1) (gives_nodes_is slots id me k seen g p ps x l more is lo hi mid slot nodes last)
 
@@ -260,9 +260,9 @@ module _ {ShardTree MemberNodes : Type 0} (held_by : ShardTree → List Version)
         )
 
   -- a client's load of its RUN takes the nodes where they are there
-  module _ (slots id : ℕ) (me : SeatNow ShardTree MemberNodes) (c k : ℕ) (seen : List (List MemberVersions)) (stage : Stage) (is : k ≡ z.shards + 1 + c) (lo : 0 < c) (may : MayTake stage) (mid : IsAt c z seen Free stage me)
+  module _ (slots id : ℕ) (me : SeatNow ShardTree NodeList) (c k : ℕ) (seen : List (List MemberVersions)) (stage : Stage) (is : k ≡ z.shards + 1 + c) (lo : 0 < c) (may : MayTake stage) (mid : IsAt c z seen Free stage me)
       (s : TableState held_by nodes_of) (r : Rule held_by nodes_of z s) (at : get_elem? s.views id ≡ some me.0) where
-    abbrev tells : ℕ → SeatNow ShardTree MemberNodes → Type 0
+    abbrev tells : ℕ → SeatNow ShardTree NodeList → Type 0
     tells = after_take nodes_of (step slots k 0 0 none) me
 
     abbrev x : ℕ
@@ -278,7 +278,7 @@ module _ {ShardTree MemberNodes : Type 0} (held_by : ShardTree → List Version)
         let fit = (r.seats id (h ∷ []) at').0 in
         let grp = own_group s r c seen stage may (subst IsOpen (sym now) tt) fit.5 in
         let u : Launched = grp.0 in
-        let y : MemberNodes = row.1.0 in
+        let y : NodeList = row.1.0 in
         let us : List Version = nodes_of y in
         let same_vs : us ≡ vs = row.1.2 in
         let part = own_part s r c seen u l us grp.1 (now ∙ ap (handed l) (sym same_vs)) fit.3 in
@@ -303,7 +303,7 @@ module _ {ShardTree MemberNodes : Type 0} (held_by : ShardTree → List Version)
               let e = sym mid ∙ mid' in
               let z_is : z ≡ z' = ap (λ w. (own w).opening) e in
               let c_is : c ≡ c' = ap (λ w. (own w).client) e in
-              let same : Path (List (ℕ × Content ShardTree MemberNodes)) ((z.shards + c, Nodes y l) ∷ me.1) ((z'.shards + c', Nodes y u.last) ∷ me.1) = λ i. ((z_is i).shards + c_is i, Nodes y (part.1 i)) ∷ me.1 in (
+              let same : Path (List (ℕ × Content ShardTree NodeList)) ((z.shards + c, Nodes y l) ∷ me.1) ((z'.shards + c', Nodes y u.last) ∷ me.1) = λ i. ((z_is i).shards + c_is i, Nodes y (part.1 i)) ∷ me.1 in (
                 (λ _. (
                   y,
                   u,
@@ -338,14 +338,14 @@ module _ {ShardTree MemberNodes : Type 0} (held_by : ShardTree → List Version)
     takes_all : Goes held_by nodes_of (λ _. Stays) z s (now_of held_by nodes_of z s r) k id me tells x
     takes_all = let fit = (r.seats id (seat_state c z seen Free stage ∷ []) (at ∙ ap some mid)).0 in takes_at (r.place c) refl fit.1 (not_taken stage may fit.5) (r.rows c lo fit.1)
 
-  pub takes_nodes_is : (slots id : ℕ) (me : SeatNow ShardTree MemberNodes) (c k : ℕ) (seen : List (List MemberVersions)) (stage : Stage) → k ≡ z.shards + 1 + c → 0 < c → MayTake stage → IsAt c z seen Free stage me → StepIs held_by nodes_of (λ _. Stays) z slots id me k (λ y. y) (after_take nodes_of (step slots k 0 0 none) me)
+  pub takes_nodes_is : (slots id : ℕ) (me : SeatNow ShardTree NodeList) (c k : ℕ) (seen : List (List MemberVersions)) (stage : Stage) → k ≡ z.shards + 1 + c → 0 < c → MayTake stage → IsAt c z seen Free stage me → StepIs held_by nodes_of (λ _. Stays) z slots id me k (λ y. y) (after_take nodes_of (step slots k 0 0 none) me)
   takes_nodes_is slots id me c k seen stage is lo may mid s r long at fits = takes_all slots id me c k seen stage is lo may mid s r at
 
-  pub takes_nodes : (slots id : ℕ) (me : SeatNow ShardTree MemberNodes) (c k : ℕ) (seen : List (List MemberVersions)) (stage : Stage) → k ≡ z.shards + 1 + c → 0 < c → MayTake stage → IsAt c z seen Free stage me → Allows (Rule held_by nodes_of z) slots id me k (λ y. y) (after_take nodes_of (step slots k 0 0 none) me)
+  pub takes_nodes : (slots id : ℕ) (me : SeatNow ShardTree NodeList) (c k : ℕ) (seen : List (List MemberVersions)) (stage : Stage) → k ≡ z.shards + 1 + c → 0 < c → MayTake stage → IsAt c z seen Free stage me → Allows (Rule held_by nodes_of z) slots id me k (λ y. y) (after_take nodes_of (step slots k 0 0 none) me)
   takes_nodes slots id me c k seen stage is lo may mid = allows held_by nodes_of (λ _. Stays) z slots id me k (λ y. y) (after_take nodes_of (step slots k 0 0 none) me) (takes_nodes_is slots id me c k seen stage is lo may mid)
 
   -- a client's store of its RUN gives the empty slot back
-  pub settles_is : (slots id : ℕ) (me : SeatNow ShardTree MemberNodes) (c k : ℕ) (seen : List (List MemberVersions)) (u : Launched) (done : List Version) (more : List (ℕ × Content ShardTree MemberNodes)) → k ≡ z.shards + 1 + c → 0 < c → IsAt c z seen Free (Holding (work u done [])) me
+  pub settles_is : (slots id : ℕ) (me : SeatNow ShardTree NodeList) (c k : ℕ) (seen : List (List MemberVersions)) (u : Launched) (done : List Version) (more : List (ℕ × Content ShardTree NodeList)) → k ≡ z.shards + 1 + c → 0 < c → IsAt c z seen Free (Holding (work u done [])) me
       → me.1 ≡ (z.shards + c, Blank) ∷ more → StepIs held_by nodes_of (λ _. IsInsert c) z slots id me k (λ _. 0) (λ _. after_settle (step slots k 0 0 none) me 0)
   settles_is slots id me c k seen u done more is lo mid slot s r long at fits =
       let h : SeatState = seat_state c z seen Free (Holding (work u done [])) in
@@ -356,7 +356,7 @@ module _ {ShardTree MemberNodes : Type 0} (held_by : ShardTree → List Version)
       let now : r.place c ≡ old = fit.5.0 in
       let hi : c ≤ z.clients = fit.1 in
       let h' : SeatState = seat_state c z seen Free (Stored u) in
-      let y : Option (Content ShardTree MemberNodes) = some Blank in
+      let y : Option (Content ShardTree NodeList) = some Blank in
       let hs = set s.homes (z.shards + c) y in
       let wide : length s.words ≡ z.shards + 2 + z.clients = r.wide in
       let many : length s.homes ≡ z.shards + 1 + z.clients = r.many in (
@@ -366,7 +366,7 @@ module _ {ShardTree MemberNodes : Type 0} (held_by : ShardTree → List Version)
         (
           table_now r.published r.mode (put r.place c new),
           (u.group, fit.5.1.0, open_member s r c u fit.5.1 (subst IsOpen (sym now) tt), refl, progress_moves r.published r.mode r.mode r.place c old new now),
-          subst (λ (x : List (ℕ × Content ShardTree MemberNodes)). IsNow held_by nodes_of z (table_now r.published r.mode (put r.place c new)) (stepped s k 0 id x (h' ∷ []) gives)) (sym slot)
+          subst (λ (x : List (ℕ × Content ShardTree NodeList)). IsNow held_by nodes_of z (table_now r.published r.mode (put r.place c new)) (stepped s k 0 id x (h' ∷ []) gives)) (sym slot)
               (row_moves s r c old new now tt tt (λ _ us o. (o.0, sym (append-nil done) ∙ o.1)) (λ _ o. o) (λ _ o. o) id k 0 hs h h' at' refl refl refl refl refl is lo hi (length-set s.homes (z.shards + c) y) (λ i ne. set_else s.homes (z.shards + c) i y ne)
               (ap (λ (j : ℕ). get_or (set s.words k 0) j 0) (sym is) ∙ get_or-set_same s.words k 0 0 (omega arith), set_here s.homes (z.shards + c) y (omega arith))
               ((done, put_here r.place c new), fit.5.1)
@@ -376,6 +376,6 @@ module _ {ShardTree MemberNodes : Type 0} (held_by : ShardTree → List Version)
             ((λ i. seat_state (own (e i)).client (own (e i)).opening (own (e i)).seen (own (e i)).lock (Stored (u_is i)) ∷ []), refl),
       )
 
-  pub settles : (slots id : ℕ) (me : SeatNow ShardTree MemberNodes) (c k : ℕ) (seen : List (List MemberVersions)) (u : Launched) (done : List Version) (more : List (ℕ × Content ShardTree MemberNodes)) → k ≡ z.shards + 1 + c → 0 < c → IsAt c z seen Free (Holding (work u done [])) me
+  pub settles : (slots id : ℕ) (me : SeatNow ShardTree NodeList) (c k : ℕ) (seen : List (List MemberVersions)) (u : Launched) (done : List Version) (more : List (ℕ × Content ShardTree NodeList)) → k ≡ z.shards + 1 + c → 0 < c → IsAt c z seen Free (Holding (work u done [])) me
       → me.1 ≡ (z.shards + c, Blank) ∷ more → Allows (Rule held_by nodes_of z) slots id me k (λ _. 0) (λ _. after_settle (step slots k 0 0 none) me 0)
   settles slots id me c k seen u done more is lo mid slot = allows held_by nodes_of (λ _. IsInsert c) z slots id me k (λ _. 0) (λ _. after_settle (step slots k 0 0 none) me 0) (settles_is slots id me c k seen u done more is lo mid slot)

@@ -47,7 +47,7 @@ launched_own c u is = ap (λ b. if b then Waiting u else Idle) (has_member c u.g
 pub launched_other : (c : ℕ) (u : Launched) → Apart c u.group → stage_after_launch c u ≡ Idle
 launched_other c u a = ap (λ b. if b then Waiting u else Idle) (has_none c u.group a)
 
-module _ {ShardTree MemberNodes : Type 0} (held_by : ShardTree → List Version) (nodes_of : MemberNodes → List Version) (z : Opening) where
+module _ {ShardTree NodeList : Type 0} (held_by : ShardTree → List Version) (nodes_of : NodeList → List Version) (z : Opening) where
   -- the view of a client and of the turn, when the group g is launched
   begun : List MemberVersions → List SeatState → List SeatState
   begun g [] = []
@@ -76,7 +76,7 @@ module _ {ShardTree MemberNodes : Type 0} (held_by : ShardTree → List Version)
       (member_or c u.group)
 
   -- the store of RUNNING, by a client that has the turn
-  pub launches_is : (slots id : ℕ) (me : SeatNow ShardTree MemberNodes) (c k x : ℕ) (own_seen seen : List (List MemberVersions)) (g : List MemberVersions) → k ≡ z.shards + 1 → x ≡ length g → 0 < c → IsWithTurn c z own_seen Idle seen Resting me
+  pub launches_is : (slots id : ℕ) (me : SeatNow ShardTree NodeList) (c k x : ℕ) (own_seen seen : List (List MemberVersions)) (g : List MemberVersions) → k ≡ z.shards + 1 → x ≡ length g → 0 < c → IsWithTurn c z own_seen Idle seen Resting me
       → Runs (last_of z.start seen) (versions_in g) → 0 < length (versions_in g) → Members z.clients g → StepIs held_by nodes_of (λ _. IsLaunch g) z slots id me k (λ _. x) (λ _. after_launch g (step slots k x 0 none) me x)
   unfolding begun
   launches_is slots id me c k x own_seen seen g is count low mid run nonempty members s r long at fits =
@@ -159,12 +159,12 @@ module _ {ShardTree MemberNodes : Type 0} (held_by : ShardTree → List Version)
           (λ (t : (vs : List Version) × (p ≡ coming end vs)). subst NotTaken (sym t.1) tt)
           way
 
-  pub launches : (slots id : ℕ) (me : SeatNow ShardTree MemberNodes) (c k x : ℕ) (own_seen seen : List (List MemberVersions)) (g : List MemberVersions) → k ≡ z.shards + 1 → x ≡ length g → 0 < c → IsWithTurn c z own_seen Idle seen Resting me
+  pub launches : (slots id : ℕ) (me : SeatNow ShardTree NodeList) (c k x : ℕ) (own_seen seen : List (List MemberVersions)) (g : List MemberVersions) → k ≡ z.shards + 1 → x ≡ length g → 0 < c → IsWithTurn c z own_seen Idle seen Resting me
       → Runs (last_of z.start seen) (versions_in g) → 0 < length (versions_in g) → Members z.clients g → Allows (Rule held_by nodes_of z) slots id me k (λ _. x) (λ _. after_launch g (step slots k x 0 none) me x)
   launches slots id me c k x own_seen seen g is count low mid run nonempty members = allows held_by nodes_of (λ _. IsLaunch g) z slots id me k (λ _. x) (λ _. after_launch g (step slots k x 0 none) me x) (launches_is slots id me c k x own_seen seen g is count low mid run nonempty members)
 
   -- the turn's load of LAST
-  module _ (slots id : ℕ) (me : SeatNow ShardTree MemberNodes) (k : ℕ) (seen : List (List MemberVersions)) (g : List MemberVersions) (is : k ≡ z.shards) (mid : IsAt 0 z seen Free (Handing g []) me)
+  module _ (slots id : ℕ) (me : SeatNow ShardTree NodeList) (k : ℕ) (seen : List (List MemberVersions)) (g : List MemberVersions) (is : k ≡ z.shards) (mid : IsAt 0 z seen Free (Handing g []) me)
       (s : TableState held_by nodes_of) (r : Rule held_by nodes_of z s) (at : get_elem? s.views id ≡ some me.0) where
     abbrev found : ℕ
     found = get_or s.words k 0
@@ -260,8 +260,8 @@ module _ {ShardTree MemberNodes : Type 0} (held_by : ShardTree → List Version)
         (λ (u : (r.mode ≡ still) × (r.published ≡ seen ++ g ∷ [])). rests u.0 u.1) t)
         fit.5.1
 
-  pub awaits_is : (slots id : ℕ) (me : SeatNow ShardTree MemberNodes) (k : ℕ) (seen : List (List MemberVersions)) (g : List MemberVersions) → k ≡ z.shards → IsAt 0 z seen Free (Handing g []) me → StepIs held_by nodes_of (λ _. Stays) z slots id me k (λ y. y) (after_await (step slots k 0 0 none) me)
+  pub awaits_is : (slots id : ℕ) (me : SeatNow ShardTree NodeList) (k : ℕ) (seen : List (List MemberVersions)) (g : List MemberVersions) → k ≡ z.shards → IsAt 0 z seen Free (Handing g []) me → StepIs held_by nodes_of (λ _. Stays) z slots id me k (λ y. y) (after_await (step slots k 0 0 none) me)
   awaits_is slots id me k seen g is mid s r long at fits = awaits_all slots id me k seen g is mid s r at
 
-  pub awaits : (slots id : ℕ) (me : SeatNow ShardTree MemberNodes) (k : ℕ) (seen : List (List MemberVersions)) (g : List MemberVersions) → k ≡ z.shards → IsAt 0 z seen Free (Handing g []) me → Allows (Rule held_by nodes_of z) slots id me k (λ y. y) (after_await (step slots k 0 0 none) me)
+  pub awaits : (slots id : ℕ) (me : SeatNow ShardTree NodeList) (k : ℕ) (seen : List (List MemberVersions)) (g : List MemberVersions) → k ≡ z.shards → IsAt 0 z seen Free (Handing g []) me → Allows (Rule held_by nodes_of z) slots id me k (λ y. y) (after_await (step slots k 0 0 none) me)
   awaits slots id me k seen g is mid = allows held_by nodes_of (λ _. Stays) z slots id me k (λ y. y) (after_await (step slots k 0 0 none) me) (awaits_is slots id me k seen g is mid)

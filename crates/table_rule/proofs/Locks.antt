@@ -72,14 +72,14 @@ IsWithMember (busy l d m) = Unit {0}
 IsWithMember (inserted l vs) = Unit {0}
 IsWithMember (finished l vs) = Unit {0}
 
-module _ {ShardTree MemberNodes : Type 0} (held_by : ShardTree → List Version) (nodes_of : MemberNodes → List Version) (z : Opening) where
+module _ {ShardTree NodeList : Type 0} (held_by : ShardTree → List Version) (nodes_of : NodeList → List Version) (z : Opening) where
   abbrev pub Rule : TableState held_by nodes_of → Type 0
   Rule = IsConsistent held_by nodes_of z
 
   pub loaded : (now : TableNow) (s : TableState held_by nodes_of) (k : ℕ) (hs : Homes held_by nodes_of) (vs : List (List SeatState)) → IsNow held_by nodes_of z now (record { words = s.words; homes = hs; views = vs }) → IsNow held_by nodes_of z now (record { words = set s.words k (get_or s.words k 0); homes = hs; views = vs })
   loaded now s k hs vs r = subst (λ (w : List ℕ). IsNow held_by nodes_of z now (record { words = w; homes = hs; views = vs })) (sym (set-get_or s.words k 0)) r
 
-  pub learns_is : (slots id : ℕ) (me : SeatNow ShardTree MemberNodes) (c k : ℕ) (seen : List (List MemberVersions)) (stage : Stage) → k ≡ z.shards → IsClient stage → IsAt c z seen Free stage me → StepIs held_by nodes_of (IsRead z.start) z slots id me k (λ y. y) (after_learn (step slots k 0 0 none) me)
+  pub learns_is : (slots id : ℕ) (me : SeatNow ShardTree NodeList) (c k : ℕ) (seen : List (List MemberVersions)) (stage : Stage) → k ≡ z.shards → IsClient stage → IsAt c z seen Free stage me → StepIs held_by nodes_of (IsRead z.start) z slots id me k (λ y. y) (after_learn (step slots k 0 0 none) me)
   learns_is slots id me c k seen stage is client mid s r long at fits =
       let h : SeatState = seat_state c z seen Free stage in
       let at' : get_elem? s.views id ≡ some (h ∷ []) = at ∙ ap some mid in
@@ -127,7 +127,7 @@ module _ {ShardTree MemberNodes : Type 0} (held_by : ShardTree → List Version)
             ),
       )
 
-  pub learns : (slots id : ℕ) (me : SeatNow ShardTree MemberNodes) (c k : ℕ) (seen : List (List MemberVersions)) (stage : Stage) → k ≡ z.shards → IsClient stage → IsAt c z seen Free stage me → Allows Rule slots id me k (λ y. y) (after_learn (step slots k 0 0 none) me)
+  pub learns : (slots id : ℕ) (me : SeatNow ShardTree NodeList) (c k : ℕ) (seen : List (List MemberVersions)) (stage : Stage) → k ≡ z.shards → IsClient stage → IsAt c z seen Free stage me → Allows Rule slots id me k (λ y. y) (after_learn (step slots k 0 0 none) me)
   learns slots id me c k seen stage is client mid = allows held_by nodes_of (IsRead z.start) z slots id me k (λ y. y) (after_learn (step slots k 0 0 none) me) (learns_is slots id me c k seen stage is client mid)
 
   -- a shard's tree shows what a seat has seen
@@ -151,7 +151,7 @@ module _ {ShardTree MemberNodes : Type 0} (held_by : ShardTree → List Version)
   same_contents : (lock : ℕ → ShardState) (j : ℕ) (d : ShardState) → contents d ≡ contents (lock j) → (i : ℕ) → contents (put lock j d i) ≡ contents (lock i)
   same_contents lock j d e i = put_at lock j d (λ i x. contents x ≡ contents (lock i)) i (λ is. e ∙ ap (λ k. contents (lock k)) (sym is)) (λ _. refl)
 
-  module _ (slots id : ℕ) (me : SeatNow ShardTree MemberNodes) (c j : ℕ) (seen : List (List MemberVersions)) (stage : Stage) (lt : j < z.shards) (mid : IsAt c z seen Free stage me)
+  module _ (slots id : ℕ) (me : SeatNow ShardTree NodeList) (c j : ℕ) (seen : List (List MemberVersions)) (stage : Stage) (lt : j < z.shards) (mid : IsAt c z seen Free stage me)
       (s : TableState held_by nodes_of) (r : Rule s) (at : get_elem? s.views id ≡ some me.0) where
     locks_hit : get_or s.words j 0 ≡ 0 → Goes held_by nodes_of (λ _. Stays) z s (now_of held_by nodes_of z s r) j id me (after_lock held_by (step slots j 0 1 none) me) 1
     locks_hit zero_now =
@@ -229,15 +229,15 @@ module _ {ShardTree MemberNodes : Type 0} (held_by : ShardTree → List Version)
         still_locked k ne d Free ok = ok
         still_locked k ne d (Held i vs) ok = (ok.0, put_at r.lock j (held c (held_by d.0)) (λ i x. r.lock i ≡ held k vs → x ≡ held k vs) i (λ is was. let bad : opened (held_by d.0) ≡ held k vs = sym d.1 ∙ (ap r.lock (sym is) ∙ was) in absurd (cc)) (λ _ was. was) ok.1)
 
-  pub locks_is : (slots id : ℕ) (me : SeatNow ShardTree MemberNodes) (c j : ℕ) (seen : List (List MemberVersions)) (stage : Stage) → j < z.shards → IsAt c z seen Free stage me → StepIs held_by nodes_of (λ _. Stays) z slots id me j (λ y. either (eqb y 0) 1 y) (after_lock held_by (step slots j 0 1 none) me)
+  pub locks_is : (slots id : ℕ) (me : SeatNow ShardTree NodeList) (c j : ℕ) (seen : List (List MemberVersions)) (stage : Stage) → j < z.shards → IsAt c z seen Free stage me → StepIs held_by nodes_of (λ _. Stays) z slots id me j (λ y. either (eqb y 0) 1 y) (after_lock held_by (step slots j 0 1 none) me)
   locks_is slots id me c j seen stage lt mid s r long at fits = exchanged (get_or s.words j 0) 0 1 (Goes held_by nodes_of (λ _. Stays) z s (now_of held_by nodes_of z s r) j id me (after_lock held_by (step slots j 0 1 none) me))
       (locks_hit slots id me c j seen stage lt mid s r at)
       (λ miss. (me.0, keeps, tt, unmoved held_by nodes_of z s j id me.0 at r, λ _ _ _ _ _. ((λ hit. absurd (miss hit)), λ _. refl)))
 
-  pub locks : (slots id : ℕ) (me : SeatNow ShardTree MemberNodes) (c j : ℕ) (seen : List (List MemberVersions)) (stage : Stage) → j < z.shards → IsAt c z seen Free stage me → Allows Rule slots id me j (λ y. either (eqb y 0) 1 y) (after_lock held_by (step slots j 0 1 none) me)
+  pub locks : (slots id : ℕ) (me : SeatNow ShardTree NodeList) (c j : ℕ) (seen : List (List MemberVersions)) (stage : Stage) → j < z.shards → IsAt c z seen Free stage me → Allows Rule slots id me j (λ y. either (eqb y 0) 1 y) (after_lock held_by (step slots j 0 1 none) me)
   locks slots id me c j seen stage lt mid = allows held_by nodes_of (λ _. Stays) z slots id me j (λ y. either (eqb y 0) 1 y) (after_lock held_by (step slots j 0 1 none) me) (locks_is slots id me c j seen stage lt mid)
 
-  pub carried_put : (hs : Homes held_by nodes_of) (c : List (ℕ × Content ShardTree MemberNodes)) (i : ℕ) (y : Content ShardTree MemberNodes) (more : List (ℕ × Content ShardTree MemberNodes)) → c ≡ (i, y) ∷ more → put_back hs c ≡ set hs i (some y)
+  pub carried_put : (hs : Homes held_by nodes_of) (c : List (ℕ × Content ShardTree NodeList)) (i : ℕ) (y : Content ShardTree NodeList) (more : List (ℕ × Content ShardTree NodeList)) → c ≡ (i, y) ∷ more → put_back hs c ≡ set hs i (some y)
   carried_put hs c i y more e = ap (put_back hs) e
 
   -- the lock of the shard j, which c has, is opened
@@ -246,7 +246,7 @@ module _ {ShardTree MemberNodes : Type 0} (held_by : ShardTree → List Version)
     opens_lock is k ne place Free ok = ok
     opens_lock is k ne place (Held i us) ok = (ok.0, put_at r.lock j (opened ws) (λ i x. r.lock i ≡ held k us → x ≡ held k us) i (λ here was. absurd (ne (held_one k c us vs (sym was ∙ (ap r.lock here ∙ is))))) (λ _ was. was) ok.1)
 
-  pub unlocks_is : (slots id : ℕ) (me : SeatNow ShardTree MemberNodes) (c j : ℕ) (seen : List (List MemberVersions)) (stage : Stage) (vs : List Version) (t : ShardTree) (more : List (ℕ × Content ShardTree MemberNodes)) → IsAt c z seen (Held j vs) stage me → me.1 ≡ (j, Tree t) ∷ more → held_by t ≡ vs
+  pub unlocks_is : (slots id : ℕ) (me : SeatNow ShardTree NodeList) (c j : ℕ) (seen : List (List MemberVersions)) (stage : Stage) (vs : List Version) (t : ShardTree) (more : List (ℕ × Content ShardTree NodeList)) → IsAt c z seen (Held j vs) stage me → me.1 ≡ (j, Tree t) ∷ more → held_by t ≡ vs
       → StepIs held_by nodes_of (λ _. Stays) z slots id me j (λ _. 0) (λ _. after_unlock (step slots j 0 0 none) me 0)
   unlocks_is slots id me c j seen stage vs t more mid slot same s r long at fits =
       let h : SeatState = seat_state c z seen (Held j vs) stage in
@@ -269,7 +269,7 @@ module _ {ShardTree MemberNodes : Type 0} (held_by : ShardTree → List Version)
         (
           now_of held_by nodes_of z s r,
           same_now held_by nodes_of (now_of held_by nodes_of z s r),
-          subst (λ (l : List (ℕ × Content ShardTree MemberNodes)). IsNow held_by nodes_of z (now_of held_by nodes_of z s r) (stepped s j 0 id l (h' ∷ []) gives)) (sym slot) (moved held_by nodes_of z s r id ws hs h h' r.published r.mode r.place lock record {
+          subst (λ (l : List (ℕ × Content ShardTree NodeList)). IsNow held_by nodes_of z (now_of held_by nodes_of z s r) (stepped s j 0 id l (h' ∷ []) gives)) (sym slot) (moved held_by nodes_of z s r id ws hs h h' r.published r.mode r.place lock record {
             sits = at';
             same_client = refl;
             same_opening = refl;
@@ -297,7 +297,7 @@ module _ {ShardTree MemberNodes : Type 0} (held_by : ShardTree → List Version)
         λ c' z' seen' stage' vs' mid'. (ap (one (λ x. seat_state x.client x.opening x.seen Free x.stage)) (sym mid ∙ mid'), refl),
       )
 
-  pub unlocks : (slots id : ℕ) (me : SeatNow ShardTree MemberNodes) (c j : ℕ) (seen : List (List MemberVersions)) (stage : Stage) (vs : List Version) (t : ShardTree) (more : List (ℕ × Content ShardTree MemberNodes)) → IsAt c z seen (Held j vs) stage me → me.1 ≡ (j, Tree t) ∷ more → held_by t ≡ vs
+  pub unlocks : (slots id : ℕ) (me : SeatNow ShardTree NodeList) (c j : ℕ) (seen : List (List MemberVersions)) (stage : Stage) (vs : List Version) (t : ShardTree) (more : List (ℕ × Content ShardTree NodeList)) → IsAt c z seen (Held j vs) stage me → me.1 ≡ (j, Tree t) ∷ more → held_by t ≡ vs
       → Allows Rule slots id me j (λ _. 0) (λ _. after_unlock (step slots j 0 0 none) me 0)
   unlocks slots id me c j seen stage vs t more mid slot same = allows held_by nodes_of (λ _. Stays) z slots id me j (λ _. 0) (λ _. after_unlock (step slots j 0 0 none) me 0) (unlocks_is slots id me c j seen stage vs t more mid slot same)
 
@@ -333,7 +333,7 @@ module _ {ShardTree MemberNodes : Type 0} (held_by : ShardTree → List Version)
       after (Handing g ps) = Idle
       after (Filling g p ps) = Idle
 
-  pub adds_is : (slots id : ℕ) (me : SeatNow ShardTree MemberNodes) (c j : ℕ) (seen : List (List MemberVersions)) (u : Launched) (done gained rest' vs : List Version) (t : ShardTree) (more : List (ℕ × Content ShardTree MemberNodes)) → IsAt c z seen (Held j vs) (Holding (work u done (gained ++ rest'))) me → me.1 ≡ (j, Tree t) ∷ more
+  pub adds_is : (slots id : ℕ) (me : SeatNow ShardTree NodeList) (c j : ℕ) (seen : List (List MemberVersions)) (u : Launched) (done gained rest' vs : List Version) (t : ShardTree) (more : List (ℕ × Content ShardTree NodeList)) → IsAt c z seen (Held j vs) (Holding (work u done (gained ++ rest'))) me → me.1 ≡ (j, Tree t) ∷ more
       → AddsAll vs gained (held_by t) → AreOfShard z.shards j gained → StepIs held_by nodes_of (λ _. Stays) z slots id me j (λ _. 0) (λ _. after_add gained (step slots j 0 0 none) me 0)
   unfolding add_stage
   adds_is slots id me c j seen u done gained rest' vs t more mid slot has_gained here s r long at fits =
@@ -365,7 +365,7 @@ module _ {ShardTree MemberNodes : Type 0} (held_by : ShardTree → List Version)
         (
           table_now r.published r.mode place,
           (refl, refl, progress_stays r.place c new (ap progress_of (sym now))),
-          subst (λ (x : List (ℕ × Content ShardTree MemberNodes)). IsNow held_by nodes_of z (table_now r.published r.mode place) (stepped s j 0 id x (h' ∷ []) gives)) (sym slot) (moved held_by nodes_of z s r id ws hs h h' r.published r.mode place lock record {
+          subst (λ (x : List (ℕ × Content ShardTree NodeList)). IsNow held_by nodes_of z (table_now r.published r.mode place) (stepped s j 0 id x (h' ∷ []) gives)) (sym slot) (moved held_by nodes_of z s r id ws hs h h' r.published r.mode place lock record {
             sits = at';
             same_client = refl;
             same_opening = refl;
@@ -414,6 +414,6 @@ module _ {ShardTree MemberNodes : Type 0} (held_by : ShardTree → List Version)
         ),
       )
 
-  pub adds : (slots id : ℕ) (me : SeatNow ShardTree MemberNodes) (c j : ℕ) (seen : List (List MemberVersions)) (u : Launched) (done gained rest' vs : List Version) (t : ShardTree) (more : List (ℕ × Content ShardTree MemberNodes)) → IsAt c z seen (Held j vs) (Holding (work u done (gained ++ rest'))) me → me.1 ≡ (j, Tree t) ∷ more
+  pub adds : (slots id : ℕ) (me : SeatNow ShardTree NodeList) (c j : ℕ) (seen : List (List MemberVersions)) (u : Launched) (done gained rest' vs : List Version) (t : ShardTree) (more : List (ℕ × Content ShardTree NodeList)) → IsAt c z seen (Held j vs) (Holding (work u done (gained ++ rest'))) me → me.1 ≡ (j, Tree t) ∷ more
       → AddsAll vs gained (held_by t) → AreOfShard z.shards j gained → Allows Rule slots id me j (λ _. 0) (λ _. after_add gained (step slots j 0 0 none) me 0)
   adds slots id me c j seen u done gained rest' vs t more mid slot has_gained here = allows held_by nodes_of (λ _. Stays) z slots id me j (λ _. 0) (λ _. after_add gained (step slots j 0 0 none) me 0) (adds_is slots id me c j seen u done gained rest' vs t more mid slot has_gained here)

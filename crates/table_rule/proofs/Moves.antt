@@ -19,12 +19,12 @@ use Rattle.table_rule.specs.Events.{TableNow, table_now, progress_of, Stays, Onl
 use Rattle.table_rule.proofs.Puts.{put, put_at, put_here, put_else}
 use Rattle.table_rule.proofs.Histories.{begins_trans}
 
-module _ {ShardTree MemberNodes : Type 0} (held_by : ShardTree → List Version) (nodes_of : MemberNodes → List Version) where
+module _ {ShardTree NodeList : Type 0} (held_by : ShardTree → List Version) (nodes_of : NodeList → List Version) where
   abbrev pub TableState : Type 0
-  TableState = State (Content ShardTree MemberNodes) (List SeatState)
+  TableState = State (Content ShardTree NodeList) (List SeatState)
 
   abbrev pub Homes : Type 0
-  Homes = List (Option (Content ShardTree MemberNodes))
+  Homes = List (Option (Content ShardTree NodeList))
 
   pub shard_stays : (words ws : List ℕ) (homes hs : Homes) (k j : ℕ) → get_or ws j 0 ≡ get_or words j 0 → get_elem? hs j ≡ get_elem? homes j → (d : ShardState) → InShard held_by nodes_of k words homes j d → InShard held_by nodes_of k ws hs j d
   shard_stays words ws homes hs k j a b (opened vs) ok = (a ∙ ok.0, (ok.1.0, b ∙ ok.1.1, ok.1.2))
@@ -152,8 +152,8 @@ module _ {ShardTree MemberNodes : Type 0} (held_by : ShardTree → List Version)
           others = λ k ne. v.others k (λ e. ne (ap r.seat e ∙ mine.0));
         }
 
-  abbrev pub Goes : (ℕ → TableNow → TableNow → Type 0) → Opening → (s : TableState) → TableNow → ℕ → ℕ → SeatNow ShardTree MemberNodes → (ℕ → SeatNow ShardTree MemberNodes → Type 0) → ℕ → Type 0
-  Goes event z s before k id me then x = (w : List SeatState) × (a : Act (Content ShardTree MemberNodes)) × Valid s.homes me.1 a × Comes held_by nodes_of (event (get_or s.words k 0)) z before (stepped s k x id me.1 w a) × then (get_or s.words k 0) (w, carried_after me.1 a)
+  abbrev pub Goes : (ℕ → TableNow → TableNow → Type 0) → Opening → (s : TableState) → TableNow → ℕ → ℕ → SeatNow ShardTree NodeList → (ℕ → SeatNow ShardTree NodeList → Type 0) → ℕ → Type 0
+  Goes event z s before k id me then x = (w : List SeatState) × (a : Act (Content ShardTree NodeList)) × Valid s.homes me.1 a × Comes held_by nodes_of (event (get_or s.words k 0)) z before (stepped s k x id me.1 w a) × then (get_or s.words k 0) (w, carried_after me.1 a)
 
   pub same_now : (before : TableNow) → Stays before before
   same_now before = (refl, refl, λ _. refl)
@@ -167,7 +167,7 @@ module _ {ShardTree MemberNodes : Type 0} (held_by : ShardTree → List Version)
   )
 
   -- what a step allows, whatever event it is
-  pub allows : (event : ℕ → TableNow → TableNow → Type 0) (z : Opening) (slots id : ℕ) (me : SeatNow ShardTree MemberNodes) (k : ℕ) (f : ℕ → ℕ) (then : ℕ → SeatNow ShardTree MemberNodes → Type 0) → StepIs held_by nodes_of event z slots id me k f then → Allows (IsConsistent held_by nodes_of z) slots id me k f then
+  pub allows : (event : ℕ → TableNow → TableNow → Type 0) (z : Opening) (slots id : ℕ) (me : SeatNow ShardTree NodeList) (k : ℕ) (f : ℕ → ℕ) (then : ℕ → SeatNow ShardTree NodeList → Type 0) → StepIs held_by nodes_of event z slots id me k f then → Allows (IsConsistent held_by nodes_of z) slots id me k f then
   allows event z slots id me k f then all s r long at fits = let t = all s r long at fits in (t.0, t.1, t.2, t.3.2.0, t.4)
 
 -- the progress where one place moves

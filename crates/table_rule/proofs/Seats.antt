@@ -48,7 +48,7 @@ reseat_at f a b c F here other = go (ℕ_discrete (f c) a)
     go (yes e) = here e
     go (no ne) = other ne
 
-module _ {ShardTree MemberNodes : Type 0} (held_by : ShardTree → List Version) (nodes_of : MemberNodes → List Version) (z : Opening) where
+module _ {ShardTree NodeList : Type 0} (held_by : ShardTree → List Version) (nodes_of : NodeList → List Version) (z : Opening) where
   module _ (s : TableState held_by nodes_of) (r : Rule held_by nodes_of z s) (f : ℕ → ℕ) where
     abbrev AllSit : ℕ → List SeatState → Type 0
     AllSit = AllFit z r.published r.mode r.place r.lock f
@@ -152,7 +152,7 @@ module _ {ShardTree MemberNodes : Type 0} (held_by : ShardTree → List Version)
   new_fit c zero h = ((refl, omega arith, refl, ([], refl), tt, (refl, refl, refl)), tt)
   new_fit c (suc m) h = ((refl, omega arith, refl, ([], refl), tt, tt), new_fit (suc c) m (omega arith))
 
-  pub opens : (words : List ℕ) (slots : List (Content ShardTree MemberNodes)) → 0 < z.shards → length words ≡ z.shards + 2 + z.clients → length slots ≡ z.shards + 1 + z.clients → get_or words z.shards 0 ≡ z.start → ((i : ℕ) → i ≢ z.shards → get_or words i 0 ≡ 0)
+  pub opens : (words : List ℕ) (slots : List (Content ShardTree NodeList)) → 0 < z.shards → length words ≡ z.shards + 2 + z.clients → length slots ≡ z.shards + 1 + z.clients → get_or words z.shards 0 ≡ z.start → ((i : ℕ) → i ≢ z.shards → get_or words i 0 ≡ 0)
       → ((j : ℕ) → j < z.shards → (t : ShardTree) × (get_elem? (map some slots) j ≡ some (some (Tree t))) × (held_by t ≡ [])) → ((i : ℕ) → 0 < i → i ≤ z.clients → get_elem? (map some slots) (z.shards + i) ≡ some (some Blank))
       → Rule held_by nodes_of z (opening words slots (newcomers z 1 z.clients))
   opens words slots lo wide many at_last zeros trees blanks = record {
@@ -176,7 +176,7 @@ module _ {ShardTree MemberNodes : Type 0} (held_by : ShardTree → List Version)
     seats = first;
   }
     where
-      length_some : (l : List (Content ShardTree MemberNodes)) → length (map some l) ≡ length l
+      length_some : (l : List (Content ShardTree NodeList)) → length (map some l) ≡ length l
       length_some [] = refl
       length_some (x ∷ xs) = ap suc (length_some xs)
 
@@ -198,7 +198,7 @@ module _ {ShardTree MemberNodes : Type 0} (held_by : ShardTree → List Version)
       )
 
   -- the last load
-  pub closes_is : (slots id : ℕ) (me : SeatNow ShardTree MemberNodes) (k : ℕ) → k ≡ z.shards → StepIs held_by nodes_of (λ _. Stays) z slots id me k (λ y. y) (after_close (step slots k 0 0 none) me)
+  pub closes_is : (slots id : ℕ) (me : SeatNow ShardTree NodeList) (k : ℕ) → k ≡ z.shards → StepIs held_by nodes_of (λ _. Stays) z slots id me k (λ y. y) (after_close (step slots k 0 0 none) me)
   closes_is slots id me k is s r long at fits = (
     me.0,
     keeps,
@@ -210,5 +210,5 @@ module _ {ShardTree MemberNodes : Type 0} (held_by : ShardTree → List Version)
         (λ here. let o = closes s id me.0 history r at here in (o.0, ap (λ (i : ℕ). get_or s.words i 0) is ∙ o.1)) has,
   )
 
-  pub closes_load : (slots id : ℕ) (me : SeatNow ShardTree MemberNodes) (k : ℕ) → k ≡ z.shards → Allows (Rule held_by nodes_of z) slots id me k (λ y. y) (after_close (step slots k 0 0 none) me)
+  pub closes_load : (slots id : ℕ) (me : SeatNow ShardTree NodeList) (k : ℕ) → k ≡ z.shards → Allows (Rule held_by nodes_of z) slots id me k (λ y. y) (after_close (step slots k 0 0 none) me)
   closes_load slots id me k is = allows held_by nodes_of (λ _. Stays) z slots id me k (λ y. y) (after_close (step slots k 0 0 none) me) (closes_is slots id me k is)

@@ -1,9 +1,9 @@
 -- What the table is as the write path's core sees it, and what an event makes of it: a group is launched, the part of a
 -- member is inserted, a member finishes, a group is published, a client reads.
 use Rattle.std.specs.Prelude.{◌≡◌, ◌≢◌, ℕ, ◌<◌, Bool, true, false, List, [], ◌∷◌, ◌++◌, slice_index, length, count_by}
-use mathlib.Core.Option.{some}
+use mathlib.Core.Option.{none, some}
 use lib.ListN.{get_elem?}
-use Rattle.atomic_table.specs.Table.{State, Act, Valid, stepped, carried_after}
+use Rattle.atomic_table.specs.Table.{State, Act, Valid, step, stepped, carried_after}
 use Rattle.table_rule.specs.declared.content.Content.{Content}
 use Rattle.table_rule.specs.declared.content.MemberVersions.{MemberVersions}
 use Rattle.table_rule.specs.declared.content.Version.{Version}
@@ -11,7 +11,7 @@ use Rattle.table_rule.specs.declared.view.Opening.{Opening}
 use Rattle.table_rule.specs.declared.view.SeatState.{SeatState}
 use Rattle.table_rule.specs.Histories.{In, last_of}
 use Rattle.table_rule.specs.Rule.{Place, out, coming, filling, handed, busy, inserted, finished, Mode, still, running, ended, IsConsistent}
-use Rattle.table_rule.specs.Steps.{SeatNow}
+use Rattle.table_rule.specs.Steps.{SeatNow, Tells}
 
 -- how far a member is with its part of the launched group
 pub data Progress : Type 0 where
@@ -86,29 +86,40 @@ abbrev pub IsPublish : ℕ → TableNow → TableNow → Type 0
 IsPublish m a b = (g : List MemberVersions) × (a.mode ≡ ended m g) × (b.mode ≡ still)
     × (b.published ≡ a.published ++ g ∷ []) × ((i : ℕ) → b.progress i ≡ to_insert)
 
-module _ {ShardTree MemberNodes : Type 0} (held_by : ShardTree → List Version)
-    (nodes_of : MemberNodes → List Version) where
-  abbrev pub now_of : (z : Opening) (s : State (Content ShardTree MemberNodes) (List SeatState))
+module _ {ShardTree NodeList : Type 0} (held_by : ShardTree → List Version)
+    (nodes_of : NodeList → List Version) where
+  abbrev pub now_of : (z : Opening) (s : State (Content ShardTree NodeList) (List SeatState))
       → IsConsistent held_by nodes_of z s
       → TableNow
   now_of z s r = table_now r.published r.mode r.place
 
   -- the table keeps the rule, and is this now
-  abbrev pub IsNow : Opening → TableNow → State (Content ShardTree MemberNodes) (List SeatState) → Type 0
+  abbrev pub IsNow : Opening → TableNow → State (Content ShardTree NodeList) (List SeatState) → Type 0
   IsNow z now s = (r : IsConsistent held_by nodes_of z s) × (now_of z s r ≡ now)
 
   -- the table keeps the rule, and the event was
   abbrev pub Comes : (TableNow → TableNow → Type 0) → Opening → TableNow
-      → State (Content ShardTree MemberNodes) (List SeatState) → Type 0
+      → State (Content ShardTree NodeList) (List SeatState) → Type 0
   Comes event z before s = (now : TableNow) × event before now × IsNow z now s
 
   -- Whatever the table is as the seat makes its step on the word i, which becomes f of what it was: the rule is kept,
   -- the step is the event, and `then` holds of the number found and of the seat after.
-  abbrev pub StepIs : (ℕ → TableNow → TableNow → Type 0) → Opening → ℕ → ℕ → SeatNow ShardTree MemberNodes → ℕ → (ℕ → ℕ)
-      → (ℕ → SeatNow ShardTree MemberNodes → Type 0) → Type 0
+  abbrev pub StepIs : (ℕ → TableNow → TableNow → Type 0) → Opening → ℕ → ℕ → SeatNow ShardTree NodeList → ℕ → (ℕ → ℕ)
+      → (ℕ → SeatNow ShardTree NodeList → Type 0) → Type 0
   StepIs event z slots id me i f then =
-      (s : State (Content ShardTree MemberNodes) (List SeatState)) (r : IsConsistent held_by nodes_of z s)
+      (s : State (Content ShardTree NodeList) (List SeatState)) (r : IsConsistent held_by nodes_of z s)
       → length s.homes ≡ slots → get_elem? s.views id ≡ some me.0 → slice_index s.words i < 18446744073709551616
-      → (w : List SeatState) × (a : Act (Content ShardTree MemberNodes)) × Valid s.homes me.1 a
+      → (w : List SeatState) × (a : Act (Content ShardTree NodeList)) × Valid s.homes me.1 a
       × Comes (event (slice_index s.words i)) z (now_of z s r) (stepped s i (f (slice_index s.words i)) id me.1 w a)
       × then (slice_index s.words i) (w, carried_after me.1 a)
+
+  -- the same of a load of the word i
+  abbrev pub LoadIs : (ℕ → TableNow → TableNow → Type 0) → Opening → ℕ → ℕ → SeatNow ShardTree NodeList → ℕ
+      → Tells ShardTree NodeList → Type 0
+  LoadIs event z slots id me i tells = StepIs event z slots id me i (λ x. x) (tells (step slots i 0 0 none) me)
+
+  -- of a store of this value
+  abbrev pub StoreIs : (TableNow → TableNow → Type 0) → Opening → ℕ → ℕ → SeatNow ShardTree NodeList → ℕ → ℕ
+      → Tells ShardTree NodeList → Type 0
+  StoreIs event z slots id me i value tells = StepIs (λ _. event) z slots id me i (λ _. value)
+      (λ _. tells (step slots i value 0 none) me value)

@@ -172,9 +172,9 @@ abbrev pub newcomers : Opening → ℕ → ℕ → List SeatState
 newcomers z c zero = seat_state 0 z [] Free Resting ∷ []
 newcomers z c (suc m) = seat_state c z [] Free Idle ∷ newcomers z (suc c) m
 
-module _ {ShardTree MemberNodes : Type 0} (held_by : ShardTree → List Version)
-    (nodes_of : MemberNodes → List Version) where
-  module _ (k : ℕ) (words : List ℕ) (homes : List (Option (Content ShardTree MemberNodes))) where
+module _ {ShardTree NodeList : Type 0} (held_by : ShardTree → List Version)
+    (nodes_of : NodeList → List Version) where
+  module _ (k : ℕ) (words : List ℕ) (homes : List (Option (Content ShardTree NodeList))) where
     abbrev pub InShard : ℕ → ShardState → Type 0
     InShard j (opened vs) = (slice_index words j ≡ 0)
         × ((t : ShardTree) × (get_elem? homes j ≡ some (some (Tree t))) × (held_by t ≡ vs))
@@ -185,12 +185,12 @@ module _ {ShardTree MemberNodes : Type 0} (held_by : ShardTree → List Version)
     InPlace i (coming l vs) = (slice_index words (k + 1 + i) ≡ 0) × (get_elem? homes (k + i) ≡ some (some Blank))
     InPlace i (filling l vs) = slice_index words (k + 1 + i) ≡ 0
     InPlace i (handed l vs) = (slice_index words (k + 1 + i) ≡ 1)
-        × ((x : MemberNodes) × (get_elem? homes (k + i) ≡ some (some (Nodes x l))) × (nodes_of x ≡ vs))
+        × ((x : NodeList) × (get_elem? homes (k + i) ≡ some (some (Nodes x l))) × (nodes_of x ≡ vs))
     InPlace i (busy l done more) = slice_index words (k + 1 + i) ≡ 1
     InPlace i (inserted l vs) = (slice_index words (k + 1 + i) ≡ 0) × (get_elem? homes (k + i) ≡ some (some Blank))
     InPlace i (finished l vs) = (slice_index words (k + 1 + i) ≡ 0) × (get_elem? homes (k + i) ≡ some (some Blank))
 
-  pub record IsConsistent (z : Opening) (s : State (Content ShardTree MemberNodes) (List SeatState)) : Type 0 where
+  pub record IsConsistent (z : Opening) (s : State (Content ShardTree NodeList) (List SeatState)) : Type 0 where
     pub published : List (List MemberVersions)
     pub mode : Mode
     pub place : ℕ → Place

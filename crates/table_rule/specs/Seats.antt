@@ -25,8 +25,8 @@ Closes z v history = IsHistory z.start history × ((h : SeatState) → In h v �
 
 -- a load of LAST by a seat that has the turn's state, which is free: all that it holds has seen beginnings of the
 -- turn's history
-abbrev pub after_close : {ShardTree MemberNodes : Type 0} → Step (Content ShardTree MemberNodes)
-    → SeatNow ShardTree MemberNodes → ℕ → SeatNow ShardTree MemberNodes → Type 0
+abbrev pub after_close : {ShardTree NodeList : Type 0} → Step (Content ShardTree NodeList)
+    → SeatNow ShardTree NodeList → ℕ → SeatNow ShardTree NodeList → Type 0
 after_close st m r m' = (z : Opening) (history : List (List MemberVersions))
     → In (seat_state 0 z history Free Resting) m.0
     → Closes z m.0 history × (r ≡ last_of z.start history)

@@ -18,7 +18,16 @@ use Rattle.table_rule.specs.Histories.{In, versions_in, versions_of, Runs, last_
 use Rattle.table_rule.specs.Rule.{seat_state, end_of}
 
 abbrev pub SeatNow : Type 0 → Type 0 → Type 0
-SeatNow ShardTree MemberNodes = Me (Content ShardTree MemberNodes) (List SeatState)
+SeatNow ShardTree NodeList = Me (Content ShardTree NodeList) (List SeatState)
+
+-- what a step tells of the seat before it, the number found or stored, and the seat after it
+abbrev pub Tells : Type 0 → Type 0 → Type 1
+Tells ShardTree NodeList =
+    Step (Content ShardTree NodeList) → SeatNow ShardTree NodeList → ℕ → SeatNow ShardTree NodeList → Type 0
+
+-- the slots that a seat has out, with what they hold
+abbrev pub Carried : Type 0 → Type 0 → Type 0
+Carried ShardTree NodeList = List (ℕ × Content ShardTree NodeList)
 
 abbrev pub work : Launched → List Version → List Version → Work
 work u done more = record { launched = u; done = done; rest = more }
@@ -26,6 +35,15 @@ work u done more = record { launched = u; done = done; rest = more }
 -- the group, launched behind a history above `start`
 abbrev pub launched_behind : ℕ → List (List MemberVersions) → List MemberVersions → Launched
 launched_behind start before g = record { before = before; group = g; last = end_of (last_of start before) g }
+
+-- the word is the one by which a leader and the part's member hand the part on
+abbrev pub IsWordOf : Opening → MemberVersions → ℕ → Type 0
+IsWordOf z p word = (word ≡ z.shards + 1 + p.member) × (0 < p.member) × (p.member ≤ z.clients)
+
+-- the nodes are the part's, and this is the last sequence of its group
+abbrev pub AreOfPart : {NodeList : Type 0} → (NodeList → List Version) → Opening → List (List MemberVersions)
+    → List MemberVersions → MemberVersions → NodeList → ℕ → Type 0
+AreOfPart nodes_of z seen g p nodes last = (nodes_of nodes ≡ p.versions) × (last ≡ end_of (last_of z.start seen) g)
 
 -- a part of the group is the client's
 abbrev pub has_part : ℕ → List MemberVersions → Bool
@@ -122,22 +140,22 @@ pub record IsPartOf (z : Opening) (c : ℕ) (seen : List (List MemberVersions)) 
   pub seen_before : Begins seen u.before
   pub is_history : IsHistory z.start u.before
 
-module _ {ShardTree MemberNodes : Type 0} where
+module _ {ShardTree NodeList : Type 0} where
   -- the seat has the view of one client or of the turn, here c
-  abbrev pub IsAt : ℕ → Opening → List (List MemberVersions) → Lock → Stage → SeatNow ShardTree MemberNodes → Type 0
+  abbrev pub IsAt : ℕ → Opening → List (List MemberVersions) → Lock → Stage → SeatNow ShardTree NodeList → Type 0
   IsAt c z seen lock stage m = m.0 ≡ seat_state c z seen lock stage ∷ []
 
   -- a client's load of LAST: it has seen the history up to the number found
-  abbrev pub after_learn : Step (Content ShardTree MemberNodes) → SeatNow ShardTree MemberNodes → ℕ
-      → SeatNow ShardTree MemberNodes → Type 0
+  abbrev pub after_learn : Step (Content ShardTree NodeList) → SeatNow ShardTree NodeList → ℕ
+      → SeatNow ShardTree NodeList → Type 0
   after_learn st m r m' = (c : ℕ) (z : Opening) (seen : List (List MemberVersions)) (stage : Stage)
       → IsAt c z seen Free stage m → (now : List (List MemberVersions)) × IsAt c z now Free stage m' × Begins seen now
       × IsHistory z.start now × (r ≡ last_of z.start now) × (m'.1 ≡ m.1)
 
   -- the compare-exchange of a lock from 0 to 1
   module _ (held_by : ShardTree → List Version) where
-    abbrev pub after_lock : Step (Content ShardTree MemberNodes) → SeatNow ShardTree MemberNodes → ℕ
-        → SeatNow ShardTree MemberNodes → Type 0
+    abbrev pub after_lock : Step (Content ShardTree NodeList) → SeatNow ShardTree NodeList → ℕ
+        → SeatNow ShardTree NodeList → Type 0
     after_lock st m r m' = (c : ℕ) (z : Opening) (seen : List (List MemberVersions)) (stage : Stage)
         → IsAt c z seen Free stage m
         → (r ≡ 0 → (t : ShardTree) × IsAt c z seen (Held st.word (held_by t)) stage m'
@@ -146,13 +164,13 @@ module _ {ShardTree MemberNodes : Type 0} where
         × (r ≢ 0 → m' ≡ m)
 
   -- the unlocking store: the tree is as it was, or it has more, `new` of the member's part
-  abbrev pub after_unlock : Step (Content ShardTree MemberNodes) → SeatNow ShardTree MemberNodes → ℕ
-      → SeatNow ShardTree MemberNodes → Type 0
+  abbrev pub after_unlock : Step (Content ShardTree NodeList) → SeatNow ShardTree NodeList → ℕ
+      → SeatNow ShardTree NodeList → Type 0
   after_unlock st m r m' = (c : ℕ) (z : Opening) (seen : List (List MemberVersions)) (stage : Stage) (vs : List Version)
       → IsAt c z seen (Held st.word vs) stage m → IsAt c z seen Free stage m' × (m'.1 ≡ rest m.1)
 
-  abbrev pub after_add : List Version → Step (Content ShardTree MemberNodes) → SeatNow ShardTree MemberNodes → ℕ
-      → SeatNow ShardTree MemberNodes → Type 0
+  abbrev pub after_add : List Version → Step (Content ShardTree NodeList) → SeatNow ShardTree NodeList → ℕ
+      → SeatNow ShardTree NodeList → Type 0
   after_add new st m r m' = (c : ℕ) (z : Opening) (seen : List (List MemberVersions)) (u : Launched)
       (done more vs : List Version)
       → IsAt c z seen (Held st.word vs) (Holding (work u done (new ++ more))) m
@@ -160,68 +178,68 @@ module _ {ShardTree MemberNodes : Type 0} where
 
   -- the seat has the views of client c, who has seen `own`, and of the turn
   abbrev pub IsWithTurn : ℕ → Opening → List (List MemberVersions) → Stage → List (List MemberVersions) → Stage
-      → SeatNow ShardTree MemberNodes → Type 0
+      → SeatNow ShardTree NodeList → Type 0
   IsWithTurn c z own stage seen turn m = m.0 ≡ seat_state c z own Free stage ∷ seat_state 0 z seen Free turn ∷ []
 
   -- the store of RUNNING, by a client that has the turn
-  abbrev pub after_launch : List MemberVersions → Step (Content ShardTree MemberNodes)
-      → SeatNow ShardTree MemberNodes → ℕ → SeatNow ShardTree MemberNodes → Type 0
+  abbrev pub after_launch : List MemberVersions → Step (Content ShardTree NodeList)
+      → SeatNow ShardTree NodeList → ℕ → SeatNow ShardTree NodeList → Type 0
   after_launch g st m r m' = (c : ℕ) (z : Opening) (own seen : List (List MemberVersions))
       → IsWithTurn c z own Idle seen Resting m
       → IsWithTurn c z own (stage_after_launch c (launched_behind z.start seen g)) seen (Handing g g) m' × (m'.1 ≡ m.1)
 
   -- the turn's load of RUN_i
-  abbrev pub after_empty : Step (Content ShardTree MemberNodes) → SeatNow ShardTree MemberNodes → ℕ
-      → SeatNow ShardTree MemberNodes → Type 0
+  abbrev pub after_empty : Step (Content ShardTree NodeList) → SeatNow ShardTree NodeList → ℕ
+      → SeatNow ShardTree NodeList → Type 0
   after_empty st m r m' = (z : Opening) (seen : List (List MemberVersions)) (g : List MemberVersions)
       (p : MemberVersions)
       (ps : List MemberVersions) → IsAt 0 z seen Free (Handing g (p ∷ ps)) m → st.word ≡ z.shards + 1 + p.member
       → IsAt 0 z seen Free (Filling g p ps) m' × (r ≡ 0) × (m'.1 ≡ (z.shards + p.member, Blank) ∷ m.1)
 
   -- the turn's store of RUN_i
-  abbrev pub after_give : Step (Content ShardTree MemberNodes) → SeatNow ShardTree MemberNodes → ℕ
-      → SeatNow ShardTree MemberNodes → Type 0
+  abbrev pub after_give : Step (Content ShardTree NodeList) → SeatNow ShardTree NodeList → ℕ
+      → SeatNow ShardTree NodeList → Type 0
   after_give st m r m' = (z : Opening) (seen : List (List MemberVersions)) (g : List MemberVersions)
       (p : MemberVersions)
       (ps : List MemberVersions) → IsAt 0 z seen Free (Filling g p ps) m
       → IsAt 0 z seen Free (Handing g ps) m' × (m'.1 ≡ rest m.1)
 
   -- a client's load of its RUN
-  module _ (nodes_of : MemberNodes → List Version) where
-    abbrev pub after_take : Step (Content ShardTree MemberNodes) → SeatNow ShardTree MemberNodes → ℕ
-        → SeatNow ShardTree MemberNodes → Type 0
+  module _ (nodes_of : NodeList → List Version) where
+    abbrev pub after_take : Step (Content ShardTree NodeList) → SeatNow ShardTree NodeList → ℕ
+        → SeatNow ShardTree NodeList → Type 0
     after_take st m r m' = (c : ℕ) (z : Opening) (seen : List (List MemberVersions)) (stage : Stage)
         → IsAt c z seen Free stage m → MayTake stage
-        → (r ≡ 1 → (x : MemberNodes) × (u : Launched) × IsAt c z seen Free (Holding (work u [] (nodes_of x))) m'
+        → (r ≡ 1 → (x : NodeList) × (u : Launched) × IsAt c z seen Free (Holding (work u [] (nodes_of x))) m'
         × (m'.1 ≡ (z.shards + c, Nodes x u.last) ∷ m.1)
         × IsPartOf z c seen u (nodes_of x) × IsAwaited stage u)
         × (r ≢ 1 → m' ≡ m)
 
   -- a client's store of its RUN
-  abbrev pub after_settle : Step (Content ShardTree MemberNodes) → SeatNow ShardTree MemberNodes → ℕ
-      → SeatNow ShardTree MemberNodes → Type 0
+  abbrev pub after_settle : Step (Content ShardTree NodeList) → SeatNow ShardTree NodeList → ℕ
+      → SeatNow ShardTree NodeList → Type 0
   after_settle st m r m' = (c : ℕ) (z : Opening) (seen : List (List MemberVersions)) (u : Launched)
       (done : List Version)
       → IsAt c z seen Free (Holding (work u done [])) m → IsAt c z seen Free (Stored u) m' × (m'.1 ≡ rest m.1)
 
   -- the fetch-sub of RUNNING: as many parts aren't finished as are found, the member's own among them
-  abbrev pub after_count : Step (Content ShardTree MemberNodes) → SeatNow ShardTree MemberNodes → ℕ
-      → SeatNow ShardTree MemberNodes → Type 0
+  abbrev pub after_count : Step (Content ShardTree NodeList) → SeatNow ShardTree NodeList → ℕ
+      → SeatNow ShardTree NodeList → Type 0
   after_count st m r m' = (c : ℕ) (z : Opening) (seen : List (List MemberVersions)) (u : Launched)
       → IsAt c z seen Free (Stored u) m → IsAt c z seen Free (stage_after_finish u r) m' × (m'.1 ≡ m.1)
       × (0 < r) × (r ≤ length u.group)
 
   -- the store of LAST: it has seen the history with the group
-  abbrev pub after_publish : Step (Content ShardTree MemberNodes) → SeatNow ShardTree MemberNodes → ℕ
-      → SeatNow ShardTree MemberNodes → Type 0
+  abbrev pub after_publish : Step (Content ShardTree NodeList) → SeatNow ShardTree NodeList → ℕ
+      → SeatNow ShardTree NodeList → Type 0
   after_publish st m r m' = (c : ℕ) (z : Opening) (seen : List (List MemberVersions)) (u : Launched)
       → IsAt c z seen Free (Publishing u) m
       → IsAt c z (u.before ++ u.group ∷ []) Free Idle m' × Begins seen u.before
       × IsHistory z.start (u.before ++ u.group ∷ []) × (m'.1 ≡ m.1)
 
   -- the turn's load of LAST, with no part left to hand over
-  abbrev pub after_await : Step (Content ShardTree MemberNodes) → SeatNow ShardTree MemberNodes → ℕ
-      → SeatNow ShardTree MemberNodes → Type 0
+  abbrev pub after_await : Step (Content ShardTree NodeList) → SeatNow ShardTree NodeList → ℕ
+      → SeatNow ShardTree NodeList → Type 0
   after_await st m r m' = (z : Opening) (seen : List (List MemberVersions)) (g : List MemberVersions)
       → IsAt 0 z seen Free (Handing g []) m
       → (r ≡ end_of (last_of z.start seen) g → IsAt 0 z (seen ++ g ∷ []) Free Resting m' × (m'.1 ≡ m.1))

@@ -2,15 +2,15 @@
 
 use std::collections::LinkedList;
 
-/// What lies in a slot. `ShardTree` is a tree of versions, and `MemberNodes` are a member's nodes.
+/// What lies in a slot. `ShardTree` is a tree of versions, and `NodeList` are a member's nodes.
 #[derive(Drop)]
-pub enum Content<ShardTree, MemberNodes> {
+pub enum Content<ShardTree, NodeList> {
     /// Nothing.
     Blank,
     /// A shard's tree.
     Tree(ShardTree),
     /// A member's nodes, and the last sequence of their group.
-    Nodes(MemberNodes, u64),
+    Nodes(NodeList, u64),
 }
 
 /// What a key says from a sequence on: a value, or none where it is deleted. Contracts speak of versions, and no value

@@ -18,12 +18,12 @@ pub trait Versioned {
 /// What holds between any two steps.
 pub struct TableLaw;
 
-impl<ShardTree: Versioned, MemberNodes: Versioned> TableRule<
-    Content<ShardTree, MemberNodes>,
+impl<ShardTree: Versioned, NodeList: Versioned> TableRule<
+    Content<ShardTree, NodeList>,
     TableView,
     Opening,
 > for TableLaw {
-    ghost holds = { λ z. IsConsistent ShardTree.versions MemberNodes.versions z };
+    ghost holds = { λ z. IsConsistent ShardTree.versions NodeList.versions z };
 
     ghost first = { λ z. newcomers z 1 z.clients };
 }

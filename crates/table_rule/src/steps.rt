@@ -12,22 +12,21 @@ use std::marker::{Brand, PhantomData};
 /// A client's load of LAST.
 pub struct Learn;
 
-impl<ShardTree, MemberNodes> Play<Content<ShardTree, MemberNodes>, TableView> for Learn {
+impl<ShardTree, NodeList> Play<Content<ShardTree, NodeList>, TableView> for Learn {
     ghost then = { after_learn };
 }
 
 /// The compare-exchange of a lock.
 pub struct LockShard;
 
-impl<ShardTree: Versioned, MemberNodes> Play<Content<ShardTree, MemberNodes>, TableView>
-    for LockShard {
+impl<ShardTree: Versioned, NodeList> Play<Content<ShardTree, NodeList>, TableView> for LockShard {
     ghost then = { after_lock ShardTree.versions };
 }
 
 /// The store that unlocks a shard whose tree is as it was.
 pub struct UnlockShard;
 
-impl<ShardTree, MemberNodes> Play<Content<ShardTree, MemberNodes>, TableView> for UnlockShard {
+impl<ShardTree, NodeList> Play<Content<ShardTree, NodeList>, TableView> for UnlockShard {
     ghost then = { after_unlock };
 }
 
@@ -48,7 +47,7 @@ pub struct AddVersions<Plan> {
     marker: PhantomData<Plan>,
 }
 
-impl<ShardTree, MemberNodes, Plan: VersionPlan> Play<Content<ShardTree, MemberNodes>, TableView>
+impl<ShardTree, NodeList, Plan: VersionPlan> Play<Content<ShardTree, NodeList>, TableView>
     for AddVersions<Plan> {
     ghost then = { after_add Plan.versions };
 }
@@ -70,7 +69,7 @@ pub struct Launch<Group> {
     marker: PhantomData<Group>,
 }
 
-impl<ShardTree, MemberNodes, Group: GroupPlan> Play<Content<ShardTree, MemberNodes>, TableView>
+impl<ShardTree, NodeList, Group: GroupPlan> Play<Content<ShardTree, NodeList>, TableView>
     for Launch<Group> {
     ghost then = { after_launch Group.group };
 }
@@ -78,55 +77,55 @@ impl<ShardTree, MemberNodes, Group: GroupPlan> Play<Content<ShardTree, MemberNod
 /// The turn's load of a member's RUN.
 pub struct Empty;
 
-impl<ShardTree, MemberNodes> Play<Content<ShardTree, MemberNodes>, TableView> for Empty {
+impl<ShardTree, NodeList> Play<Content<ShardTree, NodeList>, TableView> for Empty {
     ghost then = { after_empty };
 }
 
 /// The turn's store of a member's RUN.
 pub struct Give;
 
-impl<ShardTree, MemberNodes> Play<Content<ShardTree, MemberNodes>, TableView> for Give {
+impl<ShardTree, NodeList> Play<Content<ShardTree, NodeList>, TableView> for Give {
     ghost then = { after_give };
 }
 
 /// A member's load of its RUN.
 pub struct Take;
 
-impl<ShardTree, MemberNodes: Versioned> Play<Content<ShardTree, MemberNodes>, TableView> for Take {
-    ghost then = { after_take MemberNodes.versions };
+impl<ShardTree, NodeList: Versioned> Play<Content<ShardTree, NodeList>, TableView> for Take {
+    ghost then = { after_take NodeList.versions };
 }
 
 /// A member's store of its RUN.
 pub struct Settle;
 
-impl<ShardTree, MemberNodes> Play<Content<ShardTree, MemberNodes>, TableView> for Settle {
+impl<ShardTree, NodeList> Play<Content<ShardTree, NodeList>, TableView> for Settle {
     ghost then = { after_settle };
 }
 
 /// The fetch-sub of RUNNING.
 pub struct Count;
 
-impl<ShardTree, MemberNodes> Play<Content<ShardTree, MemberNodes>, TableView> for Count {
+impl<ShardTree, NodeList> Play<Content<ShardTree, NodeList>, TableView> for Count {
     ghost then = { after_count };
 }
 
 /// The store of LAST.
 pub struct Publish;
 
-impl<ShardTree, MemberNodes> Play<Content<ShardTree, MemberNodes>, TableView> for Publish {
+impl<ShardTree, NodeList> Play<Content<ShardTree, NodeList>, TableView> for Publish {
     ghost then = { after_publish };
 }
 
 /// The turn's load of LAST.
 pub struct Await;
 
-impl<ShardTree, MemberNodes> Play<Content<ShardTree, MemberNodes>, TableView> for Await {
+impl<ShardTree, NodeList> Play<Content<ShardTree, NodeList>, TableView> for Await {
     ghost then = { after_await };
 }
 
 /// The last load of LAST, when all seats are joined.
 pub struct Close;
 
-impl<ShardTree, MemberNodes> Play<Content<ShardTree, MemberNodes>, TableView> for Close {
+impl<ShardTree, NodeList> Play<Content<ShardTree, NodeList>, TableView> for Close {
     ghost then = { after_close };
 }

@@ -30,23 +30,23 @@ slot_or d (x ∷ xs) = x.1
 pub same_slot : {A : Type 0} (x y : A) (i j : ℕ) (l m m' : List (ℕ × A)) → l ≡ (i, x) ∷ m → l ≡ (j, y) ∷ m' → x ≡ y
 same_slot x y i j l m m' a b = ap (slot_or x) (sym a ∙ b)
 
-abbrev tree_or : {ShardTree MemberNodes : Type 0} → ShardTree → Content ShardTree MemberNodes → ShardTree
+abbrev tree_or : {ShardTree NodeList : Type 0} → ShardTree → Content ShardTree NodeList → ShardTree
 tree_or d Blank = d
 tree_or d (Tree t) = t
 tree_or d (Nodes x l) = d
 
-abbrev top_or : {ShardTree MemberNodes : Type 0} → ShardTree → List (ℕ × Content ShardTree MemberNodes) → ShardTree
+abbrev top_or : {ShardTree NodeList : Type 0} → ShardTree → List (ℕ × Content ShardTree NodeList) → ShardTree
 top_or d [] = d
 top_or d (x ∷ xs) = tree_or d x.1
 
 -- what was taken out of a slot that holds a tree is that tree
-pub same_tree : {ShardTree MemberNodes : Type 0} (t u : ShardTree) (i j : ℕ) (l m m' : List (ℕ × Content ShardTree MemberNodes)) → l ≡ (i, Tree t) ∷ m → l ≡ (j, Tree u) ∷ m' → t ≡ u
+pub same_tree : {ShardTree NodeList : Type 0} (t u : ShardTree) (i j : ℕ) (l m m' : List (ℕ × Content ShardTree NodeList)) → l ≡ (i, Tree t) ∷ m → l ≡ (j, Tree u) ∷ m' → t ≡ u
 same_tree t u i j l m m' a b = ap (top_or t) (sym a ∙ b)
 
 pub shards_of : (y z : Opening) → y ≡ z → z.shards ≡ y.shards
 shards_of y z e = ap (λ (x : Opening). x.shards) (sym e)
 
-pub renamed : {ShardTree MemberNodes : Type 0} (c d : ℕ) (z : Opening) (seen : List (List MemberVersions)) (lock : Lock) (stage : Stage) (m : SeatNow ShardTree MemberNodes) → d ≡ c → IsAt c z seen lock stage m → IsAt d z seen lock stage m
+pub renamed : {ShardTree NodeList : Type 0} (c d : ℕ) (z : Opening) (seen : List (List MemberVersions)) (lock : Lock) (stage : Stage) (m : SeatNow ShardTree NodeList) → d ≡ c → IsAt c z seen lock stage m → IsAt d z seen lock stage m
 renamed c d z seen lock stage m e ok = ok ∙ (λ i. seat_state (sym e i) z seen lock stage ∷ [])
 
 abbrev group_in : Stage → List MemberVersions
@@ -59,23 +59,23 @@ group_in Resting = []
 group_in (Handing g ps) = g
 group_in (Filling g p ps) = g
 
-pub same_goal : {ShardTree MemberNodes : Type 0} (z : Opening) (seen seen' : List (List MemberVersions)) (g g' : List MemberVersions) (m : SeatNow ShardTree MemberNodes) → IsAt 0 z seen Free (Handing g []) m → IsAt 0 z seen' Free (Handing g' []) m → end_of (last_of z.start seen) g ≡ end_of (last_of z.start seen') g'
+pub same_goal : {ShardTree NodeList : Type 0} (z : Opening) (seen seen' : List (List MemberVersions)) (g g' : List MemberVersions) (m : SeatNow ShardTree NodeList) → IsAt 0 z seen Free (Handing g []) m → IsAt 0 z seen' Free (Handing g' []) m → end_of (last_of z.start seen) g ≡ end_of (last_of z.start seen') g'
 same_goal z seen seen' g g' m a b = let e = sym a ∙ b in (λ i. end_of (last_of z.start (own (e i)).seen) (group_in (own (e i)).stage))
 
-abbrev nodes_or : {ShardTree MemberNodes : Type 0} → MemberNodes × ℕ → Content ShardTree MemberNodes → MemberNodes × ℕ
+abbrev nodes_or : {ShardTree NodeList : Type 0} → NodeList × ℕ → Content ShardTree NodeList → NodeList × ℕ
 nodes_or d Blank = d
 nodes_or d (Tree t) = d
 nodes_or d (Nodes x l) = (x, l)
 
-abbrev first_or : {ShardTree MemberNodes : Type 0} → MemberNodes × ℕ → List (ℕ × Content ShardTree MemberNodes) → MemberNodes × ℕ
+abbrev first_or : {ShardTree NodeList : Type 0} → NodeList × ℕ → List (ℕ × Content ShardTree NodeList) → NodeList × ℕ
 first_or d [] = d
 first_or d (x ∷ xs) = nodes_or d x.1
 
-pub same_nodes : {ShardTree MemberNodes : Type 0} (x y : MemberNodes) (k l i j : ℕ) (c m m' : List (ℕ × Content ShardTree MemberNodes)) → c ≡ (i, Nodes x k) ∷ m → c ≡ (j, Nodes y l) ∷ m' → (x ≡ y) × (k ≡ l)
+pub same_nodes : {ShardTree NodeList : Type 0} (x y : NodeList) (k l i j : ℕ) (c m m' : List (ℕ × Content ShardTree NodeList)) → c ≡ (i, Nodes x k) ∷ m → c ≡ (j, Nodes y l) ∷ m' → (x ≡ y) × (k ≡ l)
 same_nodes x y k l i j c m m' a b = let e = ap (first_or (x, k)) (sym a ∙ b) in (ap (λ p. p.0) e, ap (λ p. p.1) e)
 
-pub joined_more : {ShardTree MemberNodes : Type 0} (z : Opening) (w : TableSeat ShardTree MemberNodes) (ws : List (TableSeat ShardTree MemberNodes)) (v : List SeatState) → AreJoined z ws v → AreJoined z (w ∷ ws) (v ++ w.client.seat.me.0)
-joined_more {ShardTree = ShardTree} {MemberNodes = MemberNodes} z w ws v ok x seen has at = ⊎_elim
-    (λ (e : w ≡ x). in_right (seat_state x.client.number z seen Free Idle) v w.client.seat.me.0 (subst (λ (l : List SeatState). In (seat_state x.client.number z seen Free Idle) l) (sym (ap (λ (y : TableSeat ShardTree MemberNodes). y.client.seat.me.0) e ∙ at)) (inl refl)))
+pub joined_more : {ShardTree NodeList : Type 0} (z : Opening) (w : TableSeat ShardTree NodeList) (ws : List (TableSeat ShardTree NodeList)) (v : List SeatState) → AreJoined z ws v → AreJoined z (w ∷ ws) (v ++ w.client.seat.me.0)
+joined_more {ShardTree = ShardTree} {NodeList = NodeList} z w ws v ok x seen has at = ⊎_elim
+    (λ (e : w ≡ x). in_right (seat_state x.client.number z seen Free Idle) v w.client.seat.me.0 (subst (λ (l : List SeatState). In (seat_state x.client.number z seen Free Idle) l) (sym (ap (λ (y : TableSeat ShardTree NodeList). y.client.seat.me.0) e ∙ at)) (inl refl)))
     (λ (t : In x ws). in_left (seat_state x.client.number z seen Free Idle) v w.client.seat.me.0 (ok x seen t at))
     has

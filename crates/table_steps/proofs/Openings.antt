@@ -73,31 +73,31 @@ first_words_length k start n = words_length k start n
 pub first_slots_length : {A : Type 0} (trees : List A) (k n : ℕ) (blank : A) → length trees ≡ k → length (trees ++ replicate (n + 1) blank) ≡ k + 1 + n
 first_slots_length trees k n blank count = omega (arith, count, length-append trees (replicate (n + 1) blank), length-replicate (n + 1) blank)
 
-module _ {ShardTree MemberNodes : Type 0} (held_by : ShardTree → List Version) (nodes_of : MemberNodes → List Version) (z : Opening) where
+module _ {ShardTree NodeList : Type 0} (held_by : ShardTree → List Version) (nodes_of : NodeList → List Version) (z : Opening) where
   -- a table of empty trees with nothing launched keeps the rule
-  pub opens_first : (ws : List ℕ) (slots trees : List (Content ShardTree MemberNodes)) → ws ≡ zeros z.shards ++ z.start ∷ zeros (z.clients + 1) → slots ≡ trees ++ replicate (z.clients + 1) Blank → 0 < z.shards → length trees ≡ z.shards → ((slot : Content ShardTree MemberNodes) → In slot trees → IsEmptyTree held_by slot)
+  pub opens_first : (ws : List ℕ) (slots trees : List (Content ShardTree NodeList)) → ws ≡ zeros z.shards ++ z.start ∷ zeros (z.clients + 1) → slots ≡ trees ++ replicate (z.clients + 1) Blank → 0 < z.shards → length trees ≡ z.shards → ((slot : Content ShardTree NodeList) → In slot trees → IsEmptyTree held_by slot)
       → IsConsistent held_by nodes_of z (opening ws slots (newcomers z 1 z.clients))
   opens_first ws slots trees ws_are slots_are lo count empty =
       opens held_by nodes_of z ws slots lo
       (ap length ws_are ∙ words_length z.shards z.start z.clients)
-      (ap length slots_are ∙ (let a = length-append trees (replicate (z.clients + 1) Blank) in let b : length (replicate {A = Content ShardTree MemberNodes} (z.clients + 1) Blank) ≡ z.clients + 1 = length-replicate (z.clients + 1) Blank in omega arith))
+      (ap length slots_are ∙ (let a = length-append trees (replicate (z.clients + 1) Blank) in let b : length (replicate {A = Content ShardTree NodeList} (z.clients + 1) Blank) ≡ z.clients + 1 = length-replicate (z.clients + 1) Blank in omega arith))
       (ap (λ (l : List ℕ). get_or l z.shards 0) ws_are ∙ words_start z.shards z.start z.clients)
       (λ i ne. ap (λ (l : List ℕ). get_or l i 0) ws_are ∙ words_zero z.shards z.start z.clients i ne)
       (λ j lt.
       let at = found_left trees (replicate (z.clients + 1) Blank) j (omega arith) in
       let is = empty at.0 at.1 in
-      (is.0, ap (λ (l : List (Content ShardTree MemberNodes)). get_elem? (map some l) j) slots_are ∙ (at.2 ∙ ap (λ (x : Content ShardTree MemberNodes). some (some x)) is.1), is.2))
-      (λ i low hi. ap (λ (l : List (Content ShardTree MemberNodes)). get_elem? (map some l) (z.shards + i)) slots_are ∙ found_right trees (z.clients + 1) i (z.shards + i) Blank (omega arith) (omega arith))
+      (is.0, ap (λ (l : List (Content ShardTree NodeList)). get_elem? (map some l) j) slots_are ∙ (at.2 ∙ ap (λ (x : Content ShardTree NodeList). some (some x)) is.1), is.2))
+      (λ i low hi. ap (λ (l : List (Content ShardTree NodeList)). get_elem? (map some l) (z.shards + i)) slots_are ∙ found_right trees (z.clients + 1) i (z.shards + i) Blank (omega arith) (omega arith))
 
 range_snoc : (a n : ℕ) → range_with_len a (suc n) ≡ range_with_len a n ++ (a + n) ∷ []
 range_snoc a zero = ap (λ (k : ℕ). k ∷ []) (let e : a ≡ a + 0 = omega arith in e)
 range_snoc a (suc n) = ap (λ (l : List ℕ). a ∷ l) (range_snoc (a + 1) n ∙ ap (λ (k : ℕ). range_with_len (a + 1) n ++ k ∷ []) (let e : a + 1 + n ≡ a + suc n = omega arith in e))
 
-module _ {ShardTree MemberNodes : Type 0} where
+module _ {ShardTree NodeList : Type 0} where
   -- one client's seat more
-  pub numbers_more : (clients : List (TableSeat ShardTree MemberNodes)) (client : TableSeat ShardTree MemberNodes) (more : List (TableSeat ShardTree MemberNodes)) (n : ℕ) → more ≡ clients ++ client ∷ [] → map (λ (c : TableSeat ShardTree MemberNodes). c.client.number) clients ≡ range_with_len 1 n → client.client.number ≡ n + 1 → map (λ (c : TableSeat ShardTree MemberNodes). c.client.number) more ≡ range_with_len 1 (n + 1)
+  pub numbers_more : (clients : List (TableSeat ShardTree NodeList)) (client : TableSeat ShardTree NodeList) (more : List (TableSeat ShardTree NodeList)) (n : ℕ) → more ≡ clients ++ client ∷ [] → map (λ (c : TableSeat ShardTree NodeList). c.client.number) clients ≡ range_with_len 1 n → client.client.number ≡ n + 1 → map (λ (c : TableSeat ShardTree NodeList). c.client.number) more ≡ range_with_len 1 (n + 1)
   numbers_more clients client more n is before number =
-      ap (map (λ (c : TableSeat ShardTree MemberNodes). c.client.number)) is
-      ∙ (map-append (λ (c : TableSeat ShardTree MemberNodes). c.client.number) clients (client ∷ [])
+      ap (map (λ (c : TableSeat ShardTree NodeList). c.client.number)) is
+      ∙ (map-append (λ (c : TableSeat ShardTree NodeList). c.client.number) clients (client ∷ [])
       ∙ (λ i. before i ++ number i ∷ [])
       ∙ (ap (λ (k : ℕ). range_with_len 1 n ++ k ∷ []) (let e : n + 1 ≡ 1 + n = omega arith in e) ∙ sym (range_snoc 1 n) ∙ ap (range_with_len 1) (let e : suc n ≡ n + 1 = omega arith in e)))

@@ -38,19 +38,19 @@ launch_in start before (Filling g p ps) = None
 abbrev pub launch_at : SeatState → Option Launched
 launch_at h = launch_in h.opening.start h.seen h.stage
 
-module _ {ShardTree MemberNodes : Type 0} where
+module _ {ShardTree NodeList : Type 0} where
   -- what a table was opened for
-  abbrev pub opening_of : SharedTable ShardTree MemberNodes → Opening
+  abbrev pub opening_of : SharedTable ShardTree NodeList → Opening
   opening_of t = t.table.shared.key
 
-  abbrev pub id_of : SharedTable ShardTree MemberNodes → TableId
+  abbrev pub id_of : SharedTable ShardTree NodeList → TableId
   id_of t = t.table.shared.table_id
 
-  abbrev pub launch_of : Option (Turn ShardTree MemberNodes) → Option Launched
+  abbrev pub launch_of : Option (Turn ShardTree NodeList) → Option Launched
   launch_of None = None
   launch_of (Some u) = launch_at (first_state u.seat.me.0)
 
-  abbrev pub account_of : ℕ → SeatNow ShardTree MemberNodes → Option (Turn ShardTree MemberNodes) → Account
+  abbrev pub account_of : ℕ → SeatNow ShardTree NodeList → Option (Turn ShardTree NodeList) → Account
   account_of c m t = record {
     number = c;
     seen = (first_state m.0).seen;
@@ -58,16 +58,16 @@ module _ {ShardTree MemberNodes : Type 0} where
     launched = launch_of t;
   }
 
-  abbrev pub account : TableSeat ShardTree MemberNodes → Account
+  abbrev pub account : TableSeat ShardTree NodeList → Account
   account s = account_of s.client.number s.client.seat.me s.turn
 
   -- all that is published, of a turn that may launch
-  abbrev pub history_of : Turn ShardTree MemberNodes → List (List MemberVersions)
+  abbrev pub history_of : Turn ShardTree NodeList → List (List MemberVersions)
   history_of u = (first_state u.seat.me.0).seen
 
   -- the slots that a seat holds between calls: a part that was taken leaves its empty slot. `last` is that of the group
   -- whose part was taken last.
-  abbrev pub Carries : ℕ → ℕ → Stage → List (ℕ × Content ShardTree MemberNodes) → Type 0
+  abbrev pub Carries : ℕ → ℕ → Stage → List (ℕ × Content ShardTree NodeList) → Type 0
   Carries slot last Idle l = l ≡ []
   Carries slot last (Waiting u) l = l ≡ []
   Carries slot last (Holding w) l = (l ≡ (slot, Blank) ∷ []) × (last ≡ w.launched.last)
@@ -78,33 +78,33 @@ module _ {ShardTree MemberNodes : Type 0} where
   Carries slot last (Filling g p ps) l = ⊥
 
   -- the turn is kept where a group is launched
-  abbrev pub Keeps : TableId → Opening → Option (Turn ShardTree MemberNodes) → Type 0
+  abbrev pub Keeps : TableId → Opening → Option (Turn ShardTree NodeList) → Type 0
   Keeps id z None = Unit {0}
   Keeps id z (Some u) = (u.seat.table_id ≡ id) × (u.seat.me.1 ≡ [])
       × ((seen : List (List MemberVersions)) × (g : List MemberVersions) × IsAt 0 z seen Free (Handing g []) u.seat.me)
 
   -- client c's seat is of this table, and stands between two calls
-  abbrev pub Sits : TableId → Opening → ℕ → TableId → ℕ → SeatNow ShardTree MemberNodes → Type 0
+  abbrev pub Sits : TableId → Opening → ℕ → TableId → ℕ → SeatNow ShardTree NodeList → Type 0
   Sits id z c table last m = (table ≡ id) × (0 < c) × (c ≤ z.clients)
       × ((seen : List (List MemberVersions)) × (stage : Stage) × IsAt c z seen Free stage m
       × Carries (z.shards + c) last stage m.1)
 
   -- the seat is of this table, and stands between two calls
-  abbrev pub IsOurs : SharedTable ShardTree MemberNodes → TableSeat ShardTree MemberNodes → Type 0
+  abbrev pub IsOurs : SharedTable ShardTree NodeList → TableSeat ShardTree NodeList → Type 0
   IsOurs t s = Sits (id_of t) (opening_of t) s.client.number s.client.seat.table_id s.last s.client.seat.me
       × Keeps (id_of t) (opening_of t) s.turn
 
   -- the turn is of this table, and no group is launched
-  abbrev pub MayLaunch : SharedTable ShardTree MemberNodes → Turn ShardTree MemberNodes → Type 0
+  abbrev pub MayLaunch : SharedTable ShardTree NodeList → Turn ShardTree NodeList → Type 0
   MayLaunch t u = (history : List (List MemberVersions)) × IsTurnOf (id_of t) (opening_of t) history u
 
   -- nothing is published or launched
-  abbrev pub IsTurnAtStart : SharedTable ShardTree MemberNodes → Turn ShardTree MemberNodes → Type 0
+  abbrev pub IsTurnAtStart : SharedTable ShardTree NodeList → Turn ShardTree NodeList → Type 0
   IsTurnAtStart t turn = MayLaunch t turn × (history_of turn ≡ [])
 
   -- the seats of clients from 1 on, who have seen nothing yet and have nothing to do
-  abbrev pub AreSeatsAtStart : SharedTable ShardTree MemberNodes → ℕ → List (TableSeat ShardTree MemberNodes) → Type 0
-  AreSeatsAtStart t count seats = (map (λ (s : TableSeat ShardTree MemberNodes). (account s).number) seats
+  abbrev pub AreSeatsAtStart : SharedTable ShardTree NodeList → ℕ → List (TableSeat ShardTree NodeList) → Type 0
+  AreSeatsAtStart t count seats = (map (λ (s : TableSeat ShardTree NodeList). (account s).number) seats
       ≡ range_with_len 1 count)
-      × ((seat : TableSeat ShardTree MemberNodes) → In seat seats → IsOurs t seat × IsReady (account seat)
+      × ((seat : TableSeat ShardTree NodeList) → In seat seats → IsOurs t seat × IsReady (account seat)
       × ((account seat).seen ≡ []))

@@ -17,40 +17,40 @@ use Rattle.table_steps.specs.declared.shared.Client.{Client}
 use Rattle.table_steps.specs.declared.launching.Turn.{Turn}
 use Rattle.table_steps.specs.declared.seat.TableSeat.{TableSeat}
 
-module _ {ShardTree MemberNodes : Type 0} where
-  abbrev pub IsEmptyTree : (ShardTree → List Version) → Content ShardTree MemberNodes → Type 0
+module _ {ShardTree NodeList : Type 0} where
+  abbrev pub IsEmptyTree : (ShardTree → List Version) → Content ShardTree NodeList → Type 0
   IsEmptyTree versions_of slot = (tree : ShardTree) × (slot ≡ Tree tree) × (versions_of tree ≡ [])
 
   -- the turn of this table, with no group launched, and all that is published
-  abbrev pub IsTurnOf : TableId → Opening → List (List MemberVersions) → Turn ShardTree MemberNodes → Type 0
+  abbrev pub IsTurnOf : TableId → Opening → List (List MemberVersions) → Turn ShardTree NodeList → Type 0
   IsTurnOf id z history turn = (turn.seat.table_id ≡ id) × (turn.seat.me.1 ≡ [])
       × IsAt 0 z history Free Resting turn.seat.me × (turn.last ≡ last_of z.start history)
 
   -- a client's seat of this table, with nothing to do, and what it has seen
-  abbrev pub IsSeatOf : TableId → Opening → List (List MemberVersions) → Client ShardTree MemberNodes → Type 0
+  abbrev pub IsSeatOf : TableId → Opening → List (List MemberVersions) → Client ShardTree NodeList → Type 0
   IsSeatOf id z seen client = (client.seat.table_id ≡ id) × (client.seat.me.1 ≡ [])
       × IsAt client.number z seen Free Idle client.seat.me
 
   -- the seats of clients from 1 on
-  abbrev pub AreSeatsOf : TableId → Opening → ℕ → List (TableSeat ShardTree MemberNodes) → Type 0
-  AreSeatsOf id z count seats = (map (λ (s : TableSeat ShardTree MemberNodes). s.client.number) seats
+  abbrev pub AreSeatsOf : TableId → Opening → ℕ → List (TableSeat ShardTree NodeList) → Type 0
+  AreSeatsOf id z count seats = (map (λ (s : TableSeat ShardTree NodeList). s.client.number) seats
       ≡ range_with_len 1 count)
-      × ((seat : TableSeat ShardTree MemberNodes) → In seat seats
+      × ((seat : TableSeat ShardTree NodeList) → In seat seats
       → IsSeatOf id z [] seat.client × (seat.turn ≡ None) × (0 < seat.client.number) × (seat.client.number ≤ count))
 
   -- all are seats of this table, with nothing to do
-  abbrev pub AreIdle : TableId → Opening → List (TableSeat ShardTree MemberNodes) → Type 0
-  AreIdle id z seats = (seat : TableSeat ShardTree MemberNodes) → In seat seats
+  abbrev pub AreIdle : TableId → Opening → List (TableSeat ShardTree NodeList) → Type 0
+  AreIdle id z seats = (seat : TableSeat ShardTree NodeList) → In seat seats
       → (seen : List (List MemberVersions)) × IsSeatOf id z seen seat.client
 
   -- what each has seen is a beginning of the history
-  abbrev pub HaveSeen : Opening → List (List MemberVersions) → List (TableSeat ShardTree MemberNodes) → Type 0
-  HaveSeen z history seats = (seat : TableSeat ShardTree MemberNodes) (seen : List (List MemberVersions))
+  abbrev pub HaveSeen : Opening → List (List MemberVersions) → List (TableSeat ShardTree NodeList) → Type 0
+  HaveSeen z history seats = (seat : TableSeat ShardTree NodeList) (seen : List (List MemberVersions))
       → In seat seats
       → IsAt seat.client.number z seen Free Idle seat.client.seat.me → Begins seen history
 
   -- these seats' states are among those joined
-  abbrev pub AreJoined : Opening → List (TableSeat ShardTree MemberNodes) → List SeatState → Type 0
-  AreJoined z seats v = (seat : TableSeat ShardTree MemberNodes) (seen : List (List MemberVersions)) → In seat seats
+  abbrev pub AreJoined : Opening → List (TableSeat ShardTree NodeList) → List SeatState → Type 0
+  AreJoined z seats v = (seat : TableSeat ShardTree NodeList) (seen : List (List MemberVersions)) → In seat seats
       → IsAt seat.client.number z seen Free Idle seat.client.seat.me
       → In (seat_state seat.client.number z seen Free Idle) v

@@ -8,10 +8,10 @@ use Rattle.table_rule.specs.declared.view.Lock.TheVariants.{Held}
 use Rattle.table_rule.specs.declared.view.Stage.{Stage}
 use Rattle.table_rule.specs.Steps.{SeatNow, IsAt, Shows, IsFresh}
 
-module _ {ShardTree MemberNodes : Type 0} where
+module _ {ShardTree NodeList : Type 0} where
   -- the seat has the shard's tree, which shows what it has seen
   abbrev pub Locked : ℕ → Opening → ℕ → List (List MemberVersions) → Stage → List Version
-      → SeatNow ShardTree MemberNodes → SeatNow ShardTree MemberNodes
+      → SeatNow ShardTree NodeList → SeatNow ShardTree NodeList
       → Type 0
   Locked c z shard seen stage vs m m' = IsAt c z seen (Held shard vs) stage m' × (m'.1 ≡ (shard, Blank) ∷ m.1)
       × Shows z.shards shard z.start seen vs × IsFresh stage vs

@@ -14,12 +14,13 @@ use crate::launching::Turn;
 use crate::seat::TableSeat;
 use crate::shared::SharedTable;
 use std::marker::Brand;
+use std::rt;
 use std::sync::Wait;
 use table_calls::{GroupParts, VersionNodes, VersionTree};
 
-impl<ShardTree: VersionTree<MemberNodes::Node> + Drop, MemberNodes: VersionNodes + Drop> TableSeat<
+impl<ShardTree: VersionTree<NodeList::Node> + Drop, NodeList: VersionNodes + Drop> TableSeat<
     ShardTree,
-    MemberNodes,
+    NodeList,
 > {
     /// The client's number.
     pub fn number(&self) -> u64
@@ -29,22 +30,22 @@ impl<ShardTree: VersionTree<MemberNodes::Node> + Drop, MemberNodes: VersionNodes
     }
 
     /// Launches a group, and hands each member its nodes. The seat keeps the turn until `await_published`.
-    pub fn launch<Parts: GroupParts<MemberNodes>>(
+    pub fn launch<GroupList: GroupParts<NodeList>>(
         &mut self,
-        table: &SharedTable<ShardTree, MemberNodes>,
-        turn: Turn<ShardTree, MemberNodes>,
-        parts: &mut Parts,
+        table: &SharedTable<ShardTree, NodeList>,
+        turn: Turn<ShardTree, NodeList>,
+        parts: &mut GroupList,
     )
         requires ours { IsOurs table.now self.old × MayLaunch table.now turn }
         requires ready { IsReady (account self.old) }
-        requires next { IsNext (opening_of table.now) (history_of turn) (Parts.parts parts.old) }
-        requires fits { end_of (last_of (opening_of table.now).start (history_of turn)) (Parts.parts parts.old)
+        requires next { IsNext (opening_of table.now) (history_of turn) (GroupList.parts parts.old) }
+        requires fits { end_of (last_of (opening_of table.now).start (history_of turn)) (GroupList.parts parts.old)
             < 2 ^ 64 }
         ensures ours { IsOurs table.now self.new }
         ensures launched { Launches (opening_of table.now).start (account self.old) (history_of turn)
-            (Parts.parts parts.old) (account self.new) }
-        ensures emptied { Parts.parts parts.new ≡ [] }
-        ensures room { Parts.room parts.new ≡ Parts.room parts.old }
+            (GroupList.parts parts.old) (account self.new) }
+        ensures emptied { GroupList.parts parts.new ≡ [] }
+        ensures room { GroupList.room parts.new ≡ GroupList.room parts.old }
     {
         let last = turn.last + parts.version_count();
         let turn = table.launch(&mut self.client, turn, parts, last);
@@ -53,34 +54,34 @@ impl<ShardTree: VersionTree<MemberNodes::Node> + Drop, MemberNodes: VersionNodes
 
     /// Puts nodes, the next of the client's part, into the tree of their shard, under one hold of its lock. A part of
     /// several shards goes in run by run, where each run is of one shard.
-    pub fn add<R: Wait>(
+    pub fn add<R: Wait + rt::Clock>(
         &mut self,
-        table: &SharedTable<ShardTree, MemberNodes>,
+        table: &SharedTable<ShardTree, NodeList>,
         rt: &R,
         shard: u64,
-        nodes: MemberNodes,
+        nodes: NodeList,
     )
         requires ours { IsOurs table.now self.old }
         requires shard { (shard < (opening_of table.now).shards)
-            × AreOfShard (opening_of table.now).shards shard (MemberNodes.versions nodes) }
+            × AreOfShard (opening_of table.now).shards shard (NodeList.versions nodes) }
         requires next { (u : Launched) × (done : List Version) × (more : List Version)
-            × ((account self.old).stage ≡ Holding (work u done (MemberNodes.versions nodes ++ more))) }
+            × ((account self.old).stage ≡ Holding (work u done (NodeList.versions nodes ++ more))) }
         ensures ours { IsOurs table.now self.new }
         ensures added { (u : Launched) (done more : List Version)
-            → (account self.old).stage ≡ Holding (work u done (MemberNodes.versions nodes ++ more))
-            → Steps (account self.old) (Holding (work u (done ++ MemberNodes.versions nodes) more)) (account self.new) }
+            → (account self.old).stage ≡ Holding (work u done (NodeList.versions nodes ++ more))
+            → Steps (account self.old) (Holding (work u (done ++ NodeList.versions nodes) more)) (account self.new) }
     {
         table.add::<Brand, R>(rt, &mut self.client, shard, nodes);
     }
 
     /// Waits until the group that this client launched is published, and takes the turn back. `last` is the group's
     /// last sequence.
-    pub fn await_published<R: Wait>(
+    pub fn await_published<R: Wait + rt::Clock>(
         &mut self,
-        table: &SharedTable<ShardTree, MemberNodes>,
+        table: &SharedTable<ShardTree, NodeList>,
         rt: &R,
         last: u64,
-    ) -> Turn<ShardTree, MemberNodes>
+    ) -> Turn<ShardTree, NodeList>
         requires ours { IsOurs table.now self.old }
         requires idle { (account self.old).stage ≡ Idle }
         requires launched { (u : Launched) × ((account self.old).launched ≡ Some u) × (last ≡ u.last) }

@@ -13,15 +13,15 @@ use crate::shared::SharedTable;
 use table_calls::{Seats, VersionNodes, VersionTree};
 use table_rule::{Both, Close};
 
-impl<
-    ShardTree: VersionTree<MemberNodes::Node> + Drop,
-    MemberNodes: VersionNodes + Drop,
-> SharedTable<ShardTree, MemberNodes> {
+impl<ShardTree: VersionTree<NodeList::Node> + Drop, NodeList: VersionNodes + Drop> SharedTable<
+    ShardTree,
+    NodeList,
+> {
     // Joins all seats. What the turn knows is then what is published, and each client has seen a beginning of it.
     fn gather(
         &self,
-        mut turn: Turn<ShardTree, MemberNodes>,
-        mut clients: Vec<TableSeat<ShardTree, MemberNodes>>,
+        mut turn: Turn<ShardTree, NodeList>,
+        mut clients: Vec<TableSeat<ShardTree, NodeList>>,
     )
         requires turn { (history : List (List MemberVersions))
             × IsTurnOf self.now.table.shared.table_id self.now.table.shared.key history turn }
@@ -45,15 +45,12 @@ impl<
 
     /// Gives the table up, with all seats. What was published is one history, and each client has seen a beginning of
     /// it.
-    pub fn close(
-        self,
-        seats: Seats<TableSeat<ShardTree, MemberNodes>, Turn<ShardTree, MemberNodes>>,
-    )
+    pub fn close(self, seats: Seats<TableSeat<ShardTree, NodeList>, Turn<ShardTree, NodeList>>)
         requires turn { MayLaunch self seats.turn }
-        requires clients { (seat : TableSeat ShardTree MemberNodes) → In seat seats.clients.items
+        requires clients { (seat : TableSeat ShardTree NodeList) → In seat seats.clients.items
             → IsOurs self seat × IsReady (account seat) }
         ensures { IsClosing (opening_of self).start (history_of seats.turn)
-            (map (λ (seat : TableSeat ShardTree MemberNodes). account seat) seats.clients.items) }
+            (map (λ (seat : TableSeat ShardTree NodeList). account seat) seats.clients.items) }
     {
         self.gather(seats.turn, seats.clients);
     }

@@ -9,39 +9,40 @@ ghost use Rattle.table_rule.specs.Steps.{IsAt, IsNext, stage_after_launch, launc
 
 use crate::shared::{Client, SharedTable};
 use atomic_table::Seat;
-use crossbeam_utils::Backoff;
+use base_waiting::Pauses;
 use std::marker::Brand;
+use std::rt;
 use std::sync::Wait;
 use table_calls::{GroupParts, VersionNodes, VersionTree};
 use table_rule::{AllButFirst, Await, Both, Content, Empty, Give, GroupPlan, Launch, TableView};
 
 /// The right to launch. A table has one.
 #[derive(Drop)]
-pub struct Turn<ShardTree, MemberNodes> {
-    pub(crate) seat: Seat<Content<ShardTree, MemberNodes>, TableView>,
+pub struct Turn<ShardTree, NodeList> {
+    pub(crate) seat: Seat<Content<ShardTree, NodeList>, TableView>,
     /// The published sequence, where no group is launched.
     pub(crate) last: u64,
 }
 
-impl<ShardTree: VersionTree<MemberNodes::Node>, MemberNodes: VersionNodes> SharedTable<
+impl<ShardTree: VersionTree<NodeList::Node>, NodeList: VersionNodes> SharedTable<
     ShardTree,
-    MemberNodes,
+    NodeList,
 > {
     // Sets the running count to the number of members. The client's seat and the turn's are one meanwhile, so that the
     // client knows of the group.
-    fn set_running<Group: GroupPlan, Parts: GroupParts<MemberNodes>>(
+    fn set_running<Group: GroupPlan, GroupList: GroupParts<NodeList>>(
         &self,
-        who: &mut Client<ShardTree, MemberNodes>,
-        turn: Turn<ShardTree, MemberNodes>,
-        parts: &Parts,
-    ) -> Turn<ShardTree, MemberNodes>
+        who: &mut Client<ShardTree, NodeList>,
+        turn: Turn<ShardTree, NodeList>,
+        parts: &GroupList,
+    ) -> Turn<ShardTree, NodeList>
         requires seat { (who.old.seat.table_id ≡ self.now.table.shared.table_id)
             × (turn.seat.table_id ≡ self.now.table.shared.table_id) × (turn.seat.me.1 ≡ []) × (0 < who.old.number) }
         requires next { (own : List (List MemberVersions)) × (seen : List (List MemberVersions))
             × IsAt who.old.number self.now.table.shared.key own Free Idle who.old.seat.me
             × IsAt 0 self.now.table.shared.key seen Free Resting turn.seat.me
             × IsNext self.now.table.shared.key seen Group.group }
-        requires group { Parts.parts parts.now ≡ Group.group }
+        requires group { GroupList.parts parts.now ≡ Group.group }
         ensures client { (who.new.seat.table_id ≡ who.old.seat.table_id) × (who.new.number ≡ who.old.number)
             × (who.new.seat.me.1 ≡ who.old.seat.me.1) }
         ensures turn { (result.seat.table_id ≡ turn.seat.table_id) × (result.seat.me.1 ≡ [])
@@ -71,18 +72,12 @@ impl<ShardTree: VersionTree<MemberNodes::Node>, MemberNodes: VersionNodes> Share
     }
 
     // Hands one member its nodes.
-    fn offer(
-        &self,
-        turn: &mut Turn<ShardTree, MemberNodes>,
-        member: u64,
-        nodes: MemberNodes,
-        last: u64,
-    )
+    fn offer(&self, turn: &mut Turn<ShardTree, NodeList>, member: u64, nodes: NodeList, last: u64)
         requires seat { (turn.old.seat.table_id ≡ self.now.table.shared.table_id) × (0 < member)
             × (member ≤ self.now.table.shared.key.clients) }
         requires next { (seen : List (List MemberVersions)) × (g : List MemberVersions) × (p : MemberVersions)
             × (ps : List MemberVersions) × IsAt 0 self.now.table.shared.key seen Free
-            (Handing g (p ∷ ps)) turn.old.seat.me × (p.member ≡ member) × (MemberNodes.versions nodes ≡ p.versions)
+            (Handing g (p ∷ ps)) turn.old.seat.me × (p.member ≡ member) × (NodeList.versions nodes ≡ p.versions)
             × (last ≡ end_of (last_of self.now.table.shared.key.start seen) g) }
         ensures seat { (turn.new.seat.table_id ≡ turn.old.seat.table_id) × (turn.new.seat.me.1 ≡ turn.old.seat.me.1)
             × (turn.new.last ≡ turn.old.last) }
@@ -104,20 +99,20 @@ impl<ShardTree: VersionTree<MemberNodes::Node>, MemberNodes: VersionNodes> Share
     }
 
     /// Launches a group whose last sequence is `last`, and hands each member its nodes.
-    pub(crate) fn launch<Parts: GroupParts<MemberNodes>>(
+    pub(crate) fn launch<GroupList: GroupParts<NodeList>>(
         &self,
-        who: &mut Client<ShardTree, MemberNodes>,
-        turn: Turn<ShardTree, MemberNodes>,
-        parts: &mut Parts,
+        who: &mut Client<ShardTree, NodeList>,
+        turn: Turn<ShardTree, NodeList>,
+        parts: &mut GroupList,
         last: u64,
-    ) -> Turn<ShardTree, MemberNodes>
+    ) -> Turn<ShardTree, NodeList>
         requires seat { (who.old.seat.table_id ≡ self.now.table.shared.table_id)
             × (turn.seat.table_id ≡ self.now.table.shared.table_id) × (turn.seat.me.1 ≡ []) × (0 < who.old.number) }
         requires next { (own : List (List MemberVersions)) × (seen : List (List MemberVersions))
             × IsAt who.old.number self.now.table.shared.key own Free Idle who.old.seat.me
             × IsAt 0 self.now.table.shared.key seen Free Resting turn.seat.me
-            × IsNext self.now.table.shared.key seen (Parts.parts parts.old)
-            × (last ≡ end_of (last_of self.now.table.shared.key.start seen) (Parts.parts parts.old)) }
+            × IsNext self.now.table.shared.key seen (GroupList.parts parts.old)
+            × (last ≡ end_of (last_of self.now.table.shared.key.start seen) (GroupList.parts parts.old)) }
         ensures client { (who.new.seat.table_id ≡ who.old.seat.table_id) × (who.new.number ≡ who.old.number)
             × (who.new.seat.me.1 ≡ who.old.seat.me.1) }
         ensures turn { (result.seat.table_id ≡ turn.seat.table_id) × (result.seat.me.1 ≡ [])
@@ -126,15 +121,15 @@ impl<ShardTree: VersionTree<MemberNodes::Node>, MemberNodes: VersionNodes> Share
             → IsAt who.old.number self.now.table.shared.key own Free Idle who.old.seat.me
             → IsAt 0 self.now.table.shared.key seen Free Resting turn.seat.me
             → IsAt who.old.number self.now.table.shared.key own Free (stage_after_launch who.old.number
-            (launched_behind self.now.table.shared.key.start seen (Parts.parts parts.old))) who.new.seat.me }
+            (launched_behind self.now.table.shared.key.start seen (GroupList.parts parts.old))) who.new.seat.me }
         ensures handed { (own seen : List (List MemberVersions))
             → IsAt who.old.number self.now.table.shared.key own Free Idle who.old.seat.me
             → IsAt 0 self.now.table.shared.key seen Free Resting turn.seat.me
-            → IsAt 0 self.now.table.shared.key seen Free (Handing (Parts.parts parts.old) []) result.seat.me }
-        ensures emptied { Parts.parts parts.new ≡ [] }
-        ensures room { Parts.room parts.new ≡ Parts.room parts.old }
+            → IsAt 0 self.now.table.shared.key seen Free (Handing (GroupList.parts parts.old) []) result.seat.me }
+        ensures emptied { GroupList.parts parts.new ≡ [] }
+        ensures room { GroupList.room parts.new ≡ GroupList.room parts.old }
     {
-        let mut turn = self.set_running::<Brand, Parts>(who, turn, parts);
+        let mut turn = self.set_running::<Brand, GroupList>(who, turn, parts);
         // The members of the parts that are gone were handed their nodes, in order.
         while let Some((member, nodes)) = parts.pop() {
             self.offer(&mut turn, member, nodes, last);
@@ -143,10 +138,10 @@ impl<ShardTree: VersionTree<MemberNodes::Node>, MemberNodes: VersionNodes> Share
     }
 
     /// Waits until the launched group, whose last sequence is `last`, is published. The turn is free again.
-    pub(crate) fn await_published<R: Wait>(
+    pub(crate) fn await_published<R: Wait + rt::Clock>(
         &self,
         rt: &R,
-        turn: &mut Turn<ShardTree, MemberNodes>,
+        turn: &mut Turn<ShardTree, NodeList>,
         last: u64,
     )
         requires seat { turn.old.seat.table_id ≡ self.now.table.shared.table_id }
@@ -159,7 +154,7 @@ impl<ShardTree: VersionTree<MemberNodes::Node>, MemberNodes: VersionNodes> Share
             → IsAt 0 self.now.table.shared.key seen Free (Handing g []) turn.old.seat.me
             → IsAt 0 self.now.table.shared.key (seen ++ g ∷ []) Free Resting turn.new.seat.me }
     {
-        let backoff = Backoff::new();
+        let pauses = Pauses::new();
         // No load so far has found the group published.
         for _ in rt.forever() {
             let found = self
@@ -169,7 +164,7 @@ impl<ShardTree: VersionTree<MemberNodes::Node>, MemberNodes: VersionNodes> Share
             if found == last {
                 return;
             }
-            self.published.pause(rt, &backoff);
+            self.published.pause(rt, &pauses);
         }
         unreachable!()
     }

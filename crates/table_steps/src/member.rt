@@ -15,29 +15,30 @@ ghost use Rattle.table_steps.specs.Accounts.{account, opening_of, IsOurs};
 
 use crate::seat::TableSeat;
 use crate::shared::{Client, SharedTable};
-use crossbeam_utils::Backoff;
+use base_waiting::Pauses;
+use std::rt;
 use std::sync::Wait;
 use table_calls::{Finished, VersionNodes, VersionTree};
 use table_rule::{AddVersions, Content, Count, Publish, Settle, Take, VersionPlan};
 
-impl<
-    ShardTree: VersionTree<MemberNodes::Node> + Drop,
-    MemberNodes: VersionNodes + Drop,
-> SharedTable<ShardTree, MemberNodes> {
+impl<ShardTree: VersionTree<NodeList::Node> + Drop, NodeList: VersionNodes + Drop> SharedTable<
+    ShardTree,
+    NodeList,
+> {
     /// Puts nodes, the next of the member's part, into the tree of their shard, under one hold of its lock.
-    pub(crate) fn add<Plan: VersionPlan, R: Wait>(
+    pub(crate) fn add<Plan: VersionPlan, R: Wait + rt::Clock>(
         &self,
         rt: &R,
-        who: &mut Client<ShardTree, MemberNodes>,
+        who: &mut Client<ShardTree, NodeList>,
         shard: u64,
-        mut nodes: MemberNodes,
+        mut nodes: NodeList,
     )
         requires seat { (who.old.seat.table_id ≡ self.now.table.shared.table_id)
             × (shard < self.now.table.shared.key.shards) }
         requires next { (seen : List (List MemberVersions)) × (u : Launched) × (done : List Version)
             × (more : List Version) × IsAt who.old.number self.now.table.shared.key seen Free
             (Holding (work u done (Plan.versions ++ more))) who.old.seat.me }
-        requires nodes { MemberNodes.versions nodes ≡ Plan.versions }
+        requires nodes { NodeList.versions nodes ≡ Plan.versions }
         requires shard { AreOfShard self.now.table.shared.key.shards shard Plan.versions }
         ensures seat { (who.new.seat.table_id ≡ who.old.seat.table_id) × (who.new.number ≡ who.old.number)
             × (who.new.seat.me.1 ≡ who.old.seat.me.1) }
@@ -58,14 +59,14 @@ impl<
     // Gives a shard's tree back with versions of the member's part more.
     fn give_back<Plan: VersionPlan>(
         &self,
-        who: &mut Client<ShardTree, MemberNodes>,
+        who: &mut Client<ShardTree, NodeList>,
         shard: u64,
         tree: ShardTree,
     )
         requires seat { (who.old.seat.table_id ≡ self.now.table.shared.table_id)
             × (shard < self.now.table.shared.key.shards) }
         requires held { (seen : List (List MemberVersions)) × (u : Launched) × (done : List Version)
-            × (more : List Version) × (vs : List Version) × (slots : List (ℕ × Content ShardTree MemberNodes))
+            × (more : List Version) × (vs : List Version) × (slots : List (ℕ × Content ShardTree NodeList))
             × IsAt who.old.number self.now.table.shared.key seen (Held shard vs)
             (Holding (work u done (Plan.versions ++ more))) who.old.seat.me
             × (who.old.seat.me.1 ≡ (shard, Blank) ∷ slots) × AddsAll vs Plan.versions (ShardTree.versions tree) }
@@ -87,26 +88,26 @@ impl<
     }
 }
 
-impl<ShardTree: VersionTree<MemberNodes::Node> + Drop, MemberNodes: VersionNodes + Drop> TableSeat<
+impl<ShardTree: VersionTree<NodeList::Node> + Drop, NodeList: VersionNodes + Drop> TableSeat<
     ShardTree,
-    MemberNodes,
+    NodeList,
 > {
     /// Waits until the client's part is handed out, and takes it.
-    pub fn take<R: Wait>(
+    pub fn take<R: Wait + rt::Clock>(
         &mut self,
-        table: &SharedTable<ShardTree, MemberNodes>,
+        table: &SharedTable<ShardTree, NodeList>,
         rt: &R,
-    ) -> MemberNodes
+    ) -> NodeList
         requires ours { IsOurs table.now self.old }
         requires free { MayTake (account self.old).stage }
         ensures ours { IsOurs table.now self.new }
-        ensures taken { Takes (opening_of table.now) (account self.old) (MemberNodes.versions result)
+        ensures taken { Takes (opening_of table.now) (account self.old) (NodeList.versions result)
             (account self.new) }
     {
         let shared = &table.table.shared;
         let word = table.opening.shards as usize + 1 + self.client.number as usize;
         let slot = table.opening.shards as usize + self.client.number as usize;
-        let backoff = Backoff::new();
+        let pauses = Pauses::new();
         // The seat is as it was: nothing has been handed out yet.
         for _ in rt.forever() {
             let found = shared.load::<Take>(&mut self.client.seat, word);
@@ -119,13 +120,13 @@ impl<ShardTree: VersionTree<MemberNodes::Node> + Drop, MemberNodes: VersionNodes
                     _ => unreachable!(),
                 }
             }
-            table.handed.pause(rt, &backoff, self.client.number);
+            table.handed.pause(rt, &pauses, self.client.number);
         }
         unreachable!()
     }
 
     /// All nodes of the client's part are in their trees.
-    pub fn settle(&mut self, table: &SharedTable<ShardTree, MemberNodes>)
+    pub fn settle(&mut self, table: &SharedTable<ShardTree, NodeList>)
         requires ours { IsOurs table.now self.old }
         requires added { (u : Launched) × (done : List Version)
             × ((account self.old).stage ≡ Holding (work u done [])) }
@@ -140,7 +141,7 @@ impl<ShardTree: VersionTree<MemberNodes::Node> + Drop, MemberNodes: VersionNodes
             .store::<Settle>(&mut self.client.seat, word, 0);
     }
     /// The client's part is finished. Just who finds no other member running is the last of the group.
-    pub fn finish(&mut self, table: &SharedTable<ShardTree, MemberNodes>) -> Finished
+    pub fn finish(&mut self, table: &SharedTable<ShardTree, NodeList>) -> Finished
         requires ours { IsOurs table.now self.old }
         requires stored { (u : Launched) × ((account self.old).stage ≡ Stored u) }
         ensures ours { IsOurs table.now self.new }
@@ -159,7 +160,7 @@ impl<ShardTree: VersionTree<MemberNodes::Node> + Drop, MemberNodes: VersionNodes
         }
     }
     /// Publishes the group, of which this client finished last. The client has then seen it.
-    pub fn publish(&mut self, table: &SharedTable<ShardTree, MemberNodes>)
+    pub fn publish(&mut self, table: &SharedTable<ShardTree, NodeList>)
         requires ours { IsOurs table.now self.old }
         requires last_one { (u : Launched) × ((account self.old).stage ≡ Publishing u) }
         ensures ours { IsOurs table.now self.new }

@@ -32,12 +32,12 @@ fn first_words(alloc: Global, opening: &Opening) -> Result<Vec<u64>, NoMemory>
 }
 
 /// Empty trees.
-fn empty_trees<Node: VersionNode, ShardTree: VersionTree<Node> + Drop, MemberNodes: Drop>(
+fn empty_trees<Node: VersionNode, ShardTree: VersionTree<Node> + Drop, NodeList: Drop>(
     alloc: Global,
     count: u64,
-) -> Result<Vec<Content<ShardTree, MemberNodes>>, NoMemory>
+) -> Result<Vec<Content<ShardTree, NodeList>>, NoMemory>
     ensures length { IfOk result (λ slots. length slots.items ≡ count) }
-    ensures empty { IfOk result (λ slots. (slot : Content ShardTree MemberNodes) → In slot slots.items
+    ensures empty { IfOk result (λ slots. (slot : Content ShardTree NodeList) → In slot slots.items
         → IsEmptyTree ShardTree.versions slot) }
 {
     let mut slots = Vec::new(alloc);
@@ -49,8 +49,8 @@ fn empty_trees<Node: VersionNode, ShardTree: VersionTree<Node> + Drop, MemberNod
 }
 
 /// Puts empty slots behind others.
-fn add_blanks<ShardTree: Drop, MemberNodes: Drop>(
-    slots: &mut Vec<Content<ShardTree, MemberNodes>>,
+fn add_blanks<ShardTree: Drop, NodeList: Drop>(
+    slots: &mut Vec<Content<ShardTree, NodeList>>,
     count: u64,
 ) -> Result<(), NoMemory>
     ensures { OnOk result (slots.new.items ≡ slots.old.items ++ replicate count Blank) }
@@ -62,16 +62,16 @@ fn add_blanks<ShardTree: Drop, MemberNodes: Drop>(
     Ok(())
 }
 
-impl<
-    ShardTree: VersionTree<MemberNodes::Node> + Drop,
-    MemberNodes: VersionNodes + Drop,
-> SharedTable<ShardTree, MemberNodes> {
+impl<ShardTree: VersionTree<NodeList::Node> + Drop, NodeList: VersionNodes + Drop> SharedTable<
+    ShardTree,
+    NodeList,
+> {
     // Cuts the first seat into the clients' and the turn's.
     fn seat_all(
         &self,
         alloc: Global,
-        mut seat: Seat<Content<ShardTree, MemberNodes>, TableView>,
-    ) -> Result<Seats<TableSeat<ShardTree, MemberNodes>, Turn<ShardTree, MemberNodes>>, NoMemory>
+        mut seat: Seat<Content<ShardTree, NodeList>, TableView>,
+    ) -> Result<Seats<TableSeat<ShardTree, NodeList>, Turn<ShardTree, NodeList>>, NoMemory>
         requires { (seat.table_id ≡ self.now.table.shared.table_id)
             × (seat.me ≡ (newcomers self.now.table.shared.key 1 self.now.table.shared.key.clients, [])) }
         ensures turn { IfOk result (λ seats. IsTurnOf self.now.table.shared.table_id self.now.table.shared.key []
@@ -114,8 +114,8 @@ impl<
         last: u64,
     ) -> Result<
         (
-            SharedTable<ShardTree, MemberNodes>,
-            Seats<TableSeat<ShardTree, MemberNodes>, Turn<ShardTree, MemberNodes>>,
+            SharedTable<ShardTree, NodeList>,
+            Seats<TableSeat<ShardTree, NodeList>, Turn<ShardTree, NodeList>>,
         ),
         NoMemory,
     >
@@ -132,10 +132,7 @@ impl<
         };
         let handed = Bells::for_clients(alloc, clients)?;
         let words = first_words(alloc, &opening)?;
-        let mut slots = empty_trees::<MemberNodes::Node, ShardTree, MemberNodes>(
-            alloc,
-            opening.shards,
-        )?;
+        let mut slots = empty_trees::<NodeList::Node, ShardTree, NodeList>(alloc, opening.shards)?;
         add_blanks(&mut slots, opening.clients + 1)?;
         let Ok((table, seat)) = Table::new(alloc, &words, slots, &opening) else {
             return Err(NoMemory);

@@ -10,9 +10,10 @@ ghost use Rattle.table_steps.specs.Accounts.{account, opening_of, IsOurs};
 use crate::seat::TableSeat;
 use crate::shared::SharedTable;
 use base_bytes::{Bytes, Found, Rows};
-use crossbeam_utils::Backoff;
+use base_waiting::Pauses;
 use model_base::NoMemory;
 use std::alloc::Global;
+use std::rt;
 use std::sync::Wait;
 use table_calls::{VersionNode, VersionNodes, VersionTree};
 use table_rule::Learn;
@@ -33,12 +34,12 @@ fn copied<Node: VersionNode, ShardTree: VersionTree<Node>>(
     }
 }
 
-impl<ShardTree: VersionTree<MemberNodes::Node> + Drop, MemberNodes: VersionNodes + Drop> TableSeat<
+impl<ShardTree: VersionTree<NodeList::Node> + Drop, NodeList: VersionNodes + Drop> TableSeat<
     ShardTree,
-    MemberNodes,
+    NodeList,
 > {
     /// The published sequence.
-    pub fn last(&mut self, table: &SharedTable<ShardTree, MemberNodes>) -> u64
+    pub fn last(&mut self, table: &SharedTable<ShardTree, NodeList>) -> u64
         requires { IsOurs table.now self.old }
         ensures ours { IsOurs table.now self.new }
         ensures seen { Learns (opening_of table.now).start (account self.old) (account self.new) }
@@ -50,9 +51,9 @@ impl<ShardTree: VersionTree<MemberNodes::Node> + Drop, MemberNodes: VersionNodes
             .load::<Learn>(&mut self.client.seat, table.opening.shards as usize)
     }
     /// Waits until the client has seen what is published up to a sequence. It sleeps until a group is published.
-    pub fn await_seen<R: Wait>(
+    pub fn await_seen<R: Wait + rt::Clock>(
         &mut self,
-        table: &SharedTable<ShardTree, MemberNodes>,
+        table: &SharedTable<ShardTree, NodeList>,
         rt: &R,
         at_least: u64,
     )
@@ -61,22 +62,22 @@ impl<ShardTree: VersionTree<MemberNodes::Node> + Drop, MemberNodes: VersionNodes
         ensures seen { Learns (opening_of table.now).start (account self.old) (account self.new) }
         ensures reached { at_least ≤ last_of (opening_of table.now).start (account self.new).seen }
     {
-        let backoff = Backoff::new();
+        let pauses = Pauses::new();
         // The client has seen more of what is published, if anything has changed.
         for _ in rt.forever() {
             let found = self.last(table);
             if at_least <= found {
                 return;
             }
-            table.published.pause(rt, &backoff);
+            table.published.pause(rt, &pauses);
         }
         unreachable!()
     }
 
     /// The key's value in a shard, as of `at`, the end of what the seat has seen.
-    pub fn find<R: Wait>(
+    pub fn find<R: Wait + rt::Clock>(
         &mut self,
-        table: &SharedTable<ShardTree, MemberNodes>,
+        table: &SharedTable<ShardTree, NodeList>,
         alloc: Global,
         rt: &R,
         shard: u64,
@@ -94,15 +95,15 @@ impl<ShardTree: VersionTree<MemberNodes::Node> + Drop, MemberNodes: VersionNodes
             key.now) }
     {
         let tree = table.lock(rt, &mut self.client, shard);
-        let found = copied::<MemberNodes::Node, ShardTree>(alloc, &tree, key, at);
+        let found = copied::<NodeList::Node, ShardTree>(alloc, &tree, key, at);
         table.unlock(&mut self.client, shard, tree);
         found
     }
     /// The keys of a shard from `lo` on and below `hi` with their values, as of `at`, the end of what the seat has
     /// seen.
-    pub fn find_rows<R: Wait>(
+    pub fn find_rows<R: Wait + rt::Clock>(
         &mut self,
-        table: &SharedTable<ShardTree, MemberNodes>,
+        table: &SharedTable<ShardTree, NodeList>,
         alloc: Global,
         rt: &R,
         shard: u64,

@@ -5,9 +5,9 @@ use crate::shared::Client;
 
 /// A client's seat, with the turn from when the client launches a group until the group is published.
 #[derive(Drop)]
-pub struct TableSeat<ShardTree, MemberNodes> {
-    pub(crate) client: Client<ShardTree, MemberNodes>,
-    pub(crate) turn: Option<Turn<ShardTree, MemberNodes>>,
+pub struct TableSeat<ShardTree, NodeList> {
+    pub(crate) client: Client<ShardTree, NodeList>,
+    pub(crate) turn: Option<Turn<ShardTree, NodeList>>,
     /// The last sequence of the group whose part the client has taken last.
     pub(crate) last: u64,
 }

@@ -13,14 +13,15 @@ use atomic_table::{Seat, Table};
 use base_waiting::{Bell, Bells};
 use crossbeam_utils::Backoff;
 use std::alloc::Global;
+use std::rt;
 use std::sync::Wait;
 use table_calls::{VersionNodes, VersionTree};
 use table_rule::{Content, LockShard, Opening, TableLaw, TableView, UnlockShard, Versioned};
 
-/// The words and slots of a table. `ShardTree` are its trees, and `MemberNodes` a member's nodes.
+/// The words and slots of a table. `ShardTree` are its trees, and `NodeList` a member's nodes.
 #[derive(Drop)]
-pub struct SharedTable<ShardTree: Versioned, MemberNodes: Versioned> {
-    pub(crate) table: Table<Content<ShardTree, MemberNodes>, TableView, Opening, TableLaw, Global>,
+pub struct SharedTable<ShardTree: Versioned, NodeList: Versioned> {
+    pub(crate) table: Table<Content<ShardTree, NodeList>, TableView, Opening, TableLaw, Global>,
     pub(crate) opening: Opening,
     /// On which a member sleeps until its nodes are handed out.
     pub(crate) handed: Bells,
@@ -33,20 +34,20 @@ pub struct SharedTable<ShardTree: Versioned, MemberNodes: Versioned> {
 
 /// A client's seat.
 #[derive(Drop)]
-pub(crate) struct Client<ShardTree, MemberNodes> {
+pub(crate) struct Client<ShardTree, NodeList> {
     pub(crate) number: u64,
-    pub(crate) seat: Seat<Content<ShardTree, MemberNodes>, TableView>,
+    pub(crate) seat: Seat<Content<ShardTree, NodeList>, TableView>,
 }
 
-impl<ShardTree: VersionTree<MemberNodes::Node>, MemberNodes: VersionNodes> SharedTable<
+impl<ShardTree: VersionTree<NodeList::Node>, NodeList: VersionNodes> SharedTable<
     ShardTree,
-    MemberNodes,
+    NodeList,
 > {
     /// Waits for a shard's lock, and takes its tree. It spins a few turns, and then yields.
-    pub(crate) fn lock<R: Wait>(
+    pub(crate) fn lock<R: Wait + rt::Clock>(
         &self,
         rt: &R,
-        who: &mut Client<ShardTree, MemberNodes>,
+        who: &mut Client<ShardTree, NodeList>,
         shard: u64,
     ) -> ShardTree
         requires seat { (who.old.seat.table_id ≡ self.now.table.shared.table_id)
@@ -76,16 +77,11 @@ impl<ShardTree: VersionTree<MemberNodes::Node>, MemberNodes: VersionNodes> Share
     }
 
     /// Gives a shard's tree back as it was.
-    pub(crate) fn unlock(
-        &self,
-        who: &mut Client<ShardTree, MemberNodes>,
-        shard: u64,
-        tree: ShardTree,
-    )
+    pub(crate) fn unlock(&self, who: &mut Client<ShardTree, NodeList>, shard: u64, tree: ShardTree)
         requires seat { (who.old.seat.table_id ≡ self.now.table.shared.table_id)
             × (shard < self.now.table.shared.key.shards) }
         requires held { (seen : List (List MemberVersions)) × (stage : Stage)
-            × (more : List (ℕ × Content ShardTree MemberNodes))
+            × (more : List (ℕ × Content ShardTree NodeList))
             × IsAt who.old.number self.now.table.shared.key seen (Held shard (ShardTree.versions tree)) stage
             who.old.seat.me
             × (who.old.seat.me.1 ≡ (shard, Blank) ∷ more) }

@@ -5,6 +5,7 @@ use engine_calls::{Clients, Closed, Engine, Held, NotHeld, Receipt, Refused};
 use log_batch::{Batch, Measure, refusal_at_once};
 use model_accounts::earlier_sights;
 use model_base::{NoMemory, Refusal, WriteOptions};
+use std::rt;
 use std::sync::Wait;
 use std::sync::atomic::{AtomicU64, Ordering};
 
@@ -31,20 +32,12 @@ impl Engine for Mute {
 
     type Log = NoLog;
 
-    ghost use Rattle.std.specs.Prelude.{⊤, List, None, map};
-    ghost use Rattle.model_base.specs.Trace.{Trace};
-    ghost use Rattle.model_base.specs.Groups.{Group};
+    ghost use Rattle.std.specs.Prelude.{⊤, None, map};
     ghost use Rattle.model_accounts.specs.Accounts.{newcomer};
-    ghost use Rattle.model_accounts.specs.Closing.{AreOurs, all_attempts, IsClosing};
-    ghost use Rattle.model_runs.specs.Written.{WritesLog};
+    ghost use Rattle.model_accounts.specs.Closing.{AreOurs, HasOneTrace};
+    ghost use Rattle.tests_clients.specs.Mute.{settings_for};
 
-    ghost settings = { λ e. record {
-      start = 0;
-      clients = e.clients;
-      group_bytes = 0;
-      batch_bytes = e.batch_bytes;
-      opened = 0;
-    } };
+    ghost settings = { λ e. settings_for e.clients e.batch_bytes };
 
     ghost account = { λ c. newcomer 0 c.number };
 
@@ -58,7 +51,7 @@ impl Engine for Mute {
 
     ghost faults = { λ log. 0 };
 
-    fn write<R: Wait>(
+    fn write<R: Wait + rt::Clock>(
         &self,
         _rt: &R,
         _client: &mut MuteClient,
@@ -76,7 +69,7 @@ impl Engine for Mute {
         }
     }
 
-    fn get<R: Wait>(
+    fn get<R: Wait + rt::Clock>(
         &self,
         _rt: &R,
         _client: &mut MuteClient,
@@ -86,7 +79,7 @@ impl Engine for Mute {
         Err(NoMemory)
     }
 
-    fn get_many<R: Wait>(
+    fn get_many<R: Wait + rt::Clock>(
         &self,
         _rt: &R,
         _client: &mut MuteClient,
@@ -96,7 +89,7 @@ impl Engine for Mute {
         Err(NoMemory)
     }
 
-    fn scan<R: Wait>(
+    fn scan<R: Wait + rt::Clock>(
         &self,
         _rt: &R,
         _client: &mut MuteClient,
@@ -107,44 +100,49 @@ impl Engine for Mute {
         Err(NoMemory)
     }
 
-    fn stop<R: Wait>(&self, rt: &R, _client: &mut MuteClient) -> Result<(), Held> {
+    fn stop<R: Wait + rt::Clock>(&self, rt: &R, _client: &mut MuteClient) -> Result<(), Held> {
         for _ in rt.forever() {}
         unreachable!()
     }
 
-    fn unstop<R: Wait>(&self, _rt: &R, _client: &mut MuteClient) -> Result<(), NotHeld> {
+    fn unstop<R: Wait + rt::Clock>(
+        &self,
+        _rt: &R,
+        _client: &mut MuteClient,
+    ) -> Result<(), NotHeld> {
         earlier_sights();
         Err(NotHeld)
     }
 
-    fn slow<R: Wait>(&self, rt: &R, _client: &mut MuteClient, _rate: u64) -> Result<(), Held> {
+    fn slow<R: Wait + rt::Clock>(
+        &self,
+        rt: &R,
+        _client: &mut MuteClient,
+        _rate: u64,
+    ) -> Result<(), Held> {
         for _ in rt.forever() {}
         unreachable!()
     }
 
-    fn unslow<R: Wait>(&self, _rt: &R, _client: &mut MuteClient) -> Result<(), NotHeld> {
+    fn unslow<R: Wait + rt::Clock>(
+        &self,
+        _rt: &R,
+        _client: &mut MuteClient,
+    ) -> Result<(), NotHeld> {
         earlier_sights();
         Err(NotHeld)
     }
 
-    fn end<R: Wait>(&self, _rt: &R, _client: &mut MuteClient) {
+    fn end<R: Wait + rt::Clock>(&self, _rt: &R, _client: &mut MuteClient) {
         earlier_sights();
         self.ended.fetch_add(1, Ordering::SeqCst);
     }
 
-    fn close<R: Wait>(self, rt: &R, clients: Clients<MuteClient, ()>) -> Closed<NoLog>
+    fn close<R: Wait + rt::Clock>(self, rt: &R, clients: Clients<MuteClient, ()>) -> Closed<NoLog>
         requires all { AreOurs (λ c. ⊤) (λ c. newcomer 0 c.number) self.clients clients.clients.items }
         requires room { ⊤ }
-        ensures { let accounts = map (λ c. newcomer 0 c.number) clients.clients.items in
-            (trace : Trace) × (groups : List Group)
-            × IsClosing (record {
-              start = 0;
-              clients = self.clients;
-              group_bytes = 0;
-              batch_bytes = self.batch_bytes;
-              opened = 0;
-            }) 0 trace groups accounts result.last None
-            × WritesLog 0 (λ calls. ⊤) trace (all_attempts accounts) None }
+        ensures { HasOneTrace (settings_for self.clients self.batch_bytes) 0
+            (map (λ c. newcomer 0 c.number) clients.clients.items) result.last None (λ calls. ⊤) }
     {
         let Clients {
             clients: _,

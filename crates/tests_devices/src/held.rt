@@ -3,6 +3,7 @@
 use crate::checks::check;
 use base_devices::{Disk, Failed, MemDisk};
 use std::process::Abort;
+use std::rt;
 use std::sync::Wait;
 use std::test::Fail;
 use std::thread::{self, Threads};
@@ -17,7 +18,7 @@ fn append_all<D: Disk>(disk: &mut D, pieces: &[&[u8]]) -> Result<(), Failed> {
 }
 
 /// Arrives once the held append was begun, and answers whether the hold was open before.
-fn arrive_after<R: Wait>(rt: &R, hold: &AppendHold) -> bool {
+fn arrive_after<R: Wait + rt::Clock>(rt: &R, hold: &AppendHold) -> bool {
     for _ in rt.forever() {
         if hold.is_entered() {
             break;
@@ -31,7 +32,7 @@ fn arrive_after<R: Wait>(rt: &R, hold: &AppendHold) -> bool {
 
 /// Appends twice, while another thread arrives. Answers what the appends came to, whether the hold was open before it
 /// arrived, and whether it is open behind that.
-fn append_held<R: Threads + Wait + Sync>(
+fn append_held<R: Threads + Wait + rt::Clock + Sync>(
     rt: &R,
     disk: &mut HeldDisk<'_>,
     hold: &AppendHold,
@@ -60,7 +61,7 @@ fn read_at<D: Disk>(disk: &mut D, at: u64) -> ([u8; 8], Result<usize, Failed>, u
 }
 
 /// Holds an append to a disk of which so many bytes are safe before that, as of this one all are. Two more bytes come.
-fn check_held<R: Threads + Wait + Abort + Sync>(
+fn check_held<R: Threads + Wait + rt::Clock + Abort + Sync>(
     rt: &R,
     inner: MemDisk,
     at: u64,

@@ -6,6 +6,7 @@ ghost use Rattle.engine_controller.specs.Passes.{IsPassOf, AreNew};
 use base_devices::SteppedClock;
 use engine_controller::{Controller, Held, NotHeld, Pass, Passes};
 use std::process::Abort;
+use std::rt;
 use std::rt::HostRuntime;
 use std::sync::Wait;
 use std::test::Fail;
@@ -70,7 +71,7 @@ fn last_of(controller: &Stepped, mut passes: Passes, clients: u32) -> Option<Pas
     passes.clients.pop()
 }
 
-fn check_row<R: Wait + Abort>(rt: &R, controller: &Stepped, pass: &mut Pass, row: &Row)
+fn check_row<R: Wait + rt::Clock + Abort>(rt: &R, controller: &Stepped, pass: &mut Pass, row: &Row)
     requires own { IsPassOf controller.now pass.old }
 {
     let mut clock = SteppedClock::new(row.moment);

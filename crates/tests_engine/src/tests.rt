@@ -20,6 +20,7 @@ use model_base::{MAX_SIZE, Options, WriteOptions};
 use playing::{Notes, closed, opened, play_at_once};
 use std::alloc::Global;
 use std::process::Abort;
+use std::rt;
 use std::sync::{Mutex, Wait};
 use std::thread::Threads;
 
@@ -90,7 +91,7 @@ fn noted(rt: &impl Abort, alloc: Global, shared: Vec<Notes>) -> Vec<Vec<StepAnsw
 // Opens an engine over a table of so many shards, in one stage or two, with a client for each script, lets all play at
 // once, and closes it. The disk has much room, and its calls with a number in the list fail. The first batch is written
 // after this sequence.
-fn ended<R: Threads + Wait + Abort + Sync>(
+fn ended<R: Threads + Wait + rt::Clock + Abort + Sync>(
     rt: &R,
     alloc: Global,
     fails: &[u64],

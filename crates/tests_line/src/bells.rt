@@ -1,25 +1,24 @@
 //! Bells that nobody rings, and one that another thread rings.
 
-use base_waiting::Bells;
-use crossbeam_utils::Backoff;
+use base_waiting::{Bells, Pauses};
 use std::sync::Wait;
 use std::sync::atomic::AtomicU64;
 use std::sync::atomic::Ordering::SeqCst;
 use std::test::Fail;
-use std::thread;
+use std::{rt, thread};
 
 fn change(bells: &Bells, changed: &AtomicU64) {
     changed.store(1, SeqCst);
     bells.ring(1);
 }
 
-fn await_change<R: Wait>(rt: &R, bells: &Bells, changed: &AtomicU64) {
-    let backoff = Backoff::new();
+fn await_change<R: Wait + rt::Clock>(rt: &R, bells: &Bells, changed: &AtomicU64) {
+    let pauses = Pauses::new();
     for _ in rt.forever() {
         if changed.load(SeqCst) == 1 {
             return;
         }
-        bells.pause(rt, &backoff, 1);
+        bells.pause(rt, &pauses, 1);
     }
 }
 
@@ -27,12 +26,12 @@ fn await_change<R: Wait>(rt: &R, bells: &Bells, changed: &AtomicU64) {
 #[test]
 fn nobody_rings(rt: HostRuntime) -> Result<(), Fail> {
     let bells = Bells::for_clients(rt.alloc(), 2)?;
-    let backoff = Backoff::new();
+    let pauses = Pauses::new();
     for turn in 0..20 {
-        bells.pause(&rt, &backoff, 2);
+        bells.pause(&rt, &pauses, 2);
     }
     bells.ring(2);
-    bells.pause(&rt, &backoff, 3);
+    bells.pause(&rt, &pauses, 3);
     bells.ring(3);
     Ok(())
 }

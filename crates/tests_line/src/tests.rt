@@ -17,6 +17,7 @@ use playing::{
 };
 use std::alloc::Global;
 use std::process::Abort;
+use std::rt;
 use std::rt::HostRuntime;
 use std::sync::{Barrier, Wait};
 use std::test::Fail;
@@ -104,7 +105,13 @@ fn check_row(rt: &impl Abort, players: &[Player], row: &Row, from: u64) {
 }
 
 // A row's requests come in turn, and then each of the three waits for its role.
-fn play_row<R: Wait + Abort>(rt: &R, list: &Counted, players: &mut [Player], row: &Row, from: u64)
+fn play_row<R: Wait + rt::Clock + Abort>(
+    rt: &R,
+    list: &Counted,
+    players: &mut [Player],
+    row: &Row,
+    from: u64,
+)
     requires out { AllMayWrite list.now players.old × (length players.old ≡ 3) }
     requires plain { IsPlain list.now }
     ensures { AllMayWrite list.now players.new × (length players.new ≡ length players.old) }
@@ -137,7 +144,12 @@ fn a_smaller_bound_cuts_the_group(rt: HostRuntime) {
 }
 
 // The first leads, and the newcomer links itself when the group is made.
-fn lead_beside<R: Wait + Abort>(rt: &R, list: &Counted, first: &mut Player, newcomer: &mut Player)
+fn lead_beside<R: Wait + rt::Clock + Abort>(
+    rt: &R,
+    list: &Counted,
+    first: &mut Player,
+    newcomer: &mut Player,
+)
     requires first { HasAsked list.now first.old.writer.client first.old }
     requires newcomer { MayWrite list.now newcomer.old.writer.client newcomer.old }
     requires plain { IsPlain list.now }

@@ -16,6 +16,7 @@ use base_devices::{MemDisk, MemSink, MemSource, SteppedClock};
 use program_call::{Ended, run};
 use std::alloc::Global;
 use std::process::Abort;
+use std::rt;
 use std::sync::Wait;
 use std::thread::Threads;
 
@@ -156,7 +157,11 @@ fn devices_of(rt: &impl Abort, alloc: Global, given: Given) -> Devices {
 }
 
 /// Makes a call.
-fn came_of<R: Threads + Wait + Abort + Sync>(rt: &R, alloc: Global, given: Given) -> Came {
+fn came_of<R: Threads + Wait + rt::Clock + Abort + Sync>(
+    rt: &R,
+    alloc: Global,
+    given: Given,
+) -> Came {
     let Devices {
         words,
         mut source,
@@ -169,7 +174,7 @@ fn came_of<R: Threads + Wait + Abort + Sync>(rt: &R, alloc: Global, given: Given
 }
 
 /// Makes a call, compares its status and all that it printed, and gives its disk back.
-fn ended<R: Threads + Wait + Abort + Sync>(
+fn ended<R: Threads + Wait + rt::Clock + Abort + Sync>(
     rt: &R,
     alloc: Global,
     given: Given,
@@ -189,7 +194,7 @@ fn ended<R: Threads + Wait + Abort + Sync>(
 type Row = (&'static str, &'static [u8], &'static str);
 
 /// Makes calls that end with this status, over such a write path.
-fn check_rows<R: Threads + Wait + Abort + Sync>(
+fn check_rows<R: Threads + Wait + rt::Clock + Abort + Sync>(
     rt: &R,
     alloc: Global,
     path: WritePath,

@@ -2,6 +2,7 @@
 use Rattle.std.specs.Prelude.{ℕ, List, [], ◌∷◌, Some, None, codes}
 use Rattle.model_base.specs.Batch.{Record, value, deletion, single_deletion, log_data}
 use Rattle.table_rule.specs.declared.content.Version.{Version}
+use Rattle.table_rule.specs.declared.content.MemberVersions.{MemberVersions}
 use Rattle.table_rule.specs.Batches.{new_versions, number_from}
 
 abbrev pub one_of_each : List Record
@@ -21,3 +22,11 @@ delete_b sequence = record { key = codes "b"; value = None; sequence = sequence 
 
 abbrev pub delete_c : ℕ → Version
 delete_c sequence = record { key = codes "c"; value = None; sequence = sequence }
+
+-- the three, at these sequences
+abbrev pub three_at : ℕ → ℕ → ℕ → List Version
+three_at a b c = put_a a ∷ delete_b b ∷ delete_c c ∷ []
+
+-- a member's versions
+abbrev pub of_member : ℕ → List Version → MemberVersions
+of_member member versions = record { member = member; versions = versions }

@@ -7,6 +7,7 @@ use log_recovery::recover;
 use model_base::Refusal;
 use std::alloc::Global;
 use std::process::Abort;
+use std::rt;
 use std::rt::HostRuntime;
 use std::sync::Wait;
 use std::thread::Threads;
@@ -137,7 +138,12 @@ const ROWS: [Row; 4] = [
 ];
 
 // The record of a batch that puts one byte at a key of one byte has 24 bytes. The batch begins behind the first seven.
-fn check_row<R: Threads + Wait + Abort + Sync>(rt: &R, alloc: Global, row: &Row, pipelined: bool) {
+fn check_row<R: Threads + Wait + rt::Clock + Abort + Sync>(
+    rt: &R,
+    alloc: Global,
+    row: &Row,
+    pipelined: bool,
+) {
     assert!(rt; row.last < MAX_SEQUENCE);
     let scripts = vec![in alloc; script(rt, alloc, row.steps, 1)].expect(rt, "memory");
     let ended = ended(rt, alloc, row.fails, row.last, 1, pipelined, &scripts);

@@ -7,6 +7,7 @@ use crate::script::{Step, StepAnswer};
 use log_batch::Run;
 use std::alloc::Global;
 use std::process::Abort;
+use std::rt;
 use std::rt::HostRuntime;
 use std::sync::Wait;
 use std::thread::Threads;
@@ -57,7 +58,7 @@ fn owners(rt: &impl Abort, notes: &[Vec<StepAnswer>], round: Round) -> [usize; 2
 }
 
 // Two clients write a hundred times each: the runs 1 to 200 are given once each.
-fn two_write<R: Threads + Wait + Abort + Sync>(rt: &R, alloc: Global, pipelined: bool) {
+fn two_write<R: Threads + Wait + rt::Clock + Abort + Sync>(rt: &R, alloc: Global, pipelined: bool) {
     let round = Round {
         calls: 100,
         writes: 200,
@@ -151,7 +152,7 @@ fn check_read(rt: &impl Abort, owner: &[usize; 201], note: StepAnswer) {
 }
 
 // Four clients write both keys and read them, over a table of any number of shards, in one stage or two.
-fn write_and_read_both<R: Threads + Wait + Abort + Sync>(
+fn write_and_read_both<R: Threads + Wait + rt::Clock + Abort + Sync>(
     rt: &R,
     alloc: Global,
     shards: u32,

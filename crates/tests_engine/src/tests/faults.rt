@@ -7,6 +7,7 @@ use log_recovery::recover;
 use model_base::{Refusal, WriteOptions};
 use std::alloc::Global;
 use std::process::Abort;
+use std::rt;
 use std::rt::HostRuntime;
 use std::sync::Wait;
 use std::thread::Threads;
@@ -51,7 +52,7 @@ fn safe_part(rt: &impl Abort, alloc: Global, disk: MemDisk) -> MemDisk {
     MemDisk::new(alloc, content.len(), content, &[]).expect(rt, "memory")
 }
 
-fn check_fault<R: Threads + Wait + Abort + Sync>(
+fn check_fault<R: Threads + Wait + rt::Clock + Abort + Sync>(
     rt: &R,
     alloc: Global,
     fails: u64,

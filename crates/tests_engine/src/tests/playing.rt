@@ -17,8 +17,8 @@ use model_base::{MAX_CLIENTS, MAX_SIZE, Options, WriteOptions};
 use std::alloc::Global;
 use std::process::Abort;
 use std::sync::{Mutex, Wait};
-use std::thread;
 use std::thread::Threads;
+use std::{rt, thread};
 use table_memory::MemoryTable;
 
 pub(super) type Path = GroupEngine<MemDisk, MemoryTable, SteppedClock, OpenGate>;
@@ -97,7 +97,7 @@ fn saw(read: &Read) -> StepAnswer {
 }
 
 // Where the write is refused, the batch is what was given back last.
-fn write<R: Wait>(
+fn write<R: Wait + rt::Clock>(
     rt: &R,
     engine: &Path,
     client: &mut Member,
@@ -117,7 +117,7 @@ fn write<R: Wait>(
     }
 }
 
-fn read<R: Wait>(rt: &R, engine: &Path, client: &mut Member, key: &[u8]) -> StepAnswer
+fn read<R: Wait + rt::Clock>(rt: &R, engine: &Path, client: &mut Member, key: &[u8]) -> StepAnswer
     requires { MayCall engine.now client.old }
     ensures { MayCall engine.now client.new × (number_of client.new ≡ number_of client.old) }
 {
@@ -127,7 +127,7 @@ fn read<R: Wait>(rt: &R, engine: &Path, client: &mut Member, key: &[u8]) -> Step
     }
 }
 
-fn stop<R: Wait>(rt: &R, engine: &Path, client: &mut Member) -> StepAnswer
+fn stop<R: Wait + rt::Clock>(rt: &R, engine: &Path, client: &mut Member) -> StepAnswer
     requires { MayCall engine.now client.old }
     ensures { MayCall engine.now client.new × (number_of client.new ≡ number_of client.old) }
 {
@@ -137,7 +137,7 @@ fn stop<R: Wait>(rt: &R, engine: &Path, client: &mut Member) -> StepAnswer
     }
 }
 
-fn unstop<R: Wait>(rt: &R, engine: &Path, client: &mut Member) -> StepAnswer
+fn unstop<R: Wait + rt::Clock>(rt: &R, engine: &Path, client: &mut Member) -> StepAnswer
     requires { MayCall engine.now client.old }
     ensures { MayCall engine.now client.new × (number_of client.new ≡ number_of client.old) }
 {
@@ -147,7 +147,7 @@ fn unstop<R: Wait>(rt: &R, engine: &Path, client: &mut Member) -> StepAnswer
     }
 }
 
-fn slow<R: Wait>(rt: &R, engine: &Path, client: &mut Member, rate: u64) -> StepAnswer
+fn slow<R: Wait + rt::Clock>(rt: &R, engine: &Path, client: &mut Member, rate: u64) -> StepAnswer
     requires { MayCall engine.now client.old }
     ensures { MayCall engine.now client.new × (number_of client.new ≡ number_of client.old) }
 {
@@ -157,7 +157,7 @@ fn slow<R: Wait>(rt: &R, engine: &Path, client: &mut Member, rate: u64) -> StepA
     }
 }
 
-fn unslow<R: Wait>(rt: &R, engine: &Path, client: &mut Member) -> StepAnswer
+fn unslow<R: Wait + rt::Clock>(rt: &R, engine: &Path, client: &mut Member) -> StepAnswer
     requires { MayCall engine.now client.old }
     ensures { MayCall engine.now client.new × (number_of client.new ≡ number_of client.old) }
 {
@@ -167,7 +167,7 @@ fn unslow<R: Wait>(rt: &R, engine: &Path, client: &mut Member) -> StepAnswer
     }
 }
 
-fn step<R: Wait + Abort>(
+fn step<R: Wait + rt::Clock + Abort>(
     rt: &R,
     alloc: Global,
     engine: &Path,
@@ -196,7 +196,7 @@ fn step<R: Wait + Abort>(
 }
 
 // Takes the steps one after the other, and notes what it is told.
-fn play<R: Wait + Abort>(
+fn play<R: Wait + rt::Clock + Abort>(
     rt: &R,
     alloc: Global,
     engine: &Path,
@@ -215,7 +215,7 @@ fn play<R: Wait + Abort>(
 }
 
 // The script and the notes of one of the clients.
-fn play_own<R: Wait + Abort>(
+fn play_own<R: Wait + rt::Clock + Abort>(
     rt: &R,
     alloc: Global,
     engine: &Path,
@@ -234,7 +234,7 @@ fn play_own<R: Wait + Abort>(
 }
 
 // All clients play at once, each on a thread of its own.
-pub(super) fn play_at_once<R: Threads + Wait + Abort + Sync>(
+pub(super) fn play_at_once<R: Threads + Wait + rt::Clock + Abort + Sync>(
     rt: &R,
     alloc: Global,
     engine: &Path,
@@ -254,7 +254,11 @@ pub(super) fn play_at_once<R: Threads + Wait + Abort + Sync>(
 }
 
 // The log and the last published sequence.
-pub(super) fn closed<R: Wait>(rt: &R, engine: Path, all: Members) -> (LogWriter<MemDisk>, u64)
+pub(super) fn closed<R: Wait + rt::Clock>(
+    rt: &R,
+    engine: Path,
+    all: Members,
+) -> (LogWriter<MemDisk>, u64)
     requires { AreAll engine all }
 {
     let Closed { log, last } = engine.close(rt, all);

@@ -5,6 +5,7 @@ use crate::script::{Step, StepAnswer};
 use model_base::Refusal;
 use std::alloc::Global;
 use std::process::Abort;
+use std::rt;
 use std::rt::HostRuntime;
 use std::sync::Wait;
 use std::thread::Threads;
@@ -38,7 +39,11 @@ fn last_written(rt: &impl Abort, told: &[StepAnswer]) -> u64 {
 }
 
 // One client stops and unstops, and never writes between. Another writes.
-fn stop_and_write<R: Threads + Wait + Abort + Sync>(rt: &R, alloc: Global, pipelined: bool) {
+fn stop_and_write<R: Threads + Wait + rt::Clock + Abort + Sync>(
+    rt: &R,
+    alloc: Global,
+    pipelined: bool,
+) {
     let stops = script(rt, alloc, &[Step::Stop, Step::Unstop], 20);
     let writes = script(rt, alloc, &[HASTY_PUT, PUT_B], 20);
     let ended = ended(rt, alloc, &[], 0, 1, pipelined, &[stops, writes]);

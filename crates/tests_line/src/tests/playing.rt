@@ -13,8 +13,8 @@ use model_base::{Item, MAX_SIZE};
 use std::alloc::Global;
 use std::process::Abort;
 use std::sync::{Barrier, Wait};
-use std::thread;
 use std::thread::Threads;
+use std::{rt, thread};
 
 pub(super) type Counted = WriterList<CountRequest, CountReply, CountLog, Nothing>;
 
@@ -70,7 +70,7 @@ pub(super) fn lead(
 }
 
 // Links the writer with a request.
-pub(super) fn ask<R: Wait>(rt: &R, list: &Counted, writer: &mut Seat, item: Item)
+pub(super) fn ask<R: Wait + rt::Clock>(rt: &R, list: &Counted, writer: &mut Seat, item: Item)
     requires out { Belongs list.now writer.old × IsOut writer.old × (item.size ≤ MAX_SIZE) }
     ensures linked { Belongs list.now writer.new × IsAsking list.now writer.new
         × (writer.new.client ≡ writer.old.client) }
@@ -79,7 +79,7 @@ pub(super) fn ask<R: Wait>(rt: &R, list: &Counted, writer: &mut Seat, item: Item
 }
 
 // The answer, and the size of the group where the writer led.
-pub(super) fn served<R: Wait>(
+pub(super) fn served<R: Wait + rt::Clock>(
     rt: &R,
     list: &Counted,
     writer: &mut Seat,
@@ -98,7 +98,7 @@ pub(super) fn served<R: Wait>(
 }
 
 // Waits for the role, leads where it is to, and notes what it was told.
-pub(super) fn finish<R: Wait>(rt: &R, list: &Counted, player: &mut Player)
+pub(super) fn finish<R: Wait + rt::Clock>(rt: &R, list: &Counted, player: &mut Player)
     requires asked { HasAsked list.now player.old.writer.client player.old }
     requires plain { IsPlain list.now }
     ensures { MayWrite list.now player.old.writer.client player.new }
@@ -109,7 +109,7 @@ pub(super) fn finish<R: Wait>(rt: &R, list: &Counted, player: &mut Player)
 }
 
 // Each links itself, one after the other, with its item.
-pub(super) fn ask_all<R: Wait + Abort>(
+pub(super) fn ask_all<R: Wait + rt::Clock + Abort>(
     rt: &R,
     list: &Counted,
     players: &mut [Player],
@@ -127,7 +127,7 @@ pub(super) fn ask_all<R: Wait + Abort>(
 }
 
 // Each waits for its role, one after the other.
-pub(super) fn finish_all<R: Wait>(rt: &R, list: &Counted, players: &mut [Player])
+pub(super) fn finish_all<R: Wait + rt::Clock>(rt: &R, list: &Counted, players: &mut [Player])
     requires asked { AllHaveAsked list.now players.old }
     requires plain { IsPlain list.now }
     ensures { AllMayWrite list.now players.new × (length players.new ≡ length players.old) }
@@ -138,14 +138,14 @@ pub(super) fn finish_all<R: Wait>(rt: &R, list: &Counted, players: &mut [Player]
 }
 
 // Waits for the others, where there is a barrier.
-fn meet<R: Wait>(rt: &R, linked: &Option<Barrier>) {
+fn meet<R: Wait + rt::Clock>(rt: &R, linked: &Option<Barrier>) {
     if let Some(barrier) = linked {
         barrier.wait(rt);
     }
 }
 
 // Writes so many times. With a barrier it waits there for the others when it is linked.
-pub(super) fn write_often<R: Wait>(
+pub(super) fn write_often<R: Wait + rt::Clock>(
     rt: &R,
     list: &Counted,
     player: &mut Player,
@@ -167,7 +167,7 @@ pub(super) fn write_often<R: Wait>(
 
 // All write so many times at once, each on a thread of its own. The sizes are the clients' numbers. With a barrier for
 // all of them each group is made when all are linked.
-pub(super) fn write_at_once<R: Threads + Wait + Sync>(
+pub(super) fn write_at_once<R: Threads + Wait + rt::Clock + Sync>(
     rt: &R,
     list: &Counted,
     players: &mut [Player],

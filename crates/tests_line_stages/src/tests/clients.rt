@@ -12,6 +12,7 @@ use line_writers::{Lists, Writer, WriterList};
 use model_base::{Item, MAX_SIZE};
 use std::alloc::Global;
 use std::process::Abort;
+use std::rt;
 use std::sync::Wait;
 use tests_line::{CountLog, CountReply, CountRequest, MAX};
 
@@ -126,7 +127,7 @@ fn unseat(list: &Counted, clients: &mut Vec<StagePlayer>, writers: &mut Vec<Seat
 }
 
 // Links the writer with a request.
-pub(super) fn ask<R: Wait>(rt: &R, list: &Counted, writer: &mut Seat, item: Item)
+pub(super) fn ask<R: Wait + rt::Clock>(rt: &R, list: &Counted, writer: &mut Seat, item: Item)
     requires out { Belongs list.now writer.old × IsOut writer.old × (item.size ≤ MAX_SIZE) }
     ensures linked { Belongs list.now writer.new × IsAsking list.now writer.new
         × (writer.new.client ≡ writer.old.client) }

@@ -12,6 +12,7 @@ use super::clients::{Counted, Seat};
 use crate::client::StagePlayer;
 use crate::counter::CountingRight;
 use line_writers::{Lists, PipelinedRole, Replies, members_in_order, replies_in_order};
+use std::rt;
 use std::sync::Wait;
 use tests_line::{CountLog, CountReply, CountRequest, answer_all};
 
@@ -46,7 +47,7 @@ fn note_members(replies: &Replies<CountReply>, members: &mut Vec<u32>)
 }
 
 // Answers the group, and sends it on to the second list: the counter before it and after it.
-pub(super) fn sent<R: Wait>(
+pub(super) fn sent<R: Wait + rt::Clock>(
     rt: &R,
     list: &Counted,
     client: &mut StagePlayer,
@@ -98,7 +99,11 @@ pub(super) fn refused(
 }
 
 // Waits until the group, which is sent on, is the first of the second list.
-pub(super) fn right_for<R: Wait>(rt: &R, list: &Counted, client: &mut StagePlayer) -> CountingRight
+pub(super) fn right_for<R: Wait + rt::Clock>(
+    rt: &R,
+    list: &Counted,
+    client: &mut StagePlayer,
+) -> CountingRight
     requires sent { IsSentOn list.now client.old }
     requires pipelined { IsPipelined list.now }
     ensures client { client.new.writer.client ≡ client.old.writer.client }

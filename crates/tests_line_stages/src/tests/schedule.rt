@@ -7,9 +7,9 @@ use super::clients::{Counted, ask};
 use super::leading::{grouped, launched, note_group, refused, right_for, sent, served};
 use crate::client::{PlayerStage, StagePlayer};
 use line_writers::PipelinedRole;
-use std::mem;
 use std::process::Abort;
 use std::sync::Wait;
+use std::{mem, rt};
 use tests_line::sized;
 
 /// A call of a client.
@@ -44,7 +44,7 @@ pub(super) enum Seen {
 pub(super) type Turn = (usize, Call, Seen);
 
 // Makes the calls one after the other.
-pub(super) fn play<R: Wait + Abort>(
+pub(super) fn play<R: Wait + rt::Clock + Abort>(
     rt: &R,
     list: &Counted,
     clients: &mut [StagePlayer],
@@ -64,7 +64,7 @@ pub(super) fn play<R: Wait + Abort>(
 }
 
 // The client at this place makes the call.
-fn turn<R: Wait + Abort>(
+fn turn<R: Wait + rt::Clock + Abort>(
     rt: &R,
     list: &Counted,
     clients: &mut [StagePlayer],
@@ -79,7 +79,12 @@ fn turn<R: Wait + Abort>(
     called(rt, list, &mut clients[i], call)
 }
 
-fn called<R: Wait + Abort>(rt: &R, list: &Counted, client: &mut StagePlayer, call: Call) -> Seen
+fn called<R: Wait + rt::Clock + Abort>(
+    rt: &R,
+    list: &Counted,
+    client: &mut StagePlayer,
+    call: Call,
+) -> Seen
     requires stands { Stands list.now client.old.writer.client client.old }
     requires pipelined { IsPipelined list.now }
     ensures { Stands list.now client.old.writer.client client.new }
@@ -95,7 +100,7 @@ fn called<R: Wait + Abort>(rt: &R, list: &Counted, client: &mut StagePlayer, cal
     }
 }
 
-fn link<R: Wait + Abort>(rt: &R, list: &Counted, client: &mut StagePlayer) -> Seen
+fn link<R: Wait + rt::Clock + Abort>(rt: &R, list: &Counted, client: &mut StagePlayer) -> Seen
     requires stands { Stands list.now client.old.writer.client client.old }
     ensures { Stands list.now client.old.writer.client client.new }
 {
@@ -107,7 +112,7 @@ fn link<R: Wait + Abort>(rt: &R, list: &Counted, client: &mut StagePlayer) -> Se
     Seen::Nothing
 }
 
-fn await_role<R: Wait + Abort>(rt: &R, list: &Counted, client: &mut StagePlayer) -> Seen
+fn await_role<R: Wait + rt::Clock + Abort>(rt: &R, list: &Counted, client: &mut StagePlayer) -> Seen
     requires stands { Stands list.now client.old.writer.client client.old }
     requires pipelined { IsPipelined list.now }
     ensures { Stands list.now client.old.writer.client client.new }
@@ -120,7 +125,7 @@ fn await_role<R: Wait + Abort>(rt: &R, list: &Counted, client: &mut StagePlayer)
 }
 
 // Waits in the first list.
-fn await_first<R: Wait>(rt: &R, list: &Counted, client: &mut StagePlayer) -> Seen
+fn await_first<R: Wait + rt::Clock>(rt: &R, list: &Counted, client: &mut StagePlayer) -> Seen
     requires asked { HasAsked list.now client.old.writer.client client.old }
     requires pipelined { IsPipelined list.now }
     ensures { Stands list.now client.old.writer.client client.new }
@@ -145,7 +150,7 @@ fn await_first<R: Wait>(rt: &R, list: &Counted, client: &mut StagePlayer) -> See
 }
 
 // Waits in the second list.
-fn await_right<R: Wait>(
+fn await_right<R: Wait + rt::Clock>(
     rt: &R,
     list: &Counted,
     client: &mut StagePlayer,
@@ -187,7 +192,11 @@ fn exit(rt: &impl Abort, list: &Counted, client: &mut StagePlayer) -> Seen
     Seen::Done(answer.number)
 }
 
-fn exit_pipelined<R: Wait + Abort>(rt: &R, list: &Counted, client: &mut StagePlayer) -> Seen
+fn exit_pipelined<R: Wait + rt::Clock + Abort>(
+    rt: &R,
+    list: &Counted,
+    client: &mut StagePlayer,
+) -> Seen
     requires stands { Stands list.now client.old.writer.client client.old }
     requires pipelined { IsPipelined list.now }
     ensures { Stands list.now client.old.writer.client client.new }

@@ -14,12 +14,12 @@ use model_base::{Item, MAX_SIZE};
 use std::sync::Wait;
 use std::sync::atomic::AtomicU64;
 use std::sync::atomic::Ordering::SeqCst;
-use std::thread;
 use std::thread::Threads;
+use std::{rt, thread};
 use tests_line::{CountLog, CountReply, note, sized};
 
 // Waits until all members have worked.
-fn await_members<R: Wait>(rt: &R, pending: &AtomicU64) {
+fn await_members<R: Wait + rt::Clock>(rt: &R, pending: &AtomicU64) {
     let backoff = Backoff::new();
     // `pending` is how many members have yet to work.
     for _ in rt.forever() {
@@ -32,7 +32,7 @@ fn await_members<R: Wait>(rt: &R, pending: &AtomicU64) {
 }
 
 // Serves the group, which is sent on, when it is the first, with all members beside the leader.
-fn serve<R: Wait>(
+fn serve<R: Wait + rt::Clock>(
     rt: &R,
     list: &Counted,
     client: &mut StagePlayer,
@@ -52,7 +52,7 @@ fn serve<R: Wait>(
     served(list, client, right)
 }
 
-fn lead<R: Wait>(
+fn lead<R: Wait + rt::Clock>(
     rt: &R,
     list: &Counted,
     client: &mut StagePlayer,
@@ -71,7 +71,12 @@ fn lead<R: Wait>(
 }
 
 // Waits for the role, and works beside its leader or leads where it is to, until it is done.
-fn finish<R: Wait>(rt: &R, list: &Counted, client: &mut StagePlayer, pending: &AtomicU64)
+fn finish<R: Wait + rt::Clock>(
+    rt: &R,
+    list: &Counted,
+    client: &mut StagePlayer,
+    pending: &AtomicU64,
+)
     requires asked { HasAsked list.now client.old.writer.client client.old }
     requires pipelined { IsPipelined list.now }
     ensures { MayWrite list.now client.old.writer.client client.new }
@@ -98,7 +103,7 @@ fn finish<R: Wait>(rt: &R, list: &Counted, client: &mut StagePlayer, pending: &A
 }
 
 // Writes so many times.
-fn write_often<R: Wait>(
+fn write_often<R: Wait + rt::Clock>(
     rt: &R,
     list: &Counted,
     client: &mut StagePlayer,
@@ -119,7 +124,7 @@ fn write_often<R: Wait>(
 }
 
 // All write so many times at once. The sizes are the clients' numbers.
-pub(super) fn write_at_once<R: Threads + Wait + Sync>(
+pub(super) fn write_at_once<R: Threads + Wait + rt::Clock + Sync>(
     rt: &R,
     list: &Counted,
     clients: &mut [StagePlayer],

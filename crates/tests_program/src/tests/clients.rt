@@ -3,12 +3,13 @@
 use super::{Came, Given, PATHS, PLAIN, came_of, check_texts};
 use std::alloc::Global;
 use std::process::Abort;
+use std::rt;
 use std::rt::HostRuntime;
 use std::sync::Wait;
 use std::thread::Threads;
 
 /// Runs a script twenty times over each write path, so that its clients may come in more than one order.
-fn check_clients<R: Threads + Wait + Abort + Sync>(
+fn check_clients<R: Threads + Wait + rt::Clock + Abort + Sync>(
     rt: &R,
     alloc: Global,
     given: Given,

@@ -15,8 +15,8 @@ use std::rt::HostRuntime;
 use std::sync::Wait;
 use std::sync::atomic::Ordering::SeqCst;
 use std::sync::atomic::{AtomicBool, AtomicU64};
-use std::thread;
 use std::thread::Threads;
+use std::{rt, thread};
 use tests_held_disk::{AppendHold, HeldDisk};
 
 /// How many turns a client waits at most: more than a test will take, so that a test in which nobody comes ends too.
@@ -174,7 +174,7 @@ impl<'a> Gate for Turnstile<'a> {
 }
 
 /// Lets clients meet over a write path. The table has its number of locks, and who waits in vain is to.
-fn meet<R: Threads + Wait + Abort + Sync>(
+fn meet<R: Threads + Wait + rt::Clock + Abort + Sync>(
     rt: &R,
     alloc: Global,
     meeting: Meeting,
@@ -371,7 +371,11 @@ const MEETINGS: [Meeting; 9] = [
 ];
 
 /// Lets them meet over each of its write paths.
-fn meet_on_each<R: Threads + Wait + Abort + Sync>(rt: &R, alloc: Global, meeting: Meeting) {
+fn meet_on_each<R: Threads + Wait + rt::Clock + Abort + Sync>(
+    rt: &R,
+    alloc: Global,
+    meeting: Meeting,
+) {
     for path in meeting.paths {
         meet(rt, alloc, meeting, *path);
     }

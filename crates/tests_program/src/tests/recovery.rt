@@ -3,12 +3,13 @@
 use super::{Given, PLAIN, RECORD, ended};
 use std::alloc::Global;
 use std::process::Abort;
+use std::rt;
 use std::rt::HostRuntime;
 use std::sync::Wait;
 use std::thread::Threads;
 
 /// Recovers a log, which is left as it is.
-pub(super) fn check_recovery<R: Threads + Wait + Abort + Sync>(
+pub(super) fn check_recovery<R: Threads + Wait + rt::Clock + Abort + Sync>(
     rt: &R,
     alloc: Global,
     content: &[u8],

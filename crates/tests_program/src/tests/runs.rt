@@ -8,6 +8,7 @@ use super::{
 use model_base::TEXT_LIMIT;
 use std::alloc::Global;
 use std::process::Abort;
+use std::rt;
 use std::rt::HostRuntime;
 use std::sync::Wait;
 use std::thread::Threads;
@@ -257,7 +258,7 @@ const FAULTS: [Left; 4] = [
 ];
 
 /// Runs scripts over such a write path, and compares what they leave on the disk too.
-fn check_left<R: Threads + Wait + Abort + Sync>(
+fn check_left<R: Threads + Wait + rt::Clock + Abort + Sync>(
     rt: &R,
     alloc: Global,
     path: WritePath,

@@ -15,8 +15,8 @@ use std::alloc::Global;
 use std::process::Abort;
 use std::sync::Wait;
 use std::test::Fail;
-use std::thread;
 use std::thread::Threads;
+use std::{rt, thread};
 use table_calls::Table;
 use table_memory::MemoryTable;
 use table_tree::{Nodes, Parts};
@@ -60,7 +60,7 @@ fn three_parts(rt: &impl Abort, alloc: Global) -> Parts
 }
 
 // Launches the group of three, takes part in it and waits until it is published. Whether the client published it.
-fn lead<R: Wait + Abort>(
+fn lead<R: Wait + rt::Clock + Abort>(
     rt: &R,
     alloc: Global,
     table: &MemoryTable,
@@ -90,7 +90,7 @@ fn count_values(found: &[Found]) -> usize {
 }
 
 // How many of the keys have a value, all read at once, and of which sequence that is.
-fn read_all<R: Wait + Abort>(
+fn read_all<R: Wait + rt::Clock + Abort>(
     rt: &R,
     alloc: Global,
     table: &MemoryTable,
@@ -105,7 +105,7 @@ fn read_all<R: Wait + Abort>(
 }
 
 // How many rows there are, and of which sequence that is.
-fn scan_all<R: Wait + Abort>(
+fn scan_all<R: Wait + rt::Clock + Abort>(
     rt: &R,
     alloc: Global,
     table: &MemoryTable,
@@ -125,7 +125,12 @@ fn check_whole(rt: &impl Abort, read: (u64, usize)) {
 }
 
 // Reads until the group is seen.
-fn watch<R: Wait + Abort>(rt: &R, alloc: Global, table: &MemoryTable, seat: &mut MemSeat)
+fn watch<R: Wait + rt::Clock + Abort>(
+    rt: &R,
+    alloc: Global,
+    table: &MemoryTable,
+    seat: &mut MemSeat,
+)
     requires { IsOurs table.now seat.old }
 {
     let keys = keys_of(rt, alloc, &[b"b", b"c", b"d"]);
@@ -142,7 +147,12 @@ fn watch<R: Wait + Abort>(rt: &R, alloc: Global, table: &MemoryTable, seat: &mut
 }
 
 // What a client does: who has the turn leads, the last one reads, and the others take part.
-fn play<R: Wait + Abort>(rt: &R, alloc: Global, table: &MemoryTable, player: &mut Player)
+fn play<R: Wait + rt::Clock + Abort>(
+    rt: &R,
+    alloc: Global,
+    table: &MemoryTable,
+    player: &mut Player,
+)
     requires opening { IsForFour table.now }
     requires player { MayPlay table.now player.old.seat player.old.turn }
 {
@@ -159,7 +169,7 @@ fn play<R: Wait + Abort>(rt: &R, alloc: Global, table: &MemoryTable, player: &mu
 }
 
 // All play at once, each on a thread of its own.
-fn play_at_once<R: Threads + Wait + Abort + Sync>(
+fn play_at_once<R: Threads + Wait + rt::Clock + Abort + Sync>(
     rt: &R,
     alloc: Global,
     table: &MemoryTable,
@@ -177,7 +187,7 @@ fn play_at_once<R: Threads + Wait + Abort + Sync>(
 }
 
 // Three members and a reader over a table of so many shards: just one member publishes the group.
-fn race_over<R: Threads + Wait + Abort + Sync>(
+fn race_over<R: Threads + Wait + rt::Clock + Abort + Sync>(
     rt: &R,
     alloc: Global,
     shards: u32,

@@ -13,6 +13,7 @@ use super::rows::{are_found, are_rows, is_found, keys_of, value_of};
 use base_bytes::Bytes;
 use std::alloc::Global;
 use std::process::Abort;
+use std::rt;
 use std::sync::Wait;
 use std::test::Fail;
 use table_calls::{Finished, Seats, Table};
@@ -65,7 +66,7 @@ const ROUNDS: [Round; 5] = [
 
 // Takes the client's part of a launched group, and inserts and finishes it. Whether it was the last to finish, and
 // published the group.
-pub(super) fn complete<R: Wait>(rt: &R, table: &MemoryTable, seat: &mut MemSeat) -> bool
+pub(super) fn complete<R: Wait + rt::Clock>(rt: &R, table: &MemoryTable, seat: &mut MemSeat) -> bool
     requires ours { IsOurs table.now seat.old }
     requires free { MayTake (account_of seat.old).stage }
     ensures ours { IsOurs table.now seat.new }
@@ -86,7 +87,7 @@ pub(super) fn complete<R: Wait>(rt: &R, table: &MemoryTable, seat: &mut MemSeat)
 
 // A group of so many nodes behind the sequence `last` is launched by a client that has no part of it, and published.
 // Its only member is the last to finish: else nobody would publish it, and this wouldn't return.
-fn write<R: Wait + Abort>(
+fn write<R: Wait + rt::Clock + Abort>(
     rt: &R,
     alloc: Global,
     table: &MemoryTable,
@@ -161,7 +162,7 @@ fn close(
 }
 
 // Each key, read alone, has what its row says, as of this sequence.
-fn check_each<R: Wait + Abort>(
+fn check_each<R: Wait + rt::Clock + Abort>(
     rt: &R,
     alloc: Global,
     table: &MemoryTable,
@@ -183,7 +184,7 @@ fn check_each<R: Wait + Abort>(
 
 // The keys read together, those from `a` on and below `z`, and each alone, have what their rows say, as of this
 // sequence. `e` has no row.
-fn check<R: Wait + Abort>(
+fn check<R: Wait + rt::Clock + Abort>(
     rt: &R,
     alloc: Global,
     table: &MemoryTable,
@@ -214,7 +215,7 @@ fn check<R: Wait + Abort>(
 }
 
 // Client 1 launches the group of each round, and the other one publishes it, and reads after it.
-fn play<R: Wait + Abort>(
+fn play<R: Wait + rt::Clock + Abort>(
     rt: &R,
     alloc: Global,
     table: &MemoryTable,
@@ -243,7 +244,7 @@ fn play<R: Wait + Abort>(
 }
 
 // All rounds over a table of so many shards, which has a lock for each.
-fn try_over<R: Wait + Abort>(rt: &R, alloc: Global, shards: u32) -> Result<(), Fail>
+fn try_over<R: Wait + rt::Clock + Abort>(rt: &R, alloc: Global, shards: u32) -> Result<(), Fail>
     requires { 0 < shards }
 {
     let (table, turn, mut leader, mut member) = open_for_two(alloc, shards)?;

@@ -20,7 +20,7 @@ other_found (Ok x) found new then h = search
 other_found (Err x) found new then h = (λ e. absurd (true≢false (sym (eq_here x found e) ∙ h.0)), h.1)
 
 pub returns-clause-ok : goal.returns-clause-ok
-returns-clause-ok g c = exchanged c.compare_exchange_as.result c.args.found c.args.new (λ x y. g.M.Outcome.then (cell_view c.args.seat.now) x y (cell_view c.compare_exchange_as.new.pass)) c.compare_exchange_as.ensures.rule
+returns-clause-ok g c = exchanged c.compare_exchange_as.result c.args.found c.args.new (λ x y. g.Picked.Outcome.then (cell_view c.args.seat.now) x y (cell_view c.compare_exchange_as.new.pass)) c.compare_exchange_as.ensures.rule
 
 pub returns-clause-err : goal.returns-clause-err
-returns-clause-err g c = other_found c.compare_exchange_as.result c.args.found c.args.new (λ x y. g.M.Outcome.then (cell_view c.args.seat.now) x y (cell_view c.compare_exchange_as.new.pass)) c.compare_exchange_as.ensures.rule
+returns-clause-err g c = other_found c.compare_exchange_as.result c.args.found c.args.new (λ x y. g.Picked.Outcome.then (cell_view c.args.seat.now) x y (cell_view c.compare_exchange_as.new.pass)) c.compare_exchange_as.ensures.rule

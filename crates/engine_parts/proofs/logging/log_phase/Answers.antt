@@ -24,7 +24,9 @@ abbrev as_is : List (List MemberVersions) → List (List MemberVersions)
 as_is u = u
 
 pub returns-in-Some-clause-path : goal.returns-in-Some-clause-path
-returns-in-Some-clause-path g c opened start gb asked went published hs numbers led comes is_asked proceeds s =
+returns-in-Some-clause-path g c past went goes s =
+    let opened = past.opened in let start = past.start in let gb = past.group_bytes in let asked = past.asked in let published = past.published in let hs = past.handled in
+    let led = goes.led in let numbers = goes.numbers in let comes = goes.comes_after in let is_asked = goes.asked_for in let proceeds = goes.proceeds in
     let xs = c.args.requests.now.items in let h = c.args.path in let clients = c.args.layout.now.parts.clients in
     subst (λ ys. Stands our_log as_is tt opened start clients gb went h.log published h.last (hs ++ handled_with xs ys)) (sym c.refuse_all.ensures.replies)
     (stands_dead our_log as_is tt opened start clients gb asked h.log published h.last hs s xs led.lawful led.whole c.args.delay.now numbers is_asked comes went proceeds c.in-Some.count (sym c.fault.ensures ∙ c.in-Some.is))
@@ -43,7 +45,9 @@ answer_layout-requires-clause-room g c =
     layout_room c.args.path.last (vec_capacity c.args.replies.now) c.args.requests.now.items c.drop_parts.new.self.numberings.items (ap (λ v. v.items) d.0 ∙ n.numberings) c.requires.replies.1
 
 pub returns-then-is_empty-clause-path : goal.returns-then-is_empty-clause-path
-returns-then-is_empty-clause-path g c opened start gb asked went published hs numbers led comes is_asked proceeds s =
+returns-then-is_empty-clause-path g c past went goes s =
+    let opened = past.opened in let start = past.start in let gb = past.group_bytes in let asked = past.asked in let published = past.published in let hs = past.handled in
+    let led = goes.led in let numbers = goes.numbers in let comes = goes.comes_after in let is_asked = goes.asked_for in let proceeds = goes.proceeds in
     let xs = c.args.requests.now.items in let h = c.args.path in let clients = c.args.layout.now.parts.clients in let n = c.lay_out-end.ensures in
     let d = c.drop_parts.ensures.others in
     let none : c.lay_out-end.new.batches.items ≡ [] = empty_list c.lay_out-end.new.batches.items (sym c.lay_out-end.new.batches.ok.0 ∙ none_left _ (sym c.is_empty.ensures ∙ c.if-is_empty.true)) in
@@ -85,7 +89,9 @@ answer_layout-requires-in-Err-clause-room g c =
     layout_room c.args.path.last (vec_capacity c.args.replies.now) c.args.requests.now.items c.drop_parts-in-Err.new.self.numberings.items (ap (λ v. v.items) d.0 ∙ n.numberings) c.requires.replies.1
 
 pub returns-in-Err-clause-path : goal.returns-in-Err-clause-path
-returns-in-Err-clause-path g c opened start gb asked went published hs numbers led comes is_asked proceeds s =
+returns-in-Err-clause-path g c past went goes s =
+    let opened = past.opened in let start = past.start in let gb = past.group_bytes in let asked = past.asked in let published = past.published in let hs = past.handled in
+    let led = goes.led in let numbers = goes.numbers in let comes = goes.comes_after in let is_asked = goes.asked_for in let proceeds = goes.proceeds in
     let xs = c.args.requests.now.items in let h = c.args.path in let clients = c.args.layout.now.parts.clients in let n = c.lay_out-end.ensures in
     let d = c.drop_parts-in-Err.ensures.others in
     let alive : fault_of h.log ≡ None = sym c.fault.ensures ∙ none_is c.fault.result c.in_default.not-Some in
@@ -113,7 +119,9 @@ pub answer_layout-requires-2-clause-room : goal.answer_layout-requires-2-clause-
 answer_layout-requires-2-clause-room g c = layout_room c.args.path.last (vec_capacity c.args.replies.now) c.args.requests.now.items c.lay_out-end.new.numberings.items c.lay_out-end.ensures.numberings c.requires.replies.1
 
 pub returns-clause-path : goal.returns-clause-path
-returns-clause-path g c opened start gb asked went published hs numbers led comes is_asked proceeds s =
+returns-clause-path g c past went goes s =
+    let opened = past.opened in let start = past.start in let gb = past.group_bytes in let asked = past.asked in let published = past.published in let hs = past.handled in
+    let led = goes.led in let numbers = goes.numbers in let comes = goes.comes_after in let is_asked = goes.asked_for in let proceeds = goes.proceeds in
     let xs = c.args.requests.now.items in let h = c.args.path in let clients = c.args.layout.now.parts.clients in let n = c.lay_out-end.ensures in
     let alive : fault_of h.log ≡ None = sym c.fault.ensures ∙ none_is c.fault.result c.in_default.not-Some in
     let are : c.as_slice.result.now ≡ batches_of h.last xs = c.as_slice.ensures.value ∙ n.batches in

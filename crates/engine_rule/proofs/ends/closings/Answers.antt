@@ -5,6 +5,6 @@ use Rattle.engine_rule.proofs.ends.closings.Goals as goal
 
 pub returns : goal.returns
 returns c = record {
-  closing = λ settings ended commits last fault published calls asked history accounts is all legal calls_of within are rose. closing settings commits last fault published calls asked history is accounts all are legal calls_of within ended rose;
-  log = λ settings commits last fault published calls asked history accounts is all are. writes_log settings commits last fault published calls asked history is accounts all are (λ (made : List GroupCall). made ≡ calls) refl;
+  closing = λ settings ended s history accounts is are legal calls_of within rose. closing settings s.commits s.last s.fault s.published s.calls s.asked history is accounts are.all are.each legal calls_of within ended rose;
+  log = λ settings s history accounts is are. writes_log settings s.commits s.last s.fault s.published s.calls s.asked history is accounts are.all are.each (λ (made : List GroupCall). made ≡ s.calls) refl;
 }

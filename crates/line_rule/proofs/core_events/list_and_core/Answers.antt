@@ -10,43 +10,43 @@ pub returns-clause-link : goal.returns-clause-link
 returns-clause-link g c writer_of reply_of o s a b ws e r ev commits = comes_core writer_of reply_of o s a b ws e r ev commits
 
 pub returns-clause-elect : goal.returns-clause-elect
-returns-clause-elect g c writer_of reply_of o s a b ws e same r ev = leads_core writer_of reply_of o s a b ws e same r ev
+returns-clause-elect g c writer_of reply_of o s a b ws e (same, r) ev = leads_core writer_of reply_of o s a b ws e same r ev
 
 pub returns-clause-build : goal.returns-clause-build
-returns-clause-build g c writer_of reply_of o s a b ws own group left same has r ev = groups_core writer_of reply_of o s a b ws own group left same has r ev
+returns-clause-build g c writer_of reply_of o s a b ws own (same, r) has (group, left, ev) = groups_core writer_of reply_of o s a b ws own group left same has r ev
 
 pub returns-clause-log : goal.returns-clause-log
-returns-clause-log g c writer_of reply_of o s a old ws built own group same r held is alive runs one = logs_there writer_of reply_of o s a a old ws built own group same r held is alive runs one
+returns-clause-log g c writer_of reply_of o s a old ws own group (same, r) held (built, is, alive, runs) one = logs_there writer_of reply_of o s a a old ws built own group same r held is alive runs one
 
 pub returns-clause-boundary : goal.returns-clause-boundary
-returns-clause-boundary g c writer_of reply_of o s a b ws client squad two same r is ev = boundary_core writer_of reply_of o s a b ws client squad two same r is ev
+returns-clause-boundary g c writer_of reply_of o s a b ws client squad two (same, r) is ev = boundary_core writer_of reply_of o s a b ws client squad two same r is ev
 
 pub returns-clause-second : goal.returns-clause-second
-returns-clause-second g c writer_of reply_of o s a b ws client squad to same r ev = second_core writer_of reply_of o s a b ws client squad to same r ev
+returns-clause-second g c writer_of reply_of o s a b ws client squad to (same, r) ev = second_core writer_of reply_of o s a b ws client squad to same r ev
 
 pub returns-clause-next : goal.returns-clause-next
-returns-clause-next g c writer_of reply_of o s a b ws back squad own p gs r ev there has = next_core writer_of reply_of o s a b ws back squad own p gs r ev there has
+returns-clause-next g c writer_of reply_of o s a b ws back squad own p gs there r ev has = next_core writer_of reply_of o s a b ws back squad own p gs r ev there has
 
 pub returns-clause-next_of_handed : goal.returns-clause-next_of_handed
 returns-clause-next_of_handed g c writer_of reply_of o s new a ws client r came = next_there writer_of reply_of o s a a ws client new r came
 
 pub returns-clause-exit_second : goal.returns-clause-exit_second
-returns-clause-exit_second g c writer_of reply_of o s a b ws client squad two same r is ev = serves_core writer_of reply_of o s a b ws client squad two same r is ev
+returns-clause-exit_second g c writer_of reply_of o s a b ws client squad two (same, r) is ev = serves_core writer_of reply_of o s a b ws client squad two same r is ev
 
 pub returns-clause-log_refused : goal.returns-clause-log_refused
-returns-clause-log_refused g c writer_of reply_of o s a b old ws built own p gs same r ev is alive runs no_run has = log_leaves writer_of reply_of o s a b old ws built own p gs same r ev is alive runs no_run has
+returns-clause-log_refused g c writer_of reply_of o s a b old ws own (same, r) (built, is, alive, runs) no_run (p, gs, ev, has) = log_leaves writer_of reply_of o s a b old ws built own p gs same r ev is alive runs no_run has
 
 pub returns-clause-fault : goal.returns-clause-fault
-returns-clause-fault g c writer_of reply_of o s a b old built own p gs same r ev is ok = fault_leaves writer_of reply_of o s a b old built own p gs same r ev is ok
+returns-clause-fault g c writer_of reply_of o s a b old built own (same, r) is (p, gs, ev, ok) = fault_leaves writer_of reply_of o s a b old built own p gs same r ev is ok
 
 pub returns-clause-refuse : goal.returns-clause-refuse
-returns-clause-refuse g c writer_of reply_of o s a b old built own p gs stops delays wait same r ev is unslowed ok = refuse_leaves writer_of reply_of o s a b old built own p gs stops delays wait same r ev is unslowed ok
+returns-clause-refuse g c writer_of reply_of o s a b old built own stops delays wait (same, r) is unslowed (p, gs, ev, ok) = refuse_leaves writer_of reply_of o s a b old built own p gs stops delays wait same r ev is unslowed ok
 
 pub returns-clause-complete : goal.returns-clause-complete
-returns-clause-complete g c writer_of reply_of o s a b ws e p client same r ev none there = told_core writer_of reply_of o s a b ws e p client same r ev none.0 none.1 there
+returns-clause-complete g c writer_of reply_of o s a b ws e p client (same, r) ev none there = told_core writer_of reply_of o s a b ws e p client same r ev none.0 none.1 there
 
 pub returns-clause-exit : goal.returns-clause-exit
-returns-clause-exit g c writer_of reply_of o s a b ws own p gs one same r is there ev has = exits_core writer_of reply_of o s a b ws own p gs one same r is there ev has
+returns-clause-exit g c writer_of reply_of o s a b ws own one (same, r) is there (p, gs, ev, has) = exits_core writer_of reply_of o s a b ws own p gs one same r is there ev has
 
 pub returns-clause-writers : goal.returns-clause-writers
 returns-clause-writers g c items writer is = ((λ e. (is e.by e.asked).0), coded_items c.codes_stand_for_items.ensures items writer is)

@@ -1,26 +1,28 @@
+use Rattle.std.proofs.Common.{◌∷◌}
 use Rattle.line_rule.proofs.Handings.{hands_joined, cut_log, joined_newest, served_oldest, told_apart, told_last, own_stage, walked_is, queue_coded}
+use Rattle.line_rule.proofs.Owed.{owing_seen}
 use Rattle.line_rule.proofs.second_law.handing_on.Goals as goal
 
 pub returns-clause-cut : goal.returns-clause-cut
-returns-clause-cut g a z s r id c stage lead mine back sees is = cut_log _ z.clients s r id c stage mine back sees lead is
+returns-clause-cut g a z s id c stage lead back r (mine, sees) is = cut_log _ z.clients s r id c stage mine back sees lead is
 
 pub returns-clause-hands : goal.returns-clause-hands
 returns-clause-hands g a last back seen now h = hands_joined last back seen now h
 
 pub returns-clause-joined : goal.returns-clause-joined
-returns-clause-joined g a z s id c stage mine back squad r sees piped is = joined_newest _ z.clients s r id c stage mine back sees squad piped is
+returns-clause-joined g a z s id c stage back squad r (mine, sees) piped is = joined_newest _ z.clients s r id c stage mine back sees squad piped is
 
 pub returns-clause-served : goal.returns-clause-served
-returns-clause-served g a z s id c stage mine back squad r sees is = served_oldest _ z.clients s r id c stage mine back sees squad is
+returns-clause-served g a z s id c stage back squad r (mine, sees) is = served_oldest _ z.clients s r id c stage mine back sees squad is
 
 pub returns-clause-told : goal.returns-clause-told
-returns-clause-told g a z s r id c mine member others own p sees = told_apart _ z.clients s r id c mine member others own p sees
+returns-clause-told g a z s id c d member r (mine, sees) (others, owed) = told_apart _ z.clients s r id c mine member others d.own d.reply (owing_seen s id d (member ∷ others) owed c mine _ sees)
 
 pub returns-clause-told_last : goal.returns-clause-told_last
-returns-clause-told_last g a z s r id c mine own p sees = told_last _ z.clients s r id c mine own p sees
+returns-clause-told_last g a z s id c own p r (mine, sees) = told_last _ z.clients s r id c mine own p sees
 
 pub returns-clause-own : goal.returns-clause-own
-returns-clause-own g a z s id c stage mine back r sees = own_stage _ z.clients s r id c stage mine back sees
+returns-clause-own g a z s id c stage back r (mine, sees) = own_stage _ z.clients s r id c stage mine back sees
 
 pub returns-clause-walked : goal.returns-clause-walked
 returns-clause-walked g a z s r = walked_is _ z.clients s r

@@ -7,6 +7,7 @@ use Rattle.table_calls.specs.Account.{IsReady, IsClosing as IsTableClosing}
 use Rattle.line_writers.specs.Seats.{bound_of, about_of, piped_of, table_of, clients_of, AllOut, AllThere, Merged}
 use Rattle.engine_controller.specs.Passes.{seen_by_note, IsHistoryOf, IsNoteOf}
 use Rattle.model_accounts.specs.Closing.{all_attempts}
+use Rattle.engine_rule.specs.Consistent.{AreAccountsOf, Standing}
 use Rattle.engine_rule.specs.Entries.{trace_of}
 use Rattle.engine_groups.specs.Clients.{account_in, opened_log, settings_of}
 use Rattle.engine_parts.specs.Handled.{commit_of}
@@ -93,9 +94,17 @@ returns g c =
     let rose = subst (λ (n : ℕ). IfSome fault (λ count. Rose n count × (count ≤ g.Device.Disk.faults (disk_of leadership.path.log)))) (sym set.opened.no_fault) cause in
     let number = accounts_number meaning e cs all in
     let own = parts meaning e cs all calls whole L.0 published merged seen in
-    let closed = c.closings.ensures.closing settings (g.Device.Disk.faults (disk_of leadership.path.log)) commits leadership.path.last fault published stands.calls asked calls accounts
-    stands.consistent number whole.legal (are_calls meaning e cs all calls whole) ended.2 own rose in
-    let wrote = c.closings.ensures.log settings commits leadership.path.last fault published stands.calls asked calls accounts stands.consistent number own in (
+    let standing : Standing = record {
+      asked = asked;
+      commits = commits;
+      last = leadership.path.last;
+      fault = fault;
+      published = published;
+      calls = stands.calls;
+    } in
+    let theirs : AreAccountsOf settings standing calls accounts = record { all = number; each = own } in
+    let closed = c.closings.ensures.closing settings (g.Device.Disk.faults (disk_of leadership.path.log)) standing calls accounts stands.consistent theirs whole.legal (are_calls meaning e cs all calls whole) ended.2 rose in
+    let wrote = c.closings.ensures.log settings standing calls accounts stands.consistent theirs in (
       trace_of start commits calls,
       closed.0,
       closed.1,

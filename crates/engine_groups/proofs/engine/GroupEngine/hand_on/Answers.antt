@@ -17,6 +17,11 @@ use Rattle.engine_groups.proofs.Onto.{has_turn, serves_again, served_last, serve
 use Rattle.engine_parts.proofs.Standing.{none_of}
 use Rattle.engine_groups.proofs.engine.GroupEngine.hand_on.Goals as goal
 
+pub exit_pipelined-requires-clause-group : goal.exit_pipelined-requires-clause-group
+exit_pipelined-requires-clause-group g c =
+    let r = c.requires.leaves in let h = r.5 in let l = h.leaves in
+    (l.writer, (bound_of c.args.self.now.list, r.3, l.group, l.left, r.4, l.gs, l.p, l.has, l.heads_are, l.pays_are, (l.stands, l.kept, l.last)))
+
 pub await_pipelined_role-requires : goal.await_pipelined_role-requires
 await_pipelined_role-requires g c =
     let r = c.requires.leaves in let e = c.args.self.now in let w = c.args.client.now in let n : ℕ = clients_of e.list in let about = about_of e.list in

@@ -3,6 +3,11 @@ use Rattle.line_writers.specs.Seats.{bound_of, clients_of}
 use Rattle.engine_groups.proofs.LeftClients.{has_answered, left_client, roomy}
 use Rattle.engine_groups.proofs.engine.GroupEngine.leave.Goals as goal
 
+pub exit-requires-clause-group : goal.exit-requires-clause-group
+exit-requires-clause-group g c =
+    let r = c.requires.leaves in let l = r.5 in
+    (l.writer, (bound_of c.args.self.now.list, r.3, l.group, l.left, r.4, l.gs, l.p, l.has, l.heads_are, l.pays_are, ((l.stands, l.kept, l.last), r.6)))
+
 pub returns-clause-fits : goal.returns-clause-fits
 returns-clause-fits g c =
     let r = c.requires.leaves in let e = c.args.self.now in let w = c.args.client.now in let n : ℕ = clients_of e.list in

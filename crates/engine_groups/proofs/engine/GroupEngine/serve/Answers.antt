@@ -14,8 +14,8 @@ use Rattle.engine_parts.specs.declared.requests.Request.{Request}
 use Rattle.engine_parts.specs.declared.requests.Answer.{Answer}
 use Rattle.engine_parts.specs.Asking.{HasAskedFor, OnlyLooks, all_seen}
 use Rattle.engine_parts.specs.Handled.{HandsBack, InOrder, IsHeldUp, commit_requests_of, handled_with, seen_at}
-use Rattle.engine_parts.specs.LogLaw.{LogStandsFor}
-use Rattle.engine_parts.specs.Led.{AreAlike, IsLedGroup}
+use Rattle.engine_parts.specs.LogLaw.{LogStandsFor, Past}
+use Rattle.engine_parts.specs.Led.{AreAlike, GoesOnWith, IsLedGroup}
 use Rattle.engine_parts.specs.Numbering.{AreBeside, others_in}
 use Rattle.engine_parts.specs.Staged.{published_with}
 use Rattle.engine_groups.proofs.Members.{beside_where, others_unnoted}
@@ -221,7 +221,16 @@ returns-clause-leadership g c hs st =
     let before : LogStandsFor about.opened.value about.start many about.group_bytes asked path.log st.published path.last hs = stands_by our_log as_is about.opened.value path.log st.published path.last tt tt about.start about.start about.clients many about.group_bytes about.group_bytes asked asked hs refl refl clients_are refl refl st.path in
     let p = c.log_phase-path.result.0 in
     let now = published_with c.log_phase-path.result.1 c.log_phase-path.new.layout.parts.parts st.published in
-    let after = H.path about.opened.value about.start about.group_bytes asked went st.published hs n led comes is_for on before in
+    let past : Past _ = record {
+      opened = about.opened.value;
+      start = about.start;
+      group_bytes = about.group_bytes;
+      asked = asked;
+      published = st.published;
+      handled = hs;
+    } in
+    let goes_on : GoesOnWith about.group_bytes many asked left (seen_at d) went = record { led = led; numbers = n; comes_after = comes; asked_for = is_for; proceeds = on } in
+    let after = H.path past went goes_on before in
     let unnoted = subst (λ l. LogStandsFor about.opened.value about.start many about.group_bytes went p.log now p.last (hs ++ handled_with l ys)) left_is after in
     let as_was = stands_noted our_log as_is about.opened.value p.log now p.last tt about.start many about.group_bytes went hs xs ys unnoted in
     record {

@@ -17,14 +17,14 @@ load-state-requires g c =
 
 pub claim-requires-clause-elected : goal.claim-requires-clause-elected
 claim-requires-clause-elected g c =
-    let stood = logs_picked g.Reply.GivesRun.run_of g.Log.LogOfGroups g.B.PickedAbout.number g.B.PickedAbout.about in let r = c.requires.waits in let k : ℕ = c.args.writer.now.client in
+    let stood = logs_picked g.Reply.GivesRun.run_of g.Log.LogOfGroups g.About.PickedAbout.number g.About.PickedAbout.about in let r = c.requires.waits in let k : ℕ = c.args.writer.now.client in
     let same = c.loop.invariant.4 in
     (r.0, r.2, subst (λ (j : ℕ). Elected stood j r.0 r.2 c.load-state.new.seat.me) (sym c.loop.invariant.2) ((c.load-state.ensures.2 k r.0 r.1 r.2 (ap (λ m. m.0) same ∙ r.3)).0 c.if-state-eq-STATE_LEADS_LOG.true))
 
 pub returns-then-state-eq-STATE_LEADS_LOG-clause-role : goal.returns-then-state-eq-STATE_LEADS_LOG-clause-role
 returns-then-state-eq-STATE_LEADS_LOG-clause-role g c q past mine at slots =
-    let stood = logs_picked g.Reply.GivesRun.run_of g.Log.LogOfGroups g.B.PickedAbout.number g.B.PickedAbout.about in let k : ℕ = c.args.writer.now.client in
+    let stood = logs_picked g.Reply.GivesRun.run_of g.Log.LogOfGroups g.About.PickedAbout.number g.About.PickedAbout.about in let k : ℕ = c.args.writer.now.client in
     let same = c.loop.invariant.4 in
     let e = (c.load-state.ensures.2 k q past mine (ap (λ m. m.0) same ∙ at)).0 c.if-state-eq-STATE_LEADS_LOG.true in
-    subst (λ (j : ℕ). Turns stood (kept_picked g.Log.LogOfGroups.kept g.B.PickedAbout.about) j c.claim.new.writer.task q mine (LogLeader c.claim.result) c.claim.new.writer.seat.me) c.loop.invariant.2
+    subst (λ (j : ℕ). Turns stood (kept_picked g.Log.LogOfGroups.kept g.About.PickedAbout.about) j c.claim.new.writer.task q mine (LogLeader c.claim.result) c.claim.new.writer.seat.me) c.loop.invariant.2
     (c.claim.ensures.leads q mine (subst (λ (j : ℕ). Elected stood j q mine c.load-state.new.seat.me) (sym c.loop.invariant.2) e))

@@ -7,7 +7,7 @@ use Rattle.line_writers.proofs.line_writers.WriterList.enter_second.Goals as goa
 
 pub compare_exchange-requires : goal.compare_exchange-requires
 compare_exchange-requires g c =
-    let z = c.args.self.now.sized in let q = c.requires.seat in let key : c.args.self.now.table.shared.key.clients ≡ c.args.self.now.clients = z.2 in let o = c.requires.parted in (q, omega arith, joins_as _ _ _ (λ i. serves_picked g.Log.LogOfGroups.serves (sym c.requires.about i)) g.B.PickedRight.given _ _ c.args.writer.now.seat.me c.args.writer.now.client c.args.older c.args.newest_member o.0 o.1 o.2 o.3 none c.requires.piped o.4 o.5 o.6 o.7)
+    let z = c.args.self.now.sized in let q = c.requires.seat in let key : c.args.self.now.table.shared.key.clients ≡ c.args.self.now.clients = z.2 in let o = c.requires.parted in (q, omega arith, joins_as _ _ _ (λ i. serves_picked g.Log.LogOfGroups.serves (sym c.requires.about i)) g.ForRight.PickedRight.given _ _ c.args.writer.now.seat.me c.args.writer.now.client c.args.older c.args.newest_member o.0 o.1 o.2 o.3 none c.requires.piped o.4 o.5 o.6 o.7)
 
 pub returns-clause-entered : goal.returns-clause-entered
 returns-clause-entered g c st mine g0 at =

@@ -56,7 +56,7 @@ hand_on-requires-clause-ready g c =
     let got : ℕ = c.index.result.now in
     let first : got ≡ newest (o.2 ++ o.1 ∷ []) = c.index.ensures ∙ (λ i. get_or (members i) 0 got) ∙ newest_is (heads o.5) o.1 got ∙ ap (λ l. newest (l ++ o.1 ∷ [])) o.8 in
     let count : length c.fill.new.members.items ≡ length (o.2 ++ o.1 ∷ []) = ap length members ∙ (length-bys (heads o.5 ++ o.1 ∷ []) ∙ ap (λ l. length (l ++ o.1 ∷ [])) o.8) in
-    (lead, mine, o.5, o.6, c.args.log, at2', first, refl, (o.8, (TheLog c.args.log, slots2'), o.10, o.11), slots2', (let l = c.len.ensures in omega (arith, count)))
+    (lead, mine, o.5, o.6, c.args.log, at2', first, refl, (o.8, (TheLog c.args.log, slots2'), o.10.0, o.10.1), slots2', (let l = c.len.ensures in omega (arith, count)))
 
 pub tell_all-requires-clause-owed : goal.tell_all-requires-clause-owed
 tell_all-requires-clause-owed g c =
@@ -76,7 +76,7 @@ tell_all-requires-clause-owed g c =
     let e3 : c.hand_on.new.writer.client ≡ c.put_log.new.writer.client = c.hand_on.ensures.seat.1 in
     let at3 = subst (λ (j : ℕ). At j (Settling (debt o.5 o.1 o.6)) mine c.hand_on.new.writer.seat.me) (sym e3) s.0 in
     let slots3 = s.1 ∙ (λ i. slots_of o.5 ((sym e3 i, Told o.6) ∷ [])) in
-    (mine, o.5, o.1, o.6, at3, slots3, c.as_slice.ensures.value ∙ members, subst (Within c.args.self.now.clients) (sym o.8) o.7.3)
+    (mine, o.5, o.1, o.6, (at3, slots3), c.as_slice.ensures.value ∙ members, subst (Within c.args.self.now.clients) (sym o.8) o.7.3)
 
 pub retire-requires-clause-owed : goal.retire-requires-clause-owed
 retire-requires-clause-owed g c =
@@ -96,11 +96,11 @@ retire-requires-clause-owed g c =
     let e3 : c.hand_on.new.writer.client ≡ c.put_log.new.writer.client = c.hand_on.ensures.seat.1 in
     let at3 = subst (λ (j : ℕ). At j (Settling (debt o.5 o.1 o.6)) mine c.hand_on.new.writer.seat.me) (sym e3) s.0 in
     let slots3 = s.1 ∙ (λ i. slots_of o.5 ((sym e3 i, Told o.6) ∷ [])) in
-    let t = c.tell_all.ensures.told mine o.5 o.1 o.6 at3 slots3 in
+    let t = c.tell_all.ensures.told mine o.5 o.1 o.6 (at3, slots3) in
     let e4 : c.tell_all.new.writer.client ≡ c.hand_on.new.writer.client = c.tell_all.ensures.seat.1 in
     let at4 = subst (λ (j : ℕ). At j (Settling (debt [] o.1 o.6)) mine c.tell_all.new.writer.seat.me) (sym e4) t.0 in
     let slots4 = t.1 ∙ (λ i. (sym e4 i, Told o.6) ∷ []) in
-    (mine, o.1, o.6, at4, slots4)
+    (mine, o.1, o.6, (at4, slots4))
 
 pub returns-clause-room : goal.returns-clause-room
 returns-clause-room g c =
@@ -125,11 +125,11 @@ returns-clause-out g c =
     let e3 : c.hand_on.new.writer.client ≡ c.put_log.new.writer.client = c.hand_on.ensures.seat.1 in
     let at3 = subst (λ (j : ℕ). At j (Settling (debt o.5 o.1 o.6)) mine c.hand_on.new.writer.seat.me) (sym e3) s.0 in
     let slots3 = s.1 ∙ (λ i. slots_of o.5 ((sym e3 i, Told o.6) ∷ [])) in
-    let t = c.tell_all.ensures.told mine o.5 o.1 o.6 at3 slots3 in
+    let t = c.tell_all.ensures.told mine o.5 o.1 o.6 (at3, slots3) in
     let e4 : c.tell_all.new.writer.client ≡ c.hand_on.new.writer.client = c.tell_all.ensures.seat.1 in
     let at4 = subst (λ (j : ℕ). At j (Settling (debt [] o.1 o.6)) mine c.tell_all.new.writer.seat.me) (sym e4) t.0 in
     let slots4 = t.1 ∙ (λ i. (sym e4 i, Told o.6) ∷ []) in
-    let r = c.retire.ensures.idle mine o.1 o.6 at4 slots4 in
+    let r = c.retire.ensures.idle mine o.1 o.6 (at4, slots4) in
     let e5 : c.retire.new.writer.client ≡ k = c.retire.ensures.seat.1 ∙ e4 ∙ e3 ∙ e2 in
     let table = c.retire.ensures.seat.0 ∙ c.tell_all.ensures.seat.0 ∙ c.hand_on.ensures.seat.0 ∙ c.put_log.ensures.seat.0 ∙ c.fill.ensures.seat.0 ∙ c.requires.group.0.0 in
     let told_is : answers_told c.retire.new.writer ≡ mine ++ (o.1.asked, o.6) ∷ [] = ap told_in_first r.0 in (

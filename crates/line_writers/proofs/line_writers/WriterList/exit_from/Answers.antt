@@ -59,7 +59,7 @@ send_on-requires-clause-ready g c =
     let got : ℕ = c.index.result.now in
     let first : got ≡ newest (o.2 ++ o.1 ∷ []) = c.index.ensures ∙ (λ i. get_or (members i) 0 got) ∙ newest_is (heads o.5) o.1 got ∙ ap (λ l. newest (l ++ o.1 ∷ [])) o.8 in
     let count : length c.fill.new.members.items ≡ length (o.2 ++ o.1 ∷ []) = ap length members ∙ (length-bys (heads o.5 ++ o.1 ∷ []) ∙ ap (λ l. length (l ++ o.1 ∷ [])) o.8) in
-    (lead, mine, o.5, o.6, c.args.log, at2', first, refl, (let l = c.len.ensures in omega (arith, count)), sym (c.own_code-code.ensures.code lead mine (o.3 ++ o.2) o.7.0 (sym (append_assoc o.3 o.2 (o.1 ∷ []))) o.7.1), o.8, slots2', o.10, o.11, o.12)
+    (lead, mine, o.5, o.6, c.args.log, (at2', first, refl, (let l = c.len.ensures in omega (arith, count))), sym (c.own_code-code.ensures.code lead mine (o.3 ++ o.2) o.7.0 (sym (append_assoc o.3 o.2 (o.1 ∷ []))) o.7.1), (o.8, slots2'), o.10.0, o.10.1)
 
 pub returns-clause-seat : goal.returns-clause-seat
 returns-clause-seat g c = (c.send_on.ensures.seat.0 ∙ c.put_log.ensures.seat.0 ∙ c.fill.ensures.seat.0 ∙ c.own_code-code.ensures.seat.0, c.send_on.ensures.seat.1 ∙ c.put_log.ensures.seat.1 ∙ c.fill.ensures.seat.1 ∙ c.own_code-code.ensures.seat.1)
@@ -79,7 +79,7 @@ returns-clause-sent g c max own group left seen gs p has heads_are replies =
     let at2' = subst (λ (j : ℕ). At j (Leading lead) mine c.put_log.new.writer.seat.me) (sym e2) at2 in
     let slots2' = slots2 ∙ (λ i. (0, TheLog c.args.log) ∷ slots_of gs ((sym e2 i, Told p) ∷ [])) in
     let sent = c.send_on.ensures.sent lead mine gs p c.args.log at2' heads_are slots2' in
-    (subst (λ (j : ℕ). HasSent (g.Log.LogOfGroups.serves c.args.self.now.table.shared.key.about) c.args.self.now.clients j c.send_on.result (debt gs own p) mine (squad_with_end (squad_at_cut lead g.B.PickedGiven.given) g.D.PickedRight.given) c.send_on.new.writer.seat.me) e2 sent, members)
+    (subst (λ (j : ℕ). HasSent (g.Log.LogOfGroups.serves c.args.self.now.table.shared.key.about) c.args.self.now.clients j c.send_on.result (debt gs own p) mine (squad_with_end (squad_at_cut lead g.Given.PickedGiven.given) g.ForRight.PickedRight.given) c.send_on.new.writer.seat.me) e2 sent, members)
 
 pub returns-clause-room : goal.returns-clause-room
 returns-clause-room g c = let h = c.send_on.ensures.seat in let n : ℕ = c.args.self.now.clients in (h.3, h.2, subst (λ (j : ℕ). n ≤ j) (sym h.4) c.requires.room.0.2, subst (λ (j : ℕ). n ≤ j) (sym c.fill.ensures.filled.3) c.requires.room.0.5)

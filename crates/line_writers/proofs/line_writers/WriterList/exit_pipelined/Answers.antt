@@ -15,7 +15,7 @@ use Rattle.line_writers.proofs.line_writers.WriterList.exit_pipelined.Goals as g
 pub exit_from-alone-requires-clause-group : goal.exit_from-alone-requires-clause-group
 exit_from-alone-requires-clause-group g c =
     let o = c.requires.group.1 in
-    (c.requires.group.0, (o.0, o.1, o.2, o.3, o.4, o.5, o.6, o.7, o.8, o.9, o.10, ap (λ v. given_runs g.Reply.GivesRun.run_of (seen_in_first v)) o.7.0, ap (given_runs g.Reply.GivesRun.run_of) (handled_all c.args.writer.now.client o.1 o.4 (past_in c.args.writer.now.seat.me.0) o.3 o.2 (answers_told c.args.writer.now) o.5 o.6 c.args.writer.now.seat.me.0 c.args.replies.now.list.items o.7.0 o.8 o.9)))
+    (c.requires.group.0, (o.0, o.1, o.2, o.3, o.4, o.5, o.6, o.7, o.8, o.9, (o.10, (ap (λ v. given_runs g.Reply.GivesRun.run_of (seen_in_first v)) o.7.0, ap (given_runs g.Reply.GivesRun.run_of) (handled_all c.args.writer.now.client o.1 o.4 (past_in c.args.writer.now.seat.me.0) o.3 o.2 (answers_told c.args.writer.now) o.5 o.6 c.args.writer.now.seat.me.0 c.args.replies.now.list.items o.7.0 o.8 o.9)))))
 
 pub rotate-requires : goal.rotate-requires
 rotate-requires g c =

@@ -119,7 +119,7 @@ wake_on-requires-clause-ready g c =
     let cut = c.cut_behind.ensures.cut lead' o.1 o.2 b.pre b.x at2 b.parts by in let e3 = c.cut_behind.ensures.seat.1 in let e4 = e3 ∙ e2 in
     let at3 = subst (λ (j : ℕ). AtWith j (Cutting lead' b.x) o.1 o.2 c.cut_behind.new.writer.seat.me) (sym e3) cut.0 in
     let slot3 = cut.1 ∙ ap (λ m. m.1) me ∙ b.slots_same ∙ o.9 ∙ (λ i. (0, TheLog o.5) ∷ slots_of o.3 ((sym e4 i, Told o.4) ∷ o.6)) in
-    (lead', b.x, o.1, o.2, o.3, o.4, o.5, o.6, at3, o.8, slot3, o.10, o.11, by)
+    (b.x, by, (lead', o.1, o.2, o.3, o.4, o.5, o.6, at3, o.8, slot3, o.10, o.11))
 
 pub returns-clause-settling : goal.returns-clause-settling
 returns-clause-settling g c lead mine y gs p l t at heads_are slot_is =
@@ -144,7 +144,7 @@ returns-clause-settling g c lead mine y gs p l t at heads_are slot_is =
     let at3 = subst (λ (j : ℕ). AtWith j (Cutting lead' b.x) o.1 o.2 c.cut_behind.new.writer.seat.me) (sym e3) cut.0 in
     let at4 = at3 ∙ (λ i. hold_at c.cut_behind.new.writer.client (Cutting (lead_with_walk (le i) b.walk) b.x) (same.2 i) (same.3 i) ∷ []) in
     let slot4 = cut.1 ∙ ap (λ m. m.1) me ∙ b.slots_same ∙ slot_is ∙ (λ i. (0, TheLog l) ∷ slots_of gs ((sym e4 i, Told p) ∷ t)) in
-    let r = c.wake_on.ensures.woken (lead_with_walk lead b.walk) b.x mine y gs p l t at4 heads_are slot4 in
+    let r = c.wake_on.ensures.woken b.x (lead_with_walk lead b.walk) mine y gs p l t at4 heads_are slot4 in
     (subst (λ (j : ℕ). AtWith j (Settling (debt gs lead.own p)) mine (back_after_log y) c.wake_on.new.writer.seat.me) e4 r.0, r.1 ∙ (λ i. slots_of gs ((e4 i, Told p) ∷ t)))
 
 pub returns-then-found-eq-MARK-clause-settling : goal.returns-then-found-eq-MARK-clause-settling

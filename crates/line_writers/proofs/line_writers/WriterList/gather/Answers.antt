@@ -22,18 +22,18 @@ loop-step-init g c = record {
 }
 
 pub returns-then-not-fits-clause-gathered : goal.returns-then-not-fits-clause-gathered
-returns-then-not-fits-clause-gathered g c own group left seen past mine at built whole =
+returns-then-not-fits-clause-gathered g c own group left seen mine b =
     let v = c.loop-step.invariant.so_far in let n : ℕ = c.args.self.now.clients in let k : ℕ = c.args.writer.now.client in let was = c.args.writer.now.seat.me in
     stops (asks_for g.Request.HasGroupingItem.item_of g.Log.LogOfGroups.lawful c.args.self.now.table.shared.key.about) n c.args.max c.args.leader_code k was c.loop-step.writer.seat.me c.loop-step.walk.items c.loop-step.asked.items c.loop-step.sum v
     (stops_full (asks_for g.Request.HasGroupingItem.item_of g.Log.LogOfGroups.lawful c.args.self.now.table.shared.key.about) n c.args.max c.args.leader_code k was c.loop-step.writer.seat.me c.loop-step.walk.items c.loop-step.asked.items c.loop-step.sum v c.pop.new.self.items c.in-Some.by c.in-Some.code c.in-Some.ensures.items (fits_as c.args.max c.args.leader_code c.loop-step.sum c.in-Some.code c.item_of-leader.result c.item_of-item.result c.item_of-leader.ensures c.item_of-item.ensures ∙ sym c.fits.ensures ∙ c.if-not-fits.true))
-    own group left seen past mine at built whole c.requires.seat.1
+    own group left seen b.0 mine b.1 b.2 b.3 c.requires.seat.1
 
 pub returns-clause-gathered : goal.returns-clause-gathered
-returns-clause-gathered g c own group left seen past mine at built whole =
+returns-clause-gathered g c own group left seen mine b =
     let v = c.loop-step.invariant.so_far in let n : ℕ = c.args.self.now.clients in let k : ℕ = c.args.writer.now.client in let was = c.args.writer.now.seat.me in let e = c.loop-step.invariant.count in let test = c.loop-step-test.false in let room = c.requires.room.0 in
     stops (asks_for g.Request.HasGroupingItem.item_of g.Log.LogOfGroups.lawful c.args.self.now.table.shared.key.about) n c.args.max c.args.leader_code k was c.loop-step.writer.seat.me c.loop-step.walk.items c.loop-step.asked.items c.loop-step.sum v
     (stops_empty (asks_for g.Request.HasGroupingItem.item_of g.Log.LogOfGroups.lawful c.args.self.now.table.shared.key.about) n c.args.max c.args.leader_code k was c.loop-step.writer.seat.me c.loop-step.walk.items c.loop-step.asked.items c.loop-step.sum v (no_items c.loop-step.walk.items (omega arith)))
-    own group left seen past mine at built whole c.requires.seat.1
+    own group left seen b.0 mine b.1 b.2 b.3 c.requires.seat.1
 
 pub fetch-request-requires-clause-seat : goal.fetch-request-requires-clause-seat
 fetch-request-requires-clause-seat g c =

@@ -11,7 +11,7 @@ pub wake_on-requires-clause-seat : goal.wake_on-requires-clause-seat
 wake_on-requires-clause-seat g c = let q = c.requires.seat in let ne = c.if-next-eq0.false in (q.0, omega arith, q.4)
 
 pub wake_on-requires-clause-ready : goal.wake_on-requires-clause-ready
-wake_on-requires-clause-ready g c = let o = c.requires.ready in let s = o.7.1 c.if-next-eq0.false in (o.0, s.0, o.1, o.2, o.3, o.4, o.5, o.6, s.2, o.8, o.9, o.10, o.11, s.1)
+wake_on-requires-clause-ready g c = let o = c.requires.ready in let s = o.7.1 c.if-next-eq0.false in (s.0, s.1, (o.0, o.1, o.2, o.3, o.4, o.5, o.6, s.2, o.8, o.9, o.10, o.11))
 
 pub returns-clause-settling : goal.returns-clause-settling
-returns-clause-settling g c lead mine b gs p l t at heads_are slot = let s = at.1 c.if-next-eq0.false in c.wake_on.ensures.woken lead s.0 mine b gs p l t s.2 heads_are slot
+returns-clause-settling g c lead mine b gs p l t at heads_are slot = let s = at.1 c.if-next-eq0.false in c.wake_on.ensures.woken s.0 lead mine b gs p l t s.2 heads_are slot

@@ -77,7 +77,7 @@ gather-requires-clause-walk g c =
     let e3 : c.own_request-request.new.writer.client ≡ k = c.own_request-request.ensures.seat.1 ∙ e2 in
     let at3 = subst (λ (j : ℕ). At j (Leading lead) o.2 c.own_request-request.new.writer.seat.me) (sym e3) (c.own_request-request.ensures.seat.2 ∙ ap (λ m. m.0) c.survey.ensures.seat.2 ∙ b.3) in
     let law = asks_for g.Request.HasGroupingItem.item_of g.Log.LogOfGroups.lawful c.args.self.now.table.shared.key.about in
-    let whole : IsWhole law c.args.max o.0 b.1 b.0 = subst (λ (j : ℕ). IsWhole law j o.0 b.1 b.0) c.requires.max.0 (subst (λ about. IsWhole (asks_picked g.Request.HasGroupingItem.item_of g.Log.LogOfGroups.lawful about) g.B.PickedAbout.number o.0 b.1 b.0) c.requires.about b.5) in
+    let whole : IsWhole law c.args.max o.0 b.1 b.0 = subst (λ (j : ℕ). IsWhole law j o.0 b.1 b.0) c.requires.max.0 (subst (λ about. IsWhole (asks_picked g.Request.HasGroupingItem.item_of g.Log.LogOfGroups.lawful about) g.About.PickedAbout.number o.0 b.1 b.0) c.requires.about b.5) in
     let asked : c.push_reserved.new.self.items ≡ (c.own_request-request.new.writer.client, o.0.asked) ∷ [] = c.push_reserved.ensures.items ∙ (λ i. c.requires.room.2 i ++ (sym last.1 i, q.1 i) ∷ []) ∙ (λ i. (o.3.1 i, o.0.asked) ∷ []) ∙ (λ i. (sym e3 i, o.0.asked) ∷ []) in
     (o.0, b.1, b.0, o.1, o.2, b.2, at3, o.3.1 ∙ sym e3, last.2, whole, within_of c.args.self.now.clients slots (b.0 ++ b.1) (o.0 ∷ []) z.1 (subst (AllBelow slots) (sym (append_assoc b.0 b.1 (o.0 ∷ []))) b.9), last.0, asked, q.0 ∙ (λ i. (c.survey.ensures.seat.1 i, Empty) ∷ (0, Empty) ∷ []) ∙ (λ i. (e1 i, Empty) ∷ (0, Empty) ∷ []) ∙ (λ i. (sym e3 i, Empty) ∷ (0, Empty) ∷ []), subst (λ (j : ℕ). HasBuilt j o.0 b.1 b.0 o.1 b.2) c.requires.max.0 b.6)
 
@@ -96,7 +96,7 @@ gather-requires-clause-room g c =
     let e3 : c.own_request-request.new.writer.client ≡ k = c.own_request-request.ensures.seat.1 ∙ e2 in
     let at3 = subst (λ (j : ℕ). At j (Leading lead) o.2 c.own_request-request.new.writer.seat.me) (sym e3) (c.own_request-request.ensures.seat.2 ∙ ap (λ m. m.0) c.survey.ensures.seat.2 ∙ b.3) in
     let law = asks_for g.Request.HasGroupingItem.item_of g.Log.LogOfGroups.lawful c.args.self.now.table.shared.key.about in
-    let whole : IsWhole law c.args.max o.0 b.1 b.0 = subst (λ (j : ℕ). IsWhole law j o.0 b.1 b.0) c.requires.max.0 (subst (λ about. IsWhole (asks_picked g.Request.HasGroupingItem.item_of g.Log.LogOfGroups.lawful about) g.B.PickedAbout.number o.0 b.1 b.0) c.requires.about b.5) in
+    let whole : IsWhole law c.args.max o.0 b.1 b.0 = subst (λ (j : ℕ). IsWhole law j o.0 b.1 b.0) c.requires.max.0 (subst (λ about. IsWhole (asks_picked g.Request.HasGroupingItem.item_of g.Log.LogOfGroups.lawful about) g.About.PickedAbout.number o.0 b.1 b.0) c.requires.about b.5) in
     let asked : c.push_reserved.new.self.items ≡ (c.own_request-request.new.writer.client, o.0.asked) ∷ [] = c.push_reserved.ensures.items ∙ (λ i. c.requires.room.2 i ++ (sym last.1 i, q.1 i) ∷ []) ∙ (λ i. (o.3.1 i, o.0.asked) ∷ []) ∙ (λ i. (sym e3 i, o.0.asked) ∷ []) in
     let long : length c.survey.new.walk.items ≡ length c.pop.new.self.items + 1 = ap length c.in-Some.ensures.items ∙ length-append c.pop.new.self.items ((c.in-Some.by, c.in-Some.code) ∷ []) in
     let all : length c.survey.new.walk.items ≡ length W = ap length items ∙ length-pairs W in
@@ -118,8 +118,8 @@ returns-clause-group g c own seen mine ch =
     let e3 : c.own_request-request.new.writer.client ≡ k = c.own_request-request.ensures.seat.1 ∙ e2 in
     let at3 = subst (λ (j : ℕ). At j (Leading lead) o.2 c.own_request-request.new.writer.seat.me) (sym e3) (c.own_request-request.ensures.seat.2 ∙ ap (λ m. m.0) c.survey.ensures.seat.2 ∙ b.3) in
     let law = asks_for g.Request.HasGroupingItem.item_of g.Log.LogOfGroups.lawful c.args.self.now.table.shared.key.about in
-    let whole : IsWhole law c.args.max o.0 b.1 b.0 = subst (λ (j : ℕ). IsWhole law j o.0 b.1 b.0) c.requires.max.0 (subst (λ about. IsWhole (asks_picked g.Request.HasGroupingItem.item_of g.Log.LogOfGroups.lawful about) g.B.PickedAbout.number o.0 b.1 b.0) c.requires.about b.5) in
+    let whole : IsWhole law c.args.max o.0 b.1 b.0 = subst (λ (j : ℕ). IsWhole law j o.0 b.1 b.0) c.requires.max.0 (subst (λ about. IsWhole (asks_picked g.Request.HasGroupingItem.item_of g.Log.LogOfGroups.lawful about) g.About.PickedAbout.number o.0 b.1 b.0) c.requires.about b.5) in
     let asked : c.push_reserved.new.self.items ≡ (c.own_request-request.new.writer.client, o.0.asked) ∷ [] = c.push_reserved.ensures.items ∙ (λ i. c.requires.room.2 i ++ (sym last.1 i, q.1 i) ∷ []) ∙ (λ i. (o.3.1 i, o.0.asked) ∷ []) ∙ (λ i. (sym e3 i, o.0.asked) ∷ []) in
     let e = one_hold k k (Fresh o.0 o.1) (Fresh own seen) o.2 mine c.args.writer.now.seat.me.0 o.3.0 ch.0 in let f = one_fresh o.0 own o.1 seen e.1 in
-    let t = c.gather.ensures.gathered o.0 b.1 b.0 o.1 b.2 o.2 at3 (subst (λ (j : ℕ). HasBuilt j o.0 b.1 b.0 o.1 b.2) c.requires.max.0 b.6) whole in
+    let t = c.gather.ensures.gathered o.0 b.1 b.0 o.1 o.2 (b.2, at3, subst (λ (j : ℕ). HasBuilt j o.0 b.1 b.0 o.1 b.2) c.requires.max.0 b.6, whole) in
     subst (λ (z : ℕ × QueuedWriter g.row.Request.Denot × List (Handling g.row.Request.Denot g.row.Reply.Denot) × List (g.row.Request.Denot × g.row.Reply.Denot)). (group left : List (QueuedWriter g.row.Request.Denot)) × Grouped law c.args.self.now.clients c.args.max z.0 z.1 group left z.2 z.3 c.gather.new.writer.seat.me × (c.gather.new.asked.items ≡ asks z.1 group)) (λ i. (e3 i, f.0 i, f.1 i, e.2 i)) (b.1, b.0, t.0, t.1)

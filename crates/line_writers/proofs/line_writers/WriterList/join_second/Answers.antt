@@ -44,7 +44,7 @@ returns-then-found-older-clause-joined g c st mine s b at =
     let at2 = subst (λ (j : ℕ). AtWith j st mine (Parting s c.load-older.result) c.aim_second.new.writer.seat.me) (sym e) t.0 in
     let slots = t.1 ∙ ap (λ m. m.1) c.load-older.ensures.2.0 ∙ c.loop.invariant.5 in
     let u = c.enter_second-found.ensures.entered st mine s at2 in let hit = c.if-found-older.true in let both = e ∙ k in
-    let m' = c.enter_second-found.new.writer.seat.me in let m = c.args.writer.now.seat.me in let older : ℕ = c.load-older.result in let to = g.B.PickedRight.given in let n : ℕ = c.args.self.now.clients in
+    let m' = c.enter_second-found.new.writer.seat.me in let m = c.args.writer.now.seat.me in let older : ℕ = c.load-older.result in let to = g.ForRight.PickedRight.given in let n : ℕ = c.args.self.now.clients in
     dite (ℕ_discrete older 0)
     (λ z. let v = u.1 hit z in subst (λ (y : Bool). HasJoined (g.Log.LogOfGroups.serves c.args.self.now.table.shared.key.about) n c.args.writer.now.client to y st mine s m m') (sym (eq-eqb older 0 z)) (v.0, v.1, subst (λ (j : ℕ). AtWith j st mine (Holding (squad_with_end s to)) m') both v.2, v.3 ∙ ap (λ l. (n + 1, TheRight v.0) ∷ l) slots))
     (λ nz. let v = u.0 hit nz in subst (λ (y : Bool). HasJoined (g.Log.LogOfGroups.serves c.args.self.now.table.shared.key.about) n c.args.writer.now.client to y st mine s m m') (sym (ne_eqb older 0 nz)) (subst (λ (j : ℕ). AtWith j st mine (Joining (squad_with_end s to)) m') both v.0, v.1 ∙ slots))

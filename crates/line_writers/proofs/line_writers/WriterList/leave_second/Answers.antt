@@ -6,7 +6,7 @@ use Rattle.line_writers.proofs.line_writers.WriterList.leave_second.Goals as goa
 
 pub compare_exchange-requires : goal.compare_exchange-requires
 compare_exchange-requires g c =
-    let z = c.args.self.now.sized in let q = c.requires.seat in let key : c.args.self.now.table.shared.key.clients ≡ c.args.self.now.clients = z.2 in let o = c.requires.serves in (q, omega arith, leaves_second _ _ _ _ c.args.writer.now.seat.me c.args.writer.now.client c.args.newest_member (c.args.self.now.clients + 1) o.0 o.1 o.2 o.3 o.4 o.5 none c.requires.piped o.6 o.7 (omega arith) o.8 o.9)
+    let z = c.args.self.now.sized in let q = c.requires.seat in let key : c.args.self.now.table.shared.key.clients ≡ c.args.self.now.clients = z.2 in let o = c.requires.serves in (q, omega arith, leaves_second _ _ _ _ c.args.writer.now.seat.me c.args.writer.now.client c.args.newest_member (c.args.self.now.clients + 1) o.0 o.1 o.2 o.3 o.4 o.5 none c.requires.piped o.6 o.7 (omega arith) o.8.0 o.8.1)
 
 pub returns-clause-left : goal.returns-clause-left
 returns-clause-left g c d mine g0 walk y t at slot =

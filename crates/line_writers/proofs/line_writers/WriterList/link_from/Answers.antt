@@ -54,7 +54,7 @@ returns-then-found-newest-clause-seat g c = (c.compare_exchange-found.ensures.0 
 
 pub returns-then-found-newest-clause-linked : goal.returns-then-found-newest-clause-linked
 returns-then-found-newest-clause-linked g c mine idle =
-    let stood = logs_picked g.Reply.GivesRun.run_of g.Log.LogOfGroups g.B.PickedAbout.number g.B.PickedAbout.about in
+    let stood = logs_picked g.Reply.GivesRun.run_of g.Log.LogOfGroups g.About.PickedAbout.number g.About.PickedAbout.about in
     let i = c.loop.invariant.4 in let k : ℕ = c.args.writer.now.client in let newest : ℕ = c.load-newest.result in
     let b = c.store-in-loop.ensures.2 k i.0 i.1 (ap (λ m. m.0) c.load-newest.ensures.2.0 ∙ i.3) in
     let t = c.compare_exchange-found.ensures.2 k _ c.args.request i.1 b.0 (b.1 ∙ ap (λ m. m.1) c.load-newest.ensures.2.0 ∙ c.loop.invariant.5) in

@@ -14,45 +14,45 @@ use Rattle.line_writers.proofs.Sends.{joined_behind, joined_alone, slots_snoc}
 use Rattle.line_writers.proofs.line_writers.WriterList.send_on.Goals as goal
 
 pub part-next-requires-clause-ready : goal.part-next-requires-clause-ready
-part-next-requires-clause-ready g c = let o = c.requires.ready in (o.0, o.1, o.5, o.6, o.7, o.8)
+part-next-requires-clause-ready g c = let o = c.requires.ready in (o.0, o.1, o.5)
 
 pub join_second-alone-requires-clause-parted : goal.join_second-alone-requires-clause-parted
 join_second-alone-requires-clause-parted g c =
-    let o = c.requires.ready in let k : ℕ = c.args.writer.now.client in let next : ℕ = c.part-next.result in let from = g.B.PickedGiven.given in
-    let pt = c.part-next.ensures.parted o.0 o.1 o.5 in let e1 : c.part-next.new.writer.client ≡ k = c.part-next.ensures.seat.1 in
+    let o = c.requires.ready in let k : ℕ = c.args.writer.now.client in let next : ℕ = c.part-next.result in let from = g.Given.PickedGiven.given in
+    let pt = c.part-next.ensures.parted o.0 o.1 o.5.0 in let e1 : c.part-next.new.writer.client ≡ k = c.part-next.ensures.seat.1 in
     let lead' : Lead g.row.Request.Denot g.row.Reply.Denot = lead_with_walk o.0 pt.0 in let gp : Squad g.row.Request.Denot g.row.Reply.Denot = squad_at_cut o.0 from in let m1 = c.part-next.new.writer.seat.me in
     dite (ℕ_discrete next 0)
-    (λ z. (Marking lead', lead', o.1, gp, 0, subst (λ (j : ℕ). AtWith j (Marking lead') o.1 (Parting gp 0) m1) (sym e1) (pt.1.0 z), o.9, refl, o.13, o.6))
-    (λ nz. let x = pt.1.1 nz in (Cutting lead' x.0, lead', o.1, gp, 0, subst (λ (j : ℕ). AtWith j (Cutting lead' x.0) o.1 (Parting gp 0) m1) (sym e1) x.2, o.9, refl, o.13, o.6))
+    (λ z. (Marking lead', lead', o.1, gp, 0, subst (λ (j : ℕ). AtWith j (Marking lead') o.1 (Parting gp 0) m1) (sym e1) (pt.1.0 z), o.6, refl, o.9.0, o.5.1))
+    (λ nz. let x = pt.1.1 nz in (Cutting lead' x.0, lead', o.1, gp, 0, subst (λ (j : ℕ). AtWith j (Cutting lead' x.0) o.1 (Parting gp 0) m1) (sym e1) x.2, o.6, refl, o.9.0, o.5.1))
 
 pub go_on-requires-clause-ready : goal.go_on-requires-clause-ready
 go_on-requires-clause-ready g c =
-    let o = c.requires.ready in let k : ℕ = c.args.writer.now.client in let n : ℕ = c.args.self.now.clients in let next : ℕ = c.part-next.result in let from = g.B.PickedGiven.given in let to = g.D.PickedRight.given in
-    let pt = c.part-next.ensures.parted o.0 o.1 o.5 in let e1 : c.part-next.new.writer.client ≡ k = c.part-next.ensures.seat.1 in
+    let o = c.requires.ready in let k : ℕ = c.args.writer.now.client in let n : ℕ = c.args.self.now.clients in let next : ℕ = c.part-next.result in let from = g.Given.PickedGiven.given in let to = g.ForRight.PickedRight.given in
+    let pt = c.part-next.ensures.parted o.0 o.1 o.5.0 in let e1 : c.part-next.new.writer.client ≡ k = c.part-next.ensures.seat.1 in
     let lead' : Lead g.row.Request.Denot g.row.Reply.Denot = lead_with_walk o.0 pt.0 in let gp : Squad g.row.Request.Denot g.row.Reply.Denot = squad_at_cut o.0 from in let m1 = c.part-next.new.writer.seat.me in let m2 = c.join_second-alone.new.writer.seat.me in
     let e2 : c.join_second-alone.new.writer.client ≡ k = c.join_second-alone.ensures.seat.1 ∙ e1 in
     let joined : (st : LineStage g.row.Request.Denot g.row.Reply.Denot) → AtWith k st o.1 (Parting gp 0) m1 → HasJoined (g.Log.LogOfGroups.serves c.args.self.now.table.shared.key.about) n k to c.join_second-alone.result st o.1 gp m1 m2 = λ st here. subst (λ (j : ℕ). HasJoined (g.Log.LogOfGroups.serves c.args.self.now.table.shared.key.about) n j to c.join_second-alone.result st o.1 gp m1 m2) e1 (c.join_second-alone.ensures.joined st o.1 gp 0 (subst (λ (j : ℕ). AtWith j st o.1 (Parting gp 0) m1) (sym e1) here)) in
     let jn = joined_alone (g.Log.LogOfGroups.serves c.args.self.now.table.shared.key.about) n k to next lead' o.1 gp m1 m2 pt.1 (λ st here. subst (λ (y : Bool). HasJoined (g.Log.LogOfGroups.serves c.args.self.now.table.shared.key.about) n k to y st o.1 gp m1 m2) c.if-alone.true (joined st here)) in
     let tail = (n + 1, TheRight jn.0) ∷ [] in let tn = c.turn.ensures.2 in let m3 = c.turn.new.self.me in
     let stage = subst (λ m. HasStage c.join_second-alone.new.writer.client lead' o.1 (Holding (squad_with_end gp to)) next m) (sym tn) (subst (λ (j : ℕ). HasStage j lead' o.1 (Holding (squad_with_end gp to)) next (m2.0, turned m2.1)) (sym e2) jn.2) in
-    let slot2 = ap (λ m. m.1) tn ∙ ap (λ l. turned l) (jn.3 ∙ ap (λ l. (n + 1, TheRight jn.0) ∷ l) (pt.2 ∙ o.11)) ∙ ap (λ zz. (0, TheLog o.4) ∷ zz) (slots_snoc o.2 ((k, Told o.3) ∷ []) tail) ∙ (λ i. (0, TheLog o.4) ∷ slots_of o.2 ((sym e2 i, Told o.3) ∷ tail)) in
-    (lead', o.1, Holding (squad_with_end gp to), o.2, o.3, o.4, tail, stage, o.10, slot2, o.12, (c.requires.piped, o.14))
+    let slot2 = ap (λ m. m.1) tn ∙ ap (λ l. turned l) (jn.3 ∙ ap (λ l. (n + 1, TheRight jn.0) ∷ l) (pt.2 ∙ o.7.1)) ∙ ap (λ zz. (0, TheLog o.4) ∷ zz) (slots_snoc o.2 ((k, Told o.3) ∷ []) tail) ∙ (λ i. (0, TheLog o.4) ∷ slots_of o.2 ((sym e2 i, Told o.3) ∷ tail)) in
+    (lead', o.1, Holding (squad_with_end gp to), o.2, o.3, o.4, tail, stage, o.7.0, slot2, o.8, (c.requires.piped, o.9.1))
 
 pub go_on-requires-2-clause-ready : goal.go_on-requires-2-clause-ready
 go_on-requires-2-clause-ready g c =
-    let o = c.requires.ready in let k : ℕ = c.args.writer.now.client in let n : ℕ = c.args.self.now.clients in let next : ℕ = c.part-next.result in let from = g.B.PickedGiven.given in let to = g.D.PickedRight.given in
-    let pt = c.part-next.ensures.parted o.0 o.1 o.5 in let e1 : c.part-next.new.writer.client ≡ k = c.part-next.ensures.seat.1 in
+    let o = c.requires.ready in let k : ℕ = c.args.writer.now.client in let n : ℕ = c.args.self.now.clients in let next : ℕ = c.part-next.result in let from = g.Given.PickedGiven.given in let to = g.ForRight.PickedRight.given in
+    let pt = c.part-next.ensures.parted o.0 o.1 o.5.0 in let e1 : c.part-next.new.writer.client ≡ k = c.part-next.ensures.seat.1 in
     let lead' : Lead g.row.Request.Denot g.row.Reply.Denot = lead_with_walk o.0 pt.0 in let gp : Squad g.row.Request.Denot g.row.Reply.Denot = squad_at_cut o.0 from in let m1 = c.part-next.new.writer.seat.me in let m2 = c.join_second-alone.new.writer.seat.me in
     let e2 : c.join_second-alone.new.writer.client ≡ k = c.join_second-alone.ensures.seat.1 ∙ e1 in
     let joined : (st : LineStage g.row.Request.Denot g.row.Reply.Denot) → AtWith k st o.1 (Parting gp 0) m1 → HasJoined (g.Log.LogOfGroups.serves c.args.self.now.table.shared.key.about) n k to c.join_second-alone.result st o.1 gp m1 m2 = λ st here. subst (λ (j : ℕ). HasJoined (g.Log.LogOfGroups.serves c.args.self.now.table.shared.key.about) n j to c.join_second-alone.result st o.1 gp m1 m2) e1 (c.join_second-alone.ensures.joined st o.1 gp 0 (subst (λ (j : ℕ). AtWith j st o.1 (Parting gp 0) m1) (sym e1) here)) in
     let jn = joined_behind (g.Log.LogOfGroups.serves c.args.self.now.table.shared.key.about) n k to next lead' o.1 gp m1 m2 pt.1 (λ st here. subst (λ (y : Bool). HasJoined (g.Log.LogOfGroups.serves c.args.self.now.table.shared.key.about) n k to y st o.1 gp m1 m2) c.if-alone.false (joined st here)) in
     let stage = subst (λ (j : ℕ). HasStage j lead' o.1 (Joining (squad_with_end gp to)) next m2) (sym e2) jn.0 in
-    let slot2 = jn.1 ∙ pt.2 ∙ o.11 ∙ (λ i. (0, TheLog o.4) ∷ slots_of o.2 ((sym e2 i, Told o.3) ∷ [])) in
-    (lead', o.1, Joining (squad_with_end gp to), o.2, o.3, o.4, [], stage, o.10, slot2, o.12, (c.requires.piped, o.14))
+    let slot2 = jn.1 ∙ pt.2 ∙ o.7.1 ∙ (λ i. (0, TheLog o.4) ∷ slots_of o.2 ((sym e2 i, Told o.3) ∷ [])) in
+    (lead', o.1, Joining (squad_with_end gp to), o.2, o.3, o.4, [], stage, o.7.0, slot2, o.8, (c.requires.piped, o.9.1))
 
 pub returns-then-alone-clause-sent : goal.returns-then-alone-clause-sent
 returns-then-alone-clause-sent g c lead mine gs p l at heads_are slot =
-    let o = c.requires.ready in let k : ℕ = c.args.writer.now.client in let n : ℕ = c.args.self.now.clients in let next : ℕ = c.part-next.result in let from = g.B.PickedGiven.given in let to = g.D.PickedRight.given in
+    let o = c.requires.ready in let k : ℕ = c.args.writer.now.client in let n : ℕ = c.args.self.now.clients in let next : ℕ = c.part-next.result in let from = g.Given.PickedGiven.given in let to = g.ForRight.PickedRight.given in
     let pt = c.part-next.ensures.parted lead mine at in let e1 : c.part-next.new.writer.client ≡ k = c.part-next.ensures.seat.1 in
     let lead' : Lead g.row.Request.Denot g.row.Reply.Denot = lead_with_walk lead pt.0 in let gp : Squad g.row.Request.Denot g.row.Reply.Denot = squad_at_cut lead from in let m1 = c.part-next.new.writer.seat.me in let m2 = c.join_second-alone.new.writer.seat.me in
     let e2 : c.join_second-alone.new.writer.client ≡ k = c.join_second-alone.ensures.seat.1 ∙ e1 in
@@ -66,7 +66,7 @@ returns-then-alone-clause-sent g c lead mine gs p l at heads_are slot =
 
 pub returns-clause-sent : goal.returns-clause-sent
 returns-clause-sent g c lead mine gs p l at heads_are slot =
-    let o = c.requires.ready in let k : ℕ = c.args.writer.now.client in let n : ℕ = c.args.self.now.clients in let next : ℕ = c.part-next.result in let from = g.B.PickedGiven.given in let to = g.D.PickedRight.given in
+    let o = c.requires.ready in let k : ℕ = c.args.writer.now.client in let n : ℕ = c.args.self.now.clients in let next : ℕ = c.part-next.result in let from = g.Given.PickedGiven.given in let to = g.ForRight.PickedRight.given in
     let pt = c.part-next.ensures.parted lead mine at in let e1 : c.part-next.new.writer.client ≡ k = c.part-next.ensures.seat.1 in
     let lead' : Lead g.row.Request.Denot g.row.Reply.Denot = lead_with_walk lead pt.0 in let gp : Squad g.row.Request.Denot g.row.Reply.Denot = squad_at_cut lead from in let m1 = c.part-next.new.writer.seat.me in let m2 = c.join_second-alone.new.writer.seat.me in
     let e2 : c.join_second-alone.new.writer.client ≡ k = c.join_second-alone.ensures.seat.1 ∙ e1 in

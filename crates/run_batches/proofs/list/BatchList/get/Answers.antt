@@ -1,8 +1,8 @@
-use Rattle.std.proofs.Common.{◌≡◌, ◌-◌, List, ℕ, length, take, drop, get_or, sym, ap, ◌∙◌, subst, arith}
+use Rattle.std.proofs.Common.{◌≡◌, List, ℕ, length, get_or, sym, ap, ◌∙◌, subst, arith}
 use Rattle.std.specs.Prelude.{Some}
 use Rattle.log_batch.specs.Contents.{Contents}
 use Rattle.run_batches.specs.declared.accepted.AcceptedBatch.{AcceptedBatch}
-use Rattle.run_batches.specs.OneBatch.{batch_bytes, IsBatchOf, IsOneBatch, one_batch}
+use Rattle.run_batches.specs.OneBatch.{batch_bytes, IsBatchOf, one_batch}
 use Rattle.run_batches.specs.Layout.{byte_of, flag_of, bytes_of}
 use Rattle.run_batches.specs.OneList.{flag_back}
 use Rattle.run_batches.proofs.Places.{found_at, behind_first}

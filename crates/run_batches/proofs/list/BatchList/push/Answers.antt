@@ -1,9 +1,9 @@
-use Rattle.std.proofs.Common.{◌≡◌, List, ℕ, [], ◌∷◌, ◌++◌, length, refl, sym, ap, ◌∙◌, subst, arith, rules}
+use Rattle.std.proofs.Common.{◌≡◌, List, [], ◌∷◌, ◌++◌, length, refl, ap, ◌∙◌, subst, arith, rules}
 use Rattle.std.proofs.lemmas.Grind.{common_steps}
 use Rattle.log_batch.specs.Contents.{Contents}
 use Rattle.run_batches.specs.declared.accepted.AcceptedBatch.{AcceptedBatch}
-use Rattle.run_batches.specs.OneBatch.{batch_bytes, IsBatchOf}
-use Rattle.run_batches.specs.Layout.{byte_of, bytes_of}
+use Rattle.run_batches.specs.OneBatch.{IsBatchOf}
+use Rattle.run_batches.specs.Layout.{bytes_of}
 use Rattle.run_batches.specs.OneList.{AreBatches, same_batches}
 use Rattle.run_batches.proofs.Additions.{with_batch, as_before, on_ok}
 use Rattle.run_batches.proofs.list.BatchList.push.Goals as goal

@@ -17,7 +17,7 @@ pub returns-clause-ours : goal.returns-clause-ours
 returns-clause-ours g c =
     let z : Opening = c.args.table.now.table.shared.key in let id : TableId = c.args.table.now.table.shared.table_id in let k : ℕ = c.args.self.now.client.number in let o = c.requires.ours.0 in let m = c.args.self.now.client.seat.me in
     let n = c.requires.next in
-    let vs : List Version = g.MemberNodes.Versioned.versions c.args.nodes in
+    let vs : List Version = g.NodeList.Versioned.versions c.args.nodes in
     let at = staged k z o.3.0 o.3.1 (Holding (work n.0 n.1 (vs ++ n.2))) m o.3.2 n.3 in
     let held = carried (z.shards + k) c.args.self.now.last m.1 o.3.1 (Holding (work n.0 n.1 (vs ++ n.2))) (stage_of k z o.3.0 o.3.1 _ m o.3.2 n.3) o.3.3 in
     let s = c.add.ensures.seat in
@@ -26,6 +26,6 @@ returns-clause-ours g c =
 pub returns-clause-added : goal.returns-clause-added
 returns-clause-added g c u done more is =
     let z : Opening = c.args.table.now.table.shared.key in let id : TableId = c.args.table.now.table.shared.table_id in let k : ℕ = c.args.self.now.client.number in let o = c.requires.ours.0 in let m = c.args.self.now.client.seat.me in
-    let vs : List Version = g.MemberNodes.Versioned.versions c.args.nodes in
+    let vs : List Version = g.NodeList.Versioned.versions c.args.nodes in
     let at = staged k z o.3.0 o.3.1 (Holding (work u done (vs ++ more))) m o.3.2 is in
     steps_on k c.add.new.who.number z o.3.0 (Holding (work u done (vs ++ more))) (Holding (work u (done ++ vs) more)) m c.add.new.who.seat.me c.args.self.now.turn c.add.ensures.seat.1 at (c.add.ensures.added o.3.0 u done more at)

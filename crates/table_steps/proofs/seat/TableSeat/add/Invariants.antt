@@ -1,4 +1,4 @@
 use Rattle.table_steps.proofs.seat.TableSeat.add.Given as goal
 
 abbrev pub ghosts-add : goal.ghosts-add
-ghosts-add g a = record { versions = g.MemberNodes.Versioned.versions a.nodes }
+ghosts-add g a = record { versions = g.NodeList.Versioned.versions a.nodes }

@@ -35,7 +35,7 @@ returns-clause-ours g c =
 pub returns-clause-seen : goal.returns-clause-seen
 returns-clause-seen g c =
     let z : Opening = c.args.table.now.table.shared.key in let k : ℕ = c.args.self.now.client.number in let m = c.args.self.now.client.seat.me in
-    subst (λ (t : Option (Turn g.row.ShardTree.Denot g.row.MemberNodes.Denot)). Learns z.start (account_of k m t) (account c.await_seen.new.self)) c.take.ensures.after c.await_seen.ensures.seen
+    subst (λ (t : Option (Turn g.row.ShardTree.Denot g.row.NodeList.Denot)). Learns z.start (account_of k m t) (account c.await_seen.new.self)) c.take.ensures.after c.await_seen.ensures.seen
 
 pub returns-clause-published : goal.returns-clause-published
 returns-clause-published g c u launch =

@@ -13,7 +13,7 @@ load-requires g c =
     let z : Opening = c.args.table.now.table.shared.key in let id : TableId = c.args.table.now.table.shared.table_id in let k : ℕ = c.args.self.now.client.number in let o = c.requires.0 in let m = c.args.self.now.client.seat.me in
     let q = c.args.table.now.sized in let e = shards_of z c.args.table.now.opening q.2 in
     let client = client_stage (z.shards + k) c.args.self.now.last m.1 o.3.1 o.3.3 in
-    (o.0, omega arith, learns g.ShardTree.Versioned.versions g.MemberNodes.Versioned.versions z _ _ m k _ o.3.0 o.3.1 e client o.3.2)
+    (o.0, omega arith, learns g.ShardTree.Versioned.versions g.NodeList.Versioned.versions z _ _ m k _ o.3.0 o.3.1 e client o.3.2)
 
 pub returns-clause-ours : goal.returns-clause-ours
 returns-clause-ours g c =

@@ -14,7 +14,7 @@ store-requires g c =
     let n = c.requires.last_one in
     let at = staged k z o.3.0 o.3.1 (Publishing n.0) m o.3.2 n.1 in
     let held = carried (z.shards + k) c.args.self.now.last m.1 o.3.1 (Publishing n.0) (stage_of k z o.3.0 o.3.1 _ m o.3.2 n.1) o.3.3 in
-    (o.0, omega arith, publishes_all g.ShardTree.Versioned.versions g.MemberNodes.Versioned.versions z _ _ m k _ o.3.0 n.0 c.args.self.now.last held.1 e at)
+    (o.0, omega arith, publishes_all g.ShardTree.Versioned.versions g.NodeList.Versioned.versions z _ _ m k _ o.3.0 n.0 c.args.self.now.last held.1 e at)
 
 pub returns-clause-ours : goal.returns-clause-ours
 returns-clause-ours g c =

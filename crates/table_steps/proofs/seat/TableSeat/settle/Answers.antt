@@ -23,7 +23,7 @@ store-requires g c =
     let at = staged k z o.3.0 o.3.1 (Holding (work n.0 n.1 [])) m o.3.2 n.2 in
     let held = carried (z.shards + k) c.args.self.now.last m.1 o.3.1 (Holding (work n.0 n.1 [])) (stage_of k z o.3.0 o.3.1 _ m o.3.2 n.2) o.3.3 in
     let high = o.2 in
-    (o.0, omega (arith, high), settles g.ShardTree.Versioned.versions g.MemberNodes.Versioned.versions z _ _ m k _ o.3.0 n.0 n.1 [] (λ i. e i + 1 + k) o.1 at held.0)
+    (o.0, omega (arith, high), settles g.ShardTree.Versioned.versions g.NodeList.Versioned.versions z _ _ m k _ o.3.0 n.0 n.1 [] (λ i. e i + 1 + k) o.1 at held.0)
 
 pub returns-clause-ours : goal.returns-clause-ours
 returns-clause-ours g c =

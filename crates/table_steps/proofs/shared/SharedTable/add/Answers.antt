@@ -16,7 +16,7 @@ loop-node-init g c = ([], sym c.requires.nodes, adds_none (g.ShardTree.Versioned
 
 pub insert-requires : goal.insert-requires
 insert-requires g c =
-    let o = c.requires.next in let v : Version = g.MemberNodes.Node.VersionNode.version c.in-Some.node in let left : List Version = g.MemberNodes.Versioned.versions c.pop.new.self in
+    let o = c.requires.next in let v : Version = g.NodeList.Node.VersionNode.version c.in-Some.node in let left : List Version = g.NodeList.Versioned.versions c.pop.new.self in
     let fresh = (c.lock-tree.ensures.locked o.0 (Holding (work o.1 o.2 (g.Plan.VersionPlan.versions ++ o.3))) o.4).3 in
     let i = c.loop-node.invariant in
     let is : g.Plan.VersionPlan.versions ≡ i.0 ++ v ∷ left = i.1 ∙ ap (λ (l : List Version). i.0 ++ l) c.in-Some.ensures in
@@ -25,7 +25,7 @@ insert-requires g c =
 
 pub loop-node-preserved : goal.loop-node-preserved
 loop-node-preserved g c =
-    let v : Version = g.MemberNodes.Node.VersionNode.version c.in-Some.node in let left : List Version = g.MemberNodes.Versioned.versions c.pop.new.self in let i = c.loop-node.invariant in (
+    let v : Version = g.NodeList.Node.VersionNode.version c.in-Some.node in let left : List Version = g.NodeList.Versioned.versions c.pop.new.self in let i = c.loop-node.invariant in (
       i.0 ++ v ∷ [],
       i.1 ∙ (ap (λ (l : List Version). i.0 ++ l) c.in-Some.ensures ∙ sym (append_assoc i.0 (v ∷ []) left)),
       adds_more (g.ShardTree.Versioned.versions c.lock-tree.result) i.0 v (g.ShardTree.Versioned.versions c.loop-node.tree) (g.ShardTree.Versioned.versions c.insert.new.self) i.2 c.insert.ensures,

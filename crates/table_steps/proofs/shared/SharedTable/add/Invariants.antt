@@ -4,9 +4,9 @@ use Rattle.table_rule.specs.Steps.{AddsAll}
 use Rattle.table_steps.proofs.shared.SharedTable.add.Given as goal
 
 abbrev pub decreases-loop-node : goal.decreases-loop-node
-decreases-loop-node g l = length (g.MemberNodes.Versioned.versions l.nodes)
+decreases-loop-node g l = length (g.NodeList.Versioned.versions l.nodes)
 
 -- the versions that are in, with those that are to go in
 abbrev pub invariant-loop-node : goal.invariant-loop-node
-invariant-loop-node g l = (put : List Version) × (g.Plan.VersionPlan.versions ≡ put ++ g.MemberNodes.Versioned.versions l.nodes)
+invariant-loop-node g l = (put : List Version) × (g.Plan.VersionPlan.versions ≡ put ++ g.NodeList.Versioned.versions l.nodes)
     × AddsAll (g.ShardTree.Versioned.versions l.initial.tree) put (g.ShardTree.Versioned.versions l.tree)

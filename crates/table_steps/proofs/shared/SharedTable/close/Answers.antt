@@ -30,8 +30,8 @@ returns g c =
     record {
       is_history = subst (IsHistory z.start) same done.0;
       each = λ y h.
-          let x = in_map (λ (s : TableSeat g.row.ShardTree.Denot g.row.MemberNodes.Denot). account s) c.args.seats.clients.items y h in
-          let seat : TableSeat g.row.ShardTree.Denot g.row.MemberNodes.Denot = x.0 in let k : ℕ = seat.client.number in let m = seat.client.seat.me in
+          let x = in_map (λ (s : TableSeat g.row.ShardTree.Denot g.row.NodeList.Denot). account s) c.args.seats.clients.items y h in
+          let seat : TableSeat g.row.ShardTree.Denot g.row.NodeList.Denot = x.0 in let k : ℕ = seat.client.number in let m = seat.client.seat.me in
           let r = c.requires.clients seat x.1 in let o = r.0.0 in
           let at = staged k z o.3.0 o.3.1 Idle m o.3.2 r.1.idle in
           let seen_is : o.3.0 ≡ y.seen = sym (ap (λ l. (first_state l).seen) at) ∙ ap (λ (a : Account). a.seen) x.2 in

@@ -10,7 +10,7 @@ use Rattle.table_steps.proofs.shared.SharedTable.open.Goals as goal
 pub new-requires : goal.new-requires
 new-requires g c =
     let z : Opening = record { clients = c.args.clients; shards = c.args.shards; start = c.args.last } in
-    opens_first g.ShardTree.Versioned.versions g.MemberNodes.Versioned.versions z c.deref.result.now c.add_blanks.new.slots.items c.in_ok-slots.slots.items (c.deref.ensures.value ∙ c.in_ok-words.ensures) c.in_ok-add_blanks.ensures c.requires c.in_ok-slots.ensures.length c.in_ok-slots.ensures.empty
+    opens_first g.ShardTree.Versioned.versions g.NodeList.Versioned.versions z c.deref.result.now c.add_blanks.new.slots.items c.in_ok-slots.slots.items (c.deref.ensures.value ∙ c.in_ok-words.ensures) c.in_ok-add_blanks.ensures c.requires c.in_ok-slots.ensures.length c.in_ok-slots.ensures.empty
 
 pub invariant_of-shared : goal.invariant_of-shared
 invariant_of-shared g c =

@@ -11,4 +11,4 @@ pub exit-answer-requires-clause-group : goal.exit-answer-requires-clause-group
 exit-answer-requires-clause-group c =
     let f = c.requires.group in let t = f.1 in
     let p = c.replies_in_order.ensures t.1 t.2 c.answer_all.new.replies.list.items (c.answer_all.ensures.replies ∙ ap firsts t.6) in
-    (f.0, (t.0, t.1, t.2, t.3, t.4, p.0, p.1, t.5, p.2, p.3, (refl, refl, sym (none_given {Q = CountRequest} {P = CountReply} (start_of c.args.list.now) (t.4 ++ all_answers t.1 p.1 p.0) c.requires.plain.0)), λ e. absurd (let h = c.requires.plain.1 in cc)))
+    (f.0, (t.0, t.1, t.2, t.3, t.4, p.0, p.1, t.5, p.2, p.3, ((refl, refl, sym (none_given {Q = CountRequest} {P = CountReply} (start_of c.args.list.now) (t.4 ++ all_answers t.1 p.1 p.0) c.requires.plain.0)), λ e. absurd (let h = c.requires.plain.1 in cc))))
