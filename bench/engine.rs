@@ -20,7 +20,11 @@ const HEADER_LEN: usize = 7;
 /// The bytes of a batch's header.
 const BATCH_HEADER_LEN: usize = 12;
 
-const VALUE: [u8; 100] = [7; 100];
+/// The longest value.
+const VALUE: [u8; 1000] = [7; 1000];
+
+/// How far apart the ordered keys of two clients begin.
+const APART: u64 = 1 << 32;
 
 /// What is asked of all clients.
 #[derive(Clone, Copy)]
@@ -31,18 +35,26 @@ struct Work {
     sync: bool,
     /// How many additions are in a batch.
     records: u32,
+    /// The bytes of a value.
+    value: usize,
+    /// Whether the keys of a client come in order.
+    ordered: bool,
 }
 
 fn main() -> Result<(), Box<dyn Error>> {
     let words: Vec<String> = env::args().skip(1).collect();
-    let [clients, times, how, records, path @ ..] = words.as_slice() else {
-        return Err("how many clients, how many batches each, `sync` or `plain`, and the additions of a batch".into());
+    let [clients, times, how, records, value, order, path @ ..] = words.as_slice() else {
+        return Err("how many clients, how many batches each, `sync` or `plain`, the additions of a batch, the bytes of \
+            a value, and `ordered` or `random`"
+            .into());
     };
     let work = Work {
         clients: clients.parse()?,
         times: times.parse()?,
         sync: how == "sync",
         records: records.parse()?,
+        value: value.parse::<usize>()?.min(VALUE.len()),
+        ordered: order == "ordered",
     };
     match path {
         [path, ..] => time(File::create_new(path)?, work),
@@ -52,7 +64,7 @@ fn main() -> Result<(), Box<dyn Error>> {
 
 /// The bytes that the log of all batches takes, or more.
 fn room_of(work: Work) -> usize {
-    (work.clients * work.times * (120 * u64::from(work.records) + 40)) as usize + 65536
+    (work.clients * work.times * ((work.value as u64 + 20) * u64::from(work.records) + 40)) as usize + 65536
 }
 
 fn time<D: Disk + Send>(disk: D, work: Work) -> Result<(), Box<dyn Error>> {
@@ -78,10 +90,10 @@ fn time<D: Disk + Send>(disk: D, work: Work) -> Result<(), Box<dyn Error>> {
 
 /// One client writes its batches.
 fn write_all<D: Disk>(log: &Mutex<Log<D>>, work: Work, seed: u64) -> io::Result<()> {
-    let mut random = Random { state: seed };
+    let mut keys = Keys::of(seed, work.ordered);
     let mut batch = Vec::new();
     for _ in 0..work.times {
-        fill(&mut batch, &mut random, work.records);
+        fill(&mut batch, &mut keys, work);
         let first = log.lock().unwrap_or_else(PoisonError::into_inner).write(&mut batch, work.sync)?;
         black_box(first);
     }
@@ -89,33 +101,55 @@ fn write_all<D: Disk>(log: &Mutex<Log<D>>, work: Work, seed: u64) -> io::Result<
 }
 
 /// A batch of so many additions.
-fn fill(batch: &mut Vec<u8>, random: &mut Random, records: u32) {
+fn fill(batch: &mut Vec<u8>, keys: &mut Keys, work: Work) {
     batch.clear();
     batch.resize(BATCH_HEADER_LEN, 0);
-    batch[8..].copy_from_slice(&records.to_le_bytes());
-    for _ in 0..records {
+    batch[8..].copy_from_slice(&work.records.to_le_bytes());
+    for _ in 0..work.records {
         batch.push(1);
-        for string in [&random.key()[..], &VALUE] {
-            batch.push(string.len() as u8);
+        for string in [&keys.next()[..], &VALUE[..work.value]] {
+            push_len(batch, string.len());
             batch.extend_from_slice(string);
         }
     }
 }
 
-/// A linear congruential generator.
-struct Random {
-    state: u64,
+/// A length as a varint.
+fn push_len(batch: &mut Vec<u8>, mut len: usize) {
+    while len >= 128 {
+        batch.push((len % 128) as u8 | 128);
+        len /= 128;
+    }
+    batch.push(len as u8);
 }
 
-impl Random {
-    fn key(&mut self) -> [u8; 16] {
+/// The keys of a client: numbers one after the other, or those of a linear congruential generator.
+struct Keys {
+    state: u64,
+    ordered: bool,
+}
+
+impl Keys {
+    fn of(seed: u64, ordered: bool) -> Keys {
+        Keys { state: if ordered { seed.wrapping_mul(APART) } else { seed }, ordered }
+    }
+
+    fn next(&mut self) -> [u8; 16] {
+        let mut key = *b"key:000000000000";
+        key[8..].copy_from_slice(&self.number().to_be_bytes());
+        key
+    }
+
+    fn number(&mut self) -> u64 {
+        if self.ordered {
+            self.state = self.state.wrapping_add(1);
+            return self.state;
+        }
         self.state = self
             .state
             .wrapping_mul(6_364_136_223_846_793_005)
             .wrapping_add(1_442_695_040_888_963_407);
-        let mut key = *b"key:000000000000";
-        key[8..].copy_from_slice(&(self.state >> 1).to_be_bytes());
-        key
+        self.state >> 1
     }
 }
 

@@ -1,12 +1,13 @@
 // What the scripts `threads` and `engine` beside this file measure the write path with: threads that write the batches
 // of a generated script at once, to LevelDB or RocksDB, or to a plain file.
 //
-//     threads_peer PATH SEED CLIENTS BATCHES sync|plain [RECORDS single|pipelined serial|concurrent]
+//     threads_peer PATH SEED CLIENTS BATCHES sync|plain
+//         [RECORDS VALUE ordered|random single|pipelined serial|concurrent]
 //
-// With RECORDS each batch has so many additions of a key of 16 bytes, which SEED does not change, with a value of 100,
-// and each client makes its next batch when the last one was written. The two words behind it are RocksDB's settings:
-// `pipelined` is `enable_pipelined_write`, and `concurrent` is `allow_concurrent_memtable_write`. `unordered_write` is
-// off, and all else as the library has it.
+// With RECORDS each batch has so many additions of a key of 16 bytes, which SEED does not change, with a value of VALUE
+// bytes, and each client makes its next batch when the last one was written. A client's keys come in order, or are
+// those of a generator. The last two words are RocksDB's settings: `pipelined` is `enable_pipelined_write`, and
+// `concurrent` is `allow_concurrent_memtable_write`. `unordered_write` is off, and all else as the library has it.
 //
 // It is built against the library that the macro PEER names, `leveldb` or `rocksdb`, whose calls are alike. Without the
 // macro it writes to a file: each batch by one call of `write` under a mutex, with a call of `fdatasync` behind it where
@@ -151,56 +152,72 @@ std::vector<Batch> batches_of(std::uint64_t seed, int client, int count) {
     return batches;
 }
 
+// What each batch has, where a client makes it.
+struct Work {
+    int records;
+    std::size_t value;
+    bool ordered;
+};
+
 // The keys of a client, each of 16 digits: the numbers that `engine_program` makes its keys of, in hexadecimal.
 class Keys {
 public:
-    explicit Keys(int client) : state_(client - 1) {}
+    Keys(int client, bool ordered)
+        : state_(ordered ? static_cast<std::uint64_t>(client - 1) << 32 : client - 1), ordered_(ordered) {}
 
     std::string next() {
-        state_ = state_ * 6364136223846793005 + 1442695040888963407;
         std::string key(16, '0');
-        auto left = state_ >> 1;
+        auto left = number();
         for (auto at = key.rbegin(); at != key.rend(); ++at, left /= 16) *at = "0123456789abcdef"[left % 16];
         return key;
     }
 
 private:
+    std::uint64_t number() {
+        if (ordered_) return ++state_;
+        state_ = state_ * 6364136223846793005 + 1442695040888963407;
+        return state_ >> 1;
+    }
+
     std::uint64_t state_;
+    bool ordered_;
 };
 
-// Writes so many batches, each of so many records, one after the other.
-void write_records(Target& target, int client, int batches, int records, bool sync) {
-    const std::string value(100, 'v');
-    Keys keys(client);
+// Writes so many batches one after the other.
+void write_records(Target& target, int client, int batches, const Work& work, bool sync) {
+    const std::string value(work.value, 'v');
+    Keys keys(client, work.ordered);
     Batch batch;
     for (int written = 0; written < batches; written++) {
         batch.Clear();
-        for (int put = 0; put < records; put++) batch.Put(keys.next(), value);
+        for (int put = 0; put < work.records; put++) batch.Put(keys.next(), value);
         target.write(batch, sync);
     }
 }
 
 int main(int count, char** words) try {
-    if (count != 6 && count != 9) {
+    if (count != 6 && count != 11) {
         throw std::runtime_error(
-            "usage: threads_peer PATH SEED CLIENTS BATCHES sync|plain [RECORDS single|pipelined serial|concurrent]");
+            "usage: threads_peer PATH SEED CLIENTS BATCHES sync|plain "
+            "[RECORDS VALUE ordered|random single|pipelined serial|concurrent]");
     }
-    const bool has_records = count == 9;
+    const bool has_records = count == 11;
     std::optional<Ways> ways;
-    if (has_records) ways = Ways{std::string(words[7]) == "pipelined", std::string(words[8]) == "concurrent"};
+    if (has_records) ways = Ways{std::string(words[9]) == "pipelined", std::string(words[10]) == "concurrent"};
     Target target(words[1], ways);
     const std::uint64_t seed = std::stoull(words[2]);
     const int clients = std::stoi(words[3]);
     const int each = std::stoi(words[4]);
     const bool sync = std::string(words[5]) == "sync";
-    const int records = has_records ? std::stoi(words[6]) : 0;
+    Work work{};
+    if (has_records) work = Work{std::stoi(words[6]), std::stoul(words[7]), std::string(words[8]) == "ordered"};
     const auto start = std::chrono::steady_clock::now();
     std::vector<std::vector<Batch>> scripts;
     for (int client = 1; client <= clients && !has_records; client++) scripts.push_back(batches_of(seed, client, each));
     std::vector<std::thread> threads;
     for (int client = 1; client <= clients; client++) {
-        threads.emplace_back([&target, &scripts, client, each, records, sync] {
-            if (records > 0) return write_records(target, client, each, records, sync);
+        threads.emplace_back([&target, &scripts, &work, client, each, sync] {
+            if (work.records > 0) return write_records(target, client, each, work, sync);
             for (auto& batch : scripts[client - 1]) target.write(batch, sync);
         });
     }
