@@ -1,5 +1,6 @@
 // A library that is preloaded to the program. It notes calls of the system on one file and on its folder, and can make
-// one of them fail, or end the program in it.
+// one of them fail, or end the program in it; and one on the standard streams, one that starts a thread, or one that
+// asks for memory.
 //
 //     CALLS_FILE   the file's path, as the program is given it
 //     CALLS_NOTES  a file that is there, to which the notes are added, a line for each:
@@ -8,23 +9,34 @@
 //                  `synced N`        a sync has worked that began when the file had N bytes
 //                  `entry`           a sync of the folder has worked
 //                  `fails CALL`      this call fails, or ends the program
-//     CALLS_FAIL   `NTH HOW`: what becomes of the NTH call, where there is one:
-//                  `io`      it fails with EIO
+//     CALLS_FAIL   `KIND NTH HOW`: what becomes of the NTH call of a kind, where there is one. The kinds are
+//                  `log`     a call on the file or its folder, also one that looks for it by its path
+//                  `in`      a read of standard input
+//                  `out`     a write to standard output
+//                  `threads` a start of a thread
+//                  `memory`  an allocation of the C library, also one that it makes itself
+//                  and HOW is
+//                  `io`      it fails with EIO; a start of a thread with EAGAIN, an allocation with ENOMEM
 //                  `space`   it fails with ENOSPC, and so does each later one
 //                  `signal`  it fails with EINTR, and so do the two after it
-//                  `short`   from it on each write takes only half of its bytes
+//                  `short`   from it on each write takes only half of its bytes, and each read gives at most half
 //                  `full`    from it on the first write takes only half of its bytes, and those after
 //                            it fail with ENOSPC
 //                  `none`    from it on each write takes no byte
 //                  `before`, `within`, `after`  SIGKILL ends the program before it, after half of its bytes where
 //                            it is a write, or after it
 //
+// With `space` a start of a thread and an allocation fail as with `io`, and so does each later one. `signal` and all
+// that is said of writes is for files and streams alone, and what ends the program for the log.
+//
 // A call that closes works always, and isn't counted. The library makes its calls of the system by `syscall`, and needs
 // no other one than the C library.
 
 #define _GNU_SOURCE
+#include <dlfcn.h>
 #include <errno.h>
 #include <fcntl.h>
+#include <pthread.h>
 #include <signal.h>
 #include <stdarg.h>
 #include <stdatomic.h>
@@ -43,9 +55,14 @@ static _Atomic char what[NUMBERS];
 static const char *path;
 static char folder[4096];
 static int notes = -1;
+enum { LOG, IN, OUT, THREADS, MEMORY, KINDS };
+static const char *const kinds[KINDS] = {"log", "in", "out", "threads", "memory"};
+static atomic_long calls[KINDS];
+
+// The call that is to fail, by its kind and number, and how.
+static int kind_chosen = KINDS;
 static long chosen;
 static char how[16];
-static atomic_long calls;
 static atomic_int was_short;
 
 __attribute__((constructor)) static void begin(void) {
@@ -62,7 +79,10 @@ __attribute__((constructor)) static void begin(void) {
     int opened = syscall(SYS_openat, AT_FDCWD, to, O_WRONLY | O_APPEND | O_CLOEXEC);
     notes = fcntl(opened, F_DUPFD_CLOEXEC, 500);
     syscall(SYS_close, opened);
-    if (fail != NULL) sscanf(fail, "%ld %15s", &chosen, how);
+    char kind[16];
+    if (fail == NULL || sscanf(fail, "%15s %ld %15s", kind, &chosen, how) != 3) return;
+    for (int at = 0; at < KINDS; at++)
+        if (strcmp(kind, kinds[at]) == 0) kind_chosen = at;
 }
 
 // One write of a whole line, so that notes stand in the order of what they tell.
@@ -84,26 +104,42 @@ static void end_here(void) {
     for (;;) pause();
 }
 
-// Counts a call, and says whether it is to fail, with `errno` set.
-static int fails(const char *name, long *nth) {
-    *nth = atomic_fetch_add(&calls, 1) + 1;
-    if (chosen == 0 || *nth < chosen) return 0;
-    int is_first = *nth == chosen;
-    errno = is("io") && is_first ? EIO : is("space") ? ENOSPC : is("signal") && *nth < chosen + 3 ? EINTR : 0;
-    if (is_first && (errno != 0 || is("before"))) note("fails %s\n", name);
-    if (is_first && is("before")) end_here();
-    return errno != 0;
+// Counts a call, and says whether it is to fail, with `errno` set. `nth` tells where it stands to the chosen one of its
+// kind, which has 0, and a later one more.
+static int fails_of(int kind, const char *name, long *nth) {
+    *nth = atomic_fetch_add(&calls[kind], 1) + 1 - chosen;
+    if (kind != kind_chosen) *nth = -1;
+    if (*nth < 0) return 0;
+    int error = is("io") && *nth == 0 ? EIO : is("space") ? ENOSPC : is("signal") && *nth < 3 ? EINTR : 0;
+    if (*nth == 0 && (error != 0 || is("before"))) note("fails %s\n", name);
+    if (*nth == 0 && is("before")) end_here();
+    if (error != 0) errno = error;
+    return error != 0;
 }
+
+static int fails(const char *name, long *nth) { return fails_of(LOG, name, nth); }
 
 // Ends the program behind a call, where that is asked.
 static long done(const char *name, long nth, long answer) {
     int error = errno;
-    if (nth == chosen && (is("after") || is("within"))) {
+    if (nth == 0 && (is("after") || is("within"))) {
         note("fails %s\n", name);
         end_here();
     }
     errno = error;
     return answer;
+}
+
+// How many of so many bytes a write takes, or none and an error, or a read gives at most.
+static ssize_t taken(const char *name, long nth, size_t length) {
+    if (nth < 0 || !(is("short") || is("full") || is("none"))) return length;
+    if (!atomic_exchange(&was_short, 1)) {
+        note("fails %s\n", name);
+    } else if (is("full")) {
+        errno = ENOSPC;
+        return -1;
+    }
+    return is("none") ? 0 : length > 1 ? length / 2 : length;
 }
 
 int open(const char *name, int flags, ...) {
@@ -137,10 +173,26 @@ int flock(int number, int operation) {
 }
 
 int statx(int number, const char *restrict name, int flags, unsigned mask, struct statx *restrict to) {
-    if (kind_of(number) == OTHER) return syscall(SYS_statx, number, name, flags, mask, to);
+    int is_path = path != NULL && number == AT_FDCWD;
+    const char *look = flags & AT_SYMLINK_NOFOLLOW ? "link" : "look";
+    const char *call = kind_of(number) != OTHER              ? "length"
+                       : is_path && strcmp(name, path) == 0   ? look
+                       : is_path && strcmp(name, folder) == 0 ? "place"
+                                                              : NULL;
+    if (call == NULL) return syscall(SYS_statx, number, name, flags, mask, to);
     long nth;
-    if (fails("length", &nth)) return -1;
-    return done("length", nth, syscall(SYS_statx, number, name, flags, mask, to));
+    if (fails(call, &nth)) return -1;
+    return done(call, nth, syscall(SYS_statx, number, name, flags, mask, to));
+}
+
+char *realpath(const char *restrict name, char *restrict to) {
+    char *(*next)(const char *, char *) = dlsym(RTLD_NEXT, "realpath");
+    if (path == NULL || strcmp(name, path) != 0) return next(name, to);
+    long nth;
+    if (fails("path", &nth)) return NULL;
+    char *found = next(name, to);
+    done("path", nth, 0);
+    return found;
 }
 
 ssize_t pwrite(int number, const void *bytes, size_t length, off_t at) {
@@ -148,18 +200,10 @@ ssize_t pwrite(int number, const void *bytes, size_t length, off_t at) {
     long nth;
     if (fails("write", &nth)) return -1;
     note("write %ld %zu\n", (long)at, length);
-    if (chosen != 0 && nth >= chosen && (is("short") || is("full") || is("none"))) {
-        if (!atomic_exchange(&was_short, 1)) {
-            note("fails write\n");
-        } else if (is("full")) {
-            errno = ENOSPC;
-            return -1;
-        }
-        if (is("none")) return 0;
-        length = length > 1 ? length / 2 : length;
-    }
-    if (nth == chosen && is("within")) length /= 2;
-    return done("write", nth, syscall(SYS_pwrite64, number, bytes, length, at));
+    ssize_t takes = taken("write", nth, length);
+    if (takes <= 0) return takes;
+    if (nth == 0 && is("within")) takes /= 2;
+    return done("write", nth, syscall(SYS_pwrite64, number, bytes, takes, at));
 }
 
 int fdatasync(int number) {
@@ -180,4 +224,45 @@ int fsync(int number) {
     int answer = syscall(SYS_fsync, number);
     if (answer == 0) note("entry\n");
     return done("entry", nth, answer);
+}
+
+ssize_t read(int number, void *bytes, size_t length) {
+    long nth;
+    if (number != STDIN_FILENO || path == NULL) return syscall(SYS_read, number, bytes, length);
+    if (fails_of(IN, "read", &nth)) return -1;
+    ssize_t gives = taken("read", nth, length);
+    return gives <= 0 ? gives : syscall(SYS_read, number, bytes, gives);
+}
+
+ssize_t write(int number, const void *bytes, size_t length) {
+    long nth;
+    if (number != STDOUT_FILENO || path == NULL) return syscall(SYS_write, number, bytes, length);
+    if (fails_of(OUT, "print", &nth)) return -1;
+    ssize_t takes = taken("print", nth, length);
+    return takes <= 0 ? takes : syscall(SYS_write, number, bytes, takes);
+}
+
+int pthread_create(pthread_t *restrict to, const pthread_attr_t *restrict like, void *(*does)(void *),
+                   void *restrict with) {
+    int (*next)(pthread_t *, const pthread_attr_t *, void *(*)(void *), void *) = dlsym(RTLD_NEXT, "pthread_create");
+    long nth;
+    return fails_of(THREADS, "thread", &nth) ? EAGAIN : next(to, like, does, with);
+}
+
+// What the C library itself gives out, by names that it has for libraries like this one.
+void *__libc_malloc(size_t length);
+void *__libc_realloc(void *piece, size_t length);
+
+void *malloc(size_t length) {
+    long nth;
+    if (!fails_of(MEMORY, "memory", &nth)) return __libc_malloc(length);
+    errno = ENOMEM;
+    return NULL;
+}
+
+void *realloc(void *piece, size_t length) {
+    long nth;
+    if (!fails_of(MEMORY, "memory", &nth)) return __libc_realloc(piece, length);
+    errno = ENOMEM;
+    return NULL;
 }

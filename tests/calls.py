@@ -2,8 +2,7 @@
 
 `kill` and `faults` beside this file use it. The calls are seen, and made to fail, by `calls.c` beside it, which `cc`
 builds and which is preloaded: it works where the program calls the system by the symbols of the C library. `strace`
-would do the same, much slower, by `-f -e trace=openat,flock,statx,pwrite64,fdatasync,fsync` and
-`-e inject=CALL:error=EIO:when=N`.
+makes calls fail too, those that the C library makes by itself among them; but it counts them for each thread anew.
 """
 
 import os
@@ -14,11 +13,15 @@ from outcomes import BUILT, wanted
 
 SOURCE = os.path.join(os.path.dirname(os.path.realpath(__file__)), "calls.c")
 
+# How many seconds a run may take: many clients may take long where other programs have the processors.
+LIMIT = 300
+
 
 class Program:
     """A copy of the program, with its log. `why` says why its calls aren't seen, if they aren't."""
 
     def __init__(self, room):
+        room = os.path.realpath(room)
         self.path, self.log, self.image = (os.path.join(room, name) for name in ("writepath", "log", "image"))
         self.library, self.notes, self.why = os.path.join(room, "calls.so"), os.path.join(room, "notes"), None
         shutil.copyfile(BUILT, self.path)
@@ -27,7 +30,7 @@ class Program:
             self.why = "there is no cc"
             return
         line = ["cc", "-std=c11", "-O1", "-U_FORTIFY_SOURCE", "-shared", "-fPIC", "-o", self.library, SOURCE]
-        built = subprocess.run(line, capture_output=True, text=True, timeout=60)
+        built = subprocess.run(line, capture_output=True, text=True, timeout=LIMIT)
         if built.returncode != 0:
             self.why = f"cc fails: {built.stderr[:200]}"
             return
@@ -54,7 +57,7 @@ class Program:
     def run(self, options, text, fail, **more):
         """The status of a run of this script, and what it prints."""
         line, environment = self.line(options), self.environment(fail)
-        done = subprocess.run(line, input=text, capture_output=True, text=True, env=environment, timeout=60, **more)
+        done = subprocess.run(line, input=text, capture_output=True, text=True, env=environment, timeout=LIMIT, **more)
         return done.returncode, done.stdout
 
     def told(self):
@@ -75,6 +78,6 @@ class Program:
         """What the program recovers of these bytes."""
         with open(self.image, "wb") as file:
             file.write(content)
-        done = subprocess.run([self.path, self.image, "recover"], capture_output=True, text=True, timeout=60)
+        done = subprocess.run([self.path, self.image, "recover"], capture_output=True, text=True, timeout=LIMIT)
         wanted(done.returncode == 0, f"status 0 of recover, not {done.returncode}: {done.stdout[:200]}")
         return done.stdout

@@ -7,7 +7,8 @@
 - each read is that of a plain map at its sequence, which is the end of a batch; it is not below what the client has
   seen before, its own batches among it;
 - the printed state is the map at the published sequence;
-- where the log has failed, each client is refused by that fault from some commit on, and one is at least.
+- where the log has failed, each client is refused by that fault from some commit on, and one is at least;
+- who finds no memory is told so in its last line, and its call is not in the history.
 """
 
 import os
@@ -99,6 +100,11 @@ def fault_of(lines):
     return words[3] if len(words) == 4 and words[0] == "log" and words[2] == "fault" else None
 
 
+def lacks_memory(replies):
+    """Whether a client has ended since a call found no memory."""
+    return replies[-1:] == ["no memory"]
+
+
 def flag_of(words):
     """What the history says of a commit."""
     return "nolog" if "nolog" in words else "sync" if "sync" in words else "log"
@@ -108,16 +114,19 @@ def calls_of(commands, replies, whole, fault):
     """A client's accepted batches by its replies, the one it waits for, its reads with what it had seen before each,
     and whether a commit was refused by the log's fault, if there is one.
 
-    Where the run is not whole, the replies may end early.
+    Where the run is not whole, the replies may end early. So they may where the last one is that there was no memory;
+    then nothing is waited for.
     """
-    replies = list(replies)
+    replies, ended = list(replies), lacks_memory(replies)
+    if ended:
+        replies.pop()
     pending, accepted, reads, seen, is_refused = [], [], [], 0, False
     for words in commands:
         if words[0] in TAGS:
             pending.append(words)
             continue
-        if not replies and not whole:
-            waits = (flag_of(words), pending) if words[0] == "commit" else None
+        if not replies and (ended or not whole):
+            waits = (flag_of(words), pending) if words[0] == "commit" and not ended else None
             return accepted, waits, reads, is_refused
         wanted(replies, f"a reply to {' '.join(words)}")
         reply = replies.pop(0).split(" ")

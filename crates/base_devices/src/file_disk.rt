@@ -14,8 +14,9 @@ use std::rt::Files;
 ///
 /// Making one touches nothing. The first `len`, `read` or `sync` opens the file for reading, and the first `append`
 /// opens it for writing, and makes it where there is none. So a file that may only be read can be read, and no file is
-/// made before something is appended. Where there is no file `len` answers 0, `sync` has nothing to do, and `read`
-/// fails. A call that couldn't open it fails, and the next one tries again.
+/// made before something is appended. Where there is no file `len` answers 0, or fails where there is no folder for one,
+/// `sync` has nothing to do, and `read` fails. A call that couldn't open it fails, and the next one tries again. Each
+/// call fails where the path is that of a folder, a pipe, a socket or a device; none waits for another program there.
 ///
 /// It relies on being the only one that writes to the file, and keeps count of its length from the first call on. As it
 /// opens the file for writing it takes the exclusive lock of `flock`, which it keeps until it is dropped, and it fails
@@ -24,8 +25,9 @@ use std::rt::Files;
 /// there, in one call of the system unless that takes a part only.
 ///
 /// `sync` is the system's `fdatasync`: it makes the file's bytes and its length safe. The first one also syncs the
-/// folder that the path names, since the file's entry there may be new. Once a sync of the bytes has failed each later
-/// one fails too: the system may have dropped what it couldn't write, and then a sync that works shows nothing.
+/// folder that the file lies in, since its entry there may be new: where the path is a link, not the link's. It fails
+/// where that folder may not be read, since nothing else makes the entry safe. Once a sync of the bytes has failed each
+/// later one fails too: the system may have dropped what it couldn't write, and then a sync that works shows nothing.
 ///
 /// It never has the number of a standard stream, also where the caller has closed one: what is meant for the stream
 /// can't come to the file.

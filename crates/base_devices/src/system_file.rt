@@ -60,12 +60,13 @@ impl<R: Files<File = File> + Drop> SystemFile<R> {
         }
     }
 
-    /// How many bytes the file has. One that isn't there has none.
+    /// How many bytes the file has. One that isn't there has none, where there is a folder to make it in.
     pub(crate) fn len(&mut self) -> io::Result<u64>
         ensures small { IfOk result (λ n. n < 2 ^ 63) }
         ensures adds_none { added_to self.new ≡ added_to self.old }
     {
         if !self.is_there()? {
+            self.runtime.metadata(folder_of(self.path.as_str()))?;
             self.measure(0)?;
         }
         Ok(self.len)
@@ -144,11 +145,7 @@ impl<R: Files<File = File> + Drop> SystemFile<R> {
             return Ok(());
         }
         let file = self.open(OpenOptions::new().read(true))?;
-        let found = file.metadata()?;
-        if found.is_dir() {
-            return Err(io::Error::from(ErrorKind::IsADirectory));
-        }
-        self.measure(found.len())?;
+        self.measure(len_of(&file)?)?;
         self.file = Some(file);
         Ok(())
     }
@@ -163,7 +160,7 @@ impl<R: Files<File = File> + Drop> SystemFile<R> {
             return Ok(());
         }
         let file = self.open_locked()?;
-        self.measure(file.metadata()?.len())?;
+        self.measure(len_of(&file)?)?;
         self.file = Some(file);
         self.writes = true;
         self.entry_synced = false;
@@ -177,9 +174,14 @@ impl<R: Files<File = File> + Drop> SystemFile<R> {
         Ok(file)
     }
 
-    /// Opens the file. Where the caller has closed a standard stream the system gives out its number, and what is meant
-    /// for the stream would land in the file: then it takes a higher number.
+    /// Opens the file. What is there and is no regular file isn't opened, since that may wait for another program. Where
+    /// the caller has closed a standard stream the system gives out its number, and what is meant for the stream would
+    /// land in the file: then it takes a higher number.
     fn open(&self, options: &OpenOptions) -> io::Result<File> {
+        match self.runtime.metadata(self.path.as_str()) {
+            Ok(found) if !found.is_file() => return Err(no_file()),
+            _ => {}
+        }
         let file = options.open(&self.runtime, self.path.as_str())?;
         if file.as_raw_fd() > LAST_STREAM {
             Ok(file)
@@ -216,11 +218,38 @@ impl<R: Files<File = File> + Drop> SystemFile<R> {
             .ok_or(io::Error::from(ErrorKind::NotFound))
     }
 
-    /// Opens the folder that the file lies in.
+    /// Opens the folder that the file lies in. Where the path is a link that is the one that the link leads to; to find
+    /// it takes memory, so that the want of it fails here.
     fn open_folder(&self) -> io::Result<File> {
-        match Path::new(self.path.as_str()).parent() {
-            Some(folder) if folder.as_str() != "" => File::open(&self.runtime, folder),
-            _ => File::open(&self.runtime, "."),
+        let path = self.path.as_str();
+        if !self.runtime.symlink_metadata(path)?.is_symlink() {
+            return File::open(&self.runtime, folder_of(path));
         }
+        let whole = self.runtime.canonicalize(*self.path.allocator(), path)?;
+        File::open(&self.runtime, folder_of(whole.as_str()))
     }
+}
+
+/// The folder of a path. One that has none is its own: the root, or an empty path, which nothing has.
+fn folder_of(path: &str) -> &str {
+    match Path::new(path).parent() {
+        Some(folder) if folder.as_str() == "" => ".",
+        Some(folder) => folder.as_str(),
+        None => path,
+    }
+}
+
+/// How many bytes an open file has. It is an error where it is no regular file.
+fn len_of(file: &File) -> io::Result<u64> {
+    let found = file.metadata()?;
+    if found.is_file() {
+        Ok(found.len())
+    } else {
+        Err(no_file())
+    }
+}
+
+/// What is there is a folder, a pipe, a socket or a device.
+fn no_file() -> io::Error {
+    io::Error::from(ErrorKind::InvalidInput)
 }

@@ -3,8 +3,10 @@
 
 use crate::changes::{cut_at, fill_block, fix_checksum, flip_byte, put_zeros, set_byte};
 use crate::checks::check;
-use crate::logs::{EMPTY, LOG, SECOND_AT, Summary, check_cuts, recovered};
-use log_block::HEADER_LEN;
+use crate::logs::{
+    EMPTY, LOG, SECOND_AT, Summary, batch_bytes, check_cuts, put_fragment, put_record, recovered,
+};
+use log_block::{FIRST, HEADER_LEN, LAST};
 use model_base::{Damage, EndReason};
 use std::alloc::{AllocError, Global};
 use std::test::Fail;
@@ -76,6 +78,29 @@ fn stops_where_no_record_follows(rt: HostRuntime) -> Result<(), Fail> {
     Ok(())
 }
 
+// A log of one fragment of this type, with so many zeros.
+fn lone_part(alloc: Global, kind: u8, len: usize) -> Result<Vec<u8>, AllocError> {
+    let mut log = Vec::new(alloc);
+    put_fragment(&mut log, kind, &vec![in alloc; 0u8; len]?)?;
+    Ok(log)
+}
+
+// A type, how many zeros, and why such a log ends at once. The second one fills its block.
+const LONE: [(u8, usize, EndReason); 2] = [
+    (LAST, 1, EndReason::BadOrder),
+    (FIRST, 32_761, EndReason::Unfinished),
+];
+
+#[test]
+fn stops_at_a_lone_part(rt: HostRuntime) -> Result<(), Fail> {
+    for (row, (kind, len, why)) in LONE.iter().enumerate() {
+        let log = lone_part(rt.alloc(), *kind, *len)?;
+        let left = recovered(rt.alloc(), &log);
+        check(&rt, row, &left, &Ok((0, 0, 0, 0, *why)));
+    }
+    Ok(())
+}
+
 // The second record puts another value, with the checksum of the first value, and with its own.
 #[test]
 fn stops_at_another_byte(rt: HostRuntime) -> Result<(), Fail> {
@@ -106,6 +131,32 @@ fn log_of_two_blocks(alloc: Global) -> Result<Vec<u8>, AllocError> {
     fill_block(&mut log)?;
     log.extend_from_slice(&LOG[SECOND_AT..])?;
     Ok(log)
+}
+
+// A log of one record, of log data alone, which leaves six bytes of its block. In the first of them stands this byte.
+fn log_with_trailer(alloc: Global, byte: u8) -> Result<Vec<u8>, AllocError> {
+    let mut note = Vec::from_slice(alloc, &[3, 0xe3, 0xff, 0x01])?;
+    put_zeros(&mut note, 32_739)?;
+    let mut log = Vec::new(alloc);
+    put_record(&mut log, &batch_bytes(alloc, 0, 0, &note)?)?;
+    log.push(byte)?;
+    Ok(log)
+}
+
+// The byte, where recovery ends, and why.
+const TRAILERS: [(u8, u64, EndReason); 2] = [
+    (1, 32_762, EndReason::Broken(Damage::BadTrailer)),
+    (0, 32_763, EndReason::Clean),
+];
+
+#[test]
+fn looks_at_a_trailer(rt: HostRuntime) -> Result<(), Fail> {
+    for (row, (byte, at, why)) in TRAILERS.iter().enumerate() {
+        let log = log_with_trailer(rt.alloc(), *byte)?;
+        let left = recovered(rt.alloc(), &log);
+        check(&rt, row, &left, &Ok((1, 0, 32_762, *at, *why)));
+    }
+    Ok(())
 }
 
 // Whole, and without its last 20 bytes.

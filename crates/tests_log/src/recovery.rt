@@ -151,6 +151,23 @@ const STOPPED: [(u64, u32, &[u8], EndReason); 6] = [
     ),
 ];
 
+// `put a 1` and `put b 2`.
+const TWO_PUTS: [u8; 10] = [1, 1, b'a', 1, b'1', 1, 1, b'b', 1, b'2'];
+
+// A log of one record, which begins at the greatest sequence and has one more.
+#[test]
+fn stops_at_a_first_record_that_goes_too_high(rt: HostRuntime) -> Result<(), Fail> {
+    let bytes = batch_bytes(rt.alloc(), MAX_SEQUENCE, 2, &TWO_PUTS)?;
+    let mut log = Vec::new(rt.alloc());
+    put_record(&mut log, &bytes)?;
+    let why = EndReason::High {
+        first: MAX_SEQUENCE,
+        count: 2,
+    };
+    check(&rt, 0, &recovered(rt.alloc(), &log), &Ok((0, 0, 0, 0, why)));
+    Ok(())
+}
+
 // A record that may follow, and what is recovered then.
 const KEPT: [(u64, u32, &[u8], Summary); 2] = [
     (

@@ -2,11 +2,13 @@
 //!
 //! - `runs`: scripts of one client, what is refused, devices that fail, and generated scripts
 //! - `clients`: scripts of several clients
+//! - `failing`: each call of a device fails in turn, and what crashes leave
 //! - `overlap`: what clients do while another's append, or its group, is under way
 //! - `recovery`: what logs recover
 //! - `replay`: schedules of events
 
 mod clients;
+mod failing;
 mod overlap;
 mod recovery;
 mod replay;
@@ -34,7 +36,8 @@ const RECORD: &[u8] =
 const TWO_RECORDS: &[u8] =
     b"\xe9\x9f\x78\x19\x11\x00\x01\x01\x00\x00\x00\x00\x00\x00\x00\x01\x00\x00\x00\x01\x01a\x011\x8f\x72\xbc\x7a\x11\x00\x01\x02\x00\x00\x00\x00\x00\x00\x00\x01\x00\x00\x00\x01\x01b\x012";
 
-/// How many bytes the source gives and the sink takes in a call. Most lines are longer.
+/// How many bytes the source gives and the sink takes in a call, where no other number is asked for. Most lines are
+/// longer.
 const PIECE: usize = 7;
 
 /// How many bytes the sink takes in all.
@@ -101,6 +104,8 @@ struct Given<'a> {
     /// What the disk holds.
     content: &'a [u8],
     fails: Fails,
+    /// How many bytes the source gives and the sink takes in a call.
+    piece: usize,
 }
 
 const PLAIN: Given<'static> = Given {
@@ -109,6 +114,7 @@ const PLAIN: Given<'static> = Given {
     text: SCRIPT,
     content: b"",
     fails: Fails::Nothing,
+    piece: PIECE,
 };
 
 /// What came of a call.
@@ -141,7 +147,7 @@ struct Devices {
 }
 
 fn devices_of(rt: &impl Abort, alloc: Global, given: Given) -> Devices {
-    assert!(rt; given.content.len() <= DISK_ROOM);
+    assert!(rt; given.content.len() <= DISK_ROOM && given.piece > 0);
     let (of_source, of_sink, of_disk) = match given.fails {
         Fails::Nothing => (0, 0, 0),
         Fails::Source(call) => (call, 0, 0),
@@ -150,8 +156,8 @@ fn devices_of(rt: &impl Abort, alloc: Global, given: Given) -> Devices {
     };
     Devices {
         words: words_of(rt, alloc, given.words, given.path),
-        source: MemSource::new(alloc, given.text, PIECE, &[of_source]).expect(rt, "memory"),
-        sink: MemSink::new(alloc, SINK_ROOM, PIECE, &[of_sink]).expect(rt, "memory"),
+        source: MemSource::new(alloc, given.text, given.piece, &[of_source]).expect(rt, "memory"),
+        sink: MemSink::new(alloc, SINK_ROOM, given.piece, &[of_sink]).expect(rt, "memory"),
         disk: MemDisk::new(alloc, DISK_ROOM, given.content, &[of_disk]).expect(rt, "memory"),
     }
 }

@@ -4,7 +4,7 @@
 use super::recovery::check_recovery;
 use super::{
     Devices, Fails, Given, IN_TWO_STAGES, ONE_TREE, OUTCOME, PATHS, PIPELINED, PIPELINED_SHARDS,
-    SCRIPT, SHARDS, START, WritePath, check_texts, devices_of,
+    PLAIN, SCRIPT, SHARDS, START, WritePath, check_texts, devices_of,
 };
 use base_devices::SteppedClock;
 use engine_calls::Gate;
@@ -186,8 +186,8 @@ fn meet<R: Threads + Wait + rt::Clock + Abort + Sync>(
         words: meeting.words,
         path,
         text: meeting.text,
-        content: b"",
         fails: meeting.fails,
+        ..PLAIN
     };
     let Devices {
         words,

@@ -3,7 +3,7 @@
 use super::{ONE_TREE, Row, check_rows};
 use std::rt::HostRuntime;
 
-const REPLAYED: [Row; 10] = [
+const REPLAYED: [Row; 11] = [
     // One group of two.
     (
         "replay",
@@ -54,6 +54,16 @@ const REPLAYED: [Row; 10] = [
         "events 29 skipped 2\nclient 1\nok 1 1\nclient 2\nok 2 2\nval 2 1\nclient 3\nnil 0\nnil 1\n\
             history 2\n1 1 1 1 log 0100000000000000010000000101610131\n\
             2 2 2 1 log 0200000000000000010000000101620132\nstate 2 2\na 1\nb 2\ngroups 2\n",
+    ),
+    // The log fails behind a group that isn't in the table yet. That one is published all the same.
+    (
+        "replay --pipelined",
+        b"client 1\nput a 1\ncommit\nclient 2\nput b 2\ncommit\nget a\n\
+            schedule\nlink 1\nelect 1\nbuild 1\nlog 1\nboundary 1\nsecond 1\nnext 1\nlink 2\nelect 2\n\
+            build 2\nfault 2\ncomplete 2\nread 2\nlaunch 1\ninsert 1\nfinish 1\npublish 1\nexit 1\n\
+            complete 1\n",
+        "events 19 skipped 0\nclient 1\nok 1 1\nclient 2\nno logfault 1\nnil 0\n\
+            history 1\n1 1 1 1 log 0100000000000000010000000101610131\nstate 1 1\na 1\ngroups 1\n",
     ),
     // In a single stage the log isn't handed on: the second isn't even elected before the first has left.
     (
