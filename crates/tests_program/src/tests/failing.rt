@@ -55,27 +55,25 @@ fn check_left<R: Threads + Wait + rt::Clock + Abort + Sync>(
     rt: &R,
     alloc: Global,
     path: WritePath,
+    row: Left,
 ) {
-    for (fails, status, want, content, safe) in LEFT {
-        let given = Given {
-            path,
-            text: THREE_COMMITS,
-            fails,
-            ..PLAIN
-        };
-        let disk = ended(rt, alloc, given, status, want);
-        assert_eq!(rt;
-            (disk.content(), disk.synced()),
-            (content, safe),
-            "for {want}"
-        );
-    }
+    let (fails, status, want, content, safe) = row;
+    let given = Given {
+        path,
+        text: THREE_COMMITS,
+        fails,
+        ..PLAIN
+    };
+    let disk = ended(rt, alloc, given, status, want);
+    assert_eq!(rt; (disk.content(), disk.synced()), (content, safe));
 }
 
 #[test]
 fn each_call_of_the_disk_fails(rt: HostRuntime) {
     for path in PATHS {
-        check_left(&rt, rt.alloc(), path);
+        for row in LEFT {
+            check_left(&rt, rt.alloc(), path, row);
+        }
     }
 }
 
