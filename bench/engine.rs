@@ -105,8 +105,10 @@ fn fill(batch: &mut Vec<u8>, keys: &mut Keys, work: Work) {
     batch.clear();
     batch.resize(BATCH_HEADER_LEN, 0);
     batch[8..].copy_from_slice(&work.records.to_le_bytes());
+    // The additions so far are in the batch.
     for _ in 0..work.records {
         batch.push(1);
+        // First the key, then the value, each behind its length.
         for string in [&keys.next()[..], &VALUE[..work.value]] {
             push_len(batch, string.len());
             batch.extend_from_slice(string);
@@ -116,6 +118,7 @@ fn fill(batch: &mut Vec<u8>, keys: &mut Keys, work: Work) {
 
 /// A length as a varint.
 fn push_len(batch: &mut Vec<u8>, mut len: usize) {
+    // The lowest seven bits of what is left go next.
     while len >= 128 {
         batch.push((len % 128) as u8 | 128);
         len /= 128;

@@ -14,9 +14,10 @@ use std::rt::Files;
 ///
 /// Making one touches nothing. The first `len`, `read` or `sync` opens the file for reading, and the first `append`
 /// opens it for writing, and makes it where there is none. So a file that may only be read can be read, and no file is
-/// made before something is appended. Where there is no file `len` answers 0, or fails where there is no folder for one,
-/// `sync` has nothing to do, and `read` fails. A call that couldn't open it fails, and the next one tries again. Each
-/// call fails where the path is that of a folder, a pipe, a socket or a device; none waits for another program there.
+/// made before something is appended. Where there is no file `len` answers 0, or fails where there is no folder for
+/// one, `sync` has nothing to do, and `read` fails. A call that couldn't open it fails, and the next one tries again.
+/// Each call fails where the path is that of a folder, a pipe, a socket or a device; none waits for another program
+/// there.
 ///
 /// It relies on being the only one that writes to the file, and keeps count of its length from the first call on. As it
 /// opens the file for writing it takes the exclusive lock of `flock`, which it keeps until it is dropped, and it fails

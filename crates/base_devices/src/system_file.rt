@@ -174,9 +174,9 @@ impl<R: Files<File = File> + Drop> SystemFile<R> {
         Ok(file)
     }
 
-    /// Opens the file. What is there and is no regular file isn't opened, since that may wait for another program. Where
-    /// the caller has closed a standard stream the system gives out its number, and what is meant for the stream would
-    /// land in the file: then it takes a higher number.
+    /// Opens the file. What is there and is no regular file isn't opened, since that may wait for another program.
+    /// Where the caller has closed a standard stream the system gives out its number, and what is meant for the stream
+    /// would land in the file: then it takes a higher number.
     fn open(&self, options: &OpenOptions) -> io::Result<File> {
         match self.runtime.metadata(self.path.as_str()) {
             Ok(found) if !found.is_file() => return Err(no_file()),

@@ -47,6 +47,7 @@ impl Bell {
     pub fn pause<R: Wait + rt::Clock>(&self, rt: &R, pauses: &Pauses) {
         let made = pauses.made.get();
         if made < SPINS {
+            // Each turn of the wait spins twice as long as the one before.
             for _ in 0..1u32 << made {
                 hint::spin_loop();
             }

@@ -35,8 +35,8 @@ abbrev pub asks_for : {Request About : Type 0} → (Request → Item) → (About
 asks_for item_of lawful about q code = (code ≡ code_by item_of q) × lawful about q
 
 -- the same where what the law is about was picked
-abbrev pub asks_picked : {Request About : Type 0} → (Request → Item) → (About → Request → Type 0) → Picked About → Request
-    → ℕ → Type 0
+abbrev pub asks_picked : {Request About : Type 0} → (Request → Item) → (About → Request → Type 0) → Picked About
+    → Request → ℕ → Type 0
 asks_picked item_of lawful None = λ q code. code ≡ code_by item_of q
 asks_picked item_of lawful (Some about) = asks_for item_of lawful about
 

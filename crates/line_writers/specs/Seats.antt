@@ -69,8 +69,8 @@ module _ {Request Reply Log Right About : Type 0} where
   bound_of list = list.group_bytes
 
   -- what holds of each request that is in this list, and of its code
-  abbrev pub asks_of : (Request → Item) → (About → Request → Type 0) → WriterList Request Reply Log Right About → Request
-      → ℕ → Type 0
+  abbrev pub asks_of : (Request → Item) → (About → Request → Type 0) → WriterList Request Reply Log Right About
+      → Request → ℕ → Type 0
   asks_of item_of lawful list = asks_for item_of lawful (about_of list)
 
   -- what holds of all that this list's leaders handle, wherever the log is

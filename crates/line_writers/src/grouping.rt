@@ -110,8 +110,8 @@ impl<
         ensures built { (own : QueuedWriter Request) (seen : Handled Request Reply)
             (mine : Answers Request Reply)
             → At writer.old.client (Fresh own seen) mine writer.old.seat.me
-            → Builds (asks_picked Request.item_of Log.lawful About.about) self.now.table.shared.table_id.slots About.number
-            writer.old.client own seen mine result writer.old.seat.me writer.new.seat.me }
+            → Builds (asks_picked Request.item_of Log.lawful About.about) self.now.table.shared.table_id.slots
+            About.number writer.old.client own seen mine result writer.old.seat.me writer.new.seat.me }
     {
         self.table.shared.load::<Build<About>>(&mut writer.seat, 0)
     }

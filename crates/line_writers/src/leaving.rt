@@ -194,6 +194,7 @@ impl<
 
     // Wakes members, once all were told: who still looks isn't kept waiting by the calls that wake the others.
     fn ring_all(&self, members: &[u32]) {
+        // Those before it were woken, if they slept.
         for member in members {
             self.bells.ring(*member as u64);
         }

@@ -93,6 +93,7 @@ const LONE: [(u8, usize, EndReason); 2] = [
 
 #[test]
 fn stops_at_a_lone_part(rt: HostRuntime) -> Result<(), Fail> {
+    // The rows before it end as they should.
     for (row, (kind, len, why)) in LONE.iter().enumerate() {
         let log = lone_part(rt.alloc(), *kind, *len)?;
         let left = recovered(rt.alloc(), &log);
@@ -151,6 +152,7 @@ const TRAILERS: [(u8, u64, EndReason); 2] = [
 
 #[test]
 fn looks_at_a_trailer(rt: HostRuntime) -> Result<(), Fail> {
+    // The rows before it end as they should.
     for (row, (byte, at, why)) in TRAILERS.iter().enumerate() {
         let log = log_with_trailer(rt.alloc(), *byte)?;
         let left = recovered(rt.alloc(), &log);

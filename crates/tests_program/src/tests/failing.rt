@@ -70,6 +70,7 @@ fn check_left<R: Threads + Wait + rt::Clock + Abort + Sync>(
 
 #[test]
 fn each_call_of_the_disk_fails(rt: HostRuntime) {
+    // The paths before it, and on this one the rows before it, came out as they should.
     for path in PATHS {
         for row in LEFT {
             check_left(&rt, rt.alloc(), path, row);
@@ -140,6 +141,7 @@ const CRASHES: [(Fails, Crash, &str); 5] = [
 
 #[test]
 fn crashes_leave_what_was_safe(rt: HostRuntime) {
+    // The crashes before it left what was safe.
     for (fails, crash, want) in CRASHES {
         check_crash(&rt, rt.alloc(), fails, crash, want);
     }
@@ -157,6 +159,7 @@ fn left_of(len: u64) -> &'static str {
 
 #[test]
 fn crashes_leave_each_length(rt: HostRuntime) {
+    // A crash at each shorter length left what was safe.
     for len in 48..73u64 {
         let crash = Crash::Cut(len);
         check_crash(&rt, rt.alloc(), Fails::Nothing, crash, left_of(len));
@@ -193,6 +196,7 @@ fn check_four<R: Threads + Wait + rt::Clock + Abort + Sync>(rt: &R, alloc: Globa
 
 #[test]
 fn a_call_of_the_disk_fails_under_four_clients(rt: HostRuntime) {
+    // Each earlier call has failed so.
     for call in 2..7u64 {
         check_four(&rt, rt.alloc(), call);
     }
@@ -205,6 +209,7 @@ const BYTE_BY_BYTE: Given<'static> = Given { piece: 1, ..PLAIN };
 #[test]
 fn each_read_of_the_source_fails(rt: HostRuntime) {
     let calls = (SCRIPT.len() as u64).saturating_add(1);
+    // Each earlier read has failed so.
     for call in 1..=calls {
         let given = Given {
             fails: Fails::Source(call),
@@ -231,6 +236,7 @@ fn check_sink<R: Threads + Wait + rt::Clock + Abort + Sync>(rt: &R, alloc: Globa
 
 #[test]
 fn each_write_of_the_sink_fails(rt: HostRuntime) {
+    // Each earlier write has failed so.
     for at in 0..OUTCOME.len() {
         check_sink(&rt, rt.alloc(), at);
     }
