@@ -14,6 +14,7 @@ use Rattle.line_rule.specs.declared.content.LineSlot.TheVariants.{Told, TheLog, 
 use Rattle.line_rule.specs.Chain.{newest, heads, all_answers}
 use Rattle.line_rule.specs.Laws.{given_runs}
 use Rattle.line_rule.specs.Plays.{Sat, At, AtWith, in_hand, debt, slots_of, squad_at_cut, squad_with_end, back_after_log}
+use Rattle.line_rule.specs.Before.{Carried}
 use Rattle.line_writers.specs.declared.writer.Writer.{Writer}
 use Rattle.line_writers.specs.Roles.{HasJoined, lead_with_group, past_in, pays}
 use Rattle.line_writers.specs.Seats.{HasGroup, answers_told}
@@ -33,10 +34,6 @@ Answers Request Reply = List (Request × Reply)
 -- the members of a group beside its leader, newest first, each with its reply
 abbrev pub Members : Type 0 → Type 0 → Type 0
 Members Request Reply = List (QueuedWriter Request × Reply)
-
--- the slots that a writer has, and what is in them
-abbrev pub Slots : Type 0 → Type 0 → Type 0 → Type 0 → Type 0
-Slots Request Reply Log Right = List (ℕ × LineSlot Request Reply Log Right)
 
 module _ {Request Reply : Type 0} where
   -- all that was handled, the leader's group with these replies too
@@ -59,7 +56,7 @@ module _ {Request Reply Log Right : Type 0} where
 
   -- the same, where its group stands so in the second list, and it has these slots behind those of the group
   abbrev pub OwesWith : ℕ → Debt Request Reply → Answers Request Reply → Back Request Reply
-      → Slots Request Reply Log Right → Sat Request Reply Log Right → Type 0
+      → Carried Request Reply Log Right → Sat Request Reply Log Right → Type 0
   OwesWith c d mine back t m = AtWith c (Settling d) mine back m × (m.1 ≡ slots_of d.rest ((c, Told d.reply) ∷ t))
 
   -- the leader has the requests of its whole group, of so many, of whom this is the newest
@@ -68,9 +65,9 @@ module _ {Request Reply Log Right : Type 0} where
       × (lead.taken ≡ lead.group) × (count ≡ length (in_hand lead))
 
   -- the log is on top, and has the reply to each member of the group behind it
-  abbrev pub HasHandled : ℕ → Lead Request Reply → Members Request Reply → Reply → Log → Sat Request Reply Log Right
+  abbrev pub HasLogAndReplies : ℕ → Lead Request Reply → Members Request Reply → Reply → Log → Sat Request Reply Log Right
       → Type 0
-  HasHandled c lead gs p l m = (heads gs ≡ lead.taken) × (m.1 ≡ (0, TheLog l) ∷ slots_of gs ((c, Told p) ∷ []))
+  HasLogAndReplies c lead gs p l m = (heads gs ≡ lead.taken) × (m.1 ≡ (0, TheLog l) ∷ slots_of gs ((c, Told p) ∷ []))
 
   -- whatever a leader handled, whose log is on top and has the reply to each member behind it: this holds of it, and of
   -- what it owes
@@ -98,7 +95,7 @@ module _ {Request Reply Log Right : Type 0} where
   -- the group is the first of the second list, and its leader has the right, which stands for what was given runs
   -- before it, on top of these slots
   abbrev pub HasRightOver : (Right → Handled Request Reply → Type 0) → ℕ → ℕ → Debt Request Reply
-      → Answers Request Reply → Squad Request Reply → Slots Request Reply Log Right → Sat Request Reply Log Right
+      → Answers Request Reply → Squad Request Reply → Carried Request Reply Log Right → Sat Request Reply Log Right
       → Type 0
   HasRightOver serves n c d mine g t m = (right : Right) × serves right g.from
       × AtWith c (Settling d) mine (Serving g []) m × (m.1 ≡ (n + 1, TheRight right) ∷ t)
@@ -106,16 +103,16 @@ module _ {Request Reply Log Right : Type 0} where
   -- the leader of a group that is the first of the second list has the right on top, and this holds of both
   abbrev pub ServesWith : ℕ → ℕ → (Squad Request Reply → Right → Type 0) → Sat Request Reply Log Right → Type 0
   ServesWith n c so m = (d : Debt Request Reply) × (mine : Answers Request Reply) × (g : Squad Request Reply)
-      × (walk : Queue Request) × (right : Right) × (t : Slots Request Reply Log Right)
+      × (walk : Queue Request) × (right : Right) × (t : Carried Request Reply Log Right)
       × AtWith c (Settling d) mine (Serving g walk) m × (m.1 ≡ (n + 1, TheRight right) ∷ t) × so g right
 
   -- whatever group is the first of the second list, and whatever lies on top: this holds of what its leader owes, of
   -- the group, and of the other slots
   abbrev pub ForServing : ℕ → Sat Request Reply Log Right
-      → (Debt Request Reply → Answers Request Reply → Squad Request Reply → Slots Request Reply Log Right → Type 0)
+      → (Debt Request Reply → Answers Request Reply → Squad Request Reply → Carried Request Reply Log Right → Type 0)
       → Type 0
   ForServing c m so = (d : Debt Request Reply) (mine : Answers Request Reply) (g : Squad Request Reply)
-      (walk : Queue Request) (y : ℕ × LineSlot Request Reply Log Right) (t : Slots Request Reply Log Right)
+      (walk : Queue Request) (y : ℕ × LineSlot Request Reply Log Right) (t : Carried Request Reply Log Right)
       → AtWith c (Settling d) mine (Serving g walk) m → m.1 ≡ y ∷ t → so d mine g t
 
 -- of a leader that has cut its group off from the first list, and is at this stage
@@ -125,9 +122,9 @@ module _ {Request Reply Log Right : Type 0}
   -- what its leader owes
   abbrev pub ForCutOff : Sat Request Reply Log Right
       → (Lead Request Reply → Answers Request Reply → Back Request Reply → Debt Request Reply
-      → Slots Request Reply Log Right → Type 0) → Type 0
+      → Carried Request Reply Log Right → Type 0) → Type 0
   ForCutOff m so = (lead : Lead Request Reply) (mine : Answers Request Reply) (b : Back Request Reply)
-      (gs : Members Request Reply) (p : Reply) (l : Log) (t : Slots Request Reply Log Right)
+      (gs : Members Request Reply) (p : Reply) (l : Log) (t : Carried Request Reply Log Right)
       → stage lead mine b → heads gs ≡ lead.taken → m.1 ≡ (0, TheLog l) ∷ slots_of gs ((c, Told p) ∷ t)
       → so lead mine b (debt gs lead.own p) t
 
@@ -141,7 +138,7 @@ module _ {Request Reply Log Right : Type 0}
       → (Back Request Reply → Handled Request Reply → Handled Request Reply → Type 0) → Sat Request Reply Log Right
       → Type 0
   MayGiveLogOn stood hands m = (lead : Lead Request Reply) × (mine : Answers Request Reply) × (b : Back Request Reply)
-      × (gs : Members Request Reply) × (p : Reply) × (l : Log) × (t : Slots Request Reply Log Right)
+      × (gs : Members Request Reply) × (p : Reply) × (l : Log) × (t : Carried Request Reply Log Right)
       × stage lead mine b × (heads gs ≡ lead.taken) × (m.1 ≡ (0, TheLog l) ∷ slots_of gs ((c, Told p) ∷ t))
       × stood l (lead.seen ++ all_answers lead.own p gs) × hands b lead.seen (lead.seen ++ all_answers lead.own p gs)
 

@@ -6,6 +6,7 @@ ghost use Rattle.line_rule.specs.declared.content.LineSlot.TheVariants.{Empty, A
 ghost use Rattle.line_rule.specs.declared.view.QueuedWriter.{QueuedWriter};
 ghost use Rattle.line_rule.specs.declared.view.Lead.{Lead};
 ghost use Rattle.line_rule.specs.declared.view.LineStage.TheVariants.{Fresh, Leading};
+ghost use Rattle.line_rule.specs.Before.{Carried};
 ghost use Rattle.line_rule.specs.Chain.{pairs};
 ghost use Rattle.line_rule.specs.Grouping.{item_of};
 ghost use Rattle.line_rule.specs.Rule.{asks_for, asks_picked};
@@ -13,7 +14,7 @@ ghost use Rattle.line_rule.specs.Plays.{At, SeesTo, Builds, lead_with_one_more};
 ghost use Rattle.line_writers.specs.Roles.{Chosen, HasRead, CodesFit, NextIs, Grouped, Gathering, asks, Built};
 ghost use Rattle.line_writers.specs.Rooms.{HasRoom, TakesRequests};
 ghost use Rattle.line_writers.specs.Seats.{about_of, asks_of, bound_of, client_of, clients_of, Belongs, IsChosen, HasGroup, Stays, answers_told};
-ghost use Rattle.line_writers.specs.Groups.{Queue, Handled, Answers, Slots};
+ghost use Rattle.line_writers.specs.Groups.{Queue, Handled, Answers};
 
 use crate::line_writers::WriterList;
 use crate::room::{Requests, Room};
@@ -153,11 +154,11 @@ impl<
     // Takes the leader's own request.
     fn own_request(&self, writer: &mut Writer<Request, Reply, Log, Right>) -> Request
         requires seat { writer.old.seat.table_id ≡ self.now.table.shared.table_id }
-        requires held { (q : Request) × (t : Slots Request Reply Log Right)
+        requires held { (q : Request) × (t : Carried Request Reply Log Right)
             × (writer.old.seat.me.1 ≡ (writer.old.client, Asked q) ∷ t) }
         ensures seat { (writer.new.seat.table_id ≡ writer.old.seat.table_id)
             × (writer.new.client ≡ writer.old.client) × (writer.new.seat.me.0 ≡ writer.old.seat.me.0) }
-        ensures taken { (q : Request) (t : Slots Request Reply Log Right)
+        ensures taken { (q : Request) (t : Carried Request Reply Log Right)
             → writer.old.seat.me.1 ≡ (writer.old.client, Asked q) ∷ t
             → (writer.new.seat.me.1 ≡ (writer.old.client, Empty) ∷ t) × (result ≡ q) }
     {

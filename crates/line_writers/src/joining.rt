@@ -5,6 +5,7 @@ ghost use Rattle.line_rule.specs.declared.view.Lead.{Lead};
 ghost use Rattle.line_rule.specs.declared.view.Squad.{Squad};
 ghost use Rattle.line_rule.specs.declared.view.LineStage.{LineStage};
 ghost use Rattle.line_rule.specs.declared.view.LineStage.TheVariants.{Leading};
+ghost use Rattle.line_rule.specs.Before.{Carried};
 ghost use Rattle.line_rule.specs.Chain.{newest, heads};
 ghost use Rattle.line_rule.specs.Standing.{line_of};
 ghost use Rattle.line_rule.specs.Laws.{given_runs};
@@ -13,7 +14,7 @@ ghost use Rattle.line_writers.specs.Roles.{HasJoined, HasSent, bys};
 ghost use Rattle.line_writers.specs.Rooms.{HasRoom};
 ghost use Rattle.line_writers.specs.Seats.{about_of, asks_of, client_of, clients_of, law_of, piped_of, Belongs, Stays, answers_told};
 ghost use Rattle.line_writers.specs.Second.{IsSent, ListsMembers};
-ghost use Rattle.line_writers.specs.Groups.{Queue, Answers, Members, Slots, all_handled, squad_sent, AreGiven, LeadsWhole, HasHandled, ForHandled, Joins, HasReplies, ForReplies};
+ghost use Rattle.line_writers.specs.Groups.{Queue, Answers, Members, all_handled, squad_sent, AreGiven, LeadsWhole, HasLogAndReplies, ForHandled, Joins, HasReplies, ForReplies};
 
 use crate::line_writers::WriterList;
 use crate::room::{Replies, Room};
@@ -150,7 +151,7 @@ impl<
         requires room { (vec_len walk.old ≡ 0) × (walk.old.items ≡ []) × (self.now.clients ≤ vec_capacity walk.old) }
         requires ready { (lead : Lead Request Reply) × (mine : Answers Request Reply) × (gs : Members Request Reply)
             × (p : Reply) × (l : Log) × LeadsWhole writer.old.client newest_member count lead mine writer.old.seat.me
-            × (lead.own.code ≡ code) × HasHandled writer.old.client lead gs p l writer.old.seat.me
+            × (lead.own.code ≡ code) × HasLogAndReplies writer.old.client lead gs p l writer.old.seat.me
             × law_of Reply.run_of Log.LogOfGroups self.now l (all_handled lead (debt gs lead.own p))
             × AreGiven Reply.run_of Given.given ForRight.given lead.seen (all_handled lead (debt gs lead.own p)) }
         ensures seat { (writer.new.seat.table_id ≡ writer.old.seat.table_id)
@@ -258,12 +259,12 @@ impl<
 
     // Lets the first `count` slots go behind the others.
     fn rotate(&self, writer: &mut Writer<Request, Reply, Log, Right>, count: usize)
-        requires first { (a : Slots Request Reply Log Right)
-            × (b : Slots Request Reply Log Right)
+        requires first { (a : Carried Request Reply Log Right)
+            × (b : Carried Request Reply Log Right)
             × (writer.old.seat.me.1 ≡ a ++ b) × (length a ≡ count) }
         ensures seat { (writer.new.seat.table_id ≡ writer.old.seat.table_id)
             × (writer.new.client ≡ writer.old.client) × (writer.new.seat.me.0 ≡ writer.old.seat.me.0) }
-        ensures turned { (a b : Slots Request Reply Log Right) → writer.old.seat.me.1 ≡ a ++ b
+        ensures turned { (a b : Carried Request Reply Log Right) → writer.old.seat.me.1 ≡ a ++ b
             → length a ≡ count
             → writer.new.seat.me.1 ≡ b ++ a }
     {

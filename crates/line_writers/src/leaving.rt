@@ -4,12 +4,13 @@ ghost use Rattle.line_rule.specs.declared.content.LineSlot.{LineSlot};
 ghost use Rattle.line_rule.specs.declared.content.LineSlot.TheVariants.{Empty, Told, TheLog};
 ghost use Rattle.line_rule.specs.declared.view.QueuedWriter.{QueuedWriter};
 ghost use Rattle.line_rule.specs.declared.view.LineStage.TheVariants.{Idle};
+ghost use Rattle.line_rule.specs.Before.{Carried};
 ghost use Rattle.line_rule.specs.Chain.{heads, Within};
 ghost use Rattle.line_rule.specs.Plays.{At, debt, blanks};
 ghost use Rattle.line_writers.specs.Roles.{Leaves, MayLeave, MayWake, MayHandOn, bys, firsts, fills};
 ghost use Rattle.line_writers.specs.Rooms.{HasRoom};
 ghost use Rattle.line_writers.specs.Seats.{asks_of, client_of, clients_of, law_of, flat_of, Belongs, IsOut, Stays, answers_told, table_of};
-ghost use Rattle.line_writers.specs.Groups.{Answers, Members, Slots, all_handled, Owes, ForHandled, HasReplies, ForReplies};
+ghost use Rattle.line_writers.specs.Groups.{Answers, Members, all_handled, Owes, ForHandled, HasReplies, ForReplies};
 
 use crate::line_writers::WriterList;
 use crate::room::{Replies, Room};
@@ -98,10 +99,10 @@ impl<
     // Puts the log into its slot.
     pub(crate) fn put_log(&self, writer: &mut Writer<Request, Reply, Log, Right>, log: Log)
         requires seat { writer.old.seat.table_id ≡ self.now.table.shared.table_id }
-        requires held { (t : Slots Request Reply Log Right) × (writer.old.seat.me.1 ≡ (0, Empty) ∷ t) }
+        requires held { (t : Carried Request Reply Log Right) × (writer.old.seat.me.1 ≡ (0, Empty) ∷ t) }
         ensures seat { (writer.new.seat.table_id ≡ writer.old.seat.table_id)
             × (writer.new.client ≡ writer.old.client) × (writer.new.seat.me.0 ≡ writer.old.seat.me.0) }
-        ensures put { (t : Slots Request Reply Log Right) → writer.old.seat.me.1 ≡ (0, Empty) ∷ t
+        ensures put { (t : Carried Request Reply Log Right) → writer.old.seat.me.1 ≡ (0, Empty) ∷ t
             → writer.new.seat.me.1 ≡ (0, TheLog log) ∷ t }
     {
         match self

@@ -8,6 +8,7 @@ ghost use Rattle.line_rule.specs.declared.view.QueuedWriter.{QueuedWriter};
 ghost use Rattle.line_rule.specs.declared.view.Squad.{Squad};
 ghost use Rattle.line_rule.specs.declared.view.LineStage.{LineStage};
 ghost use Rattle.line_rule.specs.declared.view.LineStage.TheVariants.{Settling};
+ghost use Rattle.line_rule.specs.Before.{Carried};
 ghost use Rattle.line_rule.specs.Chain.{newest};
 ghost use Rattle.line_rule.specs.Standing.{line_of};
 ghost use Rattle.line_rule.specs.Plays.{At, AtWith, debt, WalksSecond};
@@ -15,7 +16,7 @@ ghost use Rattle.line_writers.specs.Roles.{AreMembers};
 ghost use Rattle.line_writers.specs.Rooms.{HasRoom};
 ghost use Rattle.line_writers.specs.Seats.{about_of, client_of, clients_of, piped_of, Belongs, IsOut, Stays, answers_told, table_of};
 ghost use Rattle.line_writers.specs.Second.{HasRight, ListsMembers};
-ghost use Rattle.line_writers.specs.Groups.{Queue, Handled, Answers, Members, Slots, HasRightOver, ServesWith, ForServing};
+ghost use Rattle.line_writers.specs.Groups.{Queue, Handled, Answers, Members, HasRightOver, ServesWith, ForServing};
 
 use crate::line_writers::WriterList;
 use crate::room::Room;
@@ -164,11 +165,11 @@ impl<
     // Takes the right out of its slot.
     pub(crate) fn take_right(&self, writer: &mut Writer<Request, Reply, Log, Right>) -> Right
         requires seat { writer.old.seat.table_id ≡ self.now.table.shared.table_id }
-        requires held { (r : Right) × (t : Slots Request Reply Log Right)
+        requires held { (r : Right) × (t : Carried Request Reply Log Right)
             × (writer.old.seat.me.1 ≡ (self.now.clients + 1, TheRight r) ∷ t) }
         ensures seat { (writer.new.seat.table_id ≡ writer.old.seat.table_id)
             × (writer.new.client ≡ writer.old.client) × (writer.new.seat.me.0 ≡ writer.old.seat.me.0) }
-        ensures taken { (r : Right) (t : Slots Request Reply Log Right)
+        ensures taken { (r : Right) (t : Carried Request Reply Log Right)
             → writer.old.seat.me.1 ≡ (self.now.clients + 1, TheRight r) ∷ t
             → (writer.new.seat.me.1 ≡ (self.now.clients + 1, Empty) ∷ t) × (result ≡ r) }
     {
@@ -185,11 +186,11 @@ impl<
     // Puts the right into its slot.
     fn put_right(&self, writer: &mut Writer<Request, Reply, Log, Right>, right: Right)
         requires seat { writer.old.seat.table_id ≡ self.now.table.shared.table_id }
-        requires held { (t : Slots Request Reply Log Right)
+        requires held { (t : Carried Request Reply Log Right)
             × (writer.old.seat.me.1 ≡ (self.now.clients + 1, Empty) ∷ t) }
         ensures seat { (writer.new.seat.table_id ≡ writer.old.seat.table_id)
             × (writer.new.client ≡ writer.old.client) × (writer.new.seat.me.0 ≡ writer.old.seat.me.0) }
-        ensures put { (t : Slots Request Reply Log Right)
+        ensures put { (t : Carried Request Reply Log Right)
             → writer.old.seat.me.1 ≡ (self.now.clients + 1, Empty) ∷ t
             → writer.new.seat.me.1 ≡ (self.now.clients + 1, TheRight right) ∷ t }
     {
@@ -282,14 +283,14 @@ impl<
         requires seat { (writer.old.seat.table_id ≡ self.now.table.shared.table_id) × (0 < next)
             × (next ≤ self.now.clients) }
         requires passes { (st : LineStage Request Reply) × (mine : Answers Request Reply) × (g : Squad Request Reply)
-            × (x : QueuedWriter Request) × (right : Right) × (t : Slots Request Reply Log Right)
+            × (x : QueuedWriter Request) × (right : Right) × (t : Carried Request Reply Log Right)
             × AtWith writer.old.client st mine (Passing g x) writer.old.seat.me
             × (writer.old.seat.me.1 ≡ (self.now.clients + 1, TheRight right) ∷ t) × (x.by ≡ next)
             × Log.serves (about_of self.now) right g.to }
         ensures seat { Stays writer.new writer.old }
         ensures called { (st : LineStage Request Reply) (mine : Answers Request Reply) (g : Squad Request Reply)
             (x : QueuedWriter Request) (y : ℕ
-            × LineSlot Request Reply Log Right) (t : Slots Request Reply Log Right)
+            × LineSlot Request Reply Log Right) (t : Carried Request Reply Log Right)
             → AtWith writer.old.client st mine (Passing g x) writer.old.seat.me → writer.old.seat.me.1 ≡ y ∷ t
             → At writer.old.client st mine writer.new.seat.me × (writer.new.seat.me.1 ≡ t) }
     {

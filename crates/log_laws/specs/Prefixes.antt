@@ -26,6 +26,6 @@ abbrev pub BeginsWith : List ℕ → List ℕ → Type 0
 BeginsWith t image = (length t ≤ length image) × (take (length t) image ≡ t)
 
 -- the records are these batches, whose runs rise
-abbrev pub AreRisingBatches : List (List ℕ) → List Logged → Type 0
-AreRisingBatches records batches = (map logged_bytes batches ≡ records)
+abbrev pub AreTheseBatches : List (List ℕ) → List Logged → Type 0
+AreTheseBatches records batches = (map logged_bytes batches ≡ records)
     × AllByRecursion (λ b. IsBatch (logged_bytes b) b.first b.records) batches × AreInOrder 0 batches

@@ -14,7 +14,7 @@ ghost use Rattle.model_base.specs.Batch.{IsBatch};
 ghost use Rattle.model_base.specs.Varint.{IsVarint, varint};
 ghost use Rattle.model_base.specs.Log.{SpellsWhole, text, plain_log};
 ghost use Rattle.model_base.specs.Recovery.{Logged, logged_bytes, AreInOrder, Recovered, IsRecovered, IsRead, NoChance, NoChanceForReader};
-ghost use Rattle.log_laws.specs.Prefixes.{RecoversPrefix, ReadsPrefix, BeginsWith, AreRisingBatches};
+ghost use Rattle.log_laws.specs.Prefixes.{RecoversPrefix, ReadsPrefix, BeginsWith, AreTheseBatches};
 
 /// The spelling of a number is a varint, and none begins another.
 pub fn number_spelling()
@@ -52,7 +52,7 @@ pub fn a_prefix()
 pub fn the_synced()
     ensures recovered { (number : Option ℕ) (image : List ℕ) (synced : List (List ℕ)) (batches : List Logged)
         (r : Recovered) → IsRecovered number image r → BeginsWith (text number synced) image
-        → AreRisingBatches synced batches → length batches ≤ length r.batches }
+        → AreTheseBatches synced batches → length batches ≤ length r.batches }
     ensures read { (number : Option ℕ) (image : List ℕ) (synced found : List (List ℕ)) → IsRead number image found
         → BeginsWith (text number synced) image → length synced ≤ length found }
 {}

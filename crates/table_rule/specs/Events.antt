@@ -11,7 +11,7 @@ use Rattle.table_rule.specs.declared.view.Opening.{Opening}
 use Rattle.table_rule.specs.declared.view.SeatState.{SeatState}
 use Rattle.table_rule.specs.Histories.{In, last_of}
 use Rattle.table_rule.specs.Rule.{Place, out, coming, filling, handed, busy, inserted, finished, Mode, still, running, ended, IsConsistent}
-use Rattle.table_rule.specs.Steps.{SeatNow, Tells}
+use Rattle.table_rule.specs.Steps.{SeatNow, Telling}
 
 -- how far a member is with its part of the launched group
 pub data Progress : Type 0 where
@@ -115,11 +115,11 @@ module _ {ShardTree NodeList : Type 0} (held_by : ShardTree → List Version)
 
   -- the same of a load of the word i
   abbrev pub LoadIs : (ℕ → TableNow → TableNow → Type 0) → Opening → ℕ → ℕ → SeatNow ShardTree NodeList → ℕ
-      → Tells ShardTree NodeList → Type 0
+      → Telling ShardTree NodeList → Type 0
   LoadIs event z slots id me i tells = StepIs event z slots id me i (λ x. x) (tells (step slots i 0 0 none) me)
 
   -- of a store of this value
   abbrev pub StoreIs : (TableNow → TableNow → Type 0) → Opening → ℕ → ℕ → SeatNow ShardTree NodeList → ℕ → ℕ
-      → Tells ShardTree NodeList → Type 0
+      → Telling ShardTree NodeList → Type 0
   StoreIs event z slots id me i value tells = StepIs (λ _. event) z slots id me i (λ _. value)
       (λ _. tells (step slots i value 0 none) me value)

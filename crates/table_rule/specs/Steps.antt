@@ -21,8 +21,8 @@ abbrev pub SeatNow : Type 0 → Type 0 → Type 0
 SeatNow ShardTree NodeList = Me (Content ShardTree NodeList) (List SeatState)
 
 -- what a step tells of the seat before it, the number found or stored, and the seat after it
-abbrev pub Tells : Type 0 → Type 0 → Type 1
-Tells ShardTree NodeList =
+abbrev pub Telling : Type 0 → Type 0 → Type 1
+Telling ShardTree NodeList =
     Step (Content ShardTree NodeList) → SeatNow ShardTree NodeList → ℕ → SeatNow ShardTree NodeList → Type 0
 
 -- the slots that a seat has out, with what they hold
