@@ -1,6 +1,6 @@
 //! What records do to a map, as `MemTableInserter` of RocksDB's `write_batch.cc` does it to a memtable.
 
-ghost use Rattle.std.specs.Prelude.{◌≡◌, OnOk};
+ghost use Rattle.std.specs.Prelude.{◌≡◌, ◌<◌, ℕ, length, take, OnOk, OnErr};
 ghost use Rattle.model_base.specs.Map.{after_record, after_records};
 ghost use Rattle.log_batch.specs.View.{record_of};
 
@@ -9,11 +9,14 @@ use crate::records::Records;
 use base_maps::ByteMap;
 use model_base::NoMemory;
 
-/// Changes a map as records say, in their order.
+/// Changes a map as records say, in their order. For want of memory it may stop behind some of them.
 pub fn write_records(map: &mut ByteMap, records: Records<'_>) -> Result<(), NoMemory>
-    ensures { OnOk result (map.new ≡ after_records map.old records.entry) }
+    ensures ok { OnOk result (map.new ≡ after_records map.old records.entry) }
+    ensures err { OnErr result
+        ((written : ℕ) × (written < length records.entry)
+        × (map.new ≡ after_records map.old (take written records.entry))) }
 {
-    // With the records that are left, the map is that of all of them.
+    // The map is that of the records before those that are left.
     for view in records {
         write_record(map, view)?;
     }
@@ -21,9 +24,10 @@ pub fn write_records(map: &mut ByteMap, records: Records<'_>) -> Result<(), NoMe
 }
 
 /// Changes a map as a record says: a value is set at its key, a deletion takes its key out, and what is for the log
-/// alone changes nothing.
+/// alone changes nothing. For want of memory the map stays as it was.
 pub fn write_record(map: &mut ByteMap, view: RecordView<'_>) -> Result<(), NoMemory>
-    ensures { OnOk result (map.new ≡ after_record map.old (record_of view.entry)) }
+    ensures ok { OnOk result (map.new ≡ after_record map.old (record_of view.entry)) }
+    ensures err { OnErr result (map.new ≡ map.old) }
 {
     match view {
         RecordView::Value { key, value } => map.insert(key, value),

@@ -1,7 +1,9 @@
--- With the records that are left, the map is that of all of them.
-use Rattle.std.proofs.Common.{◌≡◌}
+-- The map is that of the records before those that are left.
+use Rattle.std.proofs.Common.{◌≡◌, List, ◌++◌}
+use Rattle.model_base.specs.Batch.{Record}
 use Rattle.model_base.specs.Map.{after_records}
 use Rattle.log_batch.proofs.effects.write_records.Given as goal
 
 abbrev pub invariant-loop-view : goal.invariant-loop-view
-invariant-loop-view l = after_records l.map l.view-iterator ≡ after_records l.fn.map l.fn.records
+invariant-loop-view l = (written : List Record) × (l.fn.records ≡ written ++ l.view-iterator)
+    × (l.map ≡ after_records l.fn.map written)

@@ -8,7 +8,7 @@ use Rattle.run_threads.proofs.state.state_of.Goals as goal
 
 pub loop-at-preserved : goal.loop-at-preserved
 loop-at-preserved c =
-    c.in_ok-write_records.ensures ∙ ap (after_records c.loop-at.map) c.records.ensures.value
+    c.in_ok-write_records.ensures.ok ∙ ap (after_records c.loop-at.map) c.records.ensures.value
     ∙ (ap (λ m. after_records m c.entry.result.batch.records) c.loop-at.invariant ∙ sym (fold_next [] c.args.history.now c.loop-at.at c.entry.result c.entry.ensures))
 
 pub returns : goal.returns

@@ -23,6 +23,6 @@ returns c =
     (subst (λ n. IsBatch c.args.bytes.now n c.in-Ok.batch.records) (sym first) c.in-Ok.ensures.ok) c.count-count.ensures
     (run_of old.last c.sequence-first.result c.count-count.result c.run_end.result c.run_end.ensures c.in_default.not-Some)
     c.in_ok-push.ensures.items
-    (c.in_ok-write_records.ensures ∙ ap (after_records old.map) c.records.ensures.value)
+    (c.in_ok-write_records.ensures.ok ∙ ap (after_records old.map) c.records.ensures.value)
     c.last_after-self.ensures
     refl
