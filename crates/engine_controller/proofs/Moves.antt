@@ -12,14 +12,21 @@ use Rattle.model_base.specs.Controller.{numbers_after}
 use Rattle.model_base.specs.Tokens.{holds_stop, holds_slow}
 use Rattle.engine_controller.specs.declared.numbers.Numbers.{Numbers}
 use Rattle.engine_controller.specs.declared.numbers.Action.{Action}
-use Rattle.engine_controller.specs.declared.numbers.Action.TheVariants.{Look}
+use Rattle.engine_controller.specs.declared.numbers.Action.TheVariants.{Look, Delay}
 use Rattle.engine_controller.specs.declared.rule.Call.{Call}
 use Rattle.engine_controller.specs.declared.rule.Observer.{Observer}
 use Rattle.engine_controller.specs.declared.rule.Caller.TheVariants.{Nobody, Client, Others}
 use Rattle.engine_controller.specs.Numbers.{numbers_of, action_of}
-use Rattle.engine_controller.specs.Rule.{asked_in, observer, client_view, others, note_of, fewer_others, next_client, covers, coverage, IsOfOthers, Fits, weight, tokens_held, share, total, Kept, Sees, Makes, Exchanges, Closes, MayCall}
+use Rattle.engine_controller.specs.Rule.{asked_in, observer, client_view, others, note_of, fewer_others, next_client, covers, coverage, IsOfOthers, Fits, weight, tokens_held, share, total, Kept, Sees, Makes, Asks, Exchanges, Closes, MayCall}
 use Rattle.engine_controller.proofs.Totals.{sum_single, all_map}
+use Rattle.engine_controller.proofs.Unchanged.{unslowed}
 use Rattle.engine_controller.proofs.Steps.{forked, merged, AreNotes, no_notes, sees_at, makes_at}
+
+same_number : (m n : ℕ) → (m == n) ≡ true → m ≡ n
+same_number m n e = grind (arith, nat_tests)
+
+equal_number : (m n : ℕ) → m ≡ n → (m == n) ≡ true
+equal_number m n e = grind (arith, nat_tests)
 
 -- Loads and exchanges
 
@@ -28,6 +35,21 @@ sees_turn id c seen notes quiet v is = subst (λ (u : List Observer). Turns Kept
 
 pub looks_turn : (id c : ℕ) (seen : List Call) (v : List Observer) → v ≡ client_view c seen → Turns Kept id v (λ x. x) (λ v x _ w. Makes Look v x w)
 looks_turn id c seen v is = subst (λ (u : List Observer). Turns Kept id u (λ x. x) (λ v x _ w. Makes Look v x w)) (sym is) (λ x views r at. makes_at id c seen Look tt x x views refl r at)
+
+asks_turn : (id c : ℕ) (seen : List Call) (now bytes : ℕ) (v : List Observer) → v ≡ client_view c seen → Turns Kept id v (λ x. x) (λ v x _ w. Asks (Delay now bytes) v x w)
+asks_turn id c seen now bytes v is = subst (λ (u : List Observer). Turns Kept id u (λ x. x) (λ v x _ w. Asks (Delay now bytes) v x w)) (sym is) (λ x. by_case x (x.delays == 0) refl)
+  where
+    by_case : (x : Numbers) (b : Bool) → (x.delays == 0) ≡ b → TurnsAt Kept id (client_view c seen) x x (λ v x _ w. Asks (Delay now bytes) v x w)
+    by_case x true e views r at =
+        let none : x.delays ≡ 0 = same_number x.delays 0 e in
+        let made = makes_at id c seen (Delay now bytes) tt x x views (sym (ap (λ a. a.numbers) (unslowed (numbers_of x) now bytes none))) r at in
+        (made.0, made.1, record { made = λ _. made.2; other = λ some. absurd (some none) })
+    by_case x false e views r at =
+        let seen_now = sees_at id c seen [] no_notes x views r at in
+        (seen_now.0, seen_now.1, record { made = λ none. absurd (true≢false (sym (equal_number x.delays 0 none) ∙ e)); other = λ _. seen_now.2 })
+
+pub asks_picked : (id c : ℕ) (seen : List Call) (a : Action) (now bytes : ℕ) → a ≡ Delay now bytes → (v : List Observer) → v ≡ client_view c seen → Turns Kept id v (λ x. x) (λ v x _ w. Asks a v x w)
+asks_picked id c seen a now bytes is v view = subst (λ (k : Action). Turns Kept id v (λ x. x) (λ v x _ w. Asks k v x w)) (sym is) (asks_turn id c seen now bytes v view)
 
 exchange_turn : (eq : Numbers → Numbers → Bool) → ((x y : Numbers) → eq x y ≡ true → x ≡ y) → ((x y : Numbers) → x ≡ y → eq x y ≡ true)
     → (id c : ℕ) (seen : List Call) (a : Action) (found new : Numbers) → MayCall a (asked_in c seen) → numbers_of new ≡ numbers_after (numbers_of found) (action_of a)
@@ -161,12 +183,6 @@ eq_numbers x y = (x.stops == y.stops) && ((x.delays == y.delays) && ((x.rate == 
 and_both : (a b : Bool) → (a && b) ≡ true → (a ≡ true) × (b ≡ true)
 and_both true b e = (refl, e)
 and_both false b e = absurd (true≢false (sym e))
-
-same_number : (m n : ℕ) → (m == n) ≡ true → m ≡ n
-same_number m n e = grind (arith, nat_tests)
-
-equal_number : (m n : ℕ) → m ≡ n → (m == n) ≡ true
-equal_number m n e = grind (arith, nat_tests)
 
 pub eq_same : (x y : Numbers) → eq_numbers x y ≡ true → x ≡ y
 eq_same x y e =

@@ -1,5 +1,6 @@
 -- What no call of the controller changes.
-use Rattle.std.proofs.Common.{◌≡◌, ℕ, ◌+◌, ◌≤◌, Bool, true, false, sym, refl, subst, arith}
+use Rattle.std.proofs.Common.{◌≡◌, ℕ, ◌+◌, ◌≤◌, Bool, true, false, true≢false, sym, refl, subst, arith}
+use Rattle.std.proofs.lemmas.Bool.Decides.{nat_tests}
 use Rattle.std.specs.Prelude.{if◌then◌else◌, ◌==◌, nat_le, nat_lt, ◌||◌}
 use Rattle.model_base.specs.Controller.{Numbers, Action, stop, unstop, slow, unslow, delay, look, numbers_after, after_delay, after_slow, After, after_refill, after_payment, after_start, after_due_refill}
 
@@ -27,6 +28,17 @@ pub leaves_delayed : (n : Numbers) (now bytes : ℕ) → Leaves n (after_delay n
 leaves_delayed n now bytes =
     on_if (LeavesAfter n) (nat_lt 0 n.stops || (n.delays == 0)) _ _ (refl, refl, refl)
     (on_if (LeavesAfter n) (nat_le bytes n.credit) _ _ (refl, refl, refl) (leaves_refilling n (after_start n now) now bytes (leaves_begun n now)))
+
+if_either : {A : Type 0} (a b : Bool) (x y : A) → b ≡ true → (if a || b then x else y) ≡ x
+if_either true b x y e = refl
+if_either false true x y e = refl
+if_either false false x y e = absurd (true≢false (sym e))
+
+-- asking a controller that nobody slows changes nothing, and there is no wait
+pub unslowed : (n : Numbers) (now bytes : ℕ) → n.delays ≡ 0 → after_delay n now bytes ≡ record { numbers = n; wait = 0 }
+unslowed n now bytes none =
+    let is : (n.delays == 0) ≡ true = grind (arith, nat_tests) in
+    if_either (nat_lt 0 n.stops) (n.delays == 0) _ _ is
 
 pub slowed_stops : (n : Numbers) (rate : ℕ) → (after_slow n rate).stops ≡ n.stops
 slowed_stops n rate = on_if (λ (m : Numbers). m.stops ≡ n.stops) (n.delays == 0) (record n { credit = 0; next = 0 }) n refl refl

@@ -198,6 +198,11 @@ pub record Exchanges (action : Action) (found : Numbers) (v : List Observer) (x 
     pub made : x ≡ found → Makes action v x w
     pub other : x ≢ found → Sees v x x w
 
+-- a load that asks for a delay makes the call where nobody slows writes, since it changes no number there
+pub record Asks (action : Action) (v : List Observer) (x : Numbers) (w : List Observer) : Type 0 where
+  pub made : x.delays ≡ 0 → Makes action v x w
+  pub other : x.delays ≢ 0 → Sees v x x w
+
 -- there is a history that all the observers fit
 pub record Closes (v w : List Observer) : Type 0 where
   pub view : w ≡ v

@@ -10,7 +10,6 @@ ghost use Rattle.engine_controller.specs.Passes.{IsPassOf, IsNoteOf, GoesOn, End
 
 use crate::controller::Controller;
 use crate::look::Look;
-use crate::numbers::Action;
 use crate::pass::{Note, Pass};
 use crate::rule::{Copied, Looking, Sight};
 use crate::words::{join, load, split};
@@ -27,7 +26,7 @@ impl<Time: Clock> Controller<Time> {
             (seen_by pass.new) }
     {
         let now = clock.now();
-        self.call(rt, &mut pass.seat, Action::Delay { now, bytes })
+        self.ask_delay(rt, &mut pass.seat, now, bytes)
     }
 
     /// Reads how many clients stop and slow writes. A client that stops them itself is among these.

@@ -110,6 +110,18 @@ impl<Picked: Asking> Outcome<Numbers, ControllerView> for Exchange<Picked> {
     ghost then = { λ v x _ w. Exchanges Picked.call Picked.found v x w };
 }
 
+/// A load that asks for a delay where nobody slows writes: there the call changes no number, so that it needs no
+/// exchange.
+pub struct Unslowed<Picked: Asking> {
+    asking: PhantomData<Picked>,
+}
+
+impl<Picked: Asking> Outcome<Numbers, ControllerView> for Unslowed<Picked> {
+    ghost use Rattle.engine_controller.specs.Rule.{Asks};
+
+    ghost then = { λ v x _ w. Asks Picked.call v x w };
+}
+
 /// The next client's pass is cut off.
 pub struct NextClient;
 

@@ -11,7 +11,7 @@ use Rattle.engine_controller.proofs.controller.Controller.delay.Goals as goal
 pub returns-clause-own : goal.returns-clause-own
 returns-clause-own g c =
     let own = c.requires.own in
-    let told = c.call.ensures in
+    let told = c.ask_delay.ensures in
     let made = told.made.1 in (
       record {
         cell = told.cell ∙ own.cell;
@@ -27,5 +27,5 @@ returns-clause-asked g c =
     let old = c.args.pass.now in
     let now = c.now-now.result in
     let bytes = c.args.bytes in
-    let made = c.call.ensures.made in
-    (now, c.now-now.ensures, ends_told (client_of old) (seen_by old) (delay now bytes) (look_at (numbers_of made.0) (delay now bytes)) (look_of c.call.result) (history_of (seen_in (cell_view c.call.new.seat))) made.2 (made_ends _ _ _ _ made.1))
+    let made = c.ask_delay.ensures.made in
+    (now, c.now-now.ensures, ends_told (client_of old) (seen_by old) (delay now bytes) (look_at (numbers_of made.0) (delay now bytes)) (look_of c.ask_delay.result) (history_of (seen_in (cell_view c.ask_delay.new.seat))) made.2 (made_ends _ _ _ _ made.1))
