@@ -6,10 +6,17 @@
 // Or lets several threads write at once, so that RocksDB makes groups of their batches.
 //
 //     peers threads PATH
+//
+// Or writes logs over older ones, as `recycle_log_file_num` has it, and copies each into the folder COPIES as it stands
+// before its database goes on to another log. The copy has the log's own name.
+//
+//     peers recycled PATH COPIES
 
 #include <rocksdb/db.h>
+#include <rocksdb/transaction_log.h>
 #include <rocksdb/write_batch.h>
 
+#include <filesystem>
 #include <iostream>
 #include <memory>
 #include <sstream>
@@ -68,15 +75,46 @@ static void run_threads(rocksdb::DB& db) {
     for (auto& thread : threads) thread.join();
 }
 
+// Each log has fewer batches than the one two before it, whose file it gets. In the first six all batches have the same
+// size, so that one ends where an older one did; in the others they haven't, and one takes several blocks.
+static bool write_over(rocksdb::DB& db, const std::filesystem::path& path, const std::filesystem::path& copies) {
+    for (int log = 0; log < 14; log++) {
+        bool mixed = log >= 6;
+        for (int turn = 0; turn < 30 - 2 * log; turn++) {
+            rocksdb::WriteBatch batch;
+            std::string value = std::to_string(1000 * log + turn + 1000);
+            batch.Put("key" + std::to_string((7 * turn + log) % 10), mixed ? std::string(turn % 5, 'v') + value : value);
+            if (mixed && turn % 3 == 0) batch.Delete("key" + std::to_string(turn % 10));
+            if (mixed && turn % 4 == 1) batch.PutLogData("turn " + value);
+            if (mixed && turn == 3) batch.Put("large", std::string(100000 - 3000 * log, 'l'));
+            if (!db.Write(rocksdb::WriteOptions(), &batch).ok()) return false;
+        }
+        std::unique_ptr<rocksdb::LogFile> live;
+        if (!db.GetCurrentWalFile(&live).ok()) return false;
+        auto name = std::filesystem::path(live->PathName()).filename();
+        std::filesystem::copy_file(path / name, copies / name);
+        // A flush begins a new log.
+        if (!db.Flush(rocksdb::FlushOptions()).ok()) return false;
+    }
+    return true;
+}
+
 int main(int count, char** words) {
     rocksdb::Options options;
     options.create_if_missing = true;
+    bool recycles = count == 4 && words[1] == std::string("recycled");
+    if (recycles) {
+        options.recycle_log_file_num = 2;
+        // With another mode RocksDB uses no file again, and gives its logs no number.
+        options.wal_recovery_mode = rocksdb::WALRecoveryMode::kSkipAnyCorruptedRecords;
+    }
     // What stays out of the log would be flushed to a table at the end.
     options.avoid_flush_during_shutdown = true;
     rocksdb::DB* opened = nullptr;
-    if (count != 3 || !rocksdb::DB::Open(options, words[2], &opened).ok()) return 1;
+    if ((count != 3 && !recycles) || !rocksdb::DB::Open(options, words[2], &opened).ok()) return 1;
     std::unique_ptr<rocksdb::DB> db(opened);
     if (words[1] == std::string("script")) run_script(*db);
     if (words[1] == std::string("threads")) run_threads(*db);
+    if (recycles && !write_over(*db, words[2], words[3])) return 1;
     return db->Close().ok() ? 0 : 1;
 }

@@ -2,12 +2,13 @@
 
 `damage`, `kill` and `faults` beside this file use it. `recovery_of` says what `recover` should print of a log's bytes.
 A small writer is here too: `laid_out` makes a log of records, as the program should, or with records that are cut at
-other places.
+other places. Where a function takes a log's number, none is a log whose headers have no number.
 """
 
 import functools
 
-BLOCK, HEADER = 32768, 7
+# A header has 7 bytes, and 11 where it has the log's number. The kinds are higher by 4 there.
+BLOCK, HEADER, NUMBERED_HEADER = 32768, 7, 11
 FULL, FIRST, MIDDLE, LAST = 1, 2, 3, 4
 
 # The greatest sequence.
@@ -51,43 +52,65 @@ def number_of(data):
     return int.from_bytes(data, "little")
 
 
-def fragment_at(log, at):
+def header_len(number):
+    return HEADER if number is None else NUMBERED_HEADER
+
+
+def code_of(kind, number):
+    """How a kind stands in a header."""
+    return kind if number is None else kind + 4
+
+
+def number_bytes(number):
+    """What stands in a header behind the kind."""
+    return b"" if number is None else number.to_bytes(4, "little")
+
+
+def fragment_at(log, at, number):
     """The kind and the data of the fragment at this offset, from which its block has room for a header."""
-    head = log[at : at + HEADER]
-    length, kind = number_of(head[4:6]), head[-1]
-    if len(head) < HEADER:
+    size = header_len(number)
+    head = log[at : at + size]
+    if len(head) < size:
         raise End(at, "shortheader")
     if not any(head):
         raise End(at, "zeros")
-    if HEADER + length > min(BLOCK - at % BLOCK, len(log) - at):
+    length, code = number_of(head[4:6]), head[6]
+    is_kind = code in [code_of(kind, number) for kind in (FULL, FIRST, MIDDLE, LAST)]
+    is_within = size + length <= min(BLOCK - at % BLOCK, len(log) - at)
+    # The length of a header without a number is looked at before its kind, and that of one with a number last.
+    if number is None and not is_within:
         raise End(at, "badlength")
-    if kind not in (FULL, FIRST, MIDDLE, LAST):
-        raise End(at, f"badtype {kind}")
-    data = log[at + HEADER : at + HEADER + length]
-    if head[:4] != checksum(bytes([kind]) + data):
+    if not is_kind:
+        raise End(at, f"badtype {code}")
+    if head[7:] != number_bytes(number):
+        raise End(at, f"oldlog {number_of(head[7:])}")
+    if not is_within:
+        raise End(at, "badlength")
+    data = log[at + size : at + size + length]
+    if head[:4] != checksum(head[6:] + data):
         raise End(at, "badchecksum")
-    return kind, data
+    return code - code_of(0, number), data
 
 
-def fragments_of(log):
+def fragments_of(log, number=None):
     """The fragments of a log up to its end, each with its offset, its kind and its data."""
-    at = 0
+    at, size = 0, header_len(number)
     while at < len(log):
         left = BLOCK - at % BLOCK
-        if left < HEADER:
+        if left < size:
             if any(log[at : at + left]):
                 raise End(at, "badtrailer")
             at += left
         else:
-            kind, data = fragment_at(log, at)
+            kind, data = fragment_at(log, at, number)
             yield at, kind, data
-            at += HEADER + len(data)
+            at += size + len(data)
 
 
-def records_of(log):
+def records_of(log, number=None):
     """The records of a log up to its end, each with the offset of its first fragment."""
     begun, parts = None, []
-    for at, kind, data in fragments_of(log):
+    for at, kind, data in fragments_of(log, number):
         if (kind in (FULL, FIRST)) != (begun is None):
             raise End(at, "badorder")
         begun = at if begun is None else begun
@@ -135,11 +158,11 @@ def batch_of(record):
     return number_of(record[:8]), count, changes
 
 
-def recover_into(groups, pairs, log):
+def recover_into(groups, pairs, log, number):
     """Reads a log into its groups and its map: the last sequence, and where and why reading ends."""
     last, at = 0, 0
     try:
-        for at, record in records_of(log):
+        for at, record in records_of(log, number):
             first, count, changes = batch_of(record)
             if count > 0 and first <= last:
                 return last, at, f"order {first} {last}"
@@ -159,10 +182,10 @@ def recover_into(groups, pairs, log):
     return last, len(log), "clean"
 
 
-def recovery_of(log):
+def recovery_of(log, number=None):
     """What `recover` should print of a log, and the first word of the reason."""
     groups, pairs = [], {}
-    last, at, why = recover_into(groups, pairs, log)
+    last, at, why = recover_into(groups, pairs, log, number)
     rows = [f"{key.hex() or '-'} {pairs[key].hex() or '-'}" for key in sorted(pairs)]
     lines = [f"groups {len(groups)}", *groups, f"state {last} {len(rows)}", *rows, f"end {at} {why}"]
     return "".join(line + "\n" for line in lines), why.split(" ")[0]
@@ -171,25 +194,32 @@ def recovery_of(log):
 # The writer.
 
 
-def fragment(kind, data):
-    return checksum(bytes([kind]) + data) + len(data).to_bytes(2, "little") + bytes([kind]) + data
+def fragment_of_code(code, data, number=None):
+    """A fragment with this code of a kind, whatever it is."""
+    tail = bytes([code]) + number_bytes(number)
+    return checksum(tail + data) + len(data).to_bytes(2, "little") + tail + data
 
 
-def laid_out(records, draw=None):
+def fragment(kind, data, number=None):
+    return fragment_of_code(code_of(kind, number), data, number)
+
+
+def laid_out(records, draw=None, number=None):
     """A log of these records, which are cut where a block ends, and where there is `draw`, by draws elsewhere too."""
-    log = bytearray()
+    log, size = bytearray(), header_len(number)
     for record in records:
         is_begun, is_ended = False, False
         while not is_ended:
             left = BLOCK - len(log) % BLOCK
-            if left < HEADER:
+            if left < size:
                 log += bytes(left)
                 continue
-            fits = min(left - HEADER, len(record))
+            fits = min(left - size, len(record))
             part = record[: draw.randint(0, fits) if draw and draw.random() < 0.5 else fits]
             record = record[len(part) :]
             is_ended = not record
-            log += fragment((LAST if is_begun else FULL) if is_ended else (MIDDLE if is_begun else FIRST), part)
+            kind = (LAST if is_begun else FULL) if is_ended else (MIDDLE if is_begun else FIRST)
+            log += fragment(kind, part, number)
             is_begun = True
     return bytes(log)
 

@@ -1,71 +1,66 @@
 -- What is seen in front of some bytes, case by case.
-use Rattle.std.proofs.Common.{◌≡◌, ℕ, ◌+◌, ◌<◌, ◌≤◌, true, false, List, ◌∷◌, length, take, drop, Some, None, nat_lt, ◌==◌, cond, refl, ap, ◌∙◌, arith}
+use Rattle.std.proofs.Common.{◌≡◌, ℕ, ◌+◌, ◌<◌, ◌≤◌, true, false, List, length, take, drop, not, bytes_eq, Option, Some, None, nat_lt, ◌==◌, cond, refl, ap, ◌∙◌, arith}
 use Rattle.std.proofs.lemmas.Bool.{lt-ltb, le-ltb, ne_eqb}
-use Rattle.model_base.specs.declared.log.Damage.TheVariants.{ShortHeader, Zeros, BadLength, BadType, BadChecksum, BadTrailer}
-use Rattle.model_base.specs.Checksum.{crc32c, masked}
-use Rattle.model_base.specs.Log.{Kind, plain_log}
-use Rattle.model_base.specs.Reading.{Seen, fragment, nothing, damage, seen_within, are_zeros, checksum_field, length_field, type_field, kind_of_code, seen_of_kind}
+use Rattle.std.specs.Int.{w32, to_le_bytes}
+use Rattle.model_base.specs.declared.log.Damage.TheVariants.{ShortHeader, Zeros, BadLength, BadTrailer, OldLog}
+use Rattle.model_base.specs.Log.{Kind, kind_code, header_len}
+use Rattle.model_base.specs.Reading.{nothing, damage, seen_within, seen_of_kind, seen_of_kind_numbered, are_zeros, length_field, type_field, number_field, kind_of_code}
+use Rattle.log_block.specs.Fragments.{decided, by_checksum}
+use Rattle.log_block.proofs.Types.{own_code}
+
+seen_is : (number : Option ℕ) (space : ℕ) (bytes : List ℕ) → seen_within number space bytes ≡ cond (nat_lt space (header_len number)) (cond (are_zeros bytes) nothing (damage BadTrailer))
+    (cond (length bytes == 0) nothing (cond (nat_lt (length bytes) (header_len number)) (damage ShortHeader) (cond (are_zeros (take (header_len number) bytes)) (damage Zeros) (decided number bytes))))
+unfolding seen_within
+seen_is None space bytes = refl
+seen_is (Some n) space bytes = refl
 
 -- the trailer of a block: zeros
-pub seen_zeros : (space : ℕ) (bytes : List ℕ) → space < 7 → are_zeros bytes ≡ true → seen_within plain_log space bytes ≡ nothing
-unfolding seen_within
-seen_zeros space bytes few zeros = let e : nat_lt space 7 ≡ true = lt-ltb space 7 few in rw (e, zeros) refl
+pub seen_zeros : (number : Option ℕ) (space : ℕ) (bytes : List ℕ) → space < header_len number → are_zeros bytes ≡ true → seen_within number space bytes ≡ nothing
+seen_zeros number space bytes few zeros =
+    let e : nat_lt space (header_len number) ≡ true = lt-ltb space (header_len number) few in
+    seen_is number space bytes ∙ rw (e, zeros) refl
 
 -- the trailer of a block: other bytes
-pub seen_trailer : (space : ℕ) (bytes : List ℕ) → space < 7 → are_zeros bytes ≡ false → seen_within plain_log space bytes ≡ damage BadTrailer
-unfolding seen_within
-seen_trailer space bytes few others = let e : nat_lt space 7 ≡ true = lt-ltb space 7 few in rw (e, others) refl
+pub seen_trailer : (number : Option ℕ) (space : ℕ) (bytes : List ℕ) → space < header_len number → are_zeros bytes ≡ false → seen_within number space bytes ≡ damage BadTrailer
+seen_trailer number space bytes few others =
+    let e : nat_lt space (header_len number) ≡ true = lt-ltb space (header_len number) few in
+    seen_is number space bytes ∙ rw (e, others) refl
 
 -- no bytes
-pub seen_none : (space : ℕ) (bytes : List ℕ) → 7 ≤ space → length bytes ≡ 0 → seen_within plain_log space bytes ≡ nothing
-unfolding seen_within
-seen_none space bytes many none = let e : nat_lt space 7 ≡ false = le-ltb space 7 many in rw (e, none) refl
+pub seen_none : (number : Option ℕ) (space : ℕ) (bytes : List ℕ) → header_len number ≤ space → length bytes ≡ 0 → seen_within number space bytes ≡ nothing
+seen_none number space bytes many none =
+    let e : nat_lt space (header_len number) ≡ false = le-ltb space (header_len number) many in
+    seen_is number space bytes ∙ rw (e, none) refl
 
 -- some bytes, too few for a header
-pub seen_short : (space : ℕ) (bytes : List ℕ) → 7 ≤ space → 0 < length bytes → length bytes < 7 → seen_within plain_log space bytes ≡ damage ShortHeader
-unfolding seen_within
-seen_short space bytes many some few =
-    let e : nat_lt space 7 ≡ false = le-ltb space 7 many in
+pub seen_short : (number : Option ℕ) (space : ℕ) (bytes : List ℕ) → header_len number ≤ space → 0 < length bytes → length bytes < header_len number → seen_within number space bytes ≡ damage ShortHeader
+seen_short number space bytes many some few =
+    let e : nat_lt space (header_len number) ≡ false = le-ltb space (header_len number) many in
     let f = ne_eqb (length bytes) 0 (λ none. omega arith) in
-    let g : nat_lt (length bytes) 7 ≡ true = lt-ltb (length bytes) 7 few in
-    rw (e, f, g) refl
+    let g : nat_lt (length bytes) (header_len number) ≡ true = lt-ltb (length bytes) (header_len number) few in
+    seen_is number space bytes ∙ rw (e, f, g) refl
 
--- a header of zeros
-pub seen_no_header : (space : ℕ) (bytes : List ℕ) → 7 ≤ space → 7 ≤ length bytes → are_zeros (take 7 bytes) ≡ true → seen_within plain_log space bytes ≡ damage Zeros
-unfolding seen_within
-seen_no_header space bytes many there zeros =
-    let e : nat_lt space 7 ≡ false = le-ltb space 7 many in
+-- a header is there: zeros, or else its fields decide
+pub seen_there : (number : Option ℕ) (space : ℕ) (bytes : List ℕ) → header_len number ≤ space → 0 < length bytes → header_len number ≤ length bytes
+    → seen_within number space bytes ≡ cond (are_zeros (take (header_len number) bytes)) (damage Zeros) (decided number bytes)
+seen_there number space bytes many some there =
+    let e : nat_lt space (header_len number) ≡ false = le-ltb space (header_len number) many in
     let f = ne_eqb (length bytes) 0 (λ none. omega arith) in
-    let g : nat_lt (length bytes) 7 ≡ false = le-ltb (length bytes) 7 there in
-    rw (e, f, g, zeros) refl
+    let g : nat_lt (length bytes) (header_len number) ≡ false = le-ltb (length bytes) (header_len number) there in
+    seen_is number space bytes ∙ rw (e, f, g) refl
 
--- a header that isn't zeros: its fields decide
-pub seen_header : (space : ℕ) (bytes : List ℕ) → 7 ≤ space → 7 ≤ length bytes → are_zeros (take 7 bytes) ≡ false
-    → seen_within plain_log space bytes ≡ cond (nat_lt (length bytes) (7 + length_field bytes)) (damage BadLength) (seen_of_kind bytes (kind_of_code plain_log (type_field bytes)))
-unfolding seen_within
-seen_header space bytes many there others =
-    let e : nat_lt space 7 ≡ false = le-ltb space 7 many in
-    let f = ne_eqb (length bytes) 0 (λ none. omega arith) in
-    let g : nat_lt (length bytes) 7 ≡ false = le-ltb (length bytes) 7 there in
-    rw (e, f, g, others) refl
+-- in a log without a number, the header of a fragment whose part is there: its checksum decides
+pub plain_by_checksum : (bytes : List ℕ) (kind : Kind) → 7 + length_field bytes ≤ length bytes → type_field bytes ≡ kind_code None kind → decided None bytes ≡ by_checksum None kind bytes
+plain_by_checksum bytes kind there code_is =
+    let e : nat_lt (length bytes) (7 + length_field bytes) ≡ false = le-ltb (length bytes) (7 + length_field bytes) there in
+    ap (λ b. cond b (damage BadLength) (seen_of_kind bytes (kind_of_code None (type_field bytes)))) e
+    ∙ ap (seen_of_kind bytes) (ap (kind_of_code None) code_is ∙ own_code None kind)
 
--- what the fields of a header that isn't zeros say
-abbrev pub decided : List ℕ → Seen
-decided bytes = cond (nat_lt (length bytes) (7 + length_field bytes)) (damage BadLength) (seen_of_kind bytes (kind_of_code plain_log (type_field bytes)))
-
--- the header of a fragment whose part is there: its checksum decides
-pub decided_by_checksum : (bytes : List ℕ) (len : ℕ) (kind : Kind) → length_field bytes ≡ len → 7 + len ≤ length bytes → kind_of_code plain_log (type_field bytes) ≡ Some kind
-    → decided bytes ≡ cond (checksum_field bytes == masked (crc32c (type_field bytes ∷ take len (drop 7 bytes)))) (fragment (record { kind = kind; part = take len (drop 7 bytes) })) (damage BadChecksum)
-decided_by_checksum bytes len kind length_is there read =
-    let e : nat_lt (length bytes) (7 + length_field bytes) ≡ false = le-ltb (length bytes) (7 + length_field bytes) (omega arith) in
-    ap (λ b. cond b (damage BadLength) (seen_of_kind bytes (kind_of_code plain_log (type_field bytes)))) e
-    ∙ (ap (seen_of_kind bytes) read ∙ ap by_sum length_is)
-  where
-    by_sum : ℕ → Seen
-    by_sum n = cond (checksum_field bytes == masked (crc32c (type_field bytes ∷ take n (drop 7 bytes)))) (fragment (record { kind = kind; part = take n (drop 7 bytes) })) (damage BadChecksum)
-
--- the header of no kind, whose part would be there
-pub decided_by_type : (bytes : List ℕ) (len : ℕ) → length_field bytes ≡ len → 7 + len ≤ length bytes → kind_of_code plain_log (type_field bytes) ≡ None → decided bytes ≡ damage (BadType (type_field bytes))
-decided_by_type bytes len length_is there read =
-    let e : nat_lt (length bytes) (7 + length_field bytes) ≡ false = le-ltb (length bytes) (7 + length_field bytes) (omega arith) in
-    ap (λ b. cond b (damage BadLength) (seen_of_kind bytes (kind_of_code plain_log (type_field bytes)))) e ∙ ap (seen_of_kind bytes) read
+-- and in a log with a number, where the header has the same one
+pub numbered_by_checksum : (n : ℕ) (bytes : List ℕ) (kind : Kind) → not (bytes_eq (take 4 (drop 7 bytes)) (to_le_bytes w32 n)) ≡ false → 11 + length_field bytes ≤ length bytes → type_field bytes ≡ kind_code (Some n) kind
+    → decided (Some n) bytes ≡ by_checksum (Some n) kind bytes
+numbered_by_checksum n bytes kind own there code_is =
+    let e : nat_lt (length bytes) (11 + length_field bytes) ≡ false = le-ltb (length bytes) (11 + length_field bytes) there in
+    ap (seen_of_kind_numbered n bytes) (ap (kind_of_code (Some n)) code_is ∙ own_code (Some n) kind)
+    ∙ (ap (λ b. cond b (damage (OldLog (number_field bytes))) (cond (nat_lt (length bytes) (11 + length_field bytes)) (damage BadLength) (by_checksum (Some n) kind bytes))) own
+    ∙ ap (λ b. cond b (damage BadLength) (by_checksum (Some n) kind bytes)) e)

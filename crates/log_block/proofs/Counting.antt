@@ -1,39 +1,60 @@
 -- How many pieces are behind a place of a record.
-use Rattle.std.proofs.Common.{◌≡◌, ℕ, zero, suc, ◌+◌, ◌-◌, ◌*◌, ◌<◌, ◌≤◌, [], ◌∷◌, length, refl, ◌∙◌, ap, arith}
+use Rattle.std.proofs.Common.{◌≡◌, ℕ, zero, suc, ◌+◌, ◌-◌, ◌*◌, ◌<◌, ◌≤◌, List, [], ◌∷◌, length, Option, Some, None, refl, ◌∙◌, ap, subst, arith}
 use Rattle.std.proofs.lemmas.Grind.{div_ceil_times}
-use Rattle.std.proofs.Math.Dec.{lit<}
 use Rattle.std.specs.Int.{div_ceil}
-use Rattle.log_block.specs.Cutting.{later_piece, later_pieces}
+use Rattle.model_base.specs.Log.{part_len}
+use Rattle.log_block.specs.declared.pieces.Piece.{Piece}
+use Rattle.log_block.specs.Cutting.{first_piece, later_piece, later_pieces, still_to_come}
+use Rattle.log_block.proofs.Formats.{some_part}
+
+-- the pieces of a record of that length, which is written at that place of a block
+abbrev pub all_pieces : Option ℕ → ℕ → ℕ → List Piece
+all_pieces number at len = still_to_come number (Some (first_piece number at len)) len
 
 -- as many pieces as the bytes behind the place need
-pub record IsCount (left n : ℕ) : Type 0 where
-  pub enough : left ≤ n * 32761
-  pub needed : n * 32761 < left + 32761
+pub record IsCount (number : Option ℕ) (left n : ℕ) : Type 0 where
+  pub enough : left ≤ n * part_len number
+  pub needed : n * part_len number < left + part_len number
 
-pub is_count : (left : ℕ) → IsCount left (div_ceil left 32761)
-is_count left = let bounds = div_ceil_times left 32761 (lit< tt) in record { enough = bounds.0; needed = bounds.1 }
+pub is_count : (number : Option ℕ) (left : ℕ) → IsCount number left (div_ceil left (part_len number))
+is_count number left = let bounds = div_ceil_times left (part_len number) (some_part number) in record { enough = bounds.0; needed = bounds.1 }
 
-pub one_count : (left m n : ℕ) → IsCount left m → IsCount left n → m ≡ n
-one_count left m n some other = omega (arith, some.enough, some.needed, other.enough, other.needed)
+pub one_count : (number : Option ℕ) (left m n : ℕ) → IsCount number left m → IsCount number left n → m ≡ n
+one_count None left m n some other = omega (arith, some.enough, some.needed, other.enough, other.needed)
+one_count (Some k) left m n some other = omega (arith, some.enough, some.needed, other.enough, other.needed)
+
+-- each but the last has two bytes and more
+pub few_pieces : (number : Option ℕ) (left n : ℕ) → IsCount number left n → n + n ≤ left + 1
+few_pieces None left n is = omega (arith, is.needed)
+few_pieces (Some k) left n is = omega (arith, is.needed)
+
+-- where bytes are left, so is a piece
+pub one_fewer : (number : Option ℕ) (left n : ℕ) → 0 < left → IsCount number left n → (m : ℕ) × (n ≡ suc m)
+one_fewer number left zero some is = absurd (omega (arith, some, is.enough))
+one_fewer number left (suc m) some is = (m, refl)
 
 -- one fewer behind the next piece
-pub count_behind : (start len n : ℕ) → start ≤ len → IsCount (len - start) (suc n) → IsCount (len - (later_piece start len).end) n
-count_behind start len n within is = record { enough = omega (arith, is.enough, is.needed); needed = omega (arith, is.enough, is.needed) }
+pub count_behind : (number : Option ℕ) (start len n : ℕ) → start ≤ len → IsCount number (len - start) (suc n) → IsCount number (len - (later_piece number start len).end) n
+count_behind number start len n within is = record { enough = omega (arith, is.enough, is.needed); needed = omega (arith, is.enough, is.needed, some_part number) }
 
-pub pieces_behind : (start len : ℕ) → start < len → later_pieces (div_ceil (len - start) 32761) start len ≡ later_piece start len ∷ later_pieces (div_ceil (len - (later_piece start len).end) 32761) (later_piece start len).end len
+pub pieces_behind : (number : Option ℕ) (start len : ℕ) → start < len
+    → later_pieces number (div_ceil (len - start) (part_len number)) start len ≡ still_to_come number (Some (later_piece number start len)) len
 unfolding later_pieces
-pieces_behind start len more =
-    let n : ℕ = div_ceil (len - start) 32761 in
-    let is = is_count (len - start) in
-    let is_suc : n ≡ suc (n - 1) = omega (arith, is.enough) in
-    let behind = count_behind start len (n - 1) (omega arith) (record { enough = omega (arith, is.enough, is_suc); needed = omega (arith, is.needed, is_suc) }) in
-    ap (λ (k : ℕ). later_pieces k start len) is_suc ∙ ap (λ (k : ℕ). later_piece start len ∷ later_pieces k (later_piece start len).end len) (one_count _ _ _ behind (is_count (len - (later_piece start len).end)))
+pieces_behind number start len more =
+    let is = is_count number (len - start) in
+    let fewer = one_fewer number (len - start) (div_ceil (len - start) (part_len number)) (omega arith) is in
+    let end : ℕ = (later_piece number start len).end in
+    let behind = count_behind number start len fewer.0 (omega arith) (subst (IsCount number (len - start)) fewer.1 is) in
+    ap (λ (k : ℕ). later_pieces number k start len) fewer.1
+    ∙ ap (λ (k : ℕ). later_piece number start len ∷ later_pieces number k end len) (one_count number _ _ _ behind (is_count number (len - end)))
 
-pub none_behind : (start len : ℕ) → len ≤ start → later_pieces (div_ceil (len - start) 32761) start len ≡ []
+pub none_behind : (number : Option ℕ) (start len : ℕ) → len ≤ start → later_pieces number (div_ceil (len - start) (part_len number)) start len ≡ []
 unfolding later_pieces
-none_behind start len past = let none : len - start ≡ 0 = omega arith in ap (λ (left : ℕ). later_pieces (div_ceil left 32761) start len) none
+none_behind number start len past =
+    let none : IsCount number (len - start) 0 = record { enough = omega arith; needed = omega (arith, some_part number) } in
+    ap (λ (k : ℕ). later_pieces number k start len) (one_count number _ _ _ (is_count number (len - start)) none)
 
-pub length-later_pieces : (n start len : ℕ) → length (later_pieces n start len) ≡ n
+pub length-later_pieces : (number : Option ℕ) (n start len : ℕ) → length (later_pieces number n start len) ≡ n
 unfolding later_pieces
-length-later_pieces zero start len = refl
-length-later_pieces (suc n) start len = ap (λ (k : ℕ). suc k) (length-later_pieces n (later_piece start len).end len)
+length-later_pieces number zero start len = refl
+length-later_pieces number (suc n) start len = ap (λ (k : ℕ). suc k) (length-later_pieces number n (later_piece number start len).end len)

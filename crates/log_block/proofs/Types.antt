@@ -1,27 +1,38 @@
 -- The types of fragments.
-use Rattle.std.proofs.Common.{◌≡◌, ℕ, zero, suc, ◌≤◌, Some, None, refl, arith}
-use Rattle.std.proofs.lemmas.Bool.{ne_eqb}
+use Rattle.std.proofs.Common.{◌≡◌, ℕ, zero, suc, ◌+◌, ◌-◌, ◌≤◌, Option, Some, None, refl, sym, ◌∙◌, ap, arith}
 use Rattle.model_base.specs.Log.{Kind, full, first, middle, last, kind_code, plain_log}
 use Rattle.model_base.specs.Reading.{kind_of_code}
 
--- the number is a kind's code
-pub record IsCode (code : ℕ) : Type 0 where
-  pub kind : Kind
-  pub read : kind_of_code plain_log code ≡ Some kind
-  pub code_is : code ≡ kind_code plain_log kind
+-- in a log with a number they are four higher
+pub four_higher : (n : ℕ) (kind : Kind) → kind_code (Some n) kind ≡ 4 + kind_code plain_log kind
+four_higher n full = refl
+four_higher n first = refl
+four_higher n middle = refl
+four_higher n last = refl
 
-pub some_kind : (code : ℕ) → 1 ≤ code → code ≤ 4 → IsCode code
-some_kind zero low high = absurd (omega arith)
-some_kind (suc zero) low high = record { kind = full; read = refl; code_is = refl }
-some_kind (suc (suc zero)) low high = record { kind = first; read = refl; code_is = refl }
-some_kind (suc (suc (suc zero))) low high = record { kind = middle; read = refl; code_is = refl }
-some_kind (suc (suc (suc (suc zero)))) low high = record { kind = last; read = refl; code_is = refl }
-some_kind (suc (suc (suc (suc (suc n))))) low high = absurd (omega arith)
+plain_kind : (code : ℕ) → 1 ≤ code → code ≤ 4 → (kind : Kind) × (code ≡ kind_code plain_log kind)
+plain_kind zero low high = absurd (omega arith)
+plain_kind (suc zero) low high = (full, refl)
+plain_kind (suc (suc zero)) low high = (first, refl)
+plain_kind (suc (suc (suc zero))) low high = (middle, refl)
+plain_kind (suc (suc (suc (suc zero)))) low high = (last, refl)
+plain_kind (suc (suc (suc (suc (suc code))))) low high = absurd (omega arith)
 
-pub no_kind : (code : ℕ) → ((1 ≤ code) × (code ≤ 4) → ⊥) → kind_of_code plain_log code ≡ None
-no_kind code other =
-    let e1 = ne_eqb code 1 (λ e. other (omega arith, omega arith)) in
-    let e2 = ne_eqb code 2 (λ e. other (omega arith, omega arith)) in
-    let e3 = ne_eqb code 3 (λ e. other (omega arith, omega arith)) in
-    let e4 = ne_eqb code 4 (λ e. other (omega arith, omega arith)) in
-    rw (e1, e2, e3, e4) refl
+-- each between the first and the last is a kind's
+pub some_kind : (number : Option ℕ) (code : ℕ) → kind_code number full ≤ code → code ≤ kind_code number last → (kind : Kind) × (code ≡ kind_code number kind)
+some_kind None code low high = plain_kind code low high
+some_kind (Some n) code low high =
+    let plain = plain_kind (code - 4) (omega (arith, low)) (omega (arith, high)) in
+    let back : code ≡ 4 + (code - 4) = omega (arith, low) in
+    (plain.0, back ∙ (ap (λ (c : ℕ). 4 + c) plain.1 ∙ sym (four_higher n plain.0)))
+
+-- a kind's type is read as that kind
+pub own_code : (number : Option ℕ) (kind : Kind) → kind_of_code number (kind_code number kind) ≡ Some kind
+own_code None full = refl
+own_code None first = refl
+own_code None middle = refl
+own_code None last = refl
+own_code (Some n) full = refl
+own_code (Some n) first = refl
+own_code (Some n) middle = refl
+own_code (Some n) last = refl

@@ -1,3 +1,4 @@
 pub mod Fragments
+pub mod Headers
 pub mod Pieces
 pub mod Cutting

@@ -1,12 +1,11 @@
 //! What stands at a place of a block.
 
-ghost use Rattle.std.specs.Prelude.{◌≡◌, ◌+◌, ◌≤◌, ◌↔◌, IsTrue, length, drop, Option, Some, None, nat_lt, if◌then◌else◌};
-ghost use Rattle.model_base.specs.Log.{plain_log};
+ghost use Rattle.std.specs.Prelude.{◌≡◌, ◌+◌, ◌≤◌, ◌↔◌, IsTrue, length, drop, Some, None};
+ghost use Rattle.model_base.specs.Log as log;
 ghost use Rattle.model_base.specs.Reading as reading;
-ghost use Rattle.model_base.specs.declared.log.Damage.TheVariants as damages;
-ghost use Rattle.log_block.specs.Fragments.{Tells};
+ghost use Rattle.log_block.specs.Fragments.{Tells, decided, by_checksum};
 
-use crate::headers::{BLOCK_LEN, FULL, HEADER_LEN, LAST, checksum};
+use crate::headers::{BLOCK_LEN, FULL, LAST, checksum, header_len, type_in};
 use byteorder::{ByteOrder, LittleEndian};
 use model_base::Damage;
 
@@ -21,23 +20,26 @@ pub enum Seen {
     Damage(Damage),
 }
 
-/// What stands at the place `at` of a block, of whose bytes the file has these. The first of these holds:
+/// What stands at the place `at` of a block, of whose bytes the file has these, in a log with this number, if it has
+/// one. The first of these holds, with 7 bytes for a header, or 11 in a log with a number:
 ///
-/// - Fewer than 7 bytes are left of the block. What is there of them must be zeros, else it is `BadTrailer`.
+/// - Fewer bytes than a header has are left of the block. What is there of them must be zeros, else it is `BadTrailer`.
 /// - The bytes end there.
-/// - Fewer than 7 bytes are there: `ShortHeader`.
+/// - Fewer bytes than a header has are there: `ShortHeader`.
 /// - The header is zeros: `Zeros`.
-/// - The part would pass the end of the block or of the file: `BadLength`.
-/// - The type is none of 1 to 4: `BadType`.
+/// - In a log without a number, the part would pass the end of the block or of the file: `BadLength`.
+/// - The type is none of 1 to 4, or in a log with a number none of 5 to 8: `BadType`.
+/// - In a log with a number, the header has another one: `OldLog`; and then, as above, `BadLength`.
 /// - The checksum differs: `BadChecksum`.
 /// - A fragment stands there.
-pub fn read_fragment(block: &[u8], at: usize) -> Seen
+pub fn read_fragment(number: Option<u32>, block: &[u8], at: usize) -> Seen
     requires in_block { length block.now ≤ BLOCK_LEN }
     requires in_file { at ≤ length block.now }
-    ensures { Tells block.now at result (reading.seen_in_block plain_log block.now at) }
+    ensures { Tells number block.now at result (reading.seen_in_block number block.now at) }
 {
     let rest = &block[at..];
-    if BLOCK_LEN - at < HEADER_LEN {
+    let header = header_len(number);
+    if BLOCK_LEN - at < header {
         if are_zeros(rest) {
             Seen::End
         } else {
@@ -45,49 +47,95 @@ pub fn read_fragment(block: &[u8], at: usize) -> Seen
         }
     } else if rest.is_empty() {
         Seen::End
-    } else if rest.len() < HEADER_LEN {
+    } else if rest.len() < header {
         Seen::Damage(Damage::ShortHeader)
-    } else if are_zeros(&rest[..HEADER_LEN]) {
+    } else if are_zeros(&rest[..header]) {
         Seen::Damage(Damage::Zeros)
     } else {
-        read_part(block, at)
+        read_part(number, block, at)
     }
 }
 
 /// The fragment behind the header that stands at the place `at`, unless the header is wrong.
-fn read_part(block: &[u8], at: usize) -> Seen
+fn read_part(number: Option<u32>, block: &[u8], at: usize) -> Seen
     requires in_block { length block.now ≤ BLOCK_LEN }
-    requires header { at + HEADER_LEN ≤ length block.now }
-    ensures { let bytes = drop at block.now in Tells block.now at result
-        (if nat_lt (length bytes) (HEADER_LEN + reading.length_field bytes) then reading.damage damages.BadLength
-        else reading.seen_of_kind bytes (reading.kind_of_code plain_log (reading.type_field bytes))) }
+    requires header { at + log.header_len number ≤ length block.now }
+    ensures { Tells number block.now at result (decided number (drop at block.now)) }
 {
-    let bytes = &block[at..];
-    let len = usize::from(LittleEndian::read_u16(&bytes[4..6]));
-    if bytes.len() < HEADER_LEN + len {
-        return Seen::Damage(Damage::BadLength);
-    }
-    let kind = bytes[6];
-    if !is_type(kind) {
-        return Seen::Damage(Damage::BadType(kind));
-    }
-    let part = &bytes[HEADER_LEN..HEADER_LEN + len];
-    if LittleEndian::read_u32(&bytes[..4]) != checksum(kind, part) {
-        return Seen::Damage(Damage::BadChecksum);
-    }
-    let start = at + HEADER_LEN;
-    Seen::Fragment {
-        kind,
-        start,
-        end: start + len,
+    match number {
+        None => read_plain(block, at),
+        Some(number) => read_numbered(number, block, at),
     }
 }
 
-/// Whether it is the type of a fragment.
-fn is_type(kind: u8) -> bool
-    ensures { IsTrue result ↔ (FULL ≤ kind) × (kind ≤ LAST) }
+/// The same in a log without a number.
+fn read_plain(block: &[u8], at: usize) -> Seen
+    requires in_block { length block.now ≤ BLOCK_LEN }
+    requires header { at + 7 ≤ length block.now }
+    ensures { Tells None block.now at result (decided None (drop at block.now)) }
 {
-    (FULL..=LAST).contains(&kind)
+    let bytes = &block[at..];
+    if bytes.len() < part_end(None, bytes) {
+        return Seen::Damage(Damage::BadLength);
+    }
+    if !is_type(None, bytes[6]) {
+        return Seen::Damage(Damage::BadType(bytes[6]));
+    }
+    read_checked(None, block, at)
+}
+
+/// The same in a log with this number.
+fn read_numbered(number: u32, block: &[u8], at: usize) -> Seen
+    requires in_block { length block.now ≤ BLOCK_LEN }
+    requires header { at + 11 ≤ length block.now }
+    ensures { Tells (Some number) block.now at result (decided (Some number) (drop at block.now)) }
+{
+    let bytes = &block[at..];
+    if !is_type(Some(number), bytes[6]) {
+        return Seen::Damage(Damage::BadType(bytes[6]));
+    }
+    let own = &bytes[7..11];
+    if own != number.to_le_bytes().as_slice() {
+        return Seen::Damage(Damage::OldLog(LittleEndian::read_u32(own)));
+    }
+    if bytes.len() < part_end(Some(number), bytes) {
+        return Seen::Damage(Damage::BadLength);
+    }
+    read_checked(Some(number), block, at)
+}
+
+/// The fragment at the place `at`, whose type is right and whose part is there, unless the checksum differs.
+fn read_checked(number: Option<u32>, block: &[u8], at: usize) -> Seen
+    requires in_block { length block.now ≤ BLOCK_LEN }
+    requires there { at + log.header_len number + reading.length_field (drop at block.now) ≤ length block.now }
+    ensures { let bytes = drop at block.now in (kind : log.Kind) → reading.type_field bytes ≡ log.kind_code number kind
+        → Tells number block.now at result (by_checksum number kind bytes) }
+{
+    let bytes = &block[at..];
+    let (header, end) = (header_len(number), part_end(number, bytes));
+    if LittleEndian::read_u32(&bytes[..4]) != checksum(number, bytes[6], &bytes[header..end]) {
+        return Seen::Damage(Damage::BadChecksum);
+    }
+    Seen::Fragment {
+        kind: bytes[6],
+        start: at + header,
+        end: at + end,
+    }
+}
+
+/// Where the part ends of the fragment whose header stands in front of these bytes.
+fn part_end(number: Option<u32>, bytes: &[u8]) -> usize
+    requires { log.header_len number ≤ length bytes.now }
+    ensures { result ≡ log.header_len number + reading.length_field bytes.now }
+{
+    header_len(number) + usize::from(LittleEndian::read_u16(&bytes[4..6]))
+}
+
+/// Whether it is the type of a fragment.
+fn is_type(number: Option<u32>, kind: u8) -> bool
+    ensures { IsTrue result ↔ (log.kind_code number log.full ≤ kind) × (kind ≤ log.kind_code number log.last) }
+{
+    (type_in(number, FULL)..=type_in(number, LAST)).contains(&kind)
 }
 
 /// Whether each byte is 0.

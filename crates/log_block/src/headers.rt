@@ -1,20 +1,16 @@
 //! A fragment's header.
 
-ghost use Rattle.std.specs.Prelude.{◌≡◌, ◌≤◌, ◌∷◌, length, None};
-ghost use Rattle.model_base.specs.Log.{plain_log};
+ghost use Rattle.std.specs.Prelude.{◌≡◌, ◌≤◌, length};
 ghost use Rattle.model_base.specs.Checksum.{crc32c, masked};
 ghost use Rattle.model_base.specs.Log as log;
+ghost use Rattle.model_base.specs.Log.{Kind, kind_code, plain_log};
+ghost use Rattle.log_block.specs.Headers.{summed};
 
 use base_bytes::{crc32c, extend, mask};
+use std::marker::Model;
 
 /// The bytes of a block.
 pub const BLOCK_LEN: usize = 32768;
-
-/// The bytes of a fragment's header.
-pub const HEADER_LEN: usize = 7;
-
-/// The bytes of the longest part, which fills a block with its header.
-pub const MAX_PART_LEN: usize = 32761;
 
 /// The type of a fragment that is a whole record.
 pub const FULL: u8 = 1;
@@ -28,19 +24,106 @@ pub const MIDDLE: u8 = 3;
 /// The type of a record's last fragment of several.
 pub const LAST: u8 = 4;
 
-/// The header of a fragment of this type with this part, which has at most `MAX_PART_LEN` bytes.
-pub fn header(kind: u8, part: &[u8]) -> [u8; 7]
-    requires { length part.now ≤ MAX_PART_LEN }
-    ensures { result ≡ log.header plain_log kind part.now }
+/// By how much these types are higher where a log has a number.
+const NUMBERED: u8 = 4;
+
+/// The bytes of a fragment's header: 7, or 11 where the log has a number.
+pub fn header_len(number: Option<u32>) -> usize
+    ensures { result ≡ log.header_len number }
 {
-    let [c0, c1, c2, c3] = checksum(kind, part).to_le_bytes();
-    let [l0, l1] = (part.len() as u16).to_le_bytes();
-    [c0, c1, c2, c3, l0, l1, kind]
+    match number {
+        None => 7,
+        Some(_) => 11,
+    }
 }
 
-/// The checksum that a fragment's header has.
-pub(crate) fn checksum(kind: u8, part: &[u8]) -> u32
-    ensures { result ≡ masked (crc32c (kind ∷ part.now)) }
+/// The bytes of the longest part, which fills a block with its header.
+pub fn max_part_len(number: Option<u32>) -> usize
+    ensures { result ≡ log.part_len number }
 {
-    mask(extend(crc32c(&[kind]), part))
+    BLOCK_LEN - header_len(number)
+}
+
+/// The type of a fragment, by what it is in a log without a number: from [`FULL`] to [`LAST`].
+pub fn type_in(number: Option<u32>, plain: u8) -> u8
+    requires { plain ≤ LAST }
+    ensures { (kind : Kind) → plain ≡ kind_code plain_log kind → result ≡ kind_code number kind }
+{
+    match number {
+        None => plain,
+        Some(_) => plain + NUMBERED,
+    }
+}
+
+/// What a fragment's type is in a log without a number.
+pub fn plain_type(number: Option<u32>, kind: u8) -> u8
+    ensures { (k : Kind) → kind ≡ kind_code number k → result ≡ kind_code plain_log k }
+{
+    match number {
+        None => kind,
+        Some(_) => kind.wrapping_sub(NUMBERED),
+    }
+}
+
+/// The bytes of a fragment's header. Contracts see them as a list.
+#[derive(Debug, Drop)]
+pub struct HeaderBytes(ByFormat);
+
+/// A header's bytes, by whether the log has a number.
+#[derive(Debug, Drop)]
+enum ByFormat {
+    Plain([u8; 7]),
+    Numbered([u8; 11]),
+}
+
+impl Model for HeaderBytes {
+    ghost use Rattle.std.specs.Prelude.{List, ℕ};
+    ghost use Rattle.log_block.specs.Headers.{bytes_of};
+
+    ghost Value = { List ℕ };
+
+    ghost view = { λ h. bytes_of h.0 };
+}
+
+impl HeaderBytes {
+    /// Its bytes.
+    pub fn as_slice(&self) -> &[u8]
+        ensures { result.now ≡ self.now }
+    {
+        match &self.0 {
+            ByFormat::Plain(bytes) => bytes,
+            ByFormat::Numbered(bytes) => bytes,
+        }
+    }
+}
+
+/// The header of a fragment of this type with this part, which has at most [`max_part_len`] bytes, in a log with this
+/// number, if it has one.
+pub fn header(number: Option<u32>, kind: u8, part: &[u8]) -> HeaderBytes
+    requires { length part.now ≤ log.part_len number }
+    ensures { result ≡ log.header number kind part.now }
+{
+    let [c0, c1, c2, c3] = checksum(number, kind, part).to_le_bytes();
+    let [l0, l1] = (part.len() as u16).to_le_bytes();
+    match number {
+        None => HeaderBytes(ByFormat::Plain([c0, c1, c2, c3, l0, l1, kind])),
+        Some(number) => {
+            let [n0, n1, n2, n3] = number.to_le_bytes();
+            HeaderBytes(ByFormat::Numbered([c0, c1, c2, c3, l0, l1, kind, n0, n1, n2, n3]))
+        }
+    }
+}
+
+/// The checksum that a fragment's header has: of its type, of the log's number, if it has one, and of its part.
+pub(crate) fn checksum(number: Option<u32>, kind: u8, part: &[u8]) -> u32
+    ensures { result ≡ masked (crc32c (summed number kind part.now)) }
+{
+    let front = match number {
+        None => crc32c(&[kind]),
+        Some(number) => {
+            let [n0, n1, n2, n3] = number.to_le_bytes();
+            crc32c(&[kind, n0, n1, n2, n3])
+        }
+    };
+    mask(extend(front, part))
 }

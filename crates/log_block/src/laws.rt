@@ -1,13 +1,12 @@
 //! A law of what is written.
 
-ghost use Rattle.std.specs.Prelude.{◌≡◌, ◌%◌, ℕ, List, None};
-ghost use Rattle.model_base.specs.Log.{plain_log};
+ghost use Rattle.std.specs.Prelude.{◌≡◌, ◌%◌, ℕ, List, Option};
 ghost use Rattle.model_base.specs.Log as log;
 
 use crate::headers::BLOCK_LEN;
 
 /// What is written of a record depends on the log's length by the place in its block alone.
 pub fn text_by_place()
-    ensures { (m n : ℕ) (bytes : List ℕ) → m % BLOCK_LEN ≡ n % BLOCK_LEN
-        → log.record_text plain_log m bytes ≡ log.record_text plain_log n bytes }
+    ensures { (number : Option ℕ) (m n : ℕ) (bytes : List ℕ) → m % BLOCK_LEN ≡ n % BLOCK_LEN
+        → log.record_text number m bytes ≡ log.record_text number n bytes }
 {}

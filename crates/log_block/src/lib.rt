@@ -10,7 +10,15 @@
 //! the type byte and the part. The type is 1 for a fragment that is a whole record (FULL), and 2, 3 and 4 for the
 //! first, a middle and the last of those that a record is cut into (FIRST, MIDDLE, LAST).
 //!
-//! No fragment begins where fewer than 7 bytes are left of a block. Zeros stand there, the block's trailer.
+//! A log may have a number, so that its file can be written again from the start over what another log left there
+//! (RocksDB's recyclable records, `kRecyclableFullType` and so on of its db/log_format.h). Then the types are 5 to 8,
+//! and the header has the number in four more bytes, which the checksum covers too:
+//!
+//!     +--------------+-------------+-----------+-------------+--- ... ---+
+//!     | checksum (4) | length (2)  | type (1)  | number (4)  | part      |
+//!     +--------------+-------------+-----------+-------------+--- ... ---+
+//!
+//! No fragment begins where fewer bytes than a header has are left of a block. Zeros stand there, the block's trailer.
 //!
 //! Records of 1000, 97270 and 8000 bytes make this log. The first is a FULL fragment. The second is cut into a FIRST of
 //! 31754 bytes, which fills the first block, a MIDDLE of 32761, which fills the second, and a LAST of 32755. Six bytes
@@ -23,6 +31,9 @@ mod laws;
 mod pieces;
 
 pub use fragments::{Seen, read_fragment};
-pub use headers::{BLOCK_LEN, FIRST, FULL, HEADER_LEN, LAST, MAX_PART_LEN, MIDDLE, header};
+pub use headers::{
+    BLOCK_LEN, FIRST, FULL, HeaderBytes, LAST, MIDDLE, header, header_len, max_part_len,
+    plain_type, type_in,
+};
 pub use laws::text_by_place;
 pub use pieces::{Fragmenter, Piece};

@@ -1,13 +1,12 @@
 //! How a record is cut into fragments.
 
-ghost use Rattle.std.specs.Prelude.{◌≡◌, ◌-◌, ◌%◌, ◌<◌, ◌^◌, ℕ, List, length, None};
+ghost use Rattle.std.specs.Prelude.{◌≡◌, ◌-◌, ◌%◌, ◌<◌, ◌^◌, ℕ, List, length};
 ghost use Rattle.std.specs.Int.{div_ceil};
-ghost use Rattle.model_base.specs.Log.{plain_log};
 ghost use Rattle.model_base.specs.Log as log;
 ghost use Rattle.log_block.specs.Pieces as pieces;
 ghost use Rattle.log_block.specs.Cutting as cutting;
 
-use crate::headers::{BLOCK_LEN, FIRST, FULL, HEADER_LEN, LAST, MAX_PART_LEN, MIDDLE};
+use crate::headers::{BLOCK_LEN, FIRST, FULL, LAST, MIDDLE, header_len, max_part_len, type_in};
 use std::marker::Model;
 
 /// A fragment of a record that is being written.
@@ -30,6 +29,8 @@ pub struct Piece {
 /// is left of the block, and else a FIRST, any MIDDLE and a LAST, of which each but the last fills its block.
 #[derive(Debug, Drop)]
 pub struct Fragmenter {
+    /// The log's number, if it has one.
+    number: Option<u32>,
     /// The next piece.
     next: Option<Piece>,
     /// The record's bytes.
@@ -43,25 +44,28 @@ impl Model for Fragmenter {
 
     ghost Value = { List Piece };
 
-    ghost view = { λ f. still_to_come f.next f.len };
+    ghost view = { λ f. still_to_come f.number f.next f.len };
 }
 
 impl Fragmenter {
     /// The pieces of a record of `len` bytes that is written where the log ends at the place `block_offset` of a block.
+    /// The log has this number, if it has one.
     ///
-    /// Where exactly seven bytes are left of the block and the record isn't empty, an empty FIRST fragment fills them.
-    pub fn new(block_offset: usize, len: usize) -> Fragmenter
+    /// Where just a header's bytes are left of the block and the record isn't empty, an empty FIRST fragment fills
+    /// them.
+    pub fn new(number: Option<u32>, block_offset: usize, len: usize) -> Fragmenter
         requires { block_offset < BLOCK_LEN }
         ensures pieces { (offset : ℕ) (bytes : List ℕ) → offset % BLOCK_LEN ≡ block_offset → length bytes ≡ len
-            → pieces.ArePieces bytes offset 0 result (log.as_fragments (log.parts_of plain_log offset bytes)) }
+            → pieces.ArePieces number bytes offset 0 result (log.as_fragments (log.parts_of number offset bytes)) }
         ensures text { (offset : ℕ) (bytes : List ℕ) → offset % BLOCK_LEN ≡ block_offset → length bytes ≡ len
-            → pieces.pieces_text bytes result ≡ log.record_text plain_log offset bytes }
+            → pieces.pieces_text number bytes result ≡ log.record_text number offset bytes }
         ensures cut { pieces.CoverRecord len 0 result }
-        ensures laid { pieces.StandInBlocks block_offset result }
+        ensures laid { pieces.StandInBlocks number block_offset result }
         ensures bound { length result < 2 ^ 64 }
     {
         Fragmenter {
-            next: Some(first_piece(block_offset, len)),
+            number,
+            next: Some(first_piece(number, block_offset, len)),
             len,
         }
     }
@@ -78,51 +82,53 @@ impl Iterator for Fragmenter {
 
     fn next(&mut self) -> Option<Piece> {
         let piece = self.next?;
-        self.next = piece_behind(piece.end, self.len);
+        self.next = piece_behind(self.number, piece.end, self.len);
         Some(piece)
     }
 }
 
 /// The first piece of a record of `len` bytes.
-fn first_piece(block_offset: usize, len: usize) -> Piece
+fn first_piece(number: Option<u32>, block_offset: usize, len: usize) -> Piece
     requires { block_offset < BLOCK_LEN }
-    ensures { result ≡ cutting.first_piece block_offset len }
+    ensures { result ≡ cutting.first_piece number block_offset len }
 {
     let left = BLOCK_LEN - block_offset;
-    let (zeros, space) = if left < HEADER_LEN {
-        (left, MAX_PART_LEN)
+    let header = header_len(number);
+    let (zeros, space) = if left < header {
+        (left, max_part_len(number))
     } else {
-        (0, left - HEADER_LEN)
+        (0, left - header)
     };
     let end = len.min(space);
     Piece {
         zeros,
-        kind: if end == len { FULL } else { FIRST },
+        kind: type_in(number, if end == len { FULL } else { FIRST }),
         start: 0,
         end,
     }
 }
 
 /// The piece that begins at this place of a record of `len` bytes, if the record goes on there.
-fn piece_behind(start: usize, len: usize) -> Option<Piece>
-    ensures { cutting.still_to_come result len ≡ cutting.later_pieces (div_ceil (len - start) MAX_PART_LEN) start len }
+fn piece_behind(number: Option<u32>, start: usize, len: usize) -> Option<Piece>
+    ensures { cutting.still_to_come number result len
+        ≡ cutting.later_pieces number (div_ceil (len - start) (log.part_len number)) start len }
 {
     if start < len {
-        Some(later_piece(start, len))
+        Some(later_piece(number, start, len))
     } else {
         None
     }
 }
 
 /// The piece that begins at this place of a record of `len` bytes, and at the start of a block.
-fn later_piece(start: usize, len: usize) -> Piece
+fn later_piece(number: Option<u32>, start: usize, len: usize) -> Piece
     requires { start < len }
-    ensures { result ≡ cutting.later_piece start len }
+    ensures { result ≡ cutting.later_piece number start len }
 {
-    let end = start + MAX_PART_LEN.min(len - start);
+    let end = start + max_part_len(number).min(len - start);
     Piece {
         zeros: 0,
-        kind: if end == len { LAST } else { MIDDLE },
+        kind: type_in(number, if end == len { LAST } else { MIDDLE }),
         start,
         end,
     }

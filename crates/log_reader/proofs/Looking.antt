@@ -1,6 +1,5 @@
 -- What a reader sees in its window.
-use Rattle.std.proofs.Common.{◌≡◌, ℕ, ◌+◌, List, length, take, true, refl, sym, ◌∙◌, ap, subst, arith, length-take}
-use Rattle.model_base.specs.Log.{plain_log}
+use Rattle.std.proofs.Common.{◌≡◌, ℕ, ◌+◌, List, length, take, Option, true, refl, sym, ◌∙◌, ap, subst, arith, length-take}
 use Rattle.base_devices.specs.Disk.{Disk}
 use Rattle.model_base.specs.Reading.{next_seen}
 use Rattle.log_block.specs.declared.fragments.Seen.{Seen}
@@ -9,38 +8,38 @@ use Rattle.log_reader.specs.declared.window.Window.{Window}
 use Rattle.log_reader.specs.Blocks.{IsBlock, Reaches, SeenNext, SeenThere, PartIn}
 use Rattle.log_reader.specs.Windows.{IsSound, IsOn, offset_of, bytes_of}
 
--- what is known of a reader that stood in the one window and stands in the other
-abbrev pub Stands : Window → Window → Disk → Type 0
-Stands old new d = IsOn d.content old → IsOn d.content new × Reaches d.content (offset_of old) (offset_of new)
+-- what is known of a reader of a log of this format that stood in the one window and stands in the other
+abbrev pub Stands : Option ℕ → Window → Window → Disk → Type 0
+Stands number old new d = IsOn d.content old → IsOn d.content new × Reaches number d.content (offset_of old) (offset_of new)
 
 -- reading the block doesn't move it
-pub filled : (d : Disk) (old mid new : Window) → new.start ≡ mid.start → new.at ≡ mid.at → Stands old mid d → (IsOn d.content mid → IsOn d.content new) → Stands old new d
-filled d old mid new start at stands on = λ begins.
+pub filled : (number : Option ℕ) (d : Disk) (old mid new : Window) → new.start ≡ mid.start → new.at ≡ mid.at → Stands number old mid d → (IsOn d.content mid → IsOn d.content new) → Stands number old new d
+filled number d old mid new start at stands on = λ begins.
     let h = stands begins in
     let same : offset_of mid ≡ offset_of new = omega (arith, start, at) in
-    (on h.0, h.1 ∙ ap (next_seen plain_log d.content) same)
+    (on h.0, h.1 ∙ ap (next_seen number d.content) same)
 
 -- what stands in its block is what it sees next, but at the end of a whole one
-pub seen_from : (d : Disk) (old w : Window) (slice : List ℕ) (s : Seen) → slice ≡ w.room.items → w.is_read ≡ true → Stands old w d
-    → ((file : List ℕ) (start offset : ℕ) → IsBlock file start (take w.len slice) → Reaches file offset (start + w.at) → SeenThere file offset start (take w.len slice) w.at s)
-    → IsOn d.content old → SeenThere d.content (offset_of old) w.start (bytes_of w) w.at s
-seen_from d old w slice s same read stands sees begins =
+pub seen_from : (number : Option ℕ) (d : Disk) (old w : Window) (slice : List ℕ) (s : Seen) → slice ≡ w.room.items → w.is_read ≡ true → Stands number old w d
+    → ((file : List ℕ) (start offset : ℕ) → IsBlock file start (take w.len slice) → Reaches number file offset (start + w.at) → SeenThere number file offset start (take w.len slice) w.at s)
+    → IsOn d.content old → SeenThere number d.content (offset_of old) w.start (bytes_of w) w.at s
+seen_from number d old w slice s same read stands sees begins =
     let h = stands begins in
-    subst (λ (l : List ℕ). SeenThere d.content (offset_of old) w.start (take w.len l) w.at s) same
+    subst (λ (l : List ℕ). SeenThere number d.content (offset_of old) w.start (take w.len l) w.at s) same
     (sees d.content w.start (offset_of old) (subst (λ (l : List ℕ). IsBlock d.content w.start (take w.len l)) (sym same) (h.0.block read)) h.1)
 
 -- anything but the end of a block is what it sees next
-pub not_end : (file : List ℕ) (offset start : ℕ) (block : List ℕ) (at : ℕ) (s : Seen) → (s ≡ seen.End → ⊥) → SeenThere file offset start block at s → SeenNext file offset start block at s
-not_end file offset start block at (seen.Fragment code from to) other there = there
-not_end file offset start block at seen.End other there = absurd (other refl)
-not_end file offset start block at (seen.Damage d) other there = there
+pub not_end : (number : Option ℕ) (file : List ℕ) (offset start : ℕ) (block : List ℕ) (at : ℕ) (s : Seen) → (s ≡ seen.End → ⊥) → SeenThere number file offset start block at s → SeenNext number file offset start block at s
+not_end number file offset start block at (seen.Fragment code from to) other there = there
+not_end number file offset start block at seen.End other there = absurd (other refl)
+not_end number file offset start block at (seen.Damage d) other there = there
 
 -- at the end of a whole block it goes on
-pub goes_on : (d : Disk) (old w new : Window) → w.is_read ≡ true → length (bytes_of w) ≡ 32768 → offset_of new ≡ w.start + 32768 → ((file : List ℕ) → IsOn file w → IsOn file new) → Stands old w d
-    → (IsOn d.content old → SeenThere d.content (offset_of old) w.start (bytes_of w) w.at seen.End) → Stands old new d
-goes_on d old w new read full there on stands sees = λ begins. (
+pub goes_on : (number : Option ℕ) (d : Disk) (old w new : Window) → w.is_read ≡ true → length (bytes_of w) ≡ 32768 → offset_of new ≡ w.start + 32768 → ((file : List ℕ) → IsOn file w → IsOn file new) → Stands number old w d
+    → (IsOn d.content old → SeenThere number d.content (offset_of old) w.start (bytes_of w) w.at seen.End) → Stands number old new d
+goes_on number d old w new read full there on stands sees = λ begins. (
   on d.content (stands begins).0,
-  (sees begins).0 full ∙ ap (next_seen plain_log d.content) (sym there),
+  (sees begins).0 full ∙ ap (next_seen number d.content) (sym there),
 )
 
 -- so many bytes are there

@@ -5,9 +5,10 @@ use Rattle.log_reader.specs.declared.reader.Next.TheVariants as next
 use Rattle.log_reader.specs.declared.window.Window.{Window}
 use Rattle.log_reader.specs.Windows.{IsSound, IsOn, offset_of}
 
--- the place up to which records were read, the last of them, the answer with which the reading stopped, and where the
--- reader stands
+-- the log's number, if it has one, the place up to which records were read, the last of them, the answer with which the
+-- reading stopped, and where the reader stands
 pub record Reader : Type 0 where
+  pub number : Option ℕ
   pub place : ℕ
   pub in_hand : List ℕ
   pub stopped : Option Next

@@ -1,7 +1,7 @@
--- One fragment more of a record.
+-- One fragment more of a record. The log is of the format that comes first.
 use Rattle.std.specs.Prelude.{◌≡◌, ℕ, ◌<◌, List, [], ◌∷◌, Option, Some, None}
 use Rattle.model_base.specs.declared.log.EndReason.TheVariants as ends
-use Rattle.model_base.specs.Log.{Kind, full, first, middle, last, Fragment, kinds_of, record_of, next_place, plain_log}
+use Rattle.model_base.specs.Log.{Kind, full, first, middle, last, Fragment, kinds_of, record_of, next_place}
 use Rattle.model_base.specs.Reading.{Stand, end_of, AreBegun}
 use Rattle.log_reader.specs.declared.reader.Next.{Next}
 use Rattle.log_reader.specs.declared.reader.Next.TheVariants as next
@@ -12,25 +12,26 @@ use Rattle.log_reader.specs.declared.reader.Continuation.TheVariants as continua
 use Rattle.log_reader.specs.Records.{Reads, HasFault}
 
 -- where the record begins whose first fragments these are, if there are any
-abbrev pub BeginsAt : Option ℕ → ℕ → List Fragment → Type 0
-BeginsAt None place [] = Unit {0}
-BeginsAt None place (f ∷ fs) = ⊥
-BeginsAt (Some start) place [] = ⊥
-BeginsAt (Some start) place (f ∷ fs) = start ≡ next_place plain_log place
+abbrev pub BeginsAt : Option ℕ → Option ℕ → ℕ → List Fragment → Type 0
+BeginsAt number None place [] = Unit {0}
+BeginsAt number None place (f ∷ fs) = ⊥
+BeginsAt number (Some start) place [] = ⊥
+BeginsAt number (Some start) place (f ∷ fs) = start ≡ next_place number place
 
 -- the first fragments of a record were read from a place on, and the reader stands after them
-pub record Stood (file : List ℕ) (place : ℕ) (begun : Option ℕ) (in_hand : List ℕ) (offset : ℕ) : Type 0 where
+pub record Stood (number : Option ℕ) (file : List ℕ) (place : ℕ) (begun : Option ℕ) (in_hand : List ℕ) (offset : ℕ) :
+    Type 0 where
   pub fragments : List Fragment
   pub are_begun : AreBegun (kinds_of fragments)
-  pub stand : Stand plain_log file place fragments
-  pub begins : BeginsAt begun place fragments
+  pub stand : Stand number file place fragments
+  pub begins : BeginsAt number begun place fragments
   pub bytes_are : in_hand ≡ record_of fragments
-  pub there : offset ≡ end_of plain_log place fragments
+  pub there : offset ≡ end_of number place fragments
 
 -- what one fragment more comes to
-abbrev pub StepIs : List ℕ → ℕ → List ℕ → ℕ → Step → Type 0
-StepIs file place in_hand offset (step.More start) = Stood file place (Some start) in_hand offset
-StepIs file place in_hand offset (step.Done answer) = Reads file place in_hand answer
+abbrev pub StepIs : Option ℕ → List ℕ → ℕ → List ℕ → ℕ → Step → Type 0
+StepIs number file place in_hand offset (step.More start) = Stood number file place (Some start) in_hand offset
+StepIs number file place in_hand offset (step.Done answer) = Reads number file place in_hand answer
 
 -- from the one offset the reader went on to the other, where a record ends, if it has read one
 abbrev pub EndsAt : ℕ → ℕ → Next → Type 0

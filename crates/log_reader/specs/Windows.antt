@@ -1,5 +1,5 @@
 -- The block in which a reader stands.
-use Rattle.std.specs.Prelude.{◌≡◌, ℕ, ◌+◌, ◌%◌, ◌^◌, ◌<◌, ◌≤◌, List, length, take, vec_len, true, false}
+use Rattle.std.specs.Prelude.{◌≡◌, ℕ, ◌+◌, ◌%◌, ◌^◌, ◌<◌, ◌≤◌, List, length, take, vec_len, true, false, Option}
 use Rattle.log_block.specs.declared.fragments.Seen.{Seen}
 use Rattle.log_reader.specs.declared.window.Window.{Window}
 use Rattle.log_reader.specs.Blocks.{IsBlock, SeenNext, PartIn}
@@ -26,9 +26,9 @@ pub record IsOn (file : List ℕ) (w : Window) : Type 0 where
   pub in_file : w.start ≤ length file
   pub block : w.is_read ≡ true → IsBlock file w.start (bytes_of w)
 
--- what the reader sees next from an offset, where it stands
-abbrev pub SeesNext : List ℕ → ℕ → Window → Seen → Type 0
-SeesNext file offset w s = SeenNext file offset w.start (bytes_of w) w.at s
+-- what the reader of a log of this format sees next from an offset, where it stands
+abbrev pub SeesNext : Option ℕ → List ℕ → ℕ → Window → Seen → Type 0
+SeesNext number file offset w s = SeenNext number file offset w.start (bytes_of w) w.at s
 
 -- a fragment's part lies in the block, after the place where the reader stands
 abbrev pub PartLies : Window → Seen → Type 0

@@ -1,7 +1,7 @@
 //! The records of a log, one after another.
 
 ghost use Rattle.std.specs.Prelude.{◌≡◌, ◌+◌, ◌^◌, ◌<◌, ◌≤◌, ℕ, List, [], ◌++◌, slice_range, None, IfOk, IfSome, OnOk};
-ghost use Rattle.model_base.specs.Log.{Kind, kind_code, plain_log};
+ghost use Rattle.model_base.specs.Log.{Kind, kind_code};
 ghost use Rattle.log_reader.specs.Blocks.{IsNext};
 ghost use Rattle.log_reader.specs.Windows.{IsSound, IsOn, offset_of, bytes_of};
 ghost use Rattle.log_reader.specs.Records.{Reads, HasFault, stopped_by};
@@ -12,7 +12,7 @@ ghost use Rattle.log_reader.specs.OnlyReads.{OnlyReads};
 
 use crate::window::Window;
 use base_devices::Disk;
-use log_block::{FIRST, FULL, LAST, MIDDLE, Seen};
+use log_block::{FIRST, FULL, LAST, MIDDLE, Seen, plain_type};
 use model_base::{EndReason, NoMemory};
 use std::alloc::Global;
 use std::marker::Model;
@@ -30,13 +30,14 @@ pub enum Next {
     NoMemory,
 }
 
-/// Reads the records of a log, from the first on. Contracts see up to which place it has read records, the record in
-/// hand, whether it has stopped and with which answer, and where it stands.
+/// Reads the records of a log, from the first on. Contracts see the log's number, if it has one, up to which place it
+/// has read records, the record in hand, whether it has stopped and with which answer, and where it stands.
 ///
 /// The disk is passed to each call and isn't kept: of a disk that is borrowed by a value which owns memory, no contract
 /// could say what it is afterwards.
 #[derive(Debug, Drop)]
 pub struct LogReader {
+    number: Option<u32>,
     window: Window,
     in_hand: Vec<u8>,
     place: u64,
@@ -48,9 +49,16 @@ impl Model for LogReader {
 
     ghost Value = { Reader };
 
-    ghost view = { λ r. record { place = r.place; in_hand = r.in_hand.items; stopped = r.stopped; window = r.window } };
+    ghost view = { λ r. record {
+      number = r.number;
+      place = r.place;
+      in_hand = r.in_hand.items;
+      stopped = r.stopped;
+      window = r.window;
+    } };
 
     ghost invariant = { λ r. IsReader (record {
+      number = r.number;
       place = r.place;
       in_hand = r.in_hand.items;
       stopped = r.stopped;
@@ -59,13 +67,16 @@ impl Model for LogReader {
 }
 
 impl LogReader {
-    /// At the start of a log, of which nothing is read yet. It makes the room for a block.
-    pub fn open(alloc: Global) -> Result<LogReader, NoMemory>
+    /// At the start of a log with this number, if it has one, of which nothing is read yet. It makes the room for a
+    /// block.
+    pub fn open(alloc: Global, number: Option<u32>) -> Result<LogReader, NoMemory>
+        ensures number { IfOk result (λ r. r.number ≡ number) }
         ensures start { IfOk result (λ r. r.place ≡ 0) }
         ensures going { IfOk result (λ r. r.stopped ≡ None) }
         ensures follows { IfOk result (λ r. (file : List ℕ) → Follows file r) }
     {
         Ok(LogReader {
+            number,
             window: Window::new(alloc)?,
             in_hand: Vec::new(alloc),
             place: 0,
@@ -77,7 +88,8 @@ impl LogReader {
     /// `Record` the same answer comes again, and the disk isn't touched. A read that failed is never tried again.
     pub fn next<D: Disk>(&mut self, disk: &mut D) -> Next
         ensures reads { IfSome (D.told disk.old) (λ d. Follows d.content self.old → self.old.stopped ≡ None
-            → Reads d.content self.old.place self.new.in_hand result) }
+            → Reads self.old.number d.content self.old.place self.new.in_hand result) }
+        ensures number { self.new.number ≡ self.old.number }
         ensures place { self.old.stopped ≡ None → PlaceAfter self.old self.new result }
         ensures forward { self.old.stopped ≡ None → GoesForward self.old.place result }
         ensures follows { IfSome (D.told disk.old) (λ d. Follows d.content self.old → Follows d.content self.new) }
@@ -90,7 +102,7 @@ impl LogReader {
         if let Some(answer) = self.stopped {
             return answer;
         }
-        let answer = read_record(&mut self.window, &mut self.in_hand, disk);
+        let answer = read_record(self.number, &mut self.window, &mut self.in_hand, disk);
         match answer {
             Next::Record { end, .. } => self.place = end,
             _ => self.stopped = Some(answer),
@@ -124,11 +136,16 @@ enum Continuation {
 }
 
 /// Reads the record that begins where the window stands.
-fn read_record<D: Disk>(window: &mut Window, in_hand: &mut Vec<u8>, disk: &mut D) -> Next
+fn read_record<D: Disk>(
+    number: Option<u32>,
+    window: &mut Window,
+    in_hand: &mut Vec<u8>,
+    disk: &mut D,
+) -> Next
     requires { IsSound window.old }
     ensures sound { IsSound window.new }
     ensures reads { IfSome (D.told disk.old) (λ d. IsOn d.content window.old
-        → Reads d.content (offset_of window.old) in_hand.new.items result) }
+        → Reads number d.content (offset_of window.old) in_hand.new.items result) }
     ensures on { IfSome (D.told disk.old) (λ d. IsOn d.content window.old → IsOn d.content window.new) }
     ensures end { EndsAt (offset_of window.old) (offset_of window.new) result }
     ensures fault { HasFault (D.faults disk.old) (D.faults disk.new) result }
@@ -138,7 +155,7 @@ fn read_record<D: Disk>(window: &mut Window, in_hand: &mut Vec<u8>, disk: &mut D
     let mut begun = None;
     // The fragments read so far are the beginning of one record, and `in_hand` has their parts joined.
     loop {
-        match read_part(window, in_hand, begun, disk) {
+        match read_part(number, window, in_hand, begun, disk) {
             Step::More(start) => begun = Some(start),
             Step::Done(answer) => return answer,
         }
@@ -147,6 +164,7 @@ fn read_record<D: Disk>(window: &mut Window, in_hand: &mut Vec<u8>, disk: &mut D
 
 /// Reads one fragment more of a record. `begun` says where the record begins, if fragments of it were read.
 fn read_part<D: Disk>(
+    number: Option<u32>,
     window: &mut Window,
     in_hand: &mut Vec<u8>,
     begun: Option<u64>,
@@ -155,16 +173,16 @@ fn read_part<D: Disk>(
     requires { IsSound window.old }
     ensures sound { IsSound window.new }
     ensures step { IfSome (D.told disk.old) (λ d. (place : ℕ) → IsOn d.content window.old
-        → Stood d.content place begun in_hand.old.items (offset_of window.old)
-        → StepIs d.content place in_hand.new.items (offset_of window.new) result) }
+        → Stood number d.content place begun in_hand.old.items (offset_of window.old)
+        → StepIs number d.content place in_hand.new.items (offset_of window.new) result) }
     ensures on { IfSome (D.told disk.old) (λ d. IsOn d.content window.old → IsOn d.content window.new) }
     ensures moves { Moves (offset_of window.old) (offset_of window.new) result }
     ensures fault { HasFaultStep (D.faults disk.old) (D.faults disk.new) result }
     ensures disk { OnlyReads ⟦<D as Disk>⟧ disk.old disk.new }
 {
-    match window.look(disk) {
+    match window.look(number, disk) {
         Ok(Seen::Fragment { kind, start, end }) => take_part(
-            window, in_hand, begun, kind, start, end,
+            number, window, in_hand, begun, kind, start, end,
         ),
         Ok(Seen::End) => Step::Done(end_of_file(begun, window.end())),
         Ok(Seen::Damage(damage)) => Step::Done(Next::End {
@@ -193,6 +211,7 @@ fn end_of_file(begun: Option<u64>, file_len: u64) -> Next
 
 /// Takes the part from `start` to `end` of the block, of a fragment of this type, to the record.
 fn take_part(
+    number: Option<u32>,
     window: &mut Window,
     in_hand: &mut Vec<u8>,
     begun: Option<u64>,
@@ -206,15 +225,15 @@ fn take_part(
     requires in_block { end ≤ window.old.len }
     ensures sound { IsSound window.new }
     ensures step { (file : List ℕ) (place offset : ℕ) → IsOn file window.old
-        → Stood file place begun in_hand.old.items offset
-        → IsNext file offset window.old.start (bytes_of window.old) window.old.at kind start end
-        → StepIs file place in_hand.new.items (offset_of window.new) result }
+        → Stood number file place begun in_hand.old.items offset
+        → IsNext number file offset window.old.start (bytes_of window.old) window.old.at kind start end
+        → StepIs number file place in_hand.new.items (offset_of window.new) result }
     ensures on { (file : List ℕ) → IsOn file window.old → IsOn file window.new }
     ensures moves { Moves (offset_of window.old) (offset_of window.new) result }
     ensures no_fault { (count : ℕ) → HasFaultStep count count result }
 {
     let at = window.offset();
-    match continuation_of(kind, begun, at) {
+    match continuation_of(number, kind, begun, at) {
         Continuation::Misplaced => Step::Done(Next::End {
             at,
             why: EndReason::BadOrder,
@@ -234,10 +253,10 @@ fn take_part(
 }
 
 /// What a fragment of this type at the offset `at` comes to, where the record begins at `begun`, if it has begun.
-fn continuation_of(kind: u8, begun: Option<u64>, at: u64) -> Continuation
-    ensures { (k : Kind) → kind ≡ kind_code plain_log k → result ≡ steps.continuation_of k begun at }
+fn continuation_of(number: Option<u32>, kind: u8, begun: Option<u64>, at: u64) -> Continuation
+    ensures { (k : Kind) → kind ≡ kind_code number k → result ≡ steps.continuation_of k begun at }
 {
-    match (kind, begun) {
+    match (plain_type(number, kind), begun) {
         (FULL, None) => Continuation::Last(at),
         (FIRST, None) => Continuation::More(at),
         (MIDDLE, Some(first)) => Continuation::More(first),

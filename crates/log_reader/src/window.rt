@@ -43,12 +43,13 @@ impl Window {
         })
     }
 
-    /// What the reader sees next. It stands there then. A fault of the disk is answered by its count.
-    pub fn look<D: Disk>(&mut self, disk: &mut D) -> Result<Seen, u64>
+    /// What the reader of a log with this number, if it has one, sees next. It stands there then. A fault of the disk
+    /// is answered by its count.
+    pub fn look<D: Disk>(&mut self, number: Option<u32>, disk: &mut D) -> Result<Seen, u64>
         requires { IsSound self.old }
         ensures sound { IsSound self.new }
         ensures seen { IfSome (D.told disk.old) (λ d. IsOn d.content self.old
-            → IfOk result (SeesNext d.content (offset_of self.old) self.new)) }
+            → IfOk result (SeesNext number d.content (offset_of self.old) self.new)) }
         ensures on { IfSome (D.told disk.old) (λ d. IsOn d.content self.old → IsOn d.content self.new) }
         ensures part { IfOk result (PartLies self.new) }
         ensures forward { offset_of self.old ≤ offset_of self.new }
@@ -59,7 +60,7 @@ impl Window {
         // The blocks before this one have nothing more behind the place where the window stood.
         loop {
             self.fill(disk)?;
-            match see(&self.room[..self.len], self.at) {
+            match see(number, &self.room[..self.len], self.at) {
                 Seen::End => {
                     if self.len < BLOCK_LEN {
                         return Ok(Seen::End);

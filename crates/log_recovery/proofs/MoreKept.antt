@@ -7,11 +7,12 @@ use Rattle.std.proofs.lemmas.Nat.{from_le_bytes-to_le_bytes_4, from_le_bytes-to_
 use Rattle.std.specs.Int.{w32, w64, from_le_bytes}
 use Rattle.std.specs.List.{AllByRecursion}
 use Rattle.model_base.specs.Batch.{Record, count_of, IsBatch}
-use Rattle.model_base.specs.Log.{Fragment, fragments_text, FitFrom, AreOneRecord, kinds_of, record_of, all_fragments, plain_log}
+use Rattle.model_base.specs.Log.{Fragment, fragments_text, FitFrom, AreOneRecord, kinds_of, record_of, all_fragments}
 use Rattle.model_base.specs.Reading.{end_of, Stand}
 use Rattle.model_base.specs.Recovery.{Logged, logged_bytes, last_after, MayFollow, AreInOrder, last_sequence, Keeps}
 use Rattle.log_recovery.specs.Keeping.{MayBeKept}
-use Rattle.log_laws.proofs.Placed.{behind, end_none, end_more, placed_append}
+use Rattle.log_laws.proofs.Placed.{placed_append}
+use Rattle.log_reader.proofs.OneMore.{fit_joined}
 use Rattle.log_recovery.proofs.Standing.{stand_front, stand_back, one_front, one_record}
 
 abbrev pub Whole : List (List Fragment) → Type 0
@@ -29,13 +30,9 @@ in_order_more : (last : ℕ) (bs : List Logged) (b : Logged) → AreInOrder last
 in_order_more last [] b ordered may = (may, tt)
 in_order_more last (c ∷ cs) b ordered may = (ordered.0, in_order_more (last_after last c) cs b ordered.1 may)
 
-fit_joined : (number : Option ℕ) (offset : ℕ) (xs ys : List Fragment) → FitFrom number offset xs → FitFrom number (end_of number offset xs) ys → FitFrom number offset (xs ++ ys)
-fit_joined number offset [] ys fit_x fit_y = subst (λ n. FitFrom number n ys) (end_none number offset) fit_y
-fit_joined number offset (x ∷ xs) ys fit_x fit_y = (fit_x.0, fit_joined number (behind number offset x) xs ys fit_x.1 (subst (λ n. FitFrom number n ys) (end_more number offset x xs) fit_y))
-
 -- Nothing is kept at first.
-pub keeps_none : (file : List ℕ) → Keeps plain_log file 0 []
-keeps_none file = record { within = omega arith; spelled = record { groups = []; whole = tt; same = refl; fit = tt; spelled = refl }; are_batches = tt; in_order = tt }
+pub keeps_none : (number : Option ℕ) (file : List ℕ) → Keeps number file 0 []
+keeps_none number file = record { within = omega arith; spelled = record { groups = []; whole = tt; same = refl; fit = tt; spelled = refl }; are_batches = tt; in_order = tt }
 
 -- the fragments in front of the offset up to which records are kept
 module _ (number : Option ℕ) (file : List ℕ) (kept : ℕ) (bs : List Logged) (keeps : Keeps number file kept bs) where

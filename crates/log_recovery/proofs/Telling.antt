@@ -1,6 +1,5 @@
 -- What the steps of recovery come to where the disk tells its content.
 use Rattle.std.proofs.Common.{◌≡◌, ℕ, List, Option, Some, None, MatchOption, IfSome, sym, subst}
-use Rattle.model_base.specs.Log.{plain_log}
 use Rattle.base_devices.specs.Disk.{Disk}
 use Rattle.model_base.specs.declared.log.EndReason.{EndReason}
 use Rattle.model_base.specs.Reading.{ReadingEnds}
@@ -22,13 +21,16 @@ pub if_all : (told : Option Disk) (P : Disk → Type 0) → ((d : Disk) → P d)
 if_all None P f = tt
 if_all (Some d) P f = f d
 
--- the reader's answer is so
-pub reads : (before told : Option Disk) (log : Reader) (in_hand : List ℕ) (answer : Next) → before ≡ told → log.stopped ≡ None → IfSome told (λ d. Follows d.content log)
-    → IfSome before (λ d. Follows d.content log → log.stopped ≡ None → Reads d.content log.place in_hand answer) → IfSome told (λ d. Reads d.content log.place in_hand answer)
-reads before told log in_hand answer same going follows says =
-    let now : IfSome told (λ d. Follows d.content log → log.stopped ≡ None → Reads d.content log.place in_hand answer) =
-    subst (λ (t : Option Disk). IfSome t (λ d. Follows d.content log → log.stopped ≡ None → Reads d.content log.place in_hand answer)) same says in
-    if_both told (λ d. Follows d.content log) (λ d. Follows d.content log → log.stopped ≡ None → Reads d.content log.place in_hand answer) (λ d. Reads d.content log.place in_hand answer) follows now (λ d f s. s f going)
+-- the reader's answer is so, of a log of its format
+pub reads : (number : Option ℕ) (before told : Option Disk) (log : Reader) (in_hand : List ℕ) (answer : Next) → log.number ≡ number → before ≡ told → log.stopped ≡ None → IfSome told (λ d. Follows d.content log)
+    → IfSome before (λ d. Follows d.content log → log.stopped ≡ None → Reads log.number d.content log.place in_hand answer) → IfSome told (λ d. Reads number d.content log.place in_hand answer)
+reads number before told log in_hand answer format same going follows says =
+    let own : IfSome told (Said log.number) = subst (λ (t : Option Disk). IfSome t (Said log.number)) same says in
+    let now : IfSome told (Said number) = subst (λ (n : Option ℕ). IfSome told (Said n)) format own in
+    if_both told (λ d. Follows d.content log) (Said number) (λ d. Reads number d.content log.place in_hand answer) follows now (λ d f s. s f going)
+  where
+    Said : Option ℕ → Disk → Type 0
+    Said n d = Follows d.content log → log.stopped ≡ None → Reads n d.content log.place in_hand answer
 
 -- and it follows the file
 pub follows_on : (before told : Option Disk) (log new : Reader) → before ≡ told → IfSome told (λ d. Follows d.content log) → IfSome before (λ d. Follows d.content log → Follows d.content new) → IfSome told (λ d. Follows d.content new)
@@ -49,27 +51,27 @@ kept_refuses old new bytes end None why m e = absurd (cc)
 kept_refuses old new bytes end (Some w) why m e = let same : w ≡ why = cc in (m.0, subst (Refuses old.last bytes) same m.1)
 
 -- one record more is kept
-pub front_more : (told : Option Disk) (old new : Kept) (place start end : ℕ) (in_hand bytes : List ℕ) → old.end ≡ place → bytes ≡ in_hand → Adds old new bytes end
-    → IfSome told (λ d. KeepsFront d.content old) → IfSome told (λ d. Reads d.content place in_hand (next.Record start end)) → IfSome told (λ d. KeepsFront d.content new)
-front_more told old new place start end in_hand bytes there bytes_are adds front says =
-    if_both told (λ d. KeepsFront d.content old) (λ d. Reads d.content place in_hand (next.Record start end)) (λ d. KeepsFront d.content new) front says
-    (λ d f r. keeps_read d.content old new place start end in_hand bytes there bytes_are f r adds)
+pub front_more : (number : Option ℕ) (told : Option Disk) (old new : Kept) (place start end : ℕ) (in_hand bytes : List ℕ) → old.end ≡ place → bytes ≡ in_hand → Adds old new bytes end
+    → IfSome told (λ d. KeepsFront number d.content old) → IfSome told (λ d. Reads number d.content place in_hand (next.Record start end)) → IfSome told (λ d. KeepsFront number d.content new)
+front_more number told old new place start end in_hand bytes there bytes_are adds front says =
+    if_both told (λ d. KeepsFront number d.content old) (λ d. Reads number d.content place in_hand (next.Record start end)) (λ d. KeepsFront number d.content new) front says
+    (λ d f r. keeps_read number d.content old new place start end in_hand bytes there bytes_are f r adds)
 
 -- what is shown of what is kept, with this end
 abbrev pub answer : Kept → ℕ → EndReason → Recovered
 answer kept at why = record { groups = kept.groups; map = kept.map; last = kept.last; kept = kept.end; end = record { at = at; why = why } }
 
 -- a record that isn't kept ends recovery
-pub refused : (told : Option Disk) (old new : Kept) (place start end : ℕ) (in_hand bytes : List ℕ) (why : EndReason) → old.end ≡ place → bytes ≡ in_hand → (new ≡ old) × Refuses old.last bytes why
-    → IfSome told (λ d. KeepsFront d.content old) → IfSome told (λ d. Reads d.content place in_hand (next.Record start end)) → IfSome told (λ d. HasRecovered d.content (answer new start why))
-refused told old new place start end in_hand bytes why there bytes_are refuses front says =
-    subst (λ (k : Kept). IfSome told (λ d. HasRecovered d.content (answer k start why))) (sym refuses.0)
-    (if_both told (λ d. KeepsFront d.content old) (λ d. Reads d.content place in_hand (next.Record start end)) (λ d. HasRecovered d.content (answer old start why)) front says
-    (λ d f r. refuses_read d.content old place start end in_hand bytes why there bytes_are f r refuses.1))
+pub refused : (number : Option ℕ) (told : Option Disk) (old new : Kept) (place start end : ℕ) (in_hand bytes : List ℕ) (why : EndReason) → old.end ≡ place → bytes ≡ in_hand → (new ≡ old) × Refuses old.last bytes why
+    → IfSome told (λ d. KeepsFront number d.content old) → IfSome told (λ d. Reads number d.content place in_hand (next.Record start end)) → IfSome told (λ d. HasRecovered number d.content (answer new start why))
+refused number told old new place start end in_hand bytes why there bytes_are refuses front says =
+    subst (λ (k : Kept). IfSome told (λ d. HasRecovered number d.content (answer k start why))) (sym refuses.0)
+    (if_both told (λ d. KeepsFront number d.content old) (λ d. Reads number d.content place in_hand (next.Record start end)) (λ d. HasRecovered number d.content (answer old start why)) front says
+    (λ d f r. refuses_read number d.content old place start end in_hand bytes why there bytes_are f r refuses.1))
 
 -- so does what doesn't read
-pub ended : (told : Option Disk) (kept : Kept) (place at : ℕ) (in_hand : List ℕ) (why : EndReason) → kept.end ≡ place
-    → IfSome told (λ d. KeepsFront d.content kept) → IfSome told (λ d. Reads d.content place in_hand (next.End at why)) → IfSome told (λ d. HasRecovered d.content (answer kept at why))
-ended told kept place at in_hand why there front says =
-    if_both told (λ d. KeepsFront d.content kept) (λ d. Reads d.content place in_hand (next.End at why)) (λ d. HasRecovered d.content (answer kept at why)) front says
-    (λ d f r. ends_reading d.content kept (record { at = at; why = why }) f (subst (λ n. ReadingEnds plain_log d.content n at why) (sym there) r))
+pub ended : (number : Option ℕ) (told : Option Disk) (kept : Kept) (place at : ℕ) (in_hand : List ℕ) (why : EndReason) → kept.end ≡ place
+    → IfSome told (λ d. KeepsFront number d.content kept) → IfSome told (λ d. Reads number d.content place in_hand (next.End at why)) → IfSome told (λ d. HasRecovered number d.content (answer kept at why))
+ended number told kept place at in_hand why there front says =
+    if_both told (λ d. KeepsFront number d.content kept) (λ d. Reads number d.content place in_hand (next.End at why)) (λ d. HasRecovered number d.content (answer kept at why)) front says
+    (λ d f r. ends_reading number d.content kept (record { at = at; why = why }) f (subst (λ n. ReadingEnds number d.content n at why) (sym there) r))

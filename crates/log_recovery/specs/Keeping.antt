@@ -1,6 +1,5 @@
 -- What keeping a record of a log comes to.
-use Rattle.std.specs.Prelude.{◌≡◌, ◌≢◌, ℕ, ◌+◌, ◌-◌, ◌<◌, ◌≤◌, List, [], ◌∷◌, ◌++◌, length, map, fold}
-use Rattle.model_base.specs.Log.{plain_log}
+use Rattle.std.specs.Prelude.{◌≡◌, ◌≢◌, ℕ, ◌+◌, ◌-◌, ◌<◌, ◌≤◌, List, [], ◌∷◌, ◌++◌, length, map, fold, Option}
 use Rattle.model_base.specs.declared.log.EndReason.{EndReason}
 use Rattle.model_base.specs.declared.log.EndReason.TheVariants as ends
 use Rattle.model_base.specs.Batch.{count_of, IsBatch}
@@ -20,11 +19,11 @@ pub record Shows (kept : Kept) (batches : List Logged) : Type 0 where
   pub map_is : kept.map ≡ fold (λ m b. after_records m b.records) [] batches
   pub last : kept.last ≡ last_sequence 0 batches
 
--- the file's records up to an offset are kept
-pub record KeepsFront (file : List ℕ) (kept : Kept) : Type 0 where
+-- the records up to an offset are kept of the file, which is a log of this format
+pub record KeepsFront (number : Option ℕ) (file : List ℕ) (kept : Kept) : Type 0 where
   pub batches : List Logged
   pub shows : Shows kept batches
-  pub keeps : Keeps plain_log file kept.end batches
+  pub keeps : Keeps number file kept.end batches
 
 -- the batch with these bytes may follow the last sequence
 pub record MayBeKept (last : ℕ) (bytes : List ℕ) : Type 0 where

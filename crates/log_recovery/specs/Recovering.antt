@@ -1,6 +1,5 @@
 -- What recovering a log comes to.
-use Rattle.std.specs.Prelude.{◌≡◌, ℕ, ◌≤◌, List, map}
-use Rattle.model_base.specs.Log.{plain_log}
+use Rattle.std.specs.Prelude.{◌≡◌, ℕ, ◌≤◌, List, map, Option}
 use Rattle.base_devices.specs.Faults.{Rose}
 use Rattle.model_base.specs.Recovery as recovery
 use Rattle.log_recovery.specs.declared.recovery.Recovered.{Recovered}
@@ -18,10 +17,10 @@ pub record ShowsRecovered (shown : Recovered) (r : recovery.Recovered) : Type 0 
   pub at : shown.end.at ≡ r.at
   pub why : shown.end.why ≡ r.why
 
--- the file recovers just that
-pub record HasRecovered (file : List ℕ) (shown : Recovered) : Type 0 where
+-- the file, a log of this format, recovers just that
+pub record HasRecovered (number : Option ℕ) (file : List ℕ) (shown : Recovered) : Type 0 where
   pub recovered : recovery.Recovered
-  pub is : recovery.IsRecovered plain_log file recovered
+  pub is : recovery.IsRecovered number file recovered
   pub shows : ShowsRecovered shown recovered
 
 -- why a log was not recovered: the disk's count rose in the call, or there was no memory and no fault

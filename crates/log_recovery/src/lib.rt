@@ -3,6 +3,9 @@
 //!
 //! Any bytes recover something. What follows damage is not looked at: a log is a history, and what stands after a gap
 //! would be another one.
+//!
+//! A log may have a number, and is recovered with it. It ends where a fragment stands that another log left in the
+//! file.
 #![tactic(auto)]
 
 mod kept;

@@ -47,20 +47,25 @@ impl From<NoMemory> for RecoverError {
     }
 }
 
-/// Recovers the log that a disk holds. Any bytes give an answer, and the disk keeps them.
+/// Recovers the log that a disk holds, and which has this number, if it has one. Any bytes give an answer, and the disk
+/// keeps them.
 ///
 /// It reads from the start on and never asks the disk for its length, so that a disk on which nothing can be read is a
 /// fault and not an empty log. No read that failed is tried again.
 ///
 /// It is `Fault` where a read failed, and `NoMemory` where there was no memory for a block, a record, a note, a key or
 /// a value.
-pub fn recover<D: Disk>(alloc: Global, disk: &mut D) -> Result<Recovered, RecoverError>
-    ensures recovered { IfSome (D.told disk.old) (λ d. IfOk result (HasRecovered d.content)) }
+pub fn recover<D: Disk>(
+    alloc: Global,
+    disk: &mut D,
+    number: Option<u32>,
+) -> Result<Recovered, RecoverError>
+    ensures recovered { IfSome (D.told disk.old) (λ d. IfOk result (HasRecovered number d.content)) }
     ensures worked { OnOk result (D.faults disk.new ≡ D.faults disk.old) }
     ensures error { IfErr result (IsRecoverError (D.faults disk.old) (D.faults disk.new)) }
     ensures disk { OnlyReads ⟦<D as Disk>⟧ disk.old disk.new }
 {
-    let mut log = LogReader::open(alloc)?;
+    let mut log = LogReader::open(alloc, number)?;
     let mut kept = Kept::new(alloc);
     // All records before the reader's place are kept, and their runs rise.
     loop {

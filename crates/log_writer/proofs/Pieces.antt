@@ -21,19 +21,19 @@ put_of rest p = let part = take (p.end - p.start) rest in replicate p.zeros 0 ++
 -- Some of the record is put, and these pieces are still to come.
 pub record IsSoFar {D : Type 0} (ghosts : Ghosts D) (bytes : List ℕ) (offset : ℕ) (start now : D) (rest : List ℕ) (pieces : List Piece) (end : ℕ) : Type 0 where
   pub done : List ℕ
-  pub text : done ++ pieces_text bytes pieces ≡ log.record_text plain_log offset bytes
+  pub text : done ++ pieces_text plain_log bytes pieces ≡ log.record_text plain_log offset bytes
   pub put : Puts {T = Unit {0}} {E = Failed} ghosts start now done false (Ok tt)
   pub end_is : end ≡ offset + length done
   pub from : ℕ
   pub rest_is : rest ≡ drop from bytes
   pub cut : CoverRecord (length bytes) from pieces
   pub at : ℕ
-  pub laid : StandInBlocks at pieces
+  pub laid : StandInBlocks plain_log at pieces
 
 -- None of it is put yet.
 pub starts_so : {D : Type 0} (ghosts : Ghosts D) (bytes : List ℕ) (offset at : ℕ) (start : D) (pieces : List Piece)
     → ((image : List ℕ) → ghosts.from start ≤ ghosts.moment start → ghosts.since start (ghosts.moment start) image → IfSome (ghosts.told start) (λ d. IsImage d image))
-    → pieces_text bytes pieces ≡ log.record_text plain_log offset bytes → CoverRecord (length bytes) 0 pieces → StandInBlocks at pieces → IsSoFar ghosts bytes offset start start bytes pieces offset
+    → pieces_text plain_log bytes pieces ≡ log.record_text plain_log offset bytes → CoverRecord (length bytes) 0 pieces → StandInBlocks plain_log at pieces → IsSoFar ghosts bytes offset start start bytes pieces offset
 starts_so ghosts bytes offset at start pieces only text cut laid = record {
   done = [];
   text = text;
@@ -66,7 +66,7 @@ module _ {D : Type 0} (ghosts : Ghosts D) (bytes : List ℕ) (offset : ℕ) (sta
 
   pub may_be_put : MayBePut rest p
   may_be_put =
-      let stands : StandsInBlock so_far.at p = (so_far.laid).0 in
+      let stands : StandsInBlock plain_log so_far.at p = (so_far.laid).0 in
       record {
         zeros = omega (arith, stands.zeros, few_zeros so_far.at);
         ordered = stands.ordered;
@@ -75,7 +75,7 @@ module _ {D : Type 0} (ghosts : Ghosts D) (bytes : List ℕ) (offset : ℕ) (sta
       }
 
   -- it is the record's
-  same_text : put_of rest p ≡ piece_text bytes p
+  same_text : put_of rest p ≡ piece_text plain_log bytes p
   same_text = ap (λ (l : List ℕ). put_of l p) (so_far.rest_is ∙ ap (λ (n : ℕ). drop n bytes) (sym from_is))
 
   pub put_len : length (put_of rest p) ≡ p.zeros + (7 + (p.end - p.start))
@@ -84,8 +84,8 @@ module _ {D : Type 0} (ghosts : Ghosts D) (bytes : List ℕ) (offset : ℕ) (sta
       let may = may_be_put in
       omega (arith, length-append (replicate p.zeros 0) (log.header plain_log p.kind part ++ part), length-append (log.header plain_log p.kind part) part, length-replicate {A = ℕ} p.zeros 0, length-take (p.end - p.start) rest, may.there)
 
-  text_more : (so_far.done ++ put_of rest p) ++ pieces_text bytes ps ≡ log.record_text plain_log offset bytes
-  text_more = append_assoc so_far.done (put_of rest p) (pieces_text bytes ps) ∙ (ap (λ (l : List ℕ). so_far.done ++ (l ++ pieces_text bytes ps)) same_text ∙ so_far.text)
+  text_more : (so_far.done ++ put_of rest p) ++ pieces_text plain_log bytes ps ≡ log.record_text plain_log offset bytes
+  text_more = append_assoc so_far.done (put_of rest p) (pieces_text plain_log bytes ps) ∙ (ap (λ (l : List ℕ). so_far.done ++ (l ++ pieces_text plain_log bytes ps)) same_text ∙ so_far.text)
 
   pub puts_next : {T : Type 0} (then : D) (t : T) → IfSome (ghosts.told start) IsDisk → Puts {E = Failed} ghosts now then (put_of rest p) false (Ok t) → Puts {T = Unit {0}} {E = Failed} ghosts start then (so_far.done ++ put_of rest p) false (Ok tt)
   puts_next then t is more = puts_same (puts_more ghosts start now then so_far.done (put_of rest p) false tt (Ok t) is so_far.put more)
@@ -104,7 +104,7 @@ module _ {D : Type 0} (ghosts : Ghosts D) (bytes : List ℕ) (offset : ℕ) (sta
     from = p.end;
     rest_is = rest_is ∙ (ap (drop (p.end - p.start)) so_far.rest_is ∙ (drop-drop (p.end - p.start) so_far.from bytes ∙ ap (λ (n : ℕ). drop n bytes) (omega (arith, from_is, (so_far.cut).1))));
     cut = (so_far.cut).3;
-    at = end_in_block so_far.at p % 32768;
+    at = end_in_block plain_log so_far.at p % 32768;
     laid = (so_far.laid).2;
   }
 
@@ -113,7 +113,7 @@ module _ {D : Type 0} (ghosts : Ghosts D) (bytes : List ℕ) (offset : ℕ) (sta
       → Puts ghosts start then (log.record_text plain_log offset bytes) false r
   breaks_off {T = T} then e r is failed more =
       subst (λ (l : List ℕ). Puts ghosts start then l false r) text_more
-      (puts_cut ghosts start then (so_far.done ++ put_of rest p) (pieces_text bytes ps) false e r failed (puts_more {T = T} ghosts start now then so_far.done (put_of rest p) false tt (Err e) is so_far.put more))
+      (puts_cut ghosts start then (so_far.done ++ put_of rest p) (pieces_text plain_log bytes ps) false e r failed (puts_more {T = T} ghosts start now then so_far.done (put_of rest p) false tt (Err e) is so_far.put more))
 
 -- so may the first of those that are to come
 pub may_put_next : {D : Type 0} (ghosts : Ghosts D) (bytes : List ℕ) (offset : ℕ) (start now : D) (rest : List ℕ) (end : ℕ) (pieces : List Piece) (p : Piece) (ps : List Piece)

@@ -9,7 +9,10 @@ ghost use Rattle.log_writer.specs.Puts.{Puts};
 use crate::group_bytes::{GroupBytes, bodies_len, count_of, group_header, set_at};
 use base_devices::{Disk, Failed};
 use log_batch::Batch;
-use log_block::{BLOCK_LEN, Fragmenter, HEADER_LEN, MAX_PART_LEN, Piece, header};
+use log_block::{BLOCK_LEN, Fragmenter, Piece, header, header_len};
+
+/// The number of the log: it has none.
+const PLAIN: Option<u32> = None;
 
 /// Appends bytes.
 pub(crate) fn append<D: Disk>(disk: &mut D, bytes: &[u8]) -> Result<(), Failed>
@@ -40,16 +43,17 @@ pub(crate) fn sync_if<D: Disk>(disk: &mut D, sync: bool) -> Result<(), Failed>
 /// The checksum is taken of the part where it stands then, since these bytes have just come into the processor's cache.
 fn fill(block: &mut [u8], rest: &mut GroupBytes<'_>, kind: u8, len: usize)
     requires room { length block.old ≡ BLOCK_LEN }
-    requires fits { len ≤ MAX_PART_LEN }
+    requires fits { len ≤ log.part_len plain_log }
     requires there { len ≤ length rest.old }
     ensures filled { let part = take len rest.old in
-        take (HEADER_LEN + len) block.new ≡ log.header plain_log kind part ++ part }
+        take (log.header_len plain_log + len) block.new ≡ log.header plain_log kind part ++ part }
     ensures rest { rest.new ≡ drop len rest.old }
 {
-    let end = HEADER_LEN + len;
-    rest.move_to(&mut block[HEADER_LEN..end]);
-    let header = header(kind, &block[HEADER_LEN..end]);
-    set_at(block, 0, &header);
+    let start = header_len(PLAIN);
+    let end = start + len;
+    rest.move_to(&mut block[start..end]);
+    let header = header(PLAIN, kind, &block[start..end]);
+    set_at(block, 0, header.as_slice());
 }
 
 /// Writes a piece of a record: the zeros before it, if there are any, and its fragment.
@@ -62,7 +66,7 @@ fn put_piece<D: Disk>(
     requires room { length block.old ≡ BLOCK_LEN }
     requires zeros { piece.zeros ≤ 6 }
     requires ordered { piece.start ≤ piece.end }
-    requires fits { piece.end - piece.start ≤ MAX_PART_LEN }
+    requires fits { piece.end - piece.start ≤ log.part_len plain_log }
     requires there { piece.end - piece.start ≤ length rest.old }
     ensures put { let part = take (piece.end - piece.start) rest.old in
         let text = replicate piece.zeros 0 ++ (log.header plain_log piece.kind part ++ part) in
@@ -72,17 +76,17 @@ fn put_piece<D: Disk>(
     append_zeros(disk, piece.zeros)?;
     let len = piece.end - piece.start;
     fill(block, rest, piece.kind, len);
-    append(disk, &block[..HEADER_LEN + len])
+    append(disk, &block[..header_len(PLAIN) + len])
 }
 
 /// How many bytes a piece makes.
 fn piece_len(piece: Piece) -> u64
     requires zeros { piece.zeros ≤ 6 }
     requires ordered { piece.start ≤ piece.end }
-    requires fits { piece.end - piece.start ≤ MAX_PART_LEN }
-    ensures { result ≡ piece.zeros + (HEADER_LEN + (piece.end - piece.start)) }
+    requires fits { piece.end - piece.start ≤ log.part_len plain_log }
+    ensures { result ≡ piece.zeros + (log.header_len plain_log + (piece.end - piece.start)) }
 {
-    (piece.zeros + HEADER_LEN + (piece.end - piece.start)) as u64
+    (piece.zeros + header_len(PLAIN) + (piece.end - piece.start)) as u64
 }
 
 /// Writes a record of so many bytes where the log ends, at this offset, and answers where it ends then.
@@ -101,7 +105,7 @@ fn put_record<D: Disk>(
 {
     let mut end = offset;
     // The pieces so far are written, and `end` is where the log ends after them.
-    for piece in Fragmenter::new((offset % BLOCK_LEN as u64) as usize, len) {
+    for piece in Fragmenter::new(PLAIN, (offset % BLOCK_LEN as u64) as usize, len) {
         put_piece(disk, block, rest, piece)?;
         end += piece_len(piece);
     }

@@ -1,5 +1,5 @@
 -- Logs that are recovered whole: nothing greater can be kept.
-use Rattle.std.proofs.Common.{[], ◌∷◌, refl}
+use Rattle.std.proofs.Common.{[], ◌∷◌, Some, refl}
 use Rattle.std.proofs.Math.Dec.{lit≤, lit<}
 use Rattle.model_base.specs.Varint.{varint_within}
 use Rattle.model_base.specs.Batch.{IsReadable, batch}
@@ -7,6 +7,7 @@ use Rattle.model_base.specs.Log.{full, plain_log}
 use Rattle.model_base.specs.Reading.{seen_within, clean}
 use Rattle.model_base.specs.Recovery.{IsRecovered, reading}
 use Rattle.model_rows.specs.Examples.{put_a1, put_b2}
+use Rattle.model_rows.specs.NumberedLogs.{older_log, older_recovered}
 use Rattle.model_rows.specs.TwoBatches.{log_of_two, both_recovered, none_recovered}
 
 readable_a : IsReadable put_a1
@@ -18,6 +19,28 @@ readable_b = record { tag = refl; lengths = (lit< tt, (lit< tt, tt)) }
 pub both : IsRecovered plain_log log_of_two both_recovered
 unfolding varint_within seen_within
 both = record {
+  keeps = record {
+    within = lit≤ tt;
+    spelled = record {
+      groups = (record { kind = full; part = batch 1 (put_a1 ∷ []) } ∷ []) ∷ (record { kind = full; part = batch 2 (put_b2 ∷ []) } ∷ []) ∷ [];
+      whole = (refl, (refl, tt));
+      same = refl;
+      fit = (lit≤ tt, (lit≤ tt, tt));
+      spelled = refl;
+    };
+    are_batches = (
+      record { spelled = refl; readable = (readable_a, tt); sequence_fits = lit< tt; count_fits = lit< tt },
+      (record { spelled = refl; readable = (readable_b, tt); sequence_fits = lit< tt; count_fits = lit< tt }, tt),
+    );
+    in_order = ((λ some. (lit< tt, lit≤ tt)), ((λ some. (lit< tt, lit≤ tt)), tt));
+  };
+  most = λ kept batches keeps. keeps.within;
+  ends = reading (clean (record { begun = tt; stand = record { rest = []; there = refl; fit = tt }; is_next = refl }));
+}
+
+pub both_by_number : IsRecovered (Some 7) older_log older_recovered
+unfolding varint_within seen_within
+both_by_number = record {
   keeps = record {
     within = lit≤ tt;
     spelled = record {

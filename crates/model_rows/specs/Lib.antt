@@ -1,3 +1,4 @@
 pub mod Examples
 pub mod Runs
 pub mod TwoBatches
+pub mod NumberedLogs

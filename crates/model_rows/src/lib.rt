@@ -8,6 +8,7 @@ mod generators;
 mod grouping;
 mod histories;
 mod logs;
+mod numbered_logs;
 mod outcomes;
 mod recoveries;
 mod scripts;
@@ -19,6 +20,7 @@ pub use generators::{first_batch, first_draws, summary};
 pub use grouping::{group_of_one, groups_by_options, groups_by_size};
 pub use histories::{flags_of_commits, logs_of_histories, maps_of_batches};
 pub use logs::{end_of_block, log_of_one_batch, long_records, record_of_no_bytes};
+pub use numbered_logs::{log_over_an_older_one, numbered_log_of_one_batch, numbered_log_recovered};
 pub use outcomes::{
     failed_write, lower_than_full, one_commit, read_ahead, refused_by_a_later_stop, refused_commit,
     run_below_what_was_read, stale_read, waited_out, written_while_stopped,

@@ -18,6 +18,9 @@ pub of_generate : (asked : Invocation) (pipelined : Bool) (shards : Option ℕ) 
     → asked ≡ Generate pipelined shards seed clients batches → asked ≡ Generate p t s k b → (s ≡ seed) × (k ≡ clients) × (b ≡ batches)
 of_generate asked pipelined shards seed clients batches p t s k b given wanted = (cc (given, wanted), cc (given, wanted), cc (given, wanted))
 
+pub of_recover : (asked : Invocation) (number wanted : Option ℕ) → asked ≡ Recover number → asked ≡ Recover wanted → wanted ≡ number
+of_recover asked number wanted given is = cc (given, is)
+
 pub of_replay : (asked : Invocation) (pipelined : Bool) (group_bytes batch_bytes last : ℕ) (options : CoreOptions) → asked ≡ Replay pipelined group_bytes batch_bytes last
     → asked ≡ Replay options.pipelined options.group_bytes options.batch_bytes options.last
     → options ≡ record { pipelined = pipelined; group_bytes = group_bytes; batch_bytes = batch_bytes; last = last }
@@ -32,25 +35,25 @@ of_replay asked pipelined group_bytes batch_bytes last options given wanted =
 abbrev pub is_run : Invocation → Bool
 is_run (Run a b c d e) = true
 is_run (Generate a b c d e) = false
-is_run Recover = false
+is_run (Recover a) = false
 is_run (Replay a b c d) = false
 
 abbrev pub is_generate : Invocation → Bool
 is_generate (Run a b c d e) = false
 is_generate (Generate a b c d e) = true
-is_generate Recover = false
+is_generate (Recover a) = false
 is_generate (Replay a b c d) = false
 
 abbrev pub is_recover : Invocation → Bool
 is_recover (Run a b c d e) = false
 is_recover (Generate a b c d e) = false
-is_recover Recover = true
+is_recover (Recover a) = true
 is_recover (Replay a b c d) = false
 
 abbrev pub is_replay : Invocation → Bool
 is_replay (Run a b c d e) = false
 is_replay (Generate a b c d e) = false
-is_replay Recover = false
+is_replay (Recover a) = false
 is_replay (Replay a b c d) = true
 
 pub not_another : (test : Invocation → Bool) (asked x y : Invocation) → asked ≡ x → asked ≡ y → test x ≡ true → test y ≡ false → ⊥

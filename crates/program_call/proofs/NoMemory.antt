@@ -63,16 +63,16 @@ module _ {S D K : Type 0} (source : source.Ghosts S) (disk : disk.Ghosts D) (sin
     one_summary = λ e. absurd (omega (arith, six, e));
   }
 
-  pub none_recovered : AnswersRecover source disk sink had had opened opened before before n
-  none_recovered = record {
+  pub none_recovered : (number : Option ℕ) → AnswersRecover source disk sink had had opened opened before before number n
+  none_recovered number = record {
     one = inr (inr (inr six));
     source_untouched = refl;
     as_before = refl;
     no_fault = λ e. absurd (omega (arith, six, e));
     disk_failed = λ e. absurd (omega (arith, six, e));
     sink_failed = λ e. absurd (omega (arith, six, e));
-    recovered = tells_disk (sink.taken before) (sink.taken before) (disk.told opened) (λ x y d. n ≡ 0 → Recovers x y d.content) (λ x y d e. absurd (omega (arith, six, e)));
-    recovered_prefix = tells_disk (sink.taken before) (sink.taken before) (disk.told opened) (λ x y d. n ≡ 5 → RecoversFront x y d.content) (λ x y d e. absurd (omega (arith, six, e)));
+    recovered = tells_disk (sink.taken before) (sink.taken before) (disk.told opened) (λ x y d. n ≡ 0 → Recovers number x y d.content) (λ x y d e. absurd (omega (arith, six, e)));
+    recovered_prefix = tells_disk (sink.taken before) (sink.taken before) (disk.told opened) (λ x y d. n ≡ 5 → RecoversFront number x y d.content) (λ x y d e. absurd (omega (arith, six, e)));
     refused = λ e. absurd (omega (arith, six, e));
     silent = λ e. refl;
     completes = λ a b. inr six;

@@ -36,26 +36,26 @@ none_counted failed fails kf kfs n sold snew (Err (none.Fault count)) given is w
     ⊎_elim (λ said. absurd (let a = said.0 in omega (arith, a, zero))) (λ lacks. absurd (let a = lacks.0 in omega (arith, a, zero))) (refused_as sold snew kf kfs _ _ given n is tells)
 none_counted failed fails kf kfs n sold snew (Err none.NoMemory) given is worked tells zero = absurd (let a : n ≡ 6 = is ∙ ap code tells.0 in omega (arith, a, zero))
 
-pub recovery_whole : (kf kfs n : ℕ) (sold snew : Option (List ℕ)) (told : Option Disk) (found : Result Recovered RecoverError) (given : Status) → n ≡ code given
-    → IfSome told (λ d. IfOk found (HasRecovered d.content)) → TellsRecovery sold snew kf kfs found given → TellsDisk sold snew told (λ before after d. n ≡ 0 → Recovers before after d.content)
-recovery_whole kf kfs n (Some before) (Some after) (Some d) (Ok shown) status.Done is has tells =
+pub recovery_whole : (number : Option ℕ) (kf kfs n : ℕ) (sold snew : Option (List ℕ)) (told : Option Disk) (found : Result Recovered RecoverError) (given : Status) → n ≡ code given
+    → IfSome told (λ d. IfOk found (HasRecovered number d.content)) → TellsRecovery sold snew kf kfs found given → TellsDisk sold snew told (λ before after d. n ≡ 0 → Recovers number before after d.content)
+recovery_whole number kf kfs n (Some before) (Some after) (Some d) (Ok shown) status.Done is has tells =
     λ zero. record { recovered = has.recovered; is_recovered = has.is; printed = tells.2 ∙ ap (λ t. before ++ t) (tells.1 has.recovered has.shows) }
-recovery_whole kf kfs n (Some before) (Some after) (Some d) (Ok shown) status.Sink is has tells = λ zero. absurd (omega (arith, is, zero))
-recovery_whole kf kfs n (Some before) (Some after) (Some d) (Ok shown) status.Memory is has tells = λ zero. absurd (omega (arith, is, zero))
-recovery_whole kf kfs n (Some before) (Some after) (Some d) (Ok shown) other is has tells = absurd tells
-recovery_whole kf kfs n (Some before) (Some after) (Some d) (Err (none.Fault count)) given is has tells =
+recovery_whole number kf kfs n (Some before) (Some after) (Some d) (Ok shown) status.Sink is has tells = λ zero. absurd (omega (arith, is, zero))
+recovery_whole number kf kfs n (Some before) (Some after) (Some d) (Ok shown) status.Memory is has tells = λ zero. absurd (omega (arith, is, zero))
+recovery_whole number kf kfs n (Some before) (Some after) (Some d) (Ok shown) other is has tells = absurd tells
+recovery_whole number kf kfs n (Some before) (Some after) (Some d) (Err (none.Fault count)) given is has tells =
     λ zero. absurd (⊎_elim (λ said. let a = said.0 in omega (arith, a, zero)) (λ lacks. let a = lacks.0 in omega (arith, a, zero)) (refused_as (Some before) (Some after) kf kfs _ _ given n is tells))
-recovery_whole kf kfs n (Some before) (Some after) (Some d) (Err none.NoMemory) given is has tells = λ zero. absurd (let a : n ≡ 6 = is ∙ ap code tells.0 in omega (arith, a, zero))
-recovery_whole kf kfs n sold snew told found given is has tells = tt
+recovery_whole number kf kfs n (Some before) (Some after) (Some d) (Err none.NoMemory) given is has tells = λ zero. absurd (let a : n ≡ 6 = is ∙ ap code tells.0 in omega (arith, a, zero))
+recovery_whole number kf kfs n sold snew told found given is has tells = tt
 
-pub recovery_front : (kf kfs n : ℕ) (sold snew : Option (List ℕ)) (told : Option Disk) (found : Result Recovered RecoverError) (given : Status) → n ≡ code given
-    → IfSome told (λ d. IfOk found (HasRecovered d.content)) → TellsRecovery sold snew kf kfs found given → TellsDisk sold snew told (λ before after d. n ≡ 5 → RecoversFront before after d.content)
-recovery_front kf kfs n (Some before) (Some after) (Some d) (Ok shown) status.Sink is has tells =
+pub recovery_front : (number : Option ℕ) (kf kfs n : ℕ) (sold snew : Option (List ℕ)) (told : Option Disk) (found : Result Recovered RecoverError) (given : Status) → n ≡ code given
+    → IfSome told (λ d. IfOk found (HasRecovered number d.content)) → TellsRecovery sold snew kf kfs found given → TellsDisk sold snew told (λ before after d. n ≡ 5 → RecoversFront number before after d.content)
+recovery_front number kf kfs n (Some before) (Some after) (Some d) (Ok shown) status.Sink is has tells =
     λ five. record { recovered = has.recovered; is_recovered = has.is; printed = (tells.3, tells.4 ∙ ap (λ t. before ++ take tells.3 t) (tells.2 has.recovered has.shows)) }
-recovery_front kf kfs n (Some before) (Some after) (Some d) (Ok shown) status.Done is has tells = λ five. absurd (omega (arith, is, five))
-recovery_front kf kfs n (Some before) (Some after) (Some d) (Ok shown) status.Memory is has tells = λ five. absurd (omega (arith, is, five))
-recovery_front kf kfs n (Some before) (Some after) (Some d) (Ok shown) other is has tells = absurd tells
-recovery_front kf kfs n (Some before) (Some after) (Some d) (Err (none.Fault count)) given is has tells =
+recovery_front number kf kfs n (Some before) (Some after) (Some d) (Ok shown) status.Done is has tells = λ five. absurd (omega (arith, is, five))
+recovery_front number kf kfs n (Some before) (Some after) (Some d) (Ok shown) status.Memory is has tells = λ five. absurd (omega (arith, is, five))
+recovery_front number kf kfs n (Some before) (Some after) (Some d) (Ok shown) other is has tells = absurd tells
+recovery_front number kf kfs n (Some before) (Some after) (Some d) (Err (none.Fault count)) given is has tells =
     λ five. absurd (⊎_elim (λ said. let a = said.0 in omega (arith, a, five)) (λ lacks. let a = lacks.0 in omega (arith, a, five)) (refused_as (Some before) (Some after) kf kfs _ _ given n is tells))
-recovery_front kf kfs n (Some before) (Some after) (Some d) (Err none.NoMemory) given is has tells = λ five. absurd (let a : n ≡ 6 = is ∙ ap code tells.0 in omega (arith, a, five))
-recovery_front kf kfs n sold snew told found given is has tells = tt
+recovery_front number kf kfs n (Some before) (Some after) (Some d) (Err none.NoMemory) given is has tells = λ five. absurd (let a : n ≡ 6 = is ∙ ap code tells.0 in omega (arith, a, five))
+recovery_front number kf kfs n sold snew told found given is has tells = tt

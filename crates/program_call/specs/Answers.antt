@@ -1,5 +1,5 @@
 -- What a call promises of each command, by its status and by what the devices tell.
-use Rattle.std.specs.Prelude.{◌≡◌, ◌≢◌, ◌⊎◌, ℕ, ◌<◌, List, [], length, Ok, Err, IfSome}
+use Rattle.std.specs.Prelude.{◌≡◌, ◌≢◌, ◌⊎◌, ℕ, ◌<◌, List, [], length, Option, Ok, Err, IfSome}
 use Rattle.std.specs.Io.KnownBytes.{Appends}
 use Rattle.base_devices.specs.declared.source.Source as source
 use Rattle.base_devices.specs.declared.disk.Disk as disk
@@ -105,8 +105,9 @@ module _ {S D K : Type 0} (source : source.Ghosts S) (disk : disk.Ghosts D) (sin
     pub one_summary : status ≡ 0
         → Appends (sink.taken before) (sink.taken after) (summary_of (script_of_seed seed clients batches))
 
-  -- `recover`: what the log recovers is printed, whatever its bytes are, and nothing else is touched
-  pub record AnswersRecover (status : ℕ) : Type 0 where
+  -- `recover`: what the log recovers, read with this number or with none, is printed, whatever its bytes are, and
+  -- nothing else is touched
+  pub record AnswersRecover (number : Option ℕ) (status : ℕ) : Type 0 where
     pub one : (status ≡ 0) ⊎ (status ≡ 3) ⊎ (status ≡ 5) ⊎ (status ≡ 6)
     pub source_untouched : has ≡ had
     pub as_before : disk.told ended ≡ disk.told opened
@@ -114,9 +115,9 @@ module _ {S D K : Type 0} (source : source.Ghosts S) (disk : disk.Ghosts D) (sin
     pub disk_failed : status ≡ 3 → Rose (disk.faults opened) (disk.faults ended)
     pub sink_failed : status ≡ 5 → Rose (sink.faults before) (sink.faults after)
     pub recovered : TellsDisk (sink.taken before) (sink.taken after) (disk.told opened)
-        (λ x y d. status ≡ 0 → Recovers x y d.content)
+        (λ x y d. status ≡ 0 → Recovers number x y d.content)
     pub recovered_prefix : TellsDisk (sink.taken before) (sink.taken after) (disk.told opened)
-        (λ x y d. status ≡ 5 → RecoversFront x y d.content)
+        (λ x y d. status ≡ 5 → RecoversFront number x y d.content)
     pub refused : status ≡ 3 → (count : ℕ) × IsReached (disk.faults opened) count (disk.faults ended)
         × Says (disk_fault count)
     pub silent : status ≡ 6 → sink.taken after ≡ sink.taken before

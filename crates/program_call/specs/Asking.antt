@@ -26,9 +26,9 @@ AskToGenerate words seed clients batches = (pipelined : Bool) × (shards : Optio
 abbrev pub usual_options : Options
 usual_options = record { last = 0; group_bytes = 1048576; batch_bytes = MAX_SIZE }
 
--- to say what the log recovers
-abbrev pub AskToRecover : List (String Global) → Type 0
-AskToRecover words = invocation_of words ≡ Some Recover
+-- to say what the log recovers, read as one with this number, or with none
+abbrev pub AskToRecover : List (String Global) → Option ℕ → Type 0
+AskToRecover words number = invocation_of words ≡ Some (Recover number)
 
 -- to run a schedule on the core
 abbrev pub AskToReplay : List (String Global) → CoreOptions → Type 0

@@ -1,6 +1,5 @@
 -- What the command `recover` promises.
 use Rattle.std.specs.Prelude.{ℕ, List, Option, Some, None, ⊤}
-use Rattle.model_base.specs.Log.{plain_log}
 use Rattle.base_devices.specs.Disk.{Disk}
 use Rattle.model_base.specs.Recovery.{Recovered, IsRecovered}
 use Rattle.model_base.specs.Text.{recovered_text}
@@ -11,14 +10,14 @@ abbrev pub TellsDisk : Option (List ℕ) → Option (List ℕ) → Option Disk �
 TellsDisk (Some before) (Some after) (Some disk) P = P before after disk
 TellsDisk before after disk P = ⊤
 
--- status 0: the text of what the file recovers was printed
-pub record Recovers (before after file : List ℕ) : Type 0 where
+-- status 0: the text of what the file recovers, as a log with this number or with none, was printed
+pub record Recovers (number : Option ℕ) (before after file : List ℕ) : Type 0 where
   pub recovered : Recovered
-  pub is_recovered : IsRecovered plain_log file recovered
+  pub is_recovered : IsRecovered number file recovered
   pub printed : Prints before after (recovered_text recovered)
 
 -- status 5: a front of it was taken
-pub record RecoversFront (before after file : List ℕ) : Type 0 where
+pub record RecoversFront (number : Option ℕ) (before after file : List ℕ) : Type 0 where
   pub recovered : Recovered
-  pub is_recovered : IsRecovered plain_log file recovered
+  pub is_recovered : IsRecovered number file recovered
   pub printed : PrintsFront before after (recovered_text recovered)

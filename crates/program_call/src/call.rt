@@ -1,6 +1,6 @@
 //! The call that the program makes.
 
-ghost use Rattle.std.specs.Prelude.{◌≡◌, ◌≢◌, ◌<◌, ◌≤◌, ℕ, IfSome, MatchOption};
+ghost use Rattle.std.specs.Prelude.{◌≡◌, ◌≢◌, ◌<◌, ◌≤◌, ◌^◌, ℕ, Option, IfSome, MatchOption};
 ghost use Rattle.model_base.specs.declared.options.Options.{Options as RunOptions};
 ghost use Rattle.replay_core.specs.declared.state.CoreOptions.{CoreOptions as ReplayOptions};
 ghost use Rattle.program_words.specs.Limits.{KeepsLimits};
@@ -33,15 +33,18 @@ use std::thread::Threads;
 /// is to be synced without the log, where its client holds a stop token, and where no sequences are left for it; and
 /// where it has `noslow` and writes are held up. Else only a fault of the log refuses it. `gen SEED CLIENTS BATCHES`
 /// runs the script that a seed makes so too, with the usual limits, and prints a summary of its outcome; it doesn't
-/// look at the source. `recover` prints what the log recovers, and changes nothing. `replay` reads a script of 1 to 16
-/// clients and a schedule of events after it, runs the schedule on the write path's core, and prints what the clients
-/// were told, the history and the published state; it doesn't look at the disk. The disk comes back on every path.
+/// look at the source. `recover` prints what the log recovers, and changes nothing; with `--number` it reads the log as
+/// one whose fragments have that number in their headers, as those of RocksDB that are written over older ones.
+/// `replay` reads a script of 1 to 16 clients and a schedule of events after it, runs the schedule on the write path's
+/// core, and prints what the clients were told, the history and the published state; it doesn't look at the disk. The
+/// disk comes back on every path.
 ///
 /// | Option | Commands | Range | Without it | Meaning |
 /// |---|---|---|---|---|
 /// | `--batch-bytes` | `run`, `replay` | 12 to 16777216 | 16777216 | the most bytes of a batch |
 /// | `--group-bytes` | `run`, `replay` | 1 to 16777216 | 1048576 | the most bytes of a write group |
 /// | `--last` | `run`, `replay` | 0 to 2^56 - 1 | 0 | the sequence before the first batch |
+/// | `--number` | `recover` | 1 to 4294967295 | none | the number that the log's headers have |
 /// | `--pipelined` | `run`, `gen`, `replay` | no value | a single stage | the log is handed on before a group is inserted |
 /// | `--shards` | `run`, `gen` | 1 to 64 | 16 | with `--table shards`, how many shards the table has |
 /// | `--table` | `run`, `gen` | `one`, `shards` | `one` | a tree under one lock, or a tree and a lock for each shard |
@@ -73,8 +76,9 @@ pub fn run<
     ensures generate { (seed clients batches : ℕ) → AskToGenerate words.now seed clients batches
         → AnswersGenerate ⟦<S as Source>⟧ ⟦<D as Disk>⟧ ⟦<K as Sink>⟧
         source.old source.new disk result.disk sink.old sink.new seed clients batches result.status }
-    ensures recover { AskToRecover words.now → AnswersRecover ⟦<S as Source>⟧ ⟦<D as Disk>⟧ ⟦<K as Sink>⟧
-        source.old source.new disk result.disk sink.old sink.new result.status }
+    ensures recover { (number : Option ℕ) → AskToRecover words.now number
+        → AnswersRecover ⟦<S as Source>⟧ ⟦<D as Disk>⟧ ⟦<K as Sink>⟧
+        source.old source.new disk result.disk sink.old sink.new number result.status }
     ensures replay { (options : ReplayOptions) → AskToReplay words.now options
         → AnswersReplay ⟦<S as Source>⟧ ⟦<D as Disk>⟧ ⟦<K as Sink>⟧
         source.old source.new disk result.disk sink.old sink.new options result.status }
@@ -110,8 +114,9 @@ pub fn run_gated<
     ensures generate { (seed clients batches : ℕ) → AskToGenerate words.now seed clients batches
         → AnswersGenerate ⟦<S as Source>⟧ ⟦<D as Disk>⟧ ⟦<K as Sink>⟧
         source.old source.new disk result.disk sink.old sink.new seed clients batches result.status }
-    ensures recover { AskToRecover words.now → AnswersRecover ⟦<S as Source>⟧ ⟦<D as Disk>⟧ ⟦<K as Sink>⟧
-        source.old source.new disk result.disk sink.old sink.new result.status }
+    ensures recover { (number : Option ℕ) → AskToRecover words.now number
+        → AnswersRecover ⟦<S as Source>⟧ ⟦<D as Disk>⟧ ⟦<K as Sink>⟧
+        source.old source.new disk result.disk sink.old sink.new number result.status }
     ensures replay { (options : ReplayOptions) → AskToReplay words.now options
         → AnswersReplay ⟦<S as Source>⟧ ⟦<D as Disk>⟧ ⟦<K as Sink>⟧
         source.old source.new disk result.disk sink.old sink.new options result.status }
@@ -151,9 +156,9 @@ fn carry_out<
     ensures generate { (seed clients batches : ℕ) → IsToGenerate asked seed clients batches
         → AnswersGenerate ⟦<S as Source>⟧ ⟦<D as Disk>⟧ ⟦<K as Sink>⟧
         source.old source.new disk result.disk sink.old sink.new seed clients batches result.status }
-    ensures recover { asked ≡ Invocation.Recover
+    ensures recover { (number : Option ℕ) → asked ≡ Invocation.Recover number
         → AnswersRecover ⟦<S as Source>⟧ ⟦<D as Disk>⟧ ⟦<K as Sink>⟧
-        source.old source.new disk result.disk sink.old sink.new result.status }
+        source.old source.new disk result.disk sink.old sink.new number result.status }
     ensures replay { (options : ReplayOptions) → IsToReplay asked options
         → AnswersReplay ⟦<S as Source>⟧ ⟦<D as Disk>⟧ ⟦<K as Sink>⟧
         source.old source.new disk result.disk sink.old sink.new options result.status }
@@ -181,7 +186,9 @@ fn carry_out<
                 host, seed, clients, batches, shards, pipelined, disk, sink, clock,
             )
         }
-        Invocation::Recover => recover_log(host.alloc, disk, sink),
+        Invocation::Recover { number } => {
+            recover_log(host.alloc, log_number(number), disk, sink)
+        }
         Invocation::Replay {
             pipelined,
             group_bytes,
@@ -196,6 +203,17 @@ fn carry_out<
             };
             replay(host.alloc, options, source, disk, sink)
         }
+    }
+}
+
+/// The number of a log, as its headers have it.
+fn log_number(number: Option<u64>) -> Option<u32>
+    requires { IfSome number (λ n. (1 ≤ n) × (n < 2 ^ 32)) }
+    ensures { result ≡ number }
+{
+    match number {
+        Some(number) => Some(number as u32),
+        None => None,
     }
 }
 

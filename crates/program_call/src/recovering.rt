@@ -13,8 +13,13 @@ use base_devices::{Disk, Sink};
 use log_recovery::recover;
 use std::alloc::Global;
 
-/// Prints what the log of a disk recovers.
-pub fn recover_log<D: Disk, K: Sink>(alloc: Global, mut disk: D, sink: &mut K) -> Ended<D>
+/// Prints what the log of a disk recovers, read as one with this number, or with none.
+pub fn recover_log<D: Disk, K: Sink>(
+    alloc: Global,
+    number: Option<u32>,
+    mut disk: D,
+    sink: &mut K,
+) -> Ended<D>
     ensures status { (result.status ≡ 0) ⊎ (result.status ≡ 3) ⊎ (result.status ≡ 5) ⊎ (result.status ≡ 6) }
     ensures no_fault { result.status ≡ 0 → (D.faults result.disk ≡ D.faults disk)
         × (K.faults sink.new ≡ K.faults sink.old) }
@@ -22,15 +27,15 @@ pub fn recover_log<D: Disk, K: Sink>(alloc: Global, mut disk: D, sink: &mut K) -
     ensures sink_failed { result.status ≡ 5 → Rose (K.faults sink.old) (K.faults sink.new) }
     ensures disk_as_before { D.told result.disk ≡ D.told disk }
     ensures recovered { TellsDisk (K.taken sink.old) (K.taken sink.new) (D.told disk)
-        (λ before after d. result.status ≡ 0 → Recovers before after d.content) }
+        (λ before after d. result.status ≡ 0 → Recovers number before after d.content) }
     ensures recovered_prefix { TellsDisk (K.taken sink.old) (K.taken sink.new) (D.told disk)
-        (λ before after d. result.status ≡ 5 → RecoversFront before after d.content) }
+        (λ before after d. result.status ≡ 5 → RecoversFront number before after d.content) }
     ensures refused { result.status ≡ 3 → (count : ℕ) × IsReached (D.faults disk) count (D.faults result.disk)
         × SaysTo (K.taken sink.old) (K.taken sink.new) (disk_fault count) (K.faults sink.old) (K.faults sink.new) }
     ensures silent { result.status ≡ 6 → K.taken sink.new ≡ K.taken sink.old }
     ensures completes { Stood (K.faults sink.old) (K.faults sink.new)
         → Stood (D.faults disk) (D.faults result.disk) → (result.status ≡ 0) ⊎ (result.status ≡ 6) }
 {
-    let found = recover(alloc, &mut disk);
+    let found = recover(alloc, &mut disk, number);
     end_with(tell_recovery(alloc, sink, &found), disk)
 }

@@ -19,7 +19,7 @@ with_argument old new arg a r adds local rule_is is = record {
   local = adds.globals ∙ rw (is.local, local) refl;
 }
 
-pub with_command : (old sub new : Command) (a b : App) → AddsSubcommand old sub new → (out-Command sub).has_globals ≡ false
+with_command : (old sub new : Command) (a b : App) → AddsSubcommand old sub new → (out-Command sub).has_globals ≡ false
     → app_of old ≡ a → app_of sub ≡ b → app_of new ≡ with_subcommand a b.top
 with_command old sub new a b adds local old_is sub_is =
     adds.shape local ∙ ap (λ (x : App). with_subcommand x (shape_of sub)) old_is ∙ ap (λ (x : App). with_subcommand a x.top) sub_is

@@ -1,5 +1,5 @@
 -- Each command with lawful words: clap takes them, and its matches ask for what they say.
-use Rattle.std.proofs.Common.{◌≡◌, ◌∙◌, ℕ, Bool, true, false, List, [], ◌∷◌, append-nil, Option, Some, None, cond, fold, refl, sym, ap, subst, codes}
+use Rattle.std.proofs.Common.{◌≡◌, ◌∙◌, inr, ℕ, Bool, true, false, List, [], ◌∷◌, append-nil, Option, Some, None, cond, fold, refl, sym, ap, subst, codes}
 use Rattle.std.proofs.lemmas.Slice.Eq.{bytes_eq-Decides}
 use Rattle.std.specs.Prelude.{bytes_eq, is_some, option_map}
 use Rattle.model_base.specs.declared.limits.TheConstants.{MAX_SIZE}
@@ -8,14 +8,14 @@ use Rattle.clap.specs.Faults.{check_fault, walk_fault}
 use Rattle.clap.specs.Walk.{Walk, finished, nothing_held, walk, walk_from, with_default}
 use Rattle.program_words.specs.Definition.{recover, replay, run}
 use Rattle.program_words.specs.Lawful as lawful
-use Rattle.program_words.specs.Lawful.{Given, Known, command_asked, generate_asked, lawful_in, number_or, options_of, recover_options, replay_options, replay_with, run_options, run_with, shards_given, value_of}
-use Rattle.program_words.specs.Meaning.{invocation_by, invocation_in, flag_in, number_in, replay_by, run_by, shards_in}
+use Rattle.program_words.specs.Lawful.{Given, Known, command_asked, generate_asked, lawful_in, number_or, options_of, recover_options, recover_with, replay_options, replay_with, run_options, run_with, shards_given, value_of}
+use Rattle.program_words.specs.Meaning.{invocation_by, invocation_in, flag_in, number_in, recover_by, replay_by, run_by, shards_in}
 use Rattle.program_words.specs.declared.invocation.Invocation.{Invocation}
 use Rattle.program_words.specs.declared.invocation.Invocation.TheVariants.{Run, Recover, Replay}
 use Rattle.program_words.proofs.Four.{five, four, mapped_of}
-use Rattle.program_words.proofs.GivenValues.{flag_found, number_found, shards_found}
+use Rattle.program_words.proofs.GivenValues.{flag_found, number_found, optional_found, shards_found}
 use Rattle.program_words.proofs.LeafOptions.{Fits, given_shown, nothing_given, options_pass, rows_given}
-use Rattle.program_words.proofs.LeafWalks.{HasOption, between, leaf, replay_has, run_has}
+use Rattle.program_words.proofs.LeafWalks.{HasOption, between, leaf, recover_has, replay_has, run_has}
 use Rattle.program_words.proofs.Levels.{DefaultPasses, IsCommand, command_asks, is_recover, is_replay, is_run, level_passes, no_words_fail}
 use Rattle.program_words.proofs.Lists.{Each}
 use Rattle.program_words.proofs.ThreeNumbers.{generate_asks}
@@ -69,10 +69,15 @@ run_asks name words given e = options_ask name (codes "run") (leaf run.top) run_
 -- ---- `recover`
 
 recover_takes : TakesOptions (leaf recover.top) recover_options
-recover_takes = record { options = tt; once = refl; defaults = tt; checks = λ rows. refl }
+recover_takes = record { options = recover_has; once = refl; defaults = (refl, tt); checks = λ rows. refl }
 
-recover_asks : (name : Text) (words : List Text) (given : Given) → options_of recover_options words ≡ Some given → invocation_in (name ∷ codes "recover" ∷ words) ≡ Some Recover
-recover_asks name words given e = options_ask name (codes "recover") (leaf recover.top) recover_options is_recover recover_takes words given Recover e (λ fits. refl)
+recover_says : (given : Given) → Each (Fits recover_options) given → recover_by (fold with_default (rows_given given) (leaf recover.top).rules) ≡ recover_with given
+recover_says given fits =
+    ap (λ (n : Option ℕ). Recover n) (optional_found recover_options (leaf recover.top).rules (codes "number") 1 4294967295 refl (inr refl, tt) given fits (rows_given given) (given_shown (codes "number") given))
+
+recover_asks : (name : Text) (words : List Text) (given : Given) → options_of recover_options words ≡ Some given → invocation_in (name ∷ codes "recover" ∷ words) ≡ Some (recover_with given)
+recover_asks name words given e =
+    options_ask name (codes "recover") (leaf recover.top) recover_options is_recover recover_takes words given (recover_with given) e (λ fits. ap Some (recover_says given fits))
 
 -- ---- `replay`
 
@@ -102,13 +107,13 @@ command_lawful name word words asked e = go (bytes_eq word (codes "run")) refl (
   where
     go : (a : Bool) → bytes_eq word (codes "run") ≡ a → (b : Bool) → bytes_eq word (codes "recover") ≡ b → (d : Bool) → bytes_eq word (codes "replay") ≡ d
         → (f : Bool) → bytes_eq word (codes "gen") ≡ f
-        → cond a (option_map run_with (options_of run_options words)) (cond b (option_map (λ _. Recover) (options_of recover_options words)) (cond d (option_map replay_with (options_of replay_options words)) (cond f (generate_asked words) None))) ≡ Some asked
+        → cond a (option_map run_with (options_of run_options words)) (cond b (option_map recover_with (options_of recover_options words)) (cond d (option_map replay_with (options_of replay_options words)) (cond f (generate_asked words) None))) ≡ Some asked
         → invocation_in (name ∷ word ∷ words) ≡ Some asked
     go true a b eb d ed f ef is =
         let given = mapped_of run_with (options_of run_options words) asked is in
         subst (λ (w : Text). invocation_in (name ∷ w ∷ words) ≡ Some asked) (sym ((bytes_eq-Decides _ _).0 a)) (run_asks name words given.0 given.1 ∙ ap Some given.2)
     go false a true b d ed f ef is =
-        let given = mapped_of (λ (x : Given). Recover) (options_of recover_options words) asked is in
+        let given = mapped_of recover_with (options_of recover_options words) asked is in
         subst (λ (w : Text). invocation_in (name ∷ w ∷ words) ≡ Some asked) (sym ((bytes_eq-Decides _ _).0 b)) (recover_asks name words given.0 given.1 ∙ ap Some given.2)
     go false a false b true d f ef is =
         let given = mapped_of replay_with (options_of replay_options words) asked is in

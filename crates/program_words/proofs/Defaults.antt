@@ -1,5 +1,5 @@
 -- What the defaults of a command's arguments add to the rows of a parse.
-use Rattle.std.proofs.Common.{◌≡◌, ◌∙◌, Bool, true, false, List, [], ◌∷◌, ◌++◌, Some, None, cond, fold, refl, ap}
+use Rattle.std.proofs.Common.{◌≡◌, ◌∙◌, ◌⊎◌, inl, inr, Bool, true, false, List, [], ◌∷◌, ◌++◌, Some, None, cond, fold, refl, ap}
 use Rattle.std.proofs.lemmas.Slice.Eq.{bytes_eq-Decides}
 use Rattle.std.specs.Prelude.{bytes_eq, find}
 use Rattle.clap.specs.Words.{Row, Rule, Text}
@@ -7,7 +7,8 @@ use Rattle.clap.specs.Walk.{arg_by_id, default_rows, has_row, more_values, readi
 use Rattle.clap.specs.declared.builder.value_parser.Reading.{Reading}
 use Rattle.clap.specs.declared.builder.value_parser.Reading.TheVariants.{AsWritten}
 use Rattle.clap.specs.declared.parser.matches.ValueSource.TheVariants.{DefaultValue}
-use Rattle.program_words.proofs.Rows.{at_row-absent, has_row-other, row-before, row-new, row_in, value_row}
+use Rattle.program_words.proofs.Lists.{Each}
+use Rattle.program_words.proofs.Rows.{at_row-absent, find-absent, has_row-other, row-before, row-new, row_in, value_row}
 
 -- the argument of this id has this default
 pub record HasDefault (c : List Rule) (id text : Text) : Type 0 where
@@ -15,6 +16,10 @@ pub record HasDefault (c : List Rule) (id text : Text) : Type 0 where
   pub found : arg_by_id c id ≡ Some rule
   pub reads : reading_by rule ≡ AsWritten
   pub defaults : rule.defaults ≡ text ∷ []
+
+-- no argument of this id has a default
+abbrev pub HasNoDefault : List Rule → Text → Type 0
+HasNoDefault c id = Each (λ (a : Rule). (bytes_eq a.id id ≡ false) ⊎ (a.defaults ≡ [])) c
 
 -- the row that a default makes
 abbrev made_by : Rule → List Text → Row
@@ -43,6 +48,15 @@ module _ (rows : List Row) (a : Rule) where
           ap (has_row id) (at_row-absent a.id (more_values DefaultValue (v ∷ values)) (made_by a (v ∷ values) ∷ []) rows e)
           ∙ has_row-other id rows (made_by a (v ∷ values)) other
           ∙ unused
+
+  -- and none gets one of an argument without a default
+  absent_without : (id : Text) → a.defaults ≡ [] → has_row id rows ≡ false → has_row id (with_default rows a) ≡ false
+  absent_without id none unused = go (has_row a.id rows) a.defaults none
+    where
+      go : (b : Bool) (values : List Text) → values ≡ [] → has_row id (cond b rows (default_rows a.id (reading_by a) values rows)) ≡ false
+      go true values e = unused
+      go false [] e = unused
+      go false (v ∷ values) e = cc
 
   -- the argument's own id gets the default
   default_row : (id text : Text) → a.id ≡ id → reading_by a ≡ AsWritten → a.defaults ≡ text ∷ [] → has_row id rows ≡ false
@@ -78,3 +92,16 @@ default_found id text a reads defaults (b ∷ c) found rows unused = go (bytes_e
 pub default_found_in : (c : List Rule) (id text : Text) → HasDefault c id text → (rows : List Row) → has_row id rows ≡ false
     → row_in id (fold with_default rows c) ≡ Some (value_row id DefaultValue text)
 default_found_in c id text has rows unused = default_found id text has.rule has.reads has.defaults c has.found rows unused
+
+-- without a default it stays without a row
+stays_absent : (id : Text) (c : List Rule) → HasNoDefault c id → (rows : List Row) → has_row id rows ≡ false → has_row id (fold with_default rows c) ≡ false
+stays_absent id [] none rows unused = unused
+stays_absent id (a ∷ c) none rows unused = go none.0 (stays_absent id c none.1 (with_default rows a))
+  where
+    go : (bytes_eq a.id id ≡ false) ⊎ (a.defaults ≡ []) → (has_row id (with_default rows a) ≡ false → has_row id (fold with_default (with_default rows a) c) ≡ false)
+        → has_row id (fold with_default (with_default rows a) c) ≡ false
+    go (inl other) rest = rest (absent_once rows a id other unused)
+    go (inr nothing) rest = rest (absent_without rows a id nothing unused)
+
+pub none_found_in : (c : List Rule) (id : Text) → HasNoDefault c id → (rows : List Row) → has_row id rows ≡ false → row_in id (fold with_default rows c) ≡ None
+none_found_in c id none rows unused = find-absent (λ (r : Row). bytes_eq r.id id) (fold with_default rows c) (stays_absent id c none rows unused)

@@ -2,6 +2,7 @@
 use Rattle.std.proofs.Common.{◌≡◌, ◌∙◌, ◌⊎◌, ◌||◌, inl, inr, ℕ, Bool, true, false, List, [], ◌∷◌, ◌++◌, Option, Some, None, cond, fold, refl, sym, ap, subst, codes}
 use Rattle.std.proofs.lemmas.Slice.Eq.{bytes_eq-Decides}
 use Rattle.std.specs.Prelude.{bytes_eq, find, is_some, option_and_then, option_map, slice_get, unwrap_or}
+use Rattle.model_base.specs.Script.{number_of}
 use Rattle.clap.specs.Words.{Row, Rule, Text}
 use Rattle.clap.specs.Simple.{filled}
 use Rattle.clap.specs.Walk.{arg_by_id, row_text, with_default}
@@ -9,12 +10,12 @@ use Rattle.clap.specs.declared.parser.matches.ValueSource.{ValueSource}
 use Rattle.clap.specs.declared.parser.matches.ValueSource.TheVariants.{CommandLine, DefaultValue}
 use Rattle.program_words.specs.Definition.{number_option, pipelined, shards, table}
 use Rattle.program_words.specs.Lawful as lawful
-use Rattle.program_words.specs.Lawful.{Given, Known, Word, number_or, shards_given, value_of, within, word_of}
+use Rattle.program_words.specs.Lawful.{Given, Known, Word, number_given, number_or, shards_given, value_of, within, word_of}
 use Rattle.program_words.specs.Meaning.{bool_of, flag_in, number_in, shards_in, shards_of, whole_number}
-use Rattle.program_words.proofs.Defaults.{HasDefault, default_found_in, stays}
+use Rattle.program_words.proofs.Defaults.{HasDefault, HasNoDefault, default_found_in, none_found_in, stays}
 use Rattle.program_words.proofs.LeafOptions.{Fits, Shows}
 use Rattle.program_words.proofs.Lists.{Each, either, none_passes}
-use Rattle.program_words.proofs.NumberTexts.{number_said}
+use Rattle.program_words.proofs.NumberTexts.{number_read, number_said}
 use Rattle.program_words.proofs.Rows.{row_in, value_row}
 
 -- an id by which an option is known has a value that the option takes
@@ -59,17 +60,41 @@ row_found c id text has given rows shows = go (value_of id given) shows
     go None none = (DefaultValue, default_found_in c id text has rows (none_passes (λ (r : Row). bytes_eq r.id id) rows none))
     go (Some v) here = (CommandLine, stays (λ (r : Row). bytes_eq r.id id) (value_row id CommandLine v) c rows here)
 
+-- and where it has no default just what was given
+row_given : (c : List Rule) (id : Text) → HasNoDefault c id → (given : Given) (rows : List Row) → Shows given rows id
+    → row_in id (fold with_default rows c) ≡ option_map (λ (v : Text). value_row id CommandLine v) (value_of id given)
+row_given c id none given rows shows = go (value_of id given) shows
+  where
+    go : (o : Option Text) → row_in id rows ≡ option_map (λ (v : Text). value_row id CommandLine v) o
+        → row_in id (fold with_default rows c) ≡ option_map (λ (v : Text). value_row id CommandLine v) o
+    go None absent = none_found_in c id none rows (none_passes (λ (r : Row). bytes_eq r.id id) rows absent)
+    go (Some v) here = stays (λ (r : Row). bytes_eq r.id id) (value_row id CommandLine v) c rows here
+
 -- ---- numbers
 
 pub number_found : (known : List Known) (c : List Rule) (name : Text) (least most default : ℕ) (text : Text)
-    → find (λ (x : Known). bytes_eq (word_of x) (codes "--" ++ name)) known ≡ Some (lawful.number name least most)
+    → find (λ (x : Known). bytes_eq (word_of x) (codes "--" ++ name)) known ≡ Some (lawful.number_option name least most)
     → arg_by_id c name ≡ Some (filled (number_option name least most text)) → whole_number text ≡ Some default
     → (given : Given) → Each (Fits known) given → (rows : List Row) → Shows given rows name
-    → number_in name (fold with_default rows c) ≡ Some (number_or default (lawful.number name least most) given)
+    → number_in name (fold with_default rows c) ≡ Some (number_or default (lawful.number_option name least most) given)
 number_found known c name least most default text found by_id default_is given fits rows shows =
     let has : HasDefault c name text = record { rule = filled (number_option name least most text); found = by_id; reads = refl; defaults = refl } in
     ap (λ (r : Option Row). option_and_then whole_number (option_and_then row_text r)) (row_found c name text has given rows shows).1
-    ∙ number_said least most default text (value_of name given) (λ v e. value_fits known name (lawful.number name least most) found given fits v e) default_is
+    ∙ number_said least most default text (value_of name given) (λ v e. value_fits known name (lawful.number_option name least most) found given fits v e) default_is
+
+-- one without a default
+given_said : (least most : ℕ) (id : Text) (given : Option Text) → ((v : Text) → given ≡ Some v → is_some (within least most v) ≡ true)
+    → option_and_then whole_number (option_and_then row_text (option_map (λ (v : Text). value_row id CommandLine v) given)) ≡ option_and_then number_of given
+given_said least most id None fits = refl
+given_said least most id (Some v) fits = number_read least most v (fits v refl)
+
+pub optional_found : (known : List Known) (c : List Rule) (name : Text) (least most : ℕ)
+    → find (λ (x : Known). bytes_eq (word_of x) (codes "--" ++ name)) known ≡ Some (lawful.number_option name least most)
+    → HasNoDefault c name → (given : Given) → Each (Fits known) given → (rows : List Row) → Shows given rows name
+    → number_in name (fold with_default rows c) ≡ number_given (lawful.number_option name least most) given
+optional_found known c name least most found none given fits rows shows =
+    ap (λ (r : Option Row). option_and_then whole_number (option_and_then row_text r)) (row_given c name none given rows shows)
+    ∙ given_said least most name (value_of name given) (λ v e. value_fits known name (lawful.number_option name least most) found given fits v e)
 
 -- ---- the flag
 

@@ -11,12 +11,12 @@ use Rattle.clap.specs.Simple.{built_leaf, inherited, marked_built, with_leaf_not
 use Rattle.clap.specs.Takes.{value_passes}
 use Rattle.clap.specs.Walk.{Held, Outcome, Step, Walk, Waiting, after_flag, after_step, arg_by_id, arg_by_long, flag_met, has_row, idle, long_met, next, option, option_met, option_word, plain_word, settled_rows, subcommand_or_other, takes_values, used, used_by_id, walked, word_met}
 use Rattle.clap.specs.declared.parser.matches.ValueSource.TheVariants.{CommandLine}
-use Rattle.program_words.specs.Definition.{batch_bytes, generate, group_bytes, last, pipelined, replay, run, shards, table, writepath}
+use Rattle.program_words.specs.Definition.{batch_bytes, generate, group_bytes, last, number, pipelined, recover, replay, run, shards, table, writepath}
 use Rattle.program_words.specs.Lawful as lawful
-use Rattle.program_words.specs.Lawful.{Known, generate_options, replay_options, run_options, word_of}
+use Rattle.program_words.specs.Lawful.{Known, generate_options, recover_options, replay_options, run_options, word_of}
 use Rattle.program_words.proofs.Lists.{Each, cond_false, cond_true}
 use Rattle.program_words.proofs.NumberTexts.{IsPlain}
-use Rattle.program_words.proofs.Options.{HasValue, IsFlag, IsValued, awaiting, number_valued, pipelined_flag, table_valued}
+use Rattle.program_words.proofs.Options.{HasValue, IsFlag, IsValued, awaiting, number_valued, optional_valued, pipelined_flag, table_valued}
 use Rattle.program_words.proofs.Rows.{first_use, value_row}
 
 -- a command as clap builds it
@@ -81,6 +81,9 @@ batch_valued = number_valued (codes "batch-bytes") 12 MAX_SIZE (codes "16777216"
 last_valued : IsValued lawful.last (filled last)
 last_valued = number_valued (codes "last") 0 72057594037927935 (codes "0")
 
+log_valued : IsValued lawful.number (filled number)
+log_valued = optional_valued (codes "number") 1 4294967295
+
 run_pipelined : Finds (leaf run.top) lawful.pipelined (filled pipelined)
 run_pipelined = record { no_escape = refl; long = refl; by_long = refl; by_id = refl; once = refl }
 
@@ -95,6 +98,12 @@ run_has = (
     ),
   ),
 )
+
+recover_number : Finds (leaf recover.top) lawful.number (filled number)
+recover_number = record { no_escape = refl; long = refl; by_long = refl; by_id = refl; once = refl }
+
+pub recover_has : Each (HasOption (leaf recover.top)) recover_options
+recover_has = ((filled number, recover_number, inl log_valued), tt)
 
 replay_pipelined : Finds (leaf replay.top) lawful.pipelined (filled pipelined)
 replay_pipelined = record { no_escape = refl; long = refl; by_long = refl; by_id = refl; once = refl }

@@ -82,7 +82,14 @@ number_passes text least most e =
     let number = number_text text least most n.0 n.1 in
     (number.plain, number.accepted)
 
--- what an option's number says, or its default
+-- what an option's number says
+pub number_read : (least most : ℕ) (text : List ℕ) → is_some (within least most text) ≡ true → whole_number text ≡ number_of text
+number_read least most text e =
+    let n = some_told (within least most text) e in
+    let number = number_text text least most n.0 n.1 in
+    number.whole ∙ sym number.says
+
+-- or its default
 pub number_said : (least most default : ℕ) (text : List ℕ) (given : Option (List ℕ)) → ((v : List ℕ) → given ≡ Some v → is_some (within least most v) ≡ true)
     → whole_number text ≡ Some default → whole_number (unwrap_or given text) ≡ Some (unwrap_or (option_and_then number_of given) default)
 number_said least most default text None fits is = is

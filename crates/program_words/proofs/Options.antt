@@ -10,7 +10,7 @@ use Rattle.clap.specs.Takes.{value_passes}
 use Rattle.clap.specs.Walk.{Held, idle, option_word, takes_values, used, with_values, without}
 use Rattle.clap.specs.declared.builder.value_parser.Reading.TheVariants.{AsWritten}
 use Rattle.clap.specs.declared.parser.matches.ValueSource.TheVariants.{CommandLine}
-use Rattle.program_words.specs.Definition.{number_option, number_word, pipelined, table}
+use Rattle.program_words.specs.Definition.{number_option, number_word, optional_number, pipelined, table}
 use Rattle.program_words.specs.Lawful as lawful
 use Rattle.program_words.specs.Lawful.{Known}
 use Rattle.program_words.proofs.Lists.{either}
@@ -50,8 +50,18 @@ pub record IsFlag (o : Known) (a : Rule) : Type 0 where
 
 -- ---- each of them
 
-pub number_valued : (name : Text) (least most : ℕ) (text : Text) → IsValued (lawful.number name least most) (filled (number_option name least most text))
+pub number_valued : (name : Text) (least most : ℕ) (text : Text) → IsValued (lawful.number_option name least most) (filled (number_option name least most text))
 number_valued name least most text = record {
+  no_flag = refl;
+  id_is = refl;
+  takes_value = refl;
+  taken = λ rows value. rw ((bytes_eq-Decides name name).1 refl) refl;
+  has_value = record { use_is = λ rows value. refl; fault_is = λ rows value. refl };
+  passes = λ value e. number_passes value least most e;
+}
+
+pub optional_valued : (name : Text) (least most : ℕ) → IsValued (lawful.number_option name least most) (filled (optional_number name least most))
+optional_valued name least most = record {
   no_flag = refl;
   id_is = refl;
   takes_value = refl;

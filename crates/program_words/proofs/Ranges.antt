@@ -19,9 +19,9 @@ use Rattle.clap.specs.declared.builder.value_parser.Reading.TheVariants.{AsWritt
 use Rattle.clap.specs.declared.parser.matches.ValueSource.TheVariants.{DefaultValue}
 use Rattle.clap.proofs.OnLiterals.{clap_on_literals}
 use Rattle.clap.proofs.WalkLemmas.{both}
-use Rattle.program_words.specs.Definition.{batch_bytes, batches, clients, generate, group_bytes, last, recover, replay, run, seed, shards, writepath}
+use Rattle.program_words.specs.Definition.{batch_bytes, batches, clients, generate, group_bytes, last, number, recover, replay, run, seed, shards, writepath}
 use Rattle.program_words.specs.Limits.{KeepsLimits, KeepsShards}
-use Rattle.program_words.specs.Meaning.{invocation_by, invocation_in, flag_in, is_taken, number_in, shards_in, shards_of, whole_number}
+use Rattle.program_words.specs.Meaning.{invocation_by, invocation_in, flag_in, is_taken, number_in, recover_by, shards_in, shards_of, whole_number}
 use Rattle.program_words.specs.declared.invocation.Invocation.{Invocation}
 use Rattle.program_words.specs.declared.invocation.Invocation.TheVariants.{Run, Recover, Replay, Generate}
 use Rattle.program_words.proofs.Four.{five_of, four_of, some_of}
@@ -127,6 +127,14 @@ run_sound = record {
   once = refl;
 }
 
+recover_sound : HasSound (leaf recover.top)
+unfolding clap_on_literals
+recover_sound = record {
+  all = (record { is_set = record { itself = refl; sets = inl refl }; defaults = refl }, tt);
+  by_short = λ x. refl;
+  once = refl;
+}
+
 replay_sound : HasSound (leaf replay.top)
 unfolding clap_on_literals
 replay_sound = record {
@@ -184,11 +192,19 @@ run_keeps words asked none is =
     let below : has.3 < 2 ^ 56 = omega (arith, in_l.1) in
     subst KeepsLimits {x = Run first.0 has.0 has.1 has.2 has.3} has.8 (in_k, in_g.0, in_g.1, in_b.0, in_b.1, below)
 
+given_keeps : (number : Option ℕ) → ((n : ℕ) → number ≡ Some n → (1 ≤ n) × (n ≤ 4294967295)) → KeepsLimits (Recover number)
+given_keeps None in_range = tt
+given_keeps (Some n) in_range = let h = in_range n refl in let below : n < 2 ^ 32 = omega (arith, h.1) in (h.0, below)
+
 recover_keeps : LevelKeeps (leaf recover.top)
 recover_keeps words asked none is =
-    let told : Some Recover ≡ Some asked = is in
-    let same : Recover ≡ asked = cc in
-    subst KeepsLimits same tt
+    let c = (leaf recover.top).rules in
+    let rows = rows_after c [] words in
+    let pass = level_rows (leaf recover.top) recover_sound words none in
+    let takes : TakesNumbers c (codes "number") 1 4294967295 = record { rule = filled number; found = refl; reads = refl; tests = λ text. refl } in
+    let told : Some (recover_by rows) ≡ Some asked = is in
+    let same : recover_by rows ≡ asked = cc in
+    subst KeepsLimits same (given_keeps (number_in (codes "number") rows) (λ n e. number_in_range c (codes "number") 1 4294967295 takes rows pass n e))
 
 replay_keeps : LevelKeeps (leaf replay.top)
 replay_keeps words asked none is =

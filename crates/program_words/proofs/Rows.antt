@@ -37,7 +37,7 @@ first_use id value rows unused =
     ap (with_values id AsWritten CommandLine (value ∷ [])) (at_row-absent id (λ _. []) [] rows unused ∙ append-nil rows)
     ∙ at_row-absent id (more_values CommandLine (value ∷ [])) (value_row id CommandLine value ∷ []) rows unused
 
-find-absent : {X : Type 0} (p : X → Bool) (xs : List X) → list_any p xs ≡ false → find p xs ≡ None
+pub find-absent : {X : Type 0} (p : X → Bool) (xs : List X) → list_any p xs ≡ false → find p xs ≡ None
 find-absent p [] none = refl
 find-absent p (x ∷ xs) none =
     let parts = neither (p x) (list_any p xs) none in

@@ -10,6 +10,10 @@ abbrev pub number_option : Text → ℕ → ℕ → Text → Rule
 number_option name least most default =
     record (new_rule name) { long = Some name; parser = Some (Unsigned least most); defaults = default ∷ [] }
 
+-- an option `--name` that takes a whole number from `least` to `most`, and has no default
+abbrev pub optional_number : Text → ℕ → ℕ → Rule
+optional_number name least most = record (new_rule name) { long = Some name; parser = Some (Unsigned least most) }
+
 -- a word that has its place, and may not be left out: a whole number from `least` to `most`
 abbrev pub number_word : Text → ℕ → ℕ → Rule
 number_word name least most = record (new_rule name) { required = true; parser = Some (Unsigned least most) }
@@ -42,6 +46,10 @@ group_bytes = number_option (codes "group-bytes") 1 16777216 (codes "1048576")
 abbrev pub last : Rule
 last = number_option (codes "last") 0 72057594037927935 (codes "0")
 
+-- the number of the log, where it has one
+abbrev pub number : Rule
+number = optional_number (codes "number") 1 4294967295
+
 -- what the numbers of a script are drawn from, how many clients it has, and how many batches each commits
 abbrev pub seed : Rule
 seed = number_word (codes "SEED") 0 2147483647
@@ -59,7 +67,7 @@ run = with_rule (with_rule (with_rule (with_rule (with_rule (with_rule (new_app 
     group_bytes) batch_bytes) last
 
 abbrev pub recover : App
-recover = new_app (codes "recover")
+recover = with_rule (new_app (codes "recover")) number
 
 abbrev pub replay : App
 replay = with_rule (with_rule (with_rule (with_rule (new_app (codes "replay")) pipelined) group_bytes) batch_bytes) last

@@ -27,8 +27,8 @@ pub record Known : Type 0 where
 abbrev pub flag : Word → Known
 flag name = record { name = name; is_flag = true; takes = λ value. bytes_eq value (codes "true") }
 
-abbrev pub number : Word → ℕ → ℕ → Known
-number name least most =
+abbrev pub number_option : Word → ℕ → ℕ → Known
+number_option name least most =
     record { name = name; is_flag = false; takes = λ value. is_some (within least most value) }
 
 -- what the table is made of: one tree, or trees in shards
@@ -40,19 +40,23 @@ table = record {
 }
 
 abbrev pub shards : Known
-shards = number (codes "shards") 1 64
+shards = number_option (codes "shards") 1 64
 
 abbrev pub pipelined : Known
 pipelined = flag (codes "pipelined")
 
 abbrev pub group_bytes : Known
-group_bytes = number (codes "group-bytes") 1 16777216
+group_bytes = number_option (codes "group-bytes") 1 16777216
 
 abbrev pub batch_bytes : Known
-batch_bytes = number (codes "batch-bytes") 12 MAX_SIZE
+batch_bytes = number_option (codes "batch-bytes") 12 MAX_SIZE
 
 abbrev pub last : Known
-last = number (codes "last") 0 (2 ^ 56 - 1)
+last = number_option (codes "last") 0 (2 ^ 56 - 1)
+
+-- the number of a log
+abbrev pub number : Known
+number = number_option (codes "number") 1 (2 ^ 32 - 1)
 
 -- what each command takes
 
@@ -60,7 +64,7 @@ abbrev pub run_options : List Known
 run_options = pipelined ∷ table ∷ shards ∷ group_bytes ∷ batch_bytes ∷ last ∷ []
 
 abbrev pub recover_options : List Known
-recover_options = []
+recover_options = number ∷ []
 
 abbrev pub replay_options : List Known
 replay_options = pipelined ∷ group_bytes ∷ batch_bytes ∷ last ∷ []
@@ -104,10 +108,13 @@ options_of known words = with_options known words []
 
 -- ---- what a command asks for
 
--- an option that is not given has its default
+-- the number of an option that is given
+abbrev pub number_given : Known → Given → Option ℕ
+number_given option given = option_and_then number_of (value_of option.name given)
+
+-- one that is not given may have a default
 abbrev pub number_or : ℕ → Known → Given → ℕ
-number_or default option given =
-    unwrap_or (option_and_then number_of (value_of option.name given)) default
+number_or default option given = unwrap_or (number_given option given) default
 
 -- how many shards the table has; none where it is one tree
 abbrev pub shards_given : Given → Option ℕ
@@ -118,6 +125,9 @@ shards_given given =
 abbrev pub run_with : Given → Invocation
 run_with given = Run (is_some (value_of pipelined.name given)) (shards_given given)
     (number_or 1048576 group_bytes given) (number_or MAX_SIZE batch_bytes given) (number_or 0 last given)
+
+abbrev pub recover_with : Given → Invocation
+recover_with given = Recover (number_given number given)
 
 abbrev pub replay_with : Given → Invocation
 replay_with given = Replay (is_some (value_of pipelined.name given)) (number_or 1048576 group_bytes given)
@@ -142,7 +152,7 @@ generate_asked words =
 abbrev pub command_asked : Word → List Word → Option Invocation
 command_asked command words =
     if bytes_eq command (codes "run") then option_map run_with (options_of run_options words)
-    else if bytes_eq command (codes "recover") then option_map (λ _. Recover) (options_of recover_options words)
+    else if bytes_eq command (codes "recover") then option_map recover_with (options_of recover_options words)
     else if bytes_eq command (codes "replay") then option_map replay_with (options_of replay_options words)
     else if bytes_eq command (codes "gen") then generate_asked words
     else None

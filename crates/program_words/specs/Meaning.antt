@@ -53,6 +53,10 @@ run_by rows =
     (number_in (codes "last") rows)) (number_in (codes "batch-bytes") rows)) (number_in (codes "group-bytes") rows))
     (shards_in rows)) (flag_in (codes "pipelined") rows)
 
+-- and `recover`
+abbrev pub recover_by : List Row → Invocation
+recover_by rows = Recover (number_in (codes "number") rows)
+
 -- and `replay`
 abbrev pub replay_by : List Row → Option Invocation
 replay_by rows =
@@ -73,7 +77,7 @@ generate_by rows =
 abbrev pub invocation_by : Text → List Row → Option Invocation
 invocation_by name rows =
     if bytes_eq name (codes "run") then run_by rows
-    else if bytes_eq name (codes "recover") then Some Recover
+    else if bytes_eq name (codes "recover") then Some (recover_by rows)
     else if bytes_eq name (codes "replay") then replay_by rows
     else if bytes_eq name (codes "gen") then generate_by rows
     else None

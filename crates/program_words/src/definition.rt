@@ -15,7 +15,7 @@ pub fn writepath<'a>(alloc: Global) -> Result<Command<'a>, AllocError>
     ensures { IfOk result (λ command. app_of command ≡ clap_words.writepath) }
 {
     let with_run = with_command(program(alloc), run(alloc))?;
-    let with_recover = with_run.subcommand(recover(alloc))?;
+    let with_recover = with_command(with_run, recover(alloc))?;
     let with_replay = with_command(with_recover, replay(alloc))?;
     with_command(with_replay, generate(alloc))
 }
@@ -48,11 +48,11 @@ fn run<'a>(alloc: Global) -> Result<Command<'a>, AllocError>
     with_limits(with_table(staged, alloc)?, alloc)
 }
 
-fn recover<'a>(alloc: Global) -> Command<'a>
-    ensures app { app_of result ≡ clap_words.recover }
-    ensures local { (out-Command result).has_globals ≡ false }
+fn recover<'a>(alloc: Global) -> Result<Command<'a>, AllocError>
+    ensures app { IfOk result (λ command. app_of command ≡ clap_words.recover) }
+    ensures local { IfOk result (λ command. (out-Command command).has_globals ≡ false) }
 {
-    Command::new(alloc, "recover")
+    Command::new(alloc, "recover").arg(number(alloc))
 }
 
 fn replay<'a>(alloc: Global) -> Result<Command<'a>, AllocError>
@@ -146,6 +146,14 @@ fn last<'a>(alloc: Global) -> Arg<'a>
     number_option(alloc, "last", 0, 72057594037927935, "0")
 }
 
+/// The number of the log, where it has one.
+fn number<'a>(alloc: Global) -> Arg<'a>
+    ensures rule { rule_of result ≡ clap_words.number }
+    ensures local { result.global ≡ false }
+{
+    optional_number(alloc, "number", 1, 4294967295)
+}
+
 /// An option `--name` that takes a whole number from `least` to `most`, and is `default` unless it is given.
 fn number_option<'a>(
     alloc: Global,
@@ -157,10 +165,17 @@ fn number_option<'a>(
     ensures rule { rule_of result ≡ clap_words.number_option name.entry.now least most default.entry.now }
     ensures local { result.global ≡ false }
 {
+    optional_number(alloc, name, least, most).default_value(default)
+}
+
+/// An option `--name` that takes a whole number from `least` to `most`, and has no default.
+fn optional_number<'a>(alloc: Global, name: &'a str, least: u64, most: u64) -> Arg<'a>
+    ensures rule { rule_of result ≡ clap_words.optional_number name.entry.now least most }
+    ensures local { result.global ≡ false }
+{
     Arg::new(alloc, name)
         .long(name)
         .value_parser(ValueParser::unsigned(least, most))
-        .default_value(default)
 }
 
 /// A word that has its place, and may not be left out: a whole number from `least` to `most`.

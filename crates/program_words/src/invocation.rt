@@ -30,7 +30,10 @@ pub enum Invocation {
         last: u64,
     },
     /// To say what the log recovers.
-    Recover,
+    Recover {
+        /// The number of the log; none where it has none.
+        number: Option<u64>,
+    },
     /// To run a schedule on the core.
     Replay {
         /// Whether the log is handed on before a group is inserted.
@@ -103,7 +106,7 @@ fn invocation_by(command: &str, options: &ArgMatches) -> Option<Invocation>
 {
     match command {
         "run" => run_by(options),
-        "recover" => Some(Invocation::Recover),
+        "recover" => Some(recover_by(options)),
         "replay" => replay_by(options),
         "gen" => generate_by(options),
         _ => None,
@@ -120,6 +123,14 @@ fn run_by(options: &ArgMatches) -> Option<Invocation>
         batch_bytes: number_in("batch-bytes", options)?,
         last: number_in("last", options)?,
     })
+}
+
+fn recover_by(options: &ArgMatches) -> Invocation
+    ensures { result ≡ meaning.recover_by (rows_of (found_of options.now)) }
+{
+    Invocation::Recover {
+        number: number_in("number", options),
+    }
 }
 
 fn replay_by(options: &ArgMatches) -> Option<Invocation>

@@ -18,7 +18,9 @@ pub fn words_that_are_lawful()
     ensures run { lawful_in (codes "writepath" ∷ codes "run" ∷ codes "--last" ∷ codes "5" ∷ codes "--shards"
         ∷ codes "64" ∷ codes "--batch-bytes" ∷ codes "12" ∷ codes "--table" ∷ codes "shards"
         ∷ codes "--pipelined" ∷ codes "--group-bytes" ∷ codes "1" ∷ []) ≡ Some (Run true (Some 64) 1 12 5) }
-    ensures recover { lawful_in (codes "writepath" ∷ codes "recover" ∷ []) ≡ Some Recover }
+    ensures recover { lawful_in (codes "writepath" ∷ codes "recover" ∷ []) ≡ Some (Recover None) }
+    ensures recover_by_number { lawful_in (codes "writepath" ∷ codes "recover" ∷ codes "--number"
+        ∷ codes "4294967295" ∷ []) ≡ Some (Recover (Some 4294967295)) }
     ensures replay { lawful_in (codes "writepath" ∷ codes "replay" ∷ codes "--last" ∷ codes "5" ∷ codes "--pipelined"
         ∷ []) ≡ Some (Replay true 1048576 16777216 5) }
     ensures generate { lawful_in (codes "writepath" ∷ codes "gen" ∷ codes "--table" ∷ codes "shards" ∷ codes "7"
@@ -39,7 +41,11 @@ pub fn words_that_ask()
         ≡ Some (Run false (Some 64) 1048576 16777216 3) }
     ensures run_in_two_stages { invocation_in (codes "writepath" ∷ codes "run" ∷ codes "--pipelined" ∷ [])
         ≡ Some (Run true None 1048576 16777216 0) }
-    ensures recover { invocation_in (codes "writepath" ∷ codes "recover" ∷ []) ≡ Some Recover }
+    ensures recover { invocation_in (codes "writepath" ∷ codes "recover" ∷ []) ≡ Some (Recover None) }
+    ensures recover_by_number { invocation_in (codes "writepath" ∷ codes "recover" ∷ codes "--number" ∷ codes "7" ∷ [])
+        ≡ Some (Recover (Some 7)) }
+    ensures recover_by_most { invocation_in (codes "writepath" ∷ codes "recover" ∷ codes "--number=4294967295" ∷ [])
+        ≡ Some (Recover (Some 4294967295)) }
     ensures replay { invocation_in (codes "writepath" ∷ codes "replay" ∷ codes "--last" ∷ codes "7"
         ∷ codes "--group-bytes"
         ∷ codes "1" ∷ []) ≡ Some (Replay false 1 16777216 7) }
@@ -82,6 +88,16 @@ pub fn words_that_do_not_ask()
         ≡ None }
     ensures no_shards { invocation_in (codes "writepath" ∷ codes "run" ∷ codes "--shards" ∷ codes "0" ∷ []) ≡ None }
     ensures too_many_shards { invocation_in (codes "writepath" ∷ codes "run" ∷ codes "--shards" ∷ codes "65" ∷ [])
+        ≡ None }
+    ensures number_zero { invocation_in (codes "writepath" ∷ codes "recover" ∷ codes "--number" ∷ codes "0" ∷ [])
+        ≡ None }
+    ensures number_above_range { invocation_in (codes "writepath" ∷ codes "recover" ∷ codes "--number"
+        ∷ codes "4294967296" ∷ []) ≡ None }
+    ensures number_without_value { invocation_in (codes "writepath" ∷ codes "recover" ∷ codes "--number" ∷ [])
+        ≡ None }
+    ensures number_twice { invocation_in (codes "writepath" ∷ codes "recover" ∷ codes "--number" ∷ codes "7"
+        ∷ codes "--number" ∷ codes "7" ∷ []) ≡ None }
+    ensures number_of_replay { invocation_in (codes "writepath" ∷ codes "replay" ∷ codes "--number" ∷ codes "7" ∷ [])
         ≡ None }
     ensures unknown_table { invocation_in (codes "writepath" ∷ codes "run" ∷ codes "--table" ∷ codes "tree" ∷ [])
         ≡ None }

@@ -5,7 +5,9 @@ ghost use Rattle.std.specs.Prelude.{◌≡◌, ◌≤◌, length, IfOk, vec_len}
 use crate::changes::{cut_at, set_byte};
 use crate::checks::check;
 use crate::logs::EMPTY;
-use log_block::{BLOCK_LEN, FIRST, FULL, Fragmenter, LAST, MIDDLE, Seen, header, read_fragment};
+use log_block::{
+    BLOCK_LEN, FIRST, FULL, Fragmenter, LAST, MIDDLE, Seen, header, read_fragment, type_in,
+};
 use model_base::Damage;
 use std::alloc::{AllocError, Global};
 use std::test::Fail;
@@ -21,13 +23,13 @@ const LAST_ABC: [u8; 10] = [0xad, 0xb5, 0x75, 0x70, 0x03, 0x00, 0x04, b'a', b'b'
 
 #[test]
 fn makes_headers(rt: HostRuntime) {
-    check(&rt, 0, &header(FULL, &[]), &EMPTY);
-    check(&rt, 1, &header(FULL, b"abc").as_slice(), &&ABC[..7]);
+    check(&rt, 0, &header(None, FULL, &[]).as_slice(), &&EMPTY[..]);
+    check(&rt, 1, &header(None, FULL, b"abc").as_slice(), &&ABC[..7]);
 }
 
-// What is seen at the start of a block, of which the file has these bytes.
-fn seen_first(bytes: &[u8]) -> Seen {
-    read_fragment(&bytes[..bytes.len().min(BLOCK_LEN)], 0)
+/// What is seen at the start of a block, of which the file has these bytes, in a log with this number, if it has one.
+pub(crate) fn seen_first(number: Option<u32>, bytes: &[u8]) -> Seen {
+    read_fragment(number, &bytes[..bytes.len().min(BLOCK_LEN)], 0)
 }
 
 // A fragment, its type, and how many bytes it has.
@@ -47,7 +49,7 @@ fn reads_fragments(rt: HostRuntime) {
             start: 7,
             end: *end,
         };
-        check(&rt, row, &seen_first(bytes), &wanted);
+        check(&rt, row, &seen_first(None, bytes), &wanted);
     }
 }
 
@@ -65,7 +67,7 @@ const CUT: [(&[u8], usize, Seen); 6] = [
 fn reads_what_is_cut(rt: HostRuntime) -> Result<(), Fail> {
     // All rows so far were read as wanted.
     for (row, (bytes, len, wanted)) in CUT.iter().enumerate() {
-        check(&rt, row, &seen_first(cut_at(bytes, *len)?), wanted);
+        check(&rt, row, &seen_first(None, cut_at(bytes, *len)?), wanted);
     }
     Ok(())
 }
@@ -89,25 +91,30 @@ fn reads_what_is_changed(rt: HostRuntime) -> Result<(), Fail> {
     for (row, (fragment, at, byte, damage)) in CHANGED.iter().enumerate() {
         let mut changed = *fragment;
         set_byte(&mut changed, *at, *byte)?;
-        check(&rt, row, &seen_first(&changed), &Seen::Damage(*damage));
+        check(
+            &rt,
+            row,
+            &seen_first(None, &changed),
+            &Seen::Damage(*damage),
+        );
     }
     Ok(())
 }
 
-// A block of zeros.
-fn zeros(alloc: Global) -> Result<Vec<u8>, AllocError>
+/// A block of zeros.
+pub(crate) fn zeros(alloc: Global) -> Result<Vec<u8>, AllocError>
     ensures { IfOk result (λ block. vec_len block ≡ BLOCK_LEN) }
 {
     vec![in alloc; 0u8; BLOCK_LEN]
 }
 
-// What is seen at a place of a block, of which the file has so many bytes.
-fn seen_in(block: &[u8], there: usize, at: usize) -> Seen
+/// What is seen at a place of a block, of which the file has so many bytes, in a log with this number, if it has one.
+pub(crate) fn seen_in(number: Option<u32>, block: &[u8], there: usize, at: usize) -> Seen
     requires whole { length block.now ≡ BLOCK_LEN }
     requires in_block { there ≤ BLOCK_LEN }
     requires in_file { at ≤ there }
 {
-    read_fragment(&block[..there], at)
+    read_fragment(number, &block[..there], at)
 }
 
 // What is seen at a block's last six bytes, at its last one, behind it, and at the last six where the file
@@ -116,10 +123,10 @@ fn seen_at_the_end(block: &[u8]) -> [Seen; 4]
     requires { length block.now ≡ BLOCK_LEN }
 {
     [
-        seen_in(block, BLOCK_LEN, BLOCK_LEN - 6),
-        seen_in(block, BLOCK_LEN, BLOCK_LEN - 1),
-        seen_in(block, BLOCK_LEN, BLOCK_LEN),
-        seen_in(block, BLOCK_LEN - 3, BLOCK_LEN - 6),
+        seen_in(None, block, BLOCK_LEN, BLOCK_LEN - 6),
+        seen_in(None, block, BLOCK_LEN, BLOCK_LEN - 1),
+        seen_in(None, block, BLOCK_LEN, BLOCK_LEN),
+        seen_in(None, block, BLOCK_LEN - 3, BLOCK_LEN - 6),
     ]
 }
 
@@ -147,7 +154,7 @@ fn reads_the_end_of_a_block(rt: HostRuntime) -> Result<(), Fail> {
     check(
         &rt,
         2,
-        &seen_in(&block, BLOCK_LEN, BLOCK_LEN - 7),
+        &seen_in(None, &block, BLOCK_LEN, BLOCK_LEN - 7),
         &fragment,
     );
     Ok(())
@@ -161,9 +168,10 @@ fn next_cut(pieces: &mut Fragmenter) -> Cut {
     Some((piece.zeros, piece.kind, piece.start, piece.end))
 }
 
-// The first pieces of a record of `len` bytes that is written at that place of a block.
-fn cuts(place: usize, len: usize) -> [Cut; 4] {
-    let mut pieces = Fragmenter::new(place % BLOCK_LEN, len);
+// The first pieces of a record of `len` bytes that is written at that place of a block, in a log with this number, if
+// it has one.
+fn cuts(number: Option<u32>, place: usize, len: usize) -> [Cut; 4] {
+    let mut pieces = Fragmenter::new(number, place % BLOCK_LEN, len);
     [
         next_cut(&mut pieces),
         next_cut(&mut pieces),
@@ -172,10 +180,12 @@ fn cuts(place: usize, len: usize) -> [Cut; 4] {
     ]
 }
 
-// A place, the length of a record that is written there, and its pieces: one of 97270 bytes behind one of 1000, one
-// whose first fragment has room for its header alone, and one that is too long for a block by a byte.
-const SEVERAL: [(usize, usize, [Cut; 4]); 3] = [
+// The log's number, a place, the length of a record that is written there, and its pieces: one of 97270 bytes behind
+// one of 1000, one whose first fragment has room for its header alone, and one that is too long for a block by a byte.
+// Then the same two in a log with a number, whose header is four bytes longer.
+const SEVERAL: [(Option<u32>, usize, usize, [Cut; 4]); 5] = [
     (
+        None,
         1007,
         97270,
         [
@@ -186,11 +196,13 @@ const SEVERAL: [(usize, usize, [Cut; 4]); 3] = [
         ],
     ),
     (
+        None,
         32761,
         5,
         [Some((0, FIRST, 0, 0)), Some((0, LAST, 0, 5)), None, None],
     ),
     (
+        None,
         0,
         32762,
         [
@@ -200,33 +212,60 @@ const SEVERAL: [(usize, usize, [Cut; 4]); 3] = [
             None,
         ],
     ),
+    (
+        Some(7),
+        32757,
+        5,
+        [Some((0, 6, 0, 0)), Some((0, 8, 0, 5)), None, None],
+    ),
+    (
+        Some(7),
+        0,
+        32758,
+        [
+            Some((0, 6, 0, 32757)),
+            Some((0, 8, 32757, 32758)),
+            None,
+            None,
+        ],
+    ),
 ];
 
 #[test]
 fn cuts_records_into_several(rt: HostRuntime) {
-    for (row, (place, len, wanted)) in SEVERAL.iter().enumerate() {
-        check(&rt, row, &cuts(*place, *len), wanted);
+    for (row, (number, place, len, wanted)) in SEVERAL.iter().enumerate() {
+        check(&rt, row, &cuts(*number, *place, *len), wanted);
     }
 }
 
-// The place, the length, and the zeros before the one fragment. At first the records of 1000 and 8000 bytes around that
-// of 97270, then records in the last bytes of a block, and then those that leave 7, 6, 1 and 0 bytes of it.
-const ONE: [(usize, usize, usize); 9] = [
-    (0, 1000, 0),
-    (32762, 8000, 6),
-    (32761, 0, 0),
-    (32762, 5, 6),
-    (32767, 5, 1),
-    (0, 32754, 0),
-    (0, 32755, 0),
-    (0, 32760, 0),
-    (0, 32761, 0),
+// The log's number, the place, the length, and the zeros before the one fragment. At first the records of 1000 and 8000
+// bytes around that of 97270, then records in the last bytes of a block, and then those that leave 7, 6, 1 and 0 bytes
+// of it. The last are of logs with a number.
+const ONE: [(Option<u32>, usize, usize, usize); 13] = [
+    (None, 0, 1000, 0),
+    (None, 32762, 8000, 6),
+    (None, 32761, 0, 0),
+    (None, 32762, 5, 6),
+    (None, 32767, 5, 1),
+    (None, 0, 32754, 0),
+    (None, 0, 32755, 0),
+    (None, 0, 32760, 0),
+    (None, 0, 32761, 0),
+    (Some(7), 32757, 0, 0),
+    (Some(7), 32758, 5, 10),
+    (Some(7), 32761, 5, 7),
+    (Some(7), 0, 32757, 0),
 ];
 
 #[test]
 fn cuts_records_into_one(rt: HostRuntime) {
-    for (row, (place, len, zeros)) in ONE.iter().enumerate() {
-        let wanted = [Some((*zeros, FULL, 0, *len)), None, None, None];
-        check(&rt, row, &cuts(*place, *len), &wanted);
+    for (row, (number, place, len, zeros)) in ONE.iter().enumerate() {
+        let wanted = [
+            Some((*zeros, type_in(*number, FULL), 0, *len)),
+            None,
+            None,
+            None,
+        ];
+        check(&rt, row, &cuts(*number, *place, *len), &wanted);
     }
 }

@@ -1,7 +1,7 @@
 //! What is done to logs: they are cut, bytes of them are changed, and more is put behind them. A place in a log is
 //! counted from its first byte, which stands at 0.
 
-use log_block::{BLOCK_LEN, HEADER_LEN, MAX_PART_LEN, header};
+use log_block::{BLOCK_LEN, header, header_len, max_part_len};
 use std::alloc::AllocError;
 
 /// The first so many bytes of a log. It is an error where the log has fewer.
@@ -23,19 +23,20 @@ pub(crate) fn flip_byte(log: &mut [u8], at: usize) -> Result<(), &'static str> {
     Ok(())
 }
 
-/// Makes the checksum right of the fragment whose header stands at a place, by the length and the type in the header.
-/// It is an error where no whole fragment stands there.
+/// Makes the checksum right of the fragment whose header stands at a place, by the length and the type in the header,
+/// in a log without a number. It is an error where no whole fragment stands there.
 pub(crate) fn fix_checksum(log: &mut [u8], at: usize) -> Result<(), &'static str> {
     let rest = log.get_mut(at..).ok_or("the log has no such byte")?;
-    if rest.len() < HEADER_LEN {
+    let start = header_len(None);
+    if rest.len() < start {
         return Err("the header is cut");
     }
-    let len = usize::from(u16::from_le_bytes([rest[4], rest[5]]));
-    if rest.len() < HEADER_LEN + len || len > MAX_PART_LEN {
+    let end = start + usize::from(u16::from_le_bytes([rest[4], rest[5]]));
+    if rest.len() < end || end - start > max_part_len(None) {
         return Err("the part is cut");
     }
-    let fixed = header(rest[6], &rest[HEADER_LEN..HEADER_LEN + len]);
-    rest[..HEADER_LEN].copy_from_slice(&fixed);
+    let fixed = header(None, rest[6], &rest[start..end]);
+    rest[..start].copy_from_slice(fixed.as_slice());
     Ok(())
 }
 

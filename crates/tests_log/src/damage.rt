@@ -6,7 +6,7 @@ use crate::checks::check;
 use crate::logs::{
     EMPTY, LOG, SECOND_AT, Summary, batch_bytes, check_cuts, put_fragment, put_record, recovered,
 };
-use log_block::{FIRST, HEADER_LEN, LAST};
+use log_block::{FIRST, LAST, header_len};
 use model_base::{Damage, EndReason};
 use std::alloc::{AllocError, Global};
 use std::test::Fail;
@@ -64,7 +64,7 @@ fn stops_at_a_flipped_byte(rt: HostRuntime) -> Result<(), Fail> {
 // The first record, and zeros where a header would stand.
 fn zeros_behind(alloc: Global) -> Result<Vec<u8>, Fail> {
     let mut log = Vec::from_slice(alloc, cut_at(&LOG, SECOND_AT)?)?;
-    put_zeros(&mut log, HEADER_LEN)?;
+    put_zeros(&mut log, header_len(None))?;
     Ok(log)
 }
 

@@ -6,11 +6,13 @@
 //! - `changes`: what is done to logs, for the others
 //! - `logs`: logs and batches that several tests make, and what a log recovers, for the others
 //! - `blocks`: fragments, and how a record is cut into them
+//! - `numbered_fragments`: fragments of a log with a number
 //! - `reading`: a log's records one after another
 //! - `batches`: batches made and read
 //! - `writing`: groups on a disk, its faults and its crashes
 //! - `recovery`: what whole logs and those with another last record recover
 //! - `damage`: what logs recover that were cut or changed
+//! - `numbered_logs`: logs with a number, read and recovered
 #![tactic(auto)]
 
 #[cfg(test)]
@@ -25,6 +27,10 @@ mod checks;
 mod damage;
 #[cfg(test)]
 mod logs;
+#[cfg(test)]
+mod numbered_fragments;
+#[cfg(test)]
+mod numbered_logs;
 #[cfg(test)]
 mod reading;
 #[cfg(test)]

@@ -6,7 +6,7 @@ use base_devices::MemDisk;
 use base_maps::ByteMap;
 use log_batch::RecordView::{Deletion, LogData, SingleDeletion, Value};
 use log_batch::{AddError, Batch, RecordView};
-use log_block::{BLOCK_LEN, Fragmenter, MAX_PART_LEN, header};
+use log_block::{BLOCK_LEN, Fragmenter, header, max_part_len};
 use log_recovery::{End, RecoverError, recover};
 use model_base::EndReason;
 use std::alloc::{AllocError, Global};
@@ -46,24 +46,45 @@ pub(crate) const LOG: [u8; 48] = [
 /// Where the second record of `LOG` stands. The first has the bytes before it.
 pub(crate) const SECOND_AT: usize = 24;
 
-/// Puts a fragment of this type behind a log. It leaves the log as it is where the part is too long for one.
-pub(crate) fn put_fragment(log: &mut Vec<u8>, kind: u8, part: &[u8]) -> Result<(), AllocError> {
-    if part.len() <= MAX_PART_LEN {
-        log.extend_from_slice(&header(kind, part))?;
+/// Puts a fragment of this type behind a log with this number, if it has one. It leaves the log as it is where the part
+/// is too long for one.
+pub(crate) fn put_fragment_in(
+    number: Option<u32>,
+    log: &mut Vec<u8>,
+    kind: u8,
+    part: &[u8],
+) -> Result<(), AllocError> {
+    if part.len() <= max_part_len(number) {
+        log.extend_from_slice(header(number, kind, part).as_slice())?;
         log.extend_from_slice(part)?;
     }
     Ok(())
 }
 
-/// Puts a record behind a log, in its fragments, with the checksums that they should have.
-pub(crate) fn put_record(log: &mut Vec<u8>, bytes: &[u8]) -> Result<(), AllocError> {
-    for piece in Fragmenter::new(log.len() % BLOCK_LEN, bytes.len()) {
+/// The same, of a log without a number.
+pub(crate) fn put_fragment(log: &mut Vec<u8>, kind: u8, part: &[u8]) -> Result<(), AllocError> {
+    put_fragment_in(None, log, kind, part)
+}
+
+/// Puts a record behind a log with this number, if it has one, in its fragments, with the checksums that they should
+/// have.
+pub(crate) fn put_record_in(
+    number: Option<u32>,
+    log: &mut Vec<u8>,
+    bytes: &[u8],
+) -> Result<(), AllocError> {
+    for piece in Fragmenter::new(number, log.len() % BLOCK_LEN, bytes.len()) {
         put_zeros(log, piece.zeros)?;
         if let Some(part) = bytes.get(piece.start..piece.end) {
-            put_fragment(log, piece.kind, part)?;
+            put_fragment_in(number, log, piece.kind, part)?;
         }
     }
     Ok(())
+}
+
+/// The same, of a log without a number.
+pub(crate) fn put_record(log: &mut Vec<u8>, bytes: &[u8]) -> Result<(), AllocError> {
+    put_record_in(None, log, bytes)
 }
 
 /// The bytes of a batch with this header and these records, which may be none.
@@ -101,12 +122,21 @@ pub(crate) fn add_all(batch: &mut Batch, records: &[RecordView<'_>]) -> Result<(
 /// What a log recovers: how many groups, the last sequence, how many bytes are kept, where recovery ends, and why.
 pub(crate) type Summary = (usize, u64, u64, u64, EndReason);
 
-/// What these bytes recover.
-pub(crate) fn recovered(alloc: Global, bytes: &[u8]) -> Result<Summary, RecoverError> {
+/// What these bytes recover, as a log with this number, if it has one.
+pub(crate) fn recovered_as(
+    number: Option<u32>,
+    alloc: Global,
+    bytes: &[u8],
+) -> Result<Summary, RecoverError> {
     let mut disk = MemDisk::new(alloc, bytes.len(), bytes, &[])?;
-    let log = recover(alloc, &mut disk)?;
+    let log = recover(alloc, &mut disk, number)?;
     let End { at, why } = log.end;
     Ok((log.groups.len(), log.last, log.kept, at, why))
+}
+
+/// The same, as a log without a number.
+pub(crate) fn recovered(alloc: Global, bytes: &[u8]) -> Result<Summary, RecoverError> {
+    recovered_as(None, alloc, bytes)
 }
 
 /// Compares what a log recovers that is cut after so many bytes.

@@ -49,7 +49,7 @@ fn three_records(alloc: Global) -> Result<Vec<u8>, AllocError> {
 // What reading a log comes to, where one of the disk's calls fails: the first four answers.
 fn answers(alloc: Global, content: &[u8], fails: u64) -> Result<[Next; 4], Fail> {
     let mut disk = MemDisk::new(alloc, content.len(), content, &[fails])?;
-    let mut reader = LogReader::open(alloc)?;
+    let mut reader = LogReader::open(alloc, None)?;
     Ok([
         reader.next(&mut disk),
         reader.next(&mut disk),
@@ -87,7 +87,7 @@ fn check_next(
 #[test]
 fn reads_the_records_of_several_blocks(rt: HostRuntime) -> Result<(), Fail> {
     let mut disk = three_on_disk(rt.alloc())?;
-    let mut reader = LogReader::open(rt.alloc())?;
+    let mut reader = LogReader::open(rt.alloc(), None)?;
     for (byte, len, wanted) in &RECORDS {
         let record = vec![in rt.alloc(); *byte; *len]?;
         check_next(&rt, &mut reader, &mut disk, &record, *wanted);

@@ -60,7 +60,7 @@ fn log_of_two(alloc: Global, value: &[u8]) -> Result<Vec<u8>, Fail> {
 // The groups that a log recovers, and its map.
 fn whole(alloc: Global, log: &[u8]) -> Result<(Vec<GroupNote>, ByteMap), RecoverError> {
     let mut disk = MemDisk::new(alloc, log.len(), log, &[])?;
-    let found = recover(alloc, &mut disk)?;
+    let found = recover(alloc, &mut disk, None)?;
     Ok((found.groups, found.map))
 }
 
@@ -210,7 +210,7 @@ fn keeps_what_may_follow(rt: HostRuntime) -> Result<(), Fail> {
 fn fault_at(alloc: Global, call: u64) -> Result<Option<RecoverError>, Fail> {
     let log = cut_at(&LOG, SECOND_AT)?;
     let mut disk = MemDisk::new(alloc, log.len(), log, &[call])?;
-    Ok(recover(alloc, &mut disk).err())
+    Ok(recover(alloc, &mut disk, None).err())
 }
 
 #[test]

@@ -2,9 +2,8 @@
 
 use base_bytes::Bytes;
 use base_maps::ByteMap;
-use log_recovery::{End, Recovered};
-use model_base::{Damage, EndReason, NoMemory, Refusal};
-use program_text::{disk_fault, outcome_text, recovered_text, summary_text};
+use model_base::{NoMemory, Refusal};
+use program_text::{disk_fault, outcome_text, summary_text};
 use run_batches::BatchList;
 use run_outcome::{History, Outcome, Reply};
 use std::alloc::Global;
@@ -28,20 +27,6 @@ fn one_fault(alloc: Global) -> Result<Outcome<ByteMap>, NoMemory> {
     })
 }
 
-/// A log that ends where one with another number begins. None is read so yet.
-fn old_log(alloc: Global) -> Recovered {
-    Recovered {
-        groups: Vec::new(alloc),
-        map: ByteMap::new(alloc),
-        last: 0,
-        kept: 0,
-        end: End {
-            at: 24,
-            why: EndReason::Broken(Damage::OldLog(7)),
-        },
-    }
-}
-
 fn check(rt: &impl Abort, text: Result<Bytes, NoMemory>, want: &str) -> Result<(), Fail> {
     let text = text?;
     assert_eq!(rt; text.as_slice(), want.as_bytes());
@@ -56,22 +41,15 @@ fn summary(alloc: Global) -> Result<Bytes, NoMemory> {
     summary_text(alloc, &one_fault(alloc)?, 18_446_744_073_709_551_616)
 }
 
-fn recovered(alloc: Global) -> Result<Bytes, NoMemory> {
-    recovered_text(alloc, &old_log(alloc))
-}
-
 const OUTCOME: &str =
     "client 1\nno logfault 1\nnil 0\nno memory\nhistory 0\nstate 0 0\nlog 0 fault 1\n";
 
 const SUMMARY: &str = "clients 1\nbatches 0\nrecords 0\nlast 0\nkeys 0\nsum 18446744073709551616\n";
-
-const RECOVERED: &str = "groups 0\nstate 0 0\nend 24 oldlog 7\n";
 
 #[test]
 fn prints_what_no_call_comes_to(rt: HostRuntime) -> Result<(), Fail> {
     let alloc = rt.alloc();
     check(&rt, outcome(alloc), OUTCOME)?;
     check(&rt, summary(alloc), SUMMARY)?;
-    check(&rt, recovered(alloc), RECOVERED)?;
     check(&rt, disk_fault(alloc, 2), "disk fault 2\n")
 }

@@ -154,7 +154,7 @@ fn check_row<R: Threads + Wait + rt::Clock + Abort + Sync>(
     let mut disk = ended.disk;
     let content = disk.content();
     assert_eq!(rt; (content.len(), content.get(7..19)), (24, Some(row.start)));
-    let Ok(found) = recover(alloc, &mut disk) else {
+    let Ok(found) = recover(alloc, &mut disk, None) else {
         panic!(rt; "not recovered")
     };
     assert_eq!(rt; (found.groups.len(), found.last, found.kept), (1, last, 24));

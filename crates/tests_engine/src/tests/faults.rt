@@ -66,7 +66,7 @@ fn check_fault<R: Threads + Wait + rt::Clock + Abort + Sync>(
     }
     let ended = ended(rt, alloc, &[fails], 0, 1, pipelined, &scripts);
     let mut disk = safe_part(rt, alloc, ended.disk);
-    let Ok(found) = recover(alloc, &mut disk) else {
+    let Ok(found) = recover(alloc, &mut disk, None) else {
         panic!(rt; "not recovered")
     };
     for told in &ended.notes {

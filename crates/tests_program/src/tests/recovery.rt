@@ -15,8 +15,19 @@ pub(super) fn check_recovery<R: Threads + Wait + rt::Clock + Abort + Sync>(
     content: &[u8],
     want: &str,
 ) {
+    check_recovery_by(rt, alloc, "recover", content, want);
+}
+
+/// The same by these words.
+fn check_recovery_by<R: Threads + Wait + rt::Clock + Abort + Sync>(
+    rt: &R,
+    alloc: Global,
+    words: &str,
+    content: &[u8],
+    want: &str,
+) {
     let given = Given {
-        words: "recover",
+        words,
         text: b"",
         content,
         ..PLAIN
@@ -54,5 +65,34 @@ const RECOVERED: [(&[u8], &str); 7] = [
 fn prints_what_a_log_recovers(rt: HostRuntime) {
     for (content, want) in RECOVERED {
         check_recovery(&rt, rt.alloc(), content, want);
+    }
+}
+
+/// A log with the number 8, of one record, that was written over the first of two records of a log with the number 7.
+const WRITTEN_OVER: &[u8] =
+    b"\x13\x6d\x32\x7d\x11\x00\x05\x08\x00\x00\x00\x01\x00\x00\x00\x00\x00\x00\x00\x01\x00\x00\x00\x01\x01\x63\x01\x33\
+    \xd4\x65\xc3\xae\x11\x00\x05\x07\x00\x00\x00\x02\x00\x00\x00\x00\x00\x00\x00\x01\x00\x00\x00\x01\x01\x62\x01\x32";
+
+/// Words, and what that log recovers by them.
+const BY_NUMBER: [(&str, &str); 4] = [
+    (
+        "recover --number 8",
+        "groups 1\n1 1 17\nstate 1 1\n63 33\nend 28 oldlog 7\n",
+    ),
+    (
+        "recover --number 7",
+        "groups 0\nstate 0 0\nend 0 oldlog 8\n",
+    ),
+    (
+        "recover --number 4294967295",
+        "groups 0\nstate 0 0\nend 0 oldlog 8\n",
+    ),
+    ("recover", "groups 0\nstate 0 0\nend 0 badtype 5\n"),
+];
+
+#[test]
+fn reads_a_log_by_its_number(rt: HostRuntime) {
+    for (words, want) in BY_NUMBER {
+        check_recovery_by(&rt, rt.alloc(), words, WRITTEN_OVER, want);
     }
 }

@@ -6,7 +6,7 @@ use Rattle.log_block.proofs.pieces.piece_behind.Goals as goal
 
 pub returns-then-start-len : goal.returns-then-start-len
 returns-then-start-len c =
-    ap (λ (q : Piece). cutting.still_to_come (Some q) c.args.len) c.later_piece.ensures ∙ sym (pieces_behind c.args.start c.args.len c.if-start-len.true)
+    ap (λ (q : Piece). cutting.still_to_come c.args.number (Some q) c.args.len) c.later_piece.ensures ∙ sym (pieces_behind c.args.number c.args.start c.args.len c.if-start-len.true)
 
 pub returns-else-start-len : goal.returns-else-start-len
-returns-else-start-len c = sym (none_behind c.args.start c.args.len c.if-start-len.false)
+returns-else-start-len c = sym (none_behind c.args.number c.args.start c.args.len c.if-start-len.false)

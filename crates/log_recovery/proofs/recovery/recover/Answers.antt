@@ -8,6 +8,7 @@ use Rattle.log_recovery.proofs.recovery.recover.Goals as goal
 
 pub loop-start-preserved : goal.loop-start-preserved
 loop-start-preserved g c =
+    let number = c.args.number in
     let told = g.D.Disk.told c.args.disk.now in
     let before = g.D.Disk.told c.loop-start.disk in
     let old = c.loop-start.invariant in
@@ -15,37 +16,40 @@ loop-start-preserved g c =
     let log = c.loop-start.log in
     let bytes = c.record.result.now in
     let adds = kept_adds c.loop-start.kept c.keep.new.self bytes c.in-Record.end c.in_ok-why-in-Record.field-0 (c.in_ok-why-in-Record.ensures {u = tt}) c.in_default.is in
-    let says = reads before told log c.next.new.self.in_hand (next.Record c.in-Record.start c.in-Record.end) old.disk.same old.going old.follows now.reads in
+    let says = reads number before told log c.next.new.self.in_hand (next.Record c.in-Record.start c.in-Record.end) old.number old.disk.same old.going old.follows now.reads in
     record {
       place = adds.end_is ∙ sym (now.place old.going);
+      number = now.number ∙ old.number;
       going = now.stopped old.going;
       follows = follows_on before told log c.next.new.self old.disk.same old.follows now.follows;
-      front = front_more told c.loop-start.kept c.keep.new.self log.place c.in-Record.start c.in-Record.end c.next.new.self.in_hand bytes old.place c.record.ensures adds old.front says;
+      front = front_more number told c.loop-start.kept c.keep.new.self log.place c.in-Record.start c.in-Record.end c.next.new.self.in_hand bytes old.place c.record.ensures adds old.front says;
       worked = now.fault old.going ∙ old.worked;
       disk = more_read g.D.Disk _ _ _ old.disk now.disk;
     }
 
 pub returns-in-Some-clause-recovered : goal.returns-in-Some-clause-recovered
 returns-in-Some-clause-recovered g c =
+    let number = c.args.number in
     let told = g.D.Disk.told c.args.disk.now in
     let before = g.D.Disk.told c.loop-start.disk in
     let old = c.loop-start.invariant in
     let log = c.loop-start.log in
     let bytes = c.record.result.now in
     let refuses = kept_refuses c.loop-start.kept c.keep.new.self bytes c.in-Record.end c.in_ok-why-in-Record.field-0 c.in-Some.why (c.in_ok-why-in-Record.ensures {u = tt}) c.in-Some.is in
-    let says = reads before told log c.next.new.self.in_hand (next.Record c.in-Record.start c.in-Record.end) old.disk.same old.going old.follows c.in-Record.ensures.reads in
-    subst (λ (r : Recovered). IfSome told (λ d. HasRecovered d.content r)) (sym c.answer_of.ensures)
-    (refused told c.loop-start.kept c.keep.new.self log.place c.in-Record.start c.in-Record.end c.next.new.self.in_hand bytes c.in-Some.why old.place c.record.ensures refuses old.front says)
+    let says = reads number before told log c.next.new.self.in_hand (next.Record c.in-Record.start c.in-Record.end) old.number old.disk.same old.going old.follows c.in-Record.ensures.reads in
+    subst (λ (r : Recovered). IfSome told (λ d. HasRecovered number d.content r)) (sym c.answer_of.ensures)
+    (refused number told c.loop-start.kept c.keep.new.self log.place c.in-Record.start c.in-Record.end c.next.new.self.in_hand bytes c.in-Some.why old.place c.record.ensures refuses old.front says)
 
 pub returns-in-End-clause-recovered : goal.returns-in-End-clause-recovered
 returns-in-End-clause-recovered g c =
+    let number = c.args.number in
     let told = g.D.Disk.told c.args.disk.now in
     let before = g.D.Disk.told c.loop-start.disk in
     let old = c.loop-start.invariant in
     let log = c.loop-start.log in
-    let says = reads before told log c.next.new.self.in_hand (next.End c.in-End.at c.in-End.why) old.disk.same old.going old.follows c.in-End.ensures.reads in
-    subst (λ (r : Recovered). IfSome told (λ d. HasRecovered d.content r)) (sym c.answer_of-in-End.ensures)
-    (ended told c.loop-start.kept log.place c.in-End.at c.next.new.self.in_hand c.in-End.why old.place old.front says)
+    let says = reads number before told log c.next.new.self.in_hand (next.End c.in-End.at c.in-End.why) old.number old.disk.same old.going old.follows c.in-End.ensures.reads in
+    subst (λ (r : Recovered). IfSome told (λ d. HasRecovered number d.content r)) (sym c.answer_of-in-End.ensures)
+    (ended number told c.loop-start.kept log.place c.in-End.at c.next.new.self.in_hand c.in-End.why old.place old.front says)
 
 pub returns-in-Some-clause-worked : goal.returns-in-Some-clause-worked
 returns-in-Some-clause-worked g c = let old = c.loop-start.invariant in c.in-Record.ensures.fault old.going ∙ old.worked

@@ -8,9 +8,10 @@ use Rattle.log_recovery.proofs.recovery.recover.Given as goal
 abbrev pub invariant-loop-start : goal.invariant-loop-start
 invariant-loop-start g l = record {
   place : l.kept.end ≡ l.log.place;
+  number : l.log.number ≡ l.fn.number;
   going : l.log.stopped ≡ None;
   follows : IfSome (g.D.Disk.told l.fn.disk) (λ d. Follows d.content l.log);
-  front : IfSome (g.D.Disk.told l.fn.disk) (λ d. KeepsFront d.content l.kept);
+  front : IfSome (g.D.Disk.told l.fn.disk) (λ d. KeepsFront l.fn.number d.content l.kept);
   worked : g.D.Disk.faults l.disk ≡ g.D.Disk.faults l.fn.disk;
   disk : OnlyReads g.D.Disk l.fn.disk l.disk;
 }

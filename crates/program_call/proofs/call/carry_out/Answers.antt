@@ -1,7 +1,7 @@
 -- What each command's part promises is what is promised of the command. In the parts of other commands something else
 -- is asked for.
 use Rattle.std.proofs.Common.{refl, sym, ◌∙◌}
-use Rattle.program_call.proofs.Invocation.{of_run, of_generate, of_replay, is_run, is_generate, is_recover, is_replay, not_another}
+use Rattle.program_call.proofs.Invocation.{of_run, of_generate, of_recover, of_replay, is_run, is_generate, is_recover, is_replay, not_another}
 use Rattle.program_call.proofs.call.carry_out.Goals as goal
 
 pub returns-in-Run-clause-run : goal.returns-in-Run-clause-run
@@ -36,9 +36,11 @@ returns-in-Generate-clause-generate g c = λ seed clients batches asked.
     })
 
 pub returns-in-Recover-clause-recover : goal.returns-in-Recover-clause-recover
-returns-in-Recover-clause-recover g c = λ asked.
+returns-in-Recover-clause-recover g c = λ wanted asked.
+    let given = c.in-Recover in
     let does = c.recover_log.ensures in
-    record {
+    let same = of_recover c.args.asked given.number wanted given.is asked ∙ sym c.log_number.ensures in
+    rw same (record {
       one = does.status;
       source_untouched = refl;
       as_before = does.disk_as_before;
@@ -50,7 +52,7 @@ returns-in-Recover-clause-recover g c = λ asked.
       refused = does.refused;
       silent = does.silent;
       completes = does.completes;
-    }
+    })
 
 pub returns-in-Replay-clause-replay : goal.returns-in-Replay-clause-replay
 returns-in-Replay-clause-replay g c = λ wanted asked.
@@ -76,7 +78,7 @@ pub returns-in-Run-clause-generate : goal.returns-in-Run-clause-generate
 returns-in-Run-clause-generate g c = λ seed clients batches asked. absurd (not_another is_run _ _ _ c.in-Run.is asked.2 refl refl)
 
 pub returns-in-Run-clause-recover : goal.returns-in-Run-clause-recover
-returns-in-Run-clause-recover g c = λ asked. absurd (not_another is_run _ _ _ c.in-Run.is asked refl refl)
+returns-in-Run-clause-recover g c = λ number asked. absurd (not_another is_run _ _ _ c.in-Run.is asked refl refl)
 
 pub returns-in-Run-clause-replay : goal.returns-in-Run-clause-replay
 returns-in-Run-clause-replay g c = λ options asked. absurd (not_another is_run _ _ _ c.in-Run.is asked refl refl)
@@ -85,7 +87,7 @@ pub returns-in-Generate-clause-run : goal.returns-in-Generate-clause-run
 returns-in-Generate-clause-run g c = λ options asked. absurd (not_another is_generate _ _ _ c.in-Generate.is asked.2 refl refl)
 
 pub returns-in-Generate-clause-recover : goal.returns-in-Generate-clause-recover
-returns-in-Generate-clause-recover g c = λ asked. absurd (not_another is_generate _ _ _ c.in-Generate.is asked refl refl)
+returns-in-Generate-clause-recover g c = λ number asked. absurd (not_another is_generate _ _ _ c.in-Generate.is asked refl refl)
 
 pub returns-in-Generate-clause-replay : goal.returns-in-Generate-clause-replay
 returns-in-Generate-clause-replay g c = λ options asked. absurd (not_another is_generate _ _ _ c.in-Generate.is asked refl refl)
@@ -106,4 +108,4 @@ pub returns-in-Replay-clause-generate : goal.returns-in-Replay-clause-generate
 returns-in-Replay-clause-generate g c = λ seed clients batches asked. absurd (not_another is_replay _ _ _ c.in-Replay.is asked.2 refl refl)
 
 pub returns-in-Replay-clause-recover : goal.returns-in-Replay-clause-recover
-returns-in-Replay-clause-recover g c = λ asked. absurd (not_another is_replay _ _ _ c.in-Replay.is asked refl refl)
+returns-in-Replay-clause-recover g c = λ number asked. absurd (not_another is_replay _ _ _ c.in-Replay.is asked refl refl)

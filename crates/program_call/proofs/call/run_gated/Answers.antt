@@ -16,7 +16,7 @@ returns-in-Ok-clause-generate g c = λ seed clients batches asked.
     c.carry_out.ensures.generate seed clients batches (asked.0, asked.1, is_asked _ _ _ c.in-Ok.ensures.ok asked.2)
 
 pub returns-in-Ok-clause-recover : goal.returns-in-Ok-clause-recover
-returns-in-Ok-clause-recover g c = λ asked. c.carry_out.ensures.recover (is_asked _ _ _ c.in-Ok.ensures.ok asked)
+returns-in-Ok-clause-recover g c = λ number asked. c.carry_out.ensures.recover number (is_asked _ _ _ c.in-Ok.ensures.ok asked)
 
 pub returns-in-Ok-clause-replay : goal.returns-in-Ok-clause-replay
 returns-in-Ok-clause-replay g c = λ options asked.
@@ -29,7 +29,7 @@ pub returns-in-Err-Usage-clause-generate : goal.returns-in-Err-Usage-clause-gene
 returns-in-Err-Usage-clause-generate g c = λ seed clients batches asked. absurd (not_nothing _ _ asked.2 ((rw c.in-Err-Usage.field-0-is at c.in-Err-Usage.ensures.usage) refl))
 
 pub returns-in-Err-Usage-clause-recover : goal.returns-in-Err-Usage-clause-recover
-returns-in-Err-Usage-clause-recover g c = λ asked. absurd (not_nothing _ _ asked ((rw c.in-Err-Usage.field-0-is at c.in-Err-Usage.ensures.usage) refl))
+returns-in-Err-Usage-clause-recover g c = λ number asked. absurd (not_nothing _ _ asked ((rw c.in-Err-Usage.field-0-is at c.in-Err-Usage.ensures.usage) refl))
 
 pub returns-in-Err-Usage-clause-replay : goal.returns-in-Err-Usage-clause-replay
 returns-in-Err-Usage-clause-replay g c = λ options asked. absurd (not_nothing _ _ asked ((rw c.in-Err-Usage.field-0-is at c.in-Err-Usage.ensures.usage) refl))
@@ -43,8 +43,8 @@ returns-clause-generate g c = λ seed clients batches asked.
     rw c.end_with-in-Err-NoMemory.ensures.disk (none_generated g.S.Source g.D.Disk g.K.Sink c.args.source.now c.args.disk c.args.sink.now _ c.end_with-in-Err-NoMemory.ensures.status seed clients batches)
 
 pub returns-clause-recover : goal.returns-clause-recover
-returns-clause-recover g c = λ asked.
-    rw c.end_with-in-Err-NoMemory.ensures.disk (none_recovered g.S.Source g.D.Disk g.K.Sink c.args.source.now c.args.disk c.args.sink.now _ c.end_with-in-Err-NoMemory.ensures.status)
+returns-clause-recover g c = λ number asked.
+    rw c.end_with-in-Err-NoMemory.ensures.disk (none_recovered g.S.Source g.D.Disk g.K.Sink c.args.source.now c.args.disk c.args.sink.now _ c.end_with-in-Err-NoMemory.ensures.status number)
 
 pub returns-clause-replay : goal.returns-clause-replay
 returns-clause-replay g c = λ options asked.

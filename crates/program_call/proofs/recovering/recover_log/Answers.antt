@@ -20,10 +20,10 @@ returns-clause-no_fault g c = λ zero.
 
 pub returns-clause-recovered : goal.returns-clause-recovered
 returns-clause-recovered g c =
-    recovery_whole (g.K.Sink.faults c.args.sink.now) (g.K.Sink.faults c.tell_recovery.new.sink) c.end_with.result.status (g.K.Sink.taken c.args.sink.now) (g.K.Sink.taken c.tell_recovery.new.sink)
+    recovery_whole c.args.number (g.K.Sink.faults c.args.sink.now) (g.K.Sink.faults c.tell_recovery.new.sink) c.end_with.result.status (g.K.Sink.taken c.args.sink.now) (g.K.Sink.taken c.tell_recovery.new.sink)
     (g.D.Disk.told c.args.disk) c.recover-found.result c.tell_recovery.result c.end_with.ensures.status c.recover-found.ensures.recovered c.tell_recovery.ensures
 
 pub returns-clause-recovered_prefix : goal.returns-clause-recovered_prefix
 returns-clause-recovered_prefix g c =
-    recovery_front (g.K.Sink.faults c.args.sink.now) (g.K.Sink.faults c.tell_recovery.new.sink) c.end_with.result.status (g.K.Sink.taken c.args.sink.now) (g.K.Sink.taken c.tell_recovery.new.sink)
+    recovery_front c.args.number (g.K.Sink.faults c.args.sink.now) (g.K.Sink.faults c.tell_recovery.new.sink) c.end_with.result.status (g.K.Sink.taken c.args.sink.now) (g.K.Sink.taken c.tell_recovery.new.sink)
     (g.D.Disk.told c.args.disk) c.recover-found.result c.tell_recovery.result c.end_with.ensures.status c.recover-found.ensures.recovered c.tell_recovery.ensures

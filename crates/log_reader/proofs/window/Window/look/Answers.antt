@@ -9,21 +9,22 @@ use Rattle.log_reader.proofs.window.Window.look.Goals as goal
 
 pub loop-self-preserved : goal.loop-self-preserved
 loop-self-preserved g c =
+    let number = c.args.number in
     let old = c.args.self.now in
     let mid = c.loop-self.self in
     let w = c.fill.new.self in
     let ok = c.in_ok-fill.ensures in
     let told = g.D.Disk.told c.args.disk.now in
     let read = ok.read in
-    let on = if_both told (Stands old mid) (λ d. IsOn d.content mid → IsOn d.content w) (Stands old w) c.loop-self.invariant.on
+    let on = if_both told (Stands number old mid) (λ d. IsOn d.content mid → IsOn d.content w) (Stands number old w) c.loop-self.invariant.on
     (subst (λ (t : Option Disk). IfSome t (λ d. IsOn d.content mid → IsOn d.content w)) c.loop-self.invariant.disk.same ok.on)
-    (λ d stands fills. filled d old mid w ok.start ok.at stands fills) in
+    (λ d stands fills. filled number d old mid w ok.start ok.at stands fills) in
     let full : length (bytes_of w) ≡ 32768 = omega (arith, length-bytes w ok.sound, ok.sound.in_room, c.if-self-lt-BLOCK_LEN.false) in
     record {
       sound = c.go_on.ensures.sound;
-      on = if_one told (Stands old w) (Stands old c.go_on.new.self) on
-          (λ d stands. goes_on d old w c.go_on.new.self read full c.go_on.ensures.begins c.go_on.ensures.on stands
-          (seen_from d old w c.deref.result.now seen.End c.deref.ensures.value read stands c.in-End.ensures.seen));
+      on = if_one told (Stands number old w) (Stands number old c.go_on.new.self) on
+          (λ d stands. goes_on number d old w c.go_on.new.self read full c.go_on.ensures.begins c.go_on.ensures.on stands
+          (seen_from number d old w c.deref.result.now seen.End c.deref.ensures.value read stands c.in-End.ensures.seen));
       forward = omega (arith, c.loop-self.invariant.forward, c.go_on.ensures.begins, ok.start, ok.at, ok.sound.inside, ok.sound.in_room);
       worked = ok.worked ∙ c.loop-self.invariant.worked;
       disk = more_read g.D.Disk _ _ _ c.loop-self.invariant.disk ok.disk;
@@ -31,21 +32,22 @@ loop-self-preserved g c =
 
 pub returns-in_default : goal.returns-in_default
 returns-in_default g c =
+    let number = c.args.number in
     let old = c.args.self.now in
     let mid = c.loop-self.self in
     let w = c.fill.new.self in
     let ok = c.in_ok-fill.ensures in
     let told = g.D.Disk.told c.args.disk.now in
     let read = ok.read in
-    let on = if_both told (Stands old mid) (λ d. IsOn d.content mid → IsOn d.content w) (Stands old w) c.loop-self.invariant.on
+    let on = if_both told (Stands number old mid) (λ d. IsOn d.content mid → IsOn d.content w) (Stands number old w) c.loop-self.invariant.on
     (subst (λ (t : Option Disk). IfSome t (λ d. IsOn d.content mid → IsOn d.content w)) c.loop-self.invariant.disk.same ok.on)
-    (λ d stands fills. filled d old mid w ok.start ok.at stands fills) in
+    (λ d stands fills. filled number d old mid w ok.start ok.at stands fills) in
     record {
       sound = ok.sound;
-      seen = if_one told (Stands old w) (λ d. IsOn d.content old → SeesNext d.content (offset_of old) w c.see.result) on
-          (λ d stands begins. not_end d.content (offset_of old) w.start (bytes_of w) w.at c.see.result c.in_default.not-End
-          (seen_from d old w c.deref.result.now c.see.result c.deref.ensures.value read stands c.see.ensures.seen begins));
-      on = if_one told (Stands old w) (λ d. IsOn d.content old → IsOn d.content w) on (λ d stands begins. (stands begins).0);
+      seen = if_one told (Stands number old w) (λ d. IsOn d.content old → SeesNext number d.content (offset_of old) w c.see.result) on
+          (λ d stands begins. not_end number d.content (offset_of old) w.start (bytes_of w) w.at c.see.result c.in_default.not-End
+          (seen_from number d old w c.deref.result.now c.see.result c.deref.ensures.value read stands c.see.ensures.seen begins));
+      on = if_one told (Stands number old w) (λ d. IsOn d.content old → IsOn d.content w) on (λ d stands begins. (stands begins).0);
       part = lies w c.deref.result.now c.see.result ok.sound c.deref.ensures.value c.see.ensures.lies;
       forward = omega (arith, c.loop-self.invariant.forward, ok.start, ok.at);
       worked = ok.worked ∙ c.loop-self.invariant.worked;

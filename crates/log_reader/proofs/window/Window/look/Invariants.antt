@@ -8,7 +8,7 @@ use Rattle.log_reader.proofs.window.Window.look.Given as goal
 abbrev pub invariant-loop-self : goal.invariant-loop-self
 invariant-loop-self g l = record {
   sound : IsSound l.self;
-  on : IfSome (g.D.Disk.told l.fn.disk) (λ d. IsOn d.content l.fn.self → IsOn d.content l.self × Reaches d.content (offset_of l.fn.self) (offset_of l.self));
+  on : IfSome (g.D.Disk.told l.fn.disk) (λ d. IsOn d.content l.fn.self → IsOn d.content l.self × Reaches l.fn.number d.content (offset_of l.fn.self) (offset_of l.self));
   forward : offset_of l.fn.self ≤ offset_of l.self;
   worked : g.D.Disk.faults l.disk ≡ g.D.Disk.faults l.fn.disk;
   disk : OnlyReads g.D.Disk l.fn.disk l.disk;
