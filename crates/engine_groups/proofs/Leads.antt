@@ -58,7 +58,7 @@ module _ {D T C S U P : Type 0} {ghosts : Ghosts D} where
 
   -- the log, with the note, as it is leadership
   abbrev pub LogIn : EngineAtOpening D T C ghosts → Leadership D T C S U P ghosts → List (List MemberVersions) → List (Handling Request Answer) → Type 0
-  LogIn about leadership published handled = LogStandsFor about.opened.value about.start about.clients about.group_bytes (seen_by_note leadership.asked) leadership.path.log published leadership.path.last handled
+  LogIn about leadership published handled = LogStandsFor about.opened.value about.start about.clients about.group_bytes (seen_by_note leadership.asked) leadership.path.log.value published leadership.path.last handled
 
   module _ (about : EngineAtOpening D T C ghosts) (leadership : Leadership D T C S U P ghosts) (published : List (List MemberVersions)) where
     -- what holds once a leader has answered its group
@@ -74,7 +74,7 @@ module _ {D T C S U P : Type 0} {ghosts : Ghosts D} where
       answered = path.consistent.answered;
       handed_back = all_append HandsBack seen new old.handed_back handed_back;
       shown = all_append (ShowsDelay about.controller.value) seen new old.shown shown;
-      written = record { calls = path.calls; log = leadership.path.log; wrote = path.wrote; worked = w.worked; lost = w.lost; both = w.both; parts = w.parts };
+      written = record { calls = path.calls; log = leadership.path.log.value; wrote = path.wrote; worked = w.worked; lost = w.lost; both = w.both; parts = w.parts };
     }
 
     pub has_led : (own : QueuedWriter Request) (group : List (QueuedWriter Request)) (seen : List (Handling Request Answer)) (xs : List (ℕ × Request)) (ys : List (ℕ × Answer)) → xs ≡ asks own group → InOrder xs ys

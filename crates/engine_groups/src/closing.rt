@@ -143,6 +143,9 @@ impl<
         });
         laws::written_by_calls::<Device>();
         laws::closings();
-        Closed { log, last }
+        Closed {
+            log: Box::into_inner(log),
+            last,
+        }
     }
 }

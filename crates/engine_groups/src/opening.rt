@@ -27,7 +27,7 @@ use line_rule::Start;
 use line_writers::{Lists, Writer, WriterList};
 use log_writer::LogWriter;
 use model_base::{MAX_CLIENTS, MAX_SIZE, Options};
-use std::alloc::Global;
+use std::alloc::{AllocFailed, Global};
 use std::snapshot::Snapshot;
 use table_calls::{Seats, Table};
 use table_tree::{Nodes, Parts};
@@ -131,7 +131,7 @@ fn given_back<Device: Disk, Versions: Table<Nodes, Parts>, Time: Drop, Watch>(
 ) -> OpenRefused<Device, Versions, Time, Watch>
     requires turn { ((u : Versions.Turn) × (leadership.turn ≡ Some u) × (right.turn ≡ None))
         ⊎ ((u : Versions.Turn) × (leadership.turn ≡ None) × (right.turn ≡ Some u)) }
-    ensures same { (result.log ≡ leadership.path.log) × (result.clock ≡ leadership.clock) × (result.table ≡ table)
+    ensures same { (result.log ≡ leadership.path.log.value) × (result.clock ≡ leadership.clock) × (result.table ≡ table)
         × (result.seats.clients ≡ seats) × (result.gate ≡ gate) }
     ensures turn { ((leadership.turn ≡ Some result.seats.turn) × (right.turn ≡ None))
         ⊎ ((leadership.turn ≡ None) × (right.turn ≡ Some result.seats.turn)) }
@@ -145,7 +145,7 @@ fn given_back<Device: Disk, Versions: Table<Nodes, Parts>, Time: Drop, Watch>(
     let Right { turn: apart } = right;
     let turn = one_turn(turn, apart);
     OpenRefused {
-        log,
+        log: Box::into_inner(log),
         clock,
         table,
         seats: Seats {
@@ -209,6 +209,13 @@ impl<
         let Ok(clients) = Vec::with_capacity(alloc, count as usize) else {
             return Err(OpenRefused::of(log, clock, table, seats, gate));
         };
+        let log = match Box::new(alloc, log) {
+            Ok(log) => log,
+            Err(AllocFailed { value: log }) => {
+                clients.destroy_empty();
+                return Err(OpenRefused::of(log, clock, table, seats, gate));
+            }
+        };
         Self::open_with(
             alloc, log, clock, table, seats, gate, options, pipelined, controller, passes, layouts,
             clients,
@@ -218,7 +225,7 @@ impl<
     /// An engine with all that it needs but the list, and its clients.
     fn open_with(
         alloc: Global,
-        log: LogWriter<Device>,
+        log: Box<LogWriter<Device>>,
         clock: Time,
         table: Versions,
         seats: Seats<Versions::Seat, Versions::Turn>,
@@ -240,7 +247,7 @@ impl<
             × (options.batch_bytes ≤ MAX_SIZE) }
         requires clients { (0 < (Versions.opening table).clients)
             × ((Versions.opening table).clients ≤ MAX_CLIENTS) }
-        requires log { (disk : Device) × HasOpened disk log }
+        requires log { (disk : Device) × HasOpened disk log.value }
         requires turn { Versions.our_turn table seats.turn × (Versions.history seats.turn ≡ []) }
         requires seats { AreSeatsAtStart Versions.Table table (Versions.opening table).clients
             seats.clients.items }
@@ -248,16 +255,16 @@ impl<
         requires layouts { AreRoomy (Versions.opening table).clients layouts.items
             × (length layouts.items ≡ (Versions.opening table).clients) }
         requires room { (clients.items ≡ []) × ((Versions.opening table).clients ≤ vec_capacity clients) }
-        ensures engine { IfOk result (λ r. (r.0.table ≡ table) × (opened_log r.0 ≡ log)
+        ensures engine { IfOk result (λ r. (r.0.table ≡ table) × (opened_log r.0 ≡ log.value)
             × (settings_of Versions.Table r.0
-            ≡ settings_with options (Versions.opening table).clients (Device.faults (disk_of log)))) }
+            ≡ settings_with options (Versions.opening table).clients (Device.faults (disk_of log.value)))) }
         ensures clients { IfOk result (λ r. AreOurs (IsClientOf Versions.Table r.0)
             (account_in Versions.Table) (clients_of r.0.list) r.1.clients.items) }
         ensures new { IfOk result (λ r. (i : ℕ) (c : _) → slice_get r.1.clients.items i ≡ Some c
             → account_in Versions.Table c ≡ newcomer options.last (i + 1)) }
         ensures room { IfOk result (λ r. HasRoomToClose r.0.controller (clients_of r.0.list) r.1.room) }
         ensures stages { IfOk result (λ r. piped_of r.0.list ≡ pipelined) }
-        ensures err { IfErr result (λ e. (e.log ≡ log) × (e.clock ≡ clock) × (e.table ≡ table) × (e.seats ≡ seats)
+        ensures err { IfErr result (λ e. (e.log ≡ log.value) × (e.clock ≡ clock) × (e.table ≡ table) × (e.seats ≡ seats)
             × (e.gate ≡ gate)) }
     {
         let Seats {

@@ -23,9 +23,10 @@ use log_batch::Batch;
 use log_writer::{Fault, LogWriter};
 use model_base::WriteOptions;
 
-/// The log, and the last sequence given.
+/// The log, and the last sequence given. The log lies in a box: a slot of the line is as large as the largest that it
+/// may hold, and each client's request and reply go through one.
 pub struct LogPath<Device: Disk> {
-    pub log: LogWriter<Device>,
+    pub log: Box<LogWriter<Device>>,
     pub last: u64,
 }
 
@@ -72,9 +73,9 @@ pub fn log_phase<Device: Disk>(
     requires replies { (replies.old.items ≡ []) × (length requests.old.items ≤ vec_capacity replies.old) }
     ensures path { (past : Past (Log Device ⟦<Device as Disk>⟧)) (went : List ControllerCall)
         → GoesOnWith past.group_bytes layout.old.parts.clients past.asked requests.old.items (seen_at delay.now) went
-        → StandsForPast layout.old.parts.clients past path.log path.last
+        → StandsForPast layout.old.parts.clients past path.log.value path.last
         → StandsForPast layout.old.parts.clients (with_group past went result.1 layout.new.parts.parts
-        requests.old.items replies.new.items) result.0.log result.0.last }
+        requests.old.items replies.new.items) result.0.log.value result.0.last }
     ensures staged { IsStaged leader layout.old.parts.clients path.last result.0.last result.1 layout.new.members.items
         layout.new.parts.parts replies.new.items }
     ensures beside { IfSome result.1 (λ _. AreBeside apart (others_in requests.old.items) layout.new.members.items) }

@@ -28,8 +28,8 @@ returns-in-Some-clause-path g c past went goes s =
     let opened = past.opened in let start = past.start in let gb = past.group_bytes in let asked = past.asked in let published = past.published in let hs = past.handled in
     let led = goes.led in let numbers = goes.numbers in let comes = goes.comes_after in let is_asked = goes.asked_for in let proceeds = goes.proceeds in
     let xs = c.args.requests.now.items in let h = c.args.path in let clients = c.args.layout.now.parts.clients in
-    subst (λ ys. Stands our_log as_is tt opened start clients gb went h.log published h.last (hs ++ handled_with xs ys)) (sym c.refuse_all.ensures.replies)
-    (stands_dead our_log as_is tt opened start clients gb asked h.log published h.last hs s xs led.lawful led.whole c.args.delay.now numbers is_asked comes went proceeds c.in-Some.count (sym c.fault.ensures ∙ c.in-Some.is))
+    subst (λ ys. Stands our_log as_is tt opened start clients gb went h.log.value published h.last (hs ++ handled_with xs ys)) (sym c.refuse_all.ensures.replies)
+    (stands_dead our_log as_is tt opened start clients gb asked h.log.value published h.last hs s xs led.lawful led.whole c.args.delay.now numbers is_asked comes went proceeds c.in-Some.count (ap fault_of (sym c.deref.ensures) ∙ (sym c.fault.ensures ∙ c.in-Some.is)))
 
 pub returns-in-Some-clause-replies : goal.returns-in-Some-clause-replies
 returns-in-Some-clause-replies g c = pays_faulted c.args.delay.now c.in-Some.count c.args.requests.now.items c.refuse_all.new.replies.items c.refuse_all.ensures.replies
@@ -52,10 +52,10 @@ returns-then-is_empty-clause-path g c past went goes s =
     let d = c.drop_parts.ensures.others in
     let none : c.lay_out-end.new.batches.items ≡ [] = empty_list c.lay_out-end.new.batches.items (sym c.lay_out-end.new.batches.ok.0 ∙ none_left _ (sym c.is_empty.ensures ∙ c.if-is_empty.true)) in
     let no_batches : batches_from h.last (commit_requests_of xs) ≡ [] = sym (batches_are h.last xs) ∙ ap (map (λ (b : Contents). b.records)) (sym n.batches ∙ none) in
-    let alive : fault_of h.log ≡ None = sym c.fault.ensures ∙ none_is c.fault.result c.in_default.not-Some in
+    let alive : fault_of h.log.value ≡ None = ap fault_of (sym c.deref.ensures) ∙ (sym c.fault.ensures ∙ none_is c.fault.result c.in_default.not-Some) in
     let replies = c.answer_layout.ensures.replies ∙ layout_written c.args.delay.now h.last c.lay_out-end.result xs c.drop_parts.new.self.numberings.items c.drop_parts.new.self.batches.items (ap (λ v. v.items) d.0 ∙ n.numberings) (ap (λ v. v.items) d.1 ∙ n.batches) in
-    subst (λ (z : ℕ × List _). Stands our_log as_is tt opened start clients gb went h.log published z.0 (hs ++ handled_with xs z.1)) (λ i. (sym n.reached i, sym (replies ∙ ap (λ m. replies_of c.args.delay.now h.last m xs) n.reached) i))
-    (stands_written our_log as_is tt opened start clients gb asked h.log published h.last hs s xs led.lawful led.whole c.args.delay.now numbers is_asked comes went proceeds alive h.log published s.our (inl (refl, inr no_batches)) (inl (no_versions h.last (commit_requests_of xs) no_batches, refl)))
+    subst (λ (z : ℕ × List _). Stands our_log as_is tt opened start clients gb went h.log.value published z.0 (hs ++ handled_with xs z.1)) (λ i. (sym n.reached i, sym (replies ∙ ap (λ m. replies_of c.args.delay.now h.last m xs) n.reached) i))
+    (stands_written our_log as_is tt opened start clients gb asked h.log.value published h.last hs s xs led.lawful led.whole c.args.delay.now numbers is_asked comes went proceeds alive h.log.value published s.our (inl (refl, inr no_batches)) (inl (no_versions h.last (commit_requests_of xs) no_batches, refl)))
 
 pub returns-then-is_empty-clause-replies : goal.returns-then-is_empty-clause-replies
 returns-then-is_empty-clause-replies g c =
@@ -94,16 +94,17 @@ returns-in-Err-clause-path g c past went goes s =
     let led = goes.led in let numbers = goes.numbers in let comes = goes.comes_after in let is_asked = goes.asked_for in let proceeds = goes.proceeds in
     let xs = c.args.requests.now.items in let h = c.args.path in let clients = c.args.layout.now.parts.clients in let n = c.lay_out-end.ensures in
     let d = c.drop_parts-in-Err.ensures.others in
-    let alive : fault_of h.log ≡ None = sym c.fault.ensures ∙ none_is c.fault.result c.in_default.not-Some in
+    let alive : fault_of h.log.value ≡ None = ap fault_of (sym c.deref.ensures) ∙ (sym c.fault.ensures ∙ none_is c.fault.result c.in_default.not-Some) in
     let are : c.as_slice.result.now ≡ batches_of h.last xs = c.as_slice.ensures.value ∙ n.batches in
     let some : 0 < length c.as_slice.result.now = subst (λ (m : ℕ). 0 < m) (c.lay_out-end.new.batches.ok.0 ∙ ap length (sym c.as_slice.ensures.value)) (some_of _ (sym c.is_empty.ensures ∙ c.if-is_empty.false)) in
     let same : c.index.result.now.1.options ≡ led.first.1.options = ap (λ (x : ℕ × _). x.1.options) (c.index.ensures ∙ head_is xs led.rest led.first c.index.result.now led.leads) in
-    let log = to_log gb clients h.last xs led c.index.result.now.1.options same c.as_slice.result.now are some h.log c.log_group.new.log c.log_group.result c.log_group.ensures.skipped c.log_group.ensures.adds in
+    let boxed = c.deref_mut.ensures.value in
+    let log = to_log gb clients h.last xs led c.index.result.now.1.options same c.as_slice.result.now are some h.log.value c.log_group.new.log c.log_group.result (rw boxed at c.log_group.ensures.skipped) (rw boxed at c.log_group.ensures.adds) in
     let off = log c.in-Err.field-0 c.in-Err.is in
-    let w = writes gb clients h.last xs led c.index.result.now.1.options same c.as_slice.result.now are some h.log c.log_group.new.log c.log_group.result c.log_group.ensures.skipped c.log_group.ensures.adds off in
+    let w = writes gb clients h.last xs led c.index.result.now.1.options same c.as_slice.result.now are some h.log.value c.log_group.new.log c.log_group.result (rw boxed at c.log_group.ensures.skipped) (rw boxed at c.log_group.ensures.adds) off in
     let replies = c.answer_layout-in-Err.ensures.replies ∙ layout_faulted c.args.delay.now h.last c.in-Err.field-0.count xs c.drop_parts-in-Err.new.self.numberings.items c.drop_parts-in-Err.new.self.batches.items (ap (λ v. v.items) d.0 ∙ n.numberings) (ap (λ v. v.items) d.1 ∙ n.batches) in
     subst (λ ys. Stands our_log as_is tt opened start clients gb went c.log_group.new.log published h.last (hs ++ handled_with xs ys)) (sym replies)
-    (stands_failed our_log as_is tt opened start clients gb asked h.log published h.last hs s xs led.lawful led.whole c.args.delay.now numbers is_asked comes went proceeds alive c.in-Err.field-0.count (call_of (h.last + 1) c.as_slice.result.now c.index.result.now.1.options.sync c.log_group.result) c.log_group.new.log (c.log_group.ensures.adds off) w (ap count_of_fault c.in-Err.is ∙ search rules))
+    (stands_failed our_log as_is tt opened start clients gb asked h.log.value published h.last hs s xs led.lawful led.whole c.args.delay.now numbers is_asked comes went proceeds alive c.in-Err.field-0.count (call_of (h.last + 1) c.as_slice.result.now c.index.result.now.1.options.sync c.log_group.result) c.log_group.new.log ((rw boxed at c.log_group.ensures.adds) off) w (ap count_of_fault c.in-Err.is ∙ search rules))
 
 pub returns-in-Err-clause-replies : goal.returns-in-Err-clause-replies
 returns-in-Err-clause-replies g c =
@@ -123,12 +124,13 @@ returns-clause-path g c past went goes s =
     let opened = past.opened in let start = past.start in let gb = past.group_bytes in let asked = past.asked in let published = past.published in let hs = past.handled in
     let led = goes.led in let numbers = goes.numbers in let comes = goes.comes_after in let is_asked = goes.asked_for in let proceeds = goes.proceeds in
     let xs = c.args.requests.now.items in let h = c.args.path in let clients = c.args.layout.now.parts.clients in let n = c.lay_out-end.ensures in
-    let alive : fault_of h.log ≡ None = sym c.fault.ensures ∙ none_is c.fault.result c.in_default.not-Some in
+    let alive : fault_of h.log.value ≡ None = ap fault_of (sym c.deref.ensures) ∙ (sym c.fault.ensures ∙ none_is c.fault.result c.in_default.not-Some) in
     let are : c.as_slice.result.now ≡ batches_of h.last xs = c.as_slice.ensures.value ∙ n.batches in
     let some : 0 < length c.as_slice.result.now = subst (λ (m : ℕ). 0 < m) (c.lay_out-end.new.batches.ok.0 ∙ ap length (sym c.as_slice.ensures.value)) (some_of _ (sym c.is_empty.ensures ∙ c.if-is_empty.false)) in
     let same : c.index.result.now.1.options ≡ led.first.1.options = ap (λ (x : ℕ × _). x.1.options) (c.index.ensures ∙ head_is xs led.rest led.first c.index.result.now led.leads) in
     let ok = ok_is c.log_group.result c.in_default-log_group.not-Err in
-    let on = logs_on gb clients h.last xs led c.index.result.now.1.options same c.as_slice.result.now are some h.log c.log_group.new.log c.log_group.result c.log_group.ensures.skipped c.log_group.ensures.adds ok.0 ok.1 in
+    let boxed = c.deref_mut.ensures.value in
+    let on = logs_on gb clients h.last xs led c.index.result.now.1.options same c.as_slice.result.now are some h.log.value c.log_group.new.log c.log_group.result (rw boxed at c.log_group.ensures.skipped) (rw boxed at c.log_group.ensures.adds) ok.0 ok.1 in
     let from = ap (map (λ (b : Contents). b.records)) are ∙ batches_are h.last xs in
     let some_batches : 0 < length (batches_from h.last (commit_requests_of xs)) = subst (λ (m : ℕ). 0 < m) (same_length (λ (b : Contents). b.records) c.as_slice.result.now (batches_from h.last (commit_requests_of xs)) from) some in
     let vs = versions_from h.last (commit_requests_of xs) in
@@ -136,7 +138,7 @@ returns-clause-path g c past went goes s =
     let are_parts = n.parts.0 in let same_parts = c.answer_layout-2.ensures.taken.2 in
     let replies = c.answer_layout-2.ensures.replies ∙ layout_written c.args.delay.now h.last c.lay_out-end.result xs c.lay_out-end.new.numberings.items c.lay_out-end.new.batches.items n.numberings n.batches in
     subst (λ (z : ℕ × List _ × Members). Stands our_log as_is tt opened start clients gb went c.log_group.new.log (published ++ group_of z.2.parts ∷ []) z.0 (hs ++ handled_with xs z.1)) (λ i. (sym n.reached i, sym (replies ∙ ap (λ m. replies_of c.args.delay.now h.last m xs) n.reached) i, sym same_parts i))
-    (stands_written our_log as_is tt opened start clients gb asked h.log published h.last hs s xs led.lawful led.whole c.args.delay.now numbers is_asked comes went proceeds alive c.log_group.new.log (published ++ group_of c.lay_out-end.new.parts.parts ∷ []) tt on (inr (group_of c.lay_out-end.new.parts.parts, refl, are_parts.versions_are)))
+    (stands_written our_log as_is tt opened start clients gb asked h.log.value published h.last hs s xs led.lawful led.whole c.args.delay.now numbers is_asked comes went proceeds alive c.log_group.new.log (published ++ group_of c.lay_out-end.new.parts.parts ∷ []) tt on (inr (group_of c.lay_out-end.new.parts.parts, refl, are_parts.versions_are)))
 
 pub returns-clause-replies : goal.returns-clause-replies
 returns-clause-replies g c =

@@ -46,14 +46,14 @@ pub open-requires-clause-log : goal.open-requires-clause-log
 open-requires-clause-log g c =
     let last = c.args.options.last in let about = c.start_with-start.result.about in let made = c.start_with-start.ensures in
     let first = c.groups_stay_consistent.ensures.first last about.clients about.group_bytes in let note = c.first_note.ensures.note in
-    let fresh = stands_first our_log as_is tt c.args.log last about.clients about.group_bytes [] (seen_by_note c.first_note.result) first tt refl c.requires.log.1.fault note.1 in
+    let fresh = stands_first our_log as_is tt c.args.log.value last about.clients about.group_bytes [] (seen_by_note c.first_note.result) first tt refl c.requires.log.1.fault note.1 in
     let t = turn_first g.Versions.Table c.args.table c.args.seats.turn c.requires.turn.0 c.requires.turn.1 c.part_turn-with_log.result.0 c.part_turn-with_log.result.1 c.args.pipelined c.part_turn-with_log.ensures.single c.part_turn-with_log.ensures.piped in
-    let opened = subst (λ z. LogStandsFor z last about.clients about.group_bytes (seen_by_note c.first_note.result) c.args.log [] last []) (sym made.engine.2) fresh in
+    let opened = subst (λ z. LogStandsFor z last about.clients about.group_bytes (seen_by_note c.first_note.result) c.args.log.value [] last []) (sym (made.engine.2 ∙ c.deref.ensures)) fresh in
     let staged = subst (λ b. TurnIs g.Versions.Table c.args.table b [] c.part_turn-with_log.result.0) (sym made.numbers.3) t.0 in (
       record {
         note = subst (λ k. IsNoteOf k c.first_note.result) (sym made.engine.1) note.0;
         published = [];
-        path = subst (λ k. LogStandsFor about.opened.value k about.clients about.group_bytes (seen_by_note c.first_note.result) c.args.log [] last []) (sym made.numbers.0) opened;
+        path = subst (λ k. LogStandsFor about.opened.value k about.clients about.group_bytes (seen_by_note c.first_note.result) c.args.log.value [] last []) (sym made.numbers.0) opened;
         turn = subst (λ k. TurnIs g.Versions.Table k about.pipelined [] c.part_turn-with_log.result.0) (sym made.engine.0) staged;
       },
       subst (λ k. AreHandled about.controller.value about.opened.value k []) (sym made.numbers.0) (kept_first _ _ last about.clients about.group_bytes first),
@@ -86,7 +86,7 @@ seat_all-clients-requires-clause-engine g c =
         few = (let small : (g.Versions.Table.opening c.args.table).clients < 255 = omega (arith, few) in subst (λ k. k < 255) (sym count) small);
         batch_bytes = options.2;
         disk = c.requires.log.0;
-        opened = subst (HasOpened c.requires.log.0) (sym (ap (λ a. a.opened.value) about ∙ made.engine.2)) c.requires.log.1;
+        opened = subst (HasOpened c.requires.log.0) (sym (ap (λ a. a.opened.value) about ∙ (made.engine.2 ∙ c.deref.ensures))) c.requires.log.1;
       },
       options.0,
     )
@@ -114,7 +114,7 @@ returns-in-Err-clause-err g c =
     let err = c.in-Err.ensures.err in let p = c.part_turn-with_log in let back = c.given_back in let same = back.ensures.same in
     let at = subst (λ (z : Option _ × Option _). ((z.0 ≡ Some back.result.seats.turn) × (z.1 ≡ None)) ⊎ ((z.0 ≡ None) × (z.1 ≡ Some back.result.seats.turn))) (λ i. ((err.0 i).turn, (err.1 i).turn)) back.ensures.turn in
     let turn : back.result.seats.turn ≡ c.args.seats.turn = back_first c.args.seats.turn p.result.0 p.result.1 back.result.seats.turn c.args.pipelined p.ensures.single p.ensures.piped at in (
-      same.0 ∙ (λ i. (err.0 i).path.log),
+      same.0 ∙ (λ i. (err.0 i).path.log.value),
       same.1 ∙ (λ i. (err.0 i).clock),
       same.2,
       (λ i. record { turn = turn i; clients = same.3 i }),
@@ -154,7 +154,7 @@ returns-in-Ok-clause-engine g c =
     let n = seats_count g.Versions.Table c.args.table (g.Versions.Table.opening c.args.table).clients c.args.seats.clients c.requires.seats in
     let ok = c.in-Ok.ensures.ok.0 in let options = c.requires.options in let about = ok.2 in let made = c.start_with-start.ensures in
     let count : clients_of c.in-Ok.list ≡ (g.Versions.Table.opening c.args.table).clients = ok.0 ∙ (c.start_with-start.ensures.list.0 ∙ (c.len-count.ensures ∙ n)) in
-    let opened = ap (λ a. a.opened.value) about ∙ made.engine.2 in (
+    let opened = ap (λ a. a.opened.value) about ∙ (made.engine.2 ∙ c.deref.ensures) in (
       refl,
       opened,
       (λ i. record {
