@@ -233,6 +233,7 @@ const SEVERAL: [(Option<u32>, usize, usize, [Cut; 4]); 5] = [
 
 #[test]
 fn cuts_records_into_several(rt: HostRuntime) {
+    // All rows so far were as wanted.
     for (row, (number, place, len, wanted)) in SEVERAL.iter().enumerate() {
         check(&rt, row, &cuts(*number, *place, *len), wanted);
     }
@@ -259,6 +260,7 @@ const ONE: [(Option<u32>, usize, usize, usize); 13] = [
 
 #[test]
 fn cuts_records_into_one(rt: HostRuntime) {
+    // All rows so far were as wanted.
     for (row, (number, place, len, zeros)) in ONE.iter().enumerate() {
         let wanted = [
             Some((*zeros, type_in(*number, FULL), 0, *len)),

@@ -73,6 +73,7 @@ pub(crate) fn put_record_in(
     log: &mut Vec<u8>,
     bytes: &[u8],
 ) -> Result<(), AllocError> {
+    // The pieces so far stand behind the log.
     for piece in Fragmenter::new(number, log.len() % BLOCK_LEN, bytes.len()) {
         put_zeros(log, piece.zeros)?;
         if let Some(part) = bytes.get(piece.start..piece.end) {

@@ -29,6 +29,7 @@ const TYPES: [(u8, u8); 4] = [(FULL, 5), (FIRST, 6), (MIDDLE, 7), (LAST, 8)];
 
 #[test]
 fn knows_types(rt: HostRuntime) {
+    // All rows so far were as wanted.
     for (row, (plain, numbered)) in TYPES.iter().enumerate() {
         let wanted = (*plain, *numbered);
         let types = (type_in(None, *plain), type_in(Some(7), *plain));
@@ -43,6 +44,7 @@ const FRAGMENTS: [(&[u8], u8); 3] = [(&IN_LOG_7, 5), (&EMPTY_FIRST, 6), (&LAST_A
 
 #[test]
 fn makes_headers(rt: HostRuntime) {
+    // All rows so far were as wanted.
     for (row, (bytes, kind)) in FRAGMENTS.iter().enumerate() {
         let (wanted, part) = bytes.split_at(bytes.len().min(11));
         check(&rt, row, &header(Some(7), *kind, part).as_slice(), &wanted);
@@ -51,6 +53,7 @@ fn makes_headers(rt: HostRuntime) {
 
 #[test]
 fn reads_fragments(rt: HostRuntime) {
+    // All rows so far were as wanted.
     for (row, (bytes, kind)) in FRAGMENTS.iter().enumerate() {
         let wanted = Seen::Fragment {
             kind: *kind,
@@ -71,6 +74,7 @@ const OF_ANOTHER: [(Option<u32>, &[u8], Damage); 3] = [
 
 #[test]
 fn reads_other_logs(rt: HostRuntime) {
+    // All rows so far were as wanted.
     for (row, (number, bytes, damage)) in OF_ANOTHER.iter().enumerate() {
         check(
             &rt,
@@ -92,6 +96,7 @@ fn seen_cut(len: usize) -> Seen {
 
 #[test]
 fn reads_what_is_cut(rt: HostRuntime) -> Result<(), Fail> {
+    // Each shorter cut was seen as wanted.
     for len in 0..28 {
         let seen = seen_first(Some(7), cut_at(&IN_LOG_7, len)?);
         check(&rt, len, &seen, &seen_cut(len));
@@ -115,6 +120,7 @@ fn flipped(at: usize) -> Damage {
 
 #[test]
 fn reads_what_is_flipped(rt: HostRuntime) -> Result<(), Fail> {
+    // Each byte before this one was flipped, and seen as wanted.
     for at in 0..28 {
         let mut fragment = IN_LOG_7;
         flip_byte(&mut fragment, at)?;

@@ -96,6 +96,7 @@ const OF_WRITTEN_OVER: [Row; 3] = [
 ];
 
 fn check_rows(rt: &impl Abort, alloc: Global, log: &[u8], rows: &[Row]) {
+    // All rows so far were as wanted.
     for (row, (number, wanted)) in rows.iter().enumerate() {
         let found = recovered_as(*number, alloc, log);
         check(rt, row, &found, &Ok(*wanted));
@@ -154,6 +155,7 @@ fn left_of(len: usize) -> Summary {
 
 #[test]
 fn stops_where_a_log_with_a_number_is_cut(rt: HostRuntime) -> Result<(), Fail> {
+    // Each shorter cut recovered what was wanted.
     for len in 0..57 {
         let found = recovered_as(Some(7), rt.alloc(), cut_at(&LOG_7, len)?);
         check(&rt, len, &found, &Ok(left_of(len)));
@@ -192,6 +194,7 @@ const RECORDS: [(u8, usize, Next); 3] = [
 
 fn three_on_disk(alloc: Global) -> Result<MemDisk, Fail> {
     let mut log = Vec::new(alloc);
+    // The records so far stand in the log.
     for (byte, len, _) in &RECORDS {
         put_record_in(Some(7), &mut log, &vec![in alloc; *byte; *len]?)?;
     }
@@ -202,6 +205,7 @@ fn three_on_disk(alloc: Global) -> Result<MemDisk, Fail> {
 fn reads_several_blocks_with_a_number(rt: HostRuntime) -> Result<(), Fail> {
     let mut disk = three_on_disk(rt.alloc())?;
     let mut reader = LogReader::open(rt.alloc(), Some(7))?;
+    // The records so far were read as wanted.
     for (row, (byte, len, wanted)) in RECORDS.iter().enumerate() {
         let record = vec![in rt.alloc(); *byte; *len]?;
         let answer = reader.next(&mut disk);
@@ -249,6 +253,7 @@ const STOPPED: [(u8, u8, u32, u64, EndReason); 5] = [
 
 #[test]
 fn stops_at_a_fragment_of_another_log(rt: HostRuntime) -> Result<(), Fail> {
+    // All rows so far were as wanted.
     for (row, (first, second, number, at, why)) in STOPPED.iter().enumerate() {
         let found = read_first(rt.alloc(), *first, *second, *number)?;
         check(&rt, row, &found, &Next::End { at: *at, why: *why });
