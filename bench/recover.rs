@@ -5,10 +5,16 @@
 //!     recover measure LOG PROGRAM N [NAME PEER]..
 //!         times `PROGRAM LOG recover`, a plain pass of CRC-32C over the log, and how each PEER, a program built of
 //!         `recover_peer.cc` beside this file, opens a database with the log, each N times
+//!     recover fill LOG KEYS
+//!         writes a log that puts so many keys
+//!     recover resume LOG PROGRAM N
+//!         times `PROGRAM LOG recover` and `PROGRAM LOG run --resume` of one small batch, each N times, and tells the
+//!         most memory that they had
 
 use std::env;
 use std::error::Error;
 use std::fs;
+use std::io::Write;
 use std::path::Path;
 use std::process::{Command, Stdio};
 use std::time::Duration;
@@ -37,7 +43,11 @@ fn main() -> Result<(), Failure> {
     match words[..] {
         ["make", log, mib] => make(Path::new(log), mib.parse::<usize>()? << 20),
         ["measure", log, program, rounds, ref peers @ ..] => measure(log, program, rounds.parse()?, peers),
-        _ => Err("usage: recover make LOG MIB | recover measure LOG PROGRAM N [NAME PEER]..".into()),
+        ["fill", log, keys] => fill(Path::new(log), keys.parse()?),
+        ["resume", log, program, rounds] => resume(log, program, rounds.parse()?),
+        _ => Err("usage: recover make LOG MIB | recover measure LOG PROGRAM N [NAME PEER].. \
+            | recover fill LOG KEYS | recover resume LOG PROGRAM N"
+            .into()),
     }
 }
 
@@ -122,6 +132,32 @@ fn batch(random: &mut Random, sequence: &mut u64) -> Vec<u8> {
     }
     *sequence += count;
     bytes
+}
+
+/// How many keys a batch of a filled log has.
+const BATCH_KEYS: u64 = 10;
+
+/// What the number of a key is multiplied with, so that keys come in another order. It is a prime.
+const STEP: u64 = 611_953;
+
+/// Writes batches that put so many keys, each once, with values of 100 bytes.
+fn fill(path: &Path, keys: u64) -> Result<(), Failure> {
+    let checksum = Checksum::new();
+    let (mut random, mut log) = (Random { state: 1 }, Vec::new());
+    for first in (1..=keys).step_by(BATCH_KEYS as usize) {
+        let end = keys.min(first + BATCH_KEYS - 1);
+        let mut bytes = first.to_le_bytes().to_vec();
+        bytes.extend_from_slice(&((end + 1 - first) as u32).to_le_bytes());
+        for number in first..=end {
+            bytes.push(VALUE);
+            put_string(&mut bytes, format!("key:{:08}", number * STEP % keys).as_bytes());
+            let value: Vec<u8> = (0..100).map(|_| b'a' + random.below(26) as u8).collect();
+            put_string(&mut bytes, &value);
+        }
+        put_record(&checksum, &mut log, &bytes);
+    }
+    fs::write(path, &log)?;
+    Ok(())
 }
 
 /// A string behind its length, a varint.
@@ -251,31 +287,37 @@ const OWN: i32 = 0;
 const CHILDREN: i32 = -1;
 
 /// A `struct rusage` of Linux on x86-64: the time in the program and that in the system for it, each in seconds and
-/// microseconds, and what isn't looked at.
+/// microseconds; then the most KiB of memory, and what isn't looked at.
 #[repr(C)]
+#[derive(Default)]
 struct Usage {
     times: [i64; 4],
     others: [i64; 14],
 }
 
+impl Usage {
+    /// Both times together.
+    fn time(&self) -> Result<Duration, Failure> {
+        let [seconds, microseconds, system_seconds, system_microseconds] = self.times;
+        let whole = u64::try_from(seconds + system_seconds)?;
+        Ok(Duration::from_secs(whole)
+            + Duration::from_micros(u64::try_from(microseconds + system_microseconds)?))
+    }
+}
+
 unsafe extern "C" {
     fn getrusage(who: i32, usage: *mut Usage) -> i32;
+    fn wait4(child: i32, status: *mut i32, options: i32, usage: *mut Usage) -> i32;
 }
 
 /// The processor time so far.
 fn spent(who: i32) -> Result<Duration, Failure> {
-    let mut usage = Usage {
-        times: [0; 4],
-        others: [0; 14],
-    };
+    let mut usage = Usage::default();
     // SAFETY: the system writes one `struct rusage`, which is as large as `Usage`.
     if unsafe { getrusage(who, &mut usage) } != 0 {
         return Err("the system tells no processor time".into());
     }
-    let [seconds, microseconds, system_seconds, system_microseconds] = usage.times;
-    let whole = u64::try_from(seconds + system_seconds)?;
-    Ok(Duration::from_secs(whole)
-        + Duration::from_micros(u64::try_from(microseconds + system_microseconds)?))
+    usage.time()
 }
 
 /// How many keys `recover` finds in the log, which it must read to the end.
@@ -288,4 +330,44 @@ fn recovered_keys(log: &str, program: &str, len: usize) -> Result<u64, Failure> 
     }
     let state = text.lines().find(|line| line.starts_with("state ")).ok_or("recover printed no map")?;
     Ok(state.split(' ').next_back().unwrap_or_default().parse()?)
+}
+
+/// A script of one small batch.
+const SCRIPT: &[u8] = b"client 1\nget key:00000000\nput new 1\ncommit\n";
+
+/// Times the recovery of a log, and runs that go on behind it, and prints the best times and the most memory of each.
+fn resume(log: &str, program: &str, rounds: usize) -> Result<(), Failure> {
+    let len = fs::metadata(log)?.len();
+    println!("log                      {len} bytes");
+    let shards = ["run", "--resume", "--table", "shards"];
+    for words in [&["recover"][..], &shards[..2], &shards[..]] {
+        let (mut best, mut most) = (Duration::MAX, 0);
+        for _ in 0..rounds {
+            let copy = format!("{log}.copy");
+            fs::copy(log, &copy)?;
+            let (time, memory) = called(program, &copy, words)?;
+            (best, most) = (best.min(time), most.max(memory));
+        }
+        println!("{:<28} {:6.3} s {:6} MiB", words.join(" "), best.as_secs_f64(), most >> 10);
+    }
+    Ok(())
+}
+
+/// The processor time of a call that reads the script, and the most KiB of memory that it had.
+fn called(program: &str, log: &str, words: &[&str]) -> Result<(Duration, i64), Failure> {
+    let mut child = Command::new(program)
+        .arg(log)
+        .args(words)
+        .stdin(Stdio::piped())
+        .stdout(Stdio::null())
+        .spawn()?;
+    child.stdin.take().ok_or("no input")?.write_all(SCRIPT)?;
+    let (mut status, mut usage) = (0, Usage::default());
+    // SAFETY: the system writes one number and one `struct rusage`, which is as large as `Usage`. Nobody else waits for
+    // this child.
+    let ended = unsafe { wait4(child.id() as i32, &mut status, 0, &mut usage) };
+    if ended < 0 || status != 0 {
+        return Err(format!("{} ended with {status}", words.join(" ")).into());
+    }
+    Ok((usage.time()?, usage.others[0]))
 }

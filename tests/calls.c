@@ -6,6 +6,7 @@
 //     CALLS_NOTES  a file that is there, to which the notes are added, a line for each:
 //                  `open`, `folder`  the file, or its folder, was opened
 //                  `write AT N`      a write of N bytes begins there
+//                  `cut N`           the file is to be cut to N bytes
 //                  `synced N`        a sync has worked that began when the file had N bytes
 //                  `entry`           a sync of the folder has worked
 //                  `fails CALL`      this call fails, or ends the program
@@ -204,6 +205,21 @@ ssize_t pwrite(int number, const void *bytes, size_t length, off_t at) {
     if (takes <= 0) return takes;
     if (nth == 0 && is("within")) takes /= 2;
     return done("write", nth, syscall(SYS_pwrite64, number, bytes, takes, at));
+}
+
+ssize_t pread(int number, void *bytes, size_t length, off_t at) {
+    if (kind_of(number) != FILE_ITSELF) return syscall(SYS_pread64, number, bytes, length, at);
+    long nth;
+    if (fails("load", &nth)) return -1;
+    return done("load", nth, syscall(SYS_pread64, number, bytes, length, at));
+}
+
+int ftruncate(int number, off_t length) {
+    if (kind_of(number) != FILE_ITSELF) return syscall(SYS_ftruncate, number, length);
+    long nth;
+    if (fails("cut", &nth)) return -1;
+    note("cut %ld\n", (long)length);
+    return done("cut", nth, syscall(SYS_ftruncate, number, length));
 }
 
 int fdatasync(int number) {

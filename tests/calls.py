@@ -74,10 +74,11 @@ class Program:
         os.remove(self.log)
         return content
 
-    def recovered(self, content):
-        """What the program recovers of these bytes."""
+    def recovered(self, content, number=None):
+        """What the program recovers of these bytes, as a log with this number or with none."""
         with open(self.image, "wb") as file:
             file.write(content)
-        done = subprocess.run([self.path, self.image, "recover"], capture_output=True, text=True, timeout=LIMIT)
+        line = [self.path, self.image, "recover", *([] if number is None else ["--number", str(number)])]
+        done = subprocess.run(line, capture_output=True, text=True, timeout=LIMIT)
         wanted(done.returncode == 0, f"status 0 of recover, not {done.returncode}: {done.stdout[:200]}")
         return done.stdout

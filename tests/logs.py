@@ -14,7 +14,7 @@ Of what may be left where the machine ends too, it asks that it is a front of th
 from typing import NamedTuple
 
 from outcomes import TAGS, count_of, flag_of, record_bytes, wanted
-from plain_log import FULL, HEADER, LAST, End, batch_of, fragments_of, records_of, recovery_of
+from plain_log import FULL, LAST, End, batch_of, fragments_of, header_len, records_of, recover_into, recovery_of
 
 # The first word of a line that adds to a batch, by the tag of what it adds.
 WORDS = {tag[0]: word for word, tag in TAGS.items()}
@@ -29,27 +29,34 @@ class Record(NamedTuple):
     lines: list
 
 
-def read_log(content):
-    """The records of a log, and why it ends."""
+def read_log(content, number=None):
+    """The records of a log with this number, or with none, and why it ends."""
     ends, records, why = [], [], "clean"
     try:
-        for at, kind, data in fragments_of(content):
-            ends += [at + HEADER + len(data)] if kind in (FULL, LAST) else []
+        for at, kind, data in fragments_of(content, number):
+            ends += [at + header_len(number) + len(data)] if kind in (FULL, LAST) else []
     except End as end:
         why = end.args[1]
     try:
-        for number, (_, record) in enumerate(records_of(content)):
+        for end, (_, record) in zip(ends, records_of(content, number)):
             first, count, changes = batch_of(record)
             lines = [[WORDS[tag], *(string.decode() for string in strings)] for tag, strings in changes]
-            records.append(Record(ends[number], first, count, lines))
+            records.append(Record(end, first, count, lines))
     except End as end:
         why = end.args[1]
     return records, why
 
 
-def check_recovery_of(content, recovered):
-    """Checks what the program recovers of a log; `recovered` says it of some bytes."""
-    wanted(recovered(content) == recovery_of(content)[0], f"the recovery of {len(content)} bytes")
+def check_recovery_of(content, recovered, number=None):
+    """Checks what the program recovers of a log with this number, or with none; `recovered` says it of some bytes."""
+    wanted(recovered(content) == recovery_of(content, number)[0], f"the recovery of {len(content)} bytes")
+
+
+def recovered_of(content, number=None):
+    """The last sequence and the map that a log of keys and values of text recovers."""
+    pairs = {}
+    last, _, _ = recover_into([], pairs, content, number)
+    return last, {key.decode(): value.decode() for key, value in pairs.items()}
 
 
 def batches_of(script):
@@ -87,8 +94,10 @@ def members_of(clients, record):
     return members
 
 
-def check_records(script, records):
-    """Checks the records of a log that a run has left, and gives back those that were to be synced."""
+def check_records(script, records, last=0):
+    """Checks the records that a run has left in a log behind this sequence, and gives back those that were to be
+    synced.
+    """
     clients, synced = batches_of(script), []
     counts = [[count_of(batch) for _, batch in batches] for batches in clients]
     taken = [0] * len(clients)
@@ -103,7 +112,7 @@ def check_records(script, records):
             taken[client - 1] = turn
         # The sequences that are given out before this record: those of all that its members' clients have committed,
         # and of what others have, with as many of their batches that stay out of the log as come next.
-        sums = {sum(sum(count[:end]) for count, end in zip(counts, taken))}
+        sums = {last + sum(sum(count[:end]) for count, end in zip(counts, taken))}
         for client in set(range(1, len(clients) + 1)) - {client for client, _ in members}:
             end, more = taken[client - 1], [0]
             while end < len(clients[client - 1]) and clients[client - 1][end][0] == "nolog":
@@ -139,21 +148,32 @@ def check_notes(records, synced, notes):
     return safe
 
 
-def check_images(content, safe, draw, recovered):
+def told_of_writes(notes):
+    """Notes of a run over an old log: each sync is of what was written before. The length tells nothing there."""
+    told, end = [], 0
+    for words in notes:
+        if words[0] == "write":
+            end = int(words[1]) + int(words[2])
+        told.append(["synced", str(end)] if words[0] == "synced" else words)
+    return told
+
+
+def check_images(content, safe, draw, recovered, old=b"", number=None):
     """Checks what a crash of the machine might leave, where so much of the log is safe: it has all records up to there,
-    and no others than were written. `recovered` says what the program recovers of some bytes.
+    and no others than were written. `recovered` says what the program recovers of some bytes. A log with a number may
+    be written over an old one, whose bytes stand wherever new ones are lost.
     """
-    records = read_log(content)[0]
+    records = read_log(content, number)[0]
     cut = draw.randint(safe, len(content))
     # What isn't safe may be lost in pieces, of the size of a sector.
-    torn = bytearray(content)
+    torn, before = bytearray(content), old.ljust(len(content), b"\0")
     for at in range(safe // 512, len(torn) // 512 + 1):
         start, end = max(at * 512, safe), min(at * 512 + 512, len(torn))
-        if draw.random() < 0.5:
-            torn[start:end] = bytes(max(end - start, 0))
-    for image in (content[:safe], content[:cut], bytes(torn)):
-        check_recovery_of(image, recovered)
-        found = read_log(image)[0]
+        if draw.random() < 0.5 and start < end:
+            torn[start:end] = before[start:end]
+    for image in (content[:safe] + old[safe:], content[:cut] + old[cut:], bytes(torn)):
+        check_recovery_of(image, recovered, number)
+        found = read_log(image, number)[0]
         wanted(found == records[: len(found)], "a prefix of the records")
         whole = [record for record in records if record.end <= safe]
         wanted(found[: len(whole)] == whole, f"all records of the {safe} bytes that are safe")

@@ -155,10 +155,11 @@ def history_line(client, ordinal, first, flag, records):
     return f"{first} {first + count - 1} {client} {ordinal} {flag} {batch.hex()}"
 
 
-def check_outcome(script, text, whole=True):
+def check_outcome(script, text, whole=True, before=(0, {})):
     """Checks an outcome up to its state, and gives back the batches of its history, and the lines after the state.
 
-    Where the run is not whole, the history may have a batch more of each client, which it wasn't told of yet.
+    Where the run is not whole, the history may have a batch more of each client, which it wasn't told of yet. `before`
+    is the last sequence and the map that the run went on from.
     """
     replies, rest = sections_of(text, len(script))
     fault = fault_of(rest)
@@ -182,7 +183,8 @@ def check_outcome(script, text, whole=True):
             batches.append((first, first + count_of(records) - 1, line, records))
     batches.sort()
     wanted([batch[2] for batch in batches] == lines, f"the history {[batch[2] for batch in batches]}, not {lines}")
-    end, pairs, maps = 0, {}, {0: {}}
+    end, pairs = before
+    maps = {end: pairs}
     for first, last, _, records in batches:
         wanted(first == end + 1, f"the run after {end}")
         end, pairs = last, changed(pairs, records)

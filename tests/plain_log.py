@@ -182,6 +182,17 @@ def recover_into(groups, pairs, log, number):
     return last, len(log), "clean"
 
 
+def kept_of(log, count, number=None):
+    """Where the last of so many records ends, which are the first ones of a log."""
+    ends = [0]
+    try:
+        for at, kind, data in fragments_of(log, number):
+            ends += [at + header_len(number) + len(data)] if kind in (FULL, LAST) else []
+    except End:
+        pass
+    return ends[count]
+
+
 def recovery_of(log, number=None):
     """What `recover` should print of a log, and the first word of the reason."""
     groups, pairs = [], {}
@@ -204,9 +215,11 @@ def fragment(kind, data, number=None):
     return fragment_of_code(code_of(kind, number), data, number)
 
 
-def laid_out(records, draw=None, number=None):
-    """A log of these records, which are cut where a block ends, and where there is `draw`, by draws elsewhere too."""
-    log, size = bytearray(), header_len(number)
+def laid_out(records, draw=None, number=None, front=b""):
+    """A log of these records, which are cut where a block ends, and where there is `draw`, by draws elsewhere too. They
+    stand behind a front that ends with a record.
+    """
+    log, size = bytearray(front), header_len(number)
     for record in records:
         is_begun, is_ended = False, False
         while not is_ended:

@@ -1,15 +1,15 @@
 -- What a disk in memory shows.
-use Rattle.std.specs.Prelude.{◌≡◌, ◌⊎◌, ℕ, ◌+◌, ◌-◌, Bool, nat_lt, Option, Some}
-use Rattle.std.specs.Prelude.{List, ◌++◌, length, take, drop, slice_set}
+use Rattle.std.specs.Prelude.{◌≡◌, ◌⊎◌, ℕ, ◌+◌, ◌-◌, ◌≤◌, Bool, false, nat_lt, Option, Some, All}
+use Rattle.std.specs.Prelude.{List, ◌++◌, length, take, drop, map, slice_set}
 use Rattle.base_devices.specs.Disk.{Disk, IsImage}
 use Rattle.base_devices.specs.Drawn.{bytes_drawn}
-use Rattle.base_devices.specs.Eras.{WasImage, told_from}
+use Rattle.base_devices.specs.Eras.{WasImage, set_out_era, told_from}
 use Rattle.base_devices.specs.Listed.{Listed}
 use Rattle.base_devices.specs.declared.mem_disk.MemDisk.{MemDisk}
 
--- the content, how much of it is safe, and how far writes came
+-- the content, how much of it is safe, how far writes came, and where the next append writes
 abbrev pub disk_of : MemDisk → Disk
-disk_of d = record { content = d.content.items; synced = d.synced; reach = d.reach }
+disk_of d = record { content = d.content.items; synced = d.synced; reach = d.reach; place = d.place }
 
 abbrev pub told_of : MemDisk → Option Disk
 told_of d = Some (disk_of d)
@@ -22,20 +22,29 @@ len_of d = length (disk_of d).content
 abbrev pub capacity_of : MemDisk → ℕ
 capacity_of d = d.capacity
 
--- so many more bytes are too many
+-- where the next append writes
+abbrev pub place_of : MemDisk → ℕ
+place_of d = (disk_of d).place
+
+-- so many bytes from the place on are too many
 abbrev pub has_no_room : MemDisk → ℕ → Bool
-has_no_room d more = nat_lt (capacity_of d) (len_of d + more)
+has_no_room d more = nat_lt (capacity_of d) (place_of d + more)
 
 -- its first bytes, as a crash may leave them
 abbrev pub cut_to : ℕ → Disk → Disk
-cut_to len d = record { content = take len d.content; synced = len; reach = len }
+cut_to len d = record { content = take len d.content; synced = len; reach = len; place = len }
 
 -- its safe bytes, and then drawn ones up to this length, as a crash may leave them that tears what wasn't safe
 abbrev pub torn_to : ℕ → ℕ → Disk → Disk
 torn_to len seed d =
-    record { content = take d.synced d.content ++ bytes_drawn (len - d.synced) seed; synced = len; reach = len }
+    record {
+      content = take d.synced d.content ++ bytes_drawn (len - d.synced) seed;
+      synced = len;
+      reach = len;
+      place = len;
+    }
 
--- with another byte at a place
+-- with another byte somewhere in the content
 abbrev pub with_byte : Disk → ℕ → ℕ → Disk
 with_byte d at byte = record d { content = slice_set d.content at byte }
 
@@ -53,7 +62,8 @@ from_of d = told_from d.forgot d.past.items
 
 -- what a crash might have left since a moment: now, or in an era that ended since then
 abbrev pub since_of : MemDisk → ℕ → List ℕ → Type 0
-since_of d t image = IsImage (disk_of d) image ⊎ WasImage d.content.items (drop t d.past.items) image
+since_of d t image =
+    IsImage (disk_of d) image ⊎ WasImage d.content.items d.before.items (drop t d.past.items) image
 
 -- it tells of crashes from now on
 pub record StartsAnew (d : MemDisk) : Type 0 where
@@ -64,3 +74,11 @@ pub record StartsAnew (d : MemDisk) : Type 0 where
 pub record SameEra (old new : MemDisk) : Type 0 where
   pub moment : moment_of new ≡ moment_of old
   pub from : from_of new ≡ from_of old
+
+-- No moment has gone by, and the content is kept as what stands behind the place. Each era that has ended begins with
+-- it; they are told of where the bytes that were safe in them are still in the content.
+pub record IsTurned (old new : MemDisk) : Type 0 where
+  pub before : new.before.items ≡ old.content.items
+  pub past : new.past.items ≡ map set_out_era old.past.items
+  pub forgot : new.forgot ≡ false → (old.forgot ≡ false) × All (λ era. era.synced ≤ era.place) old.past.items
+  pub remembers : length old.past.items ≡ 0 → new.forgot ≡ old.forgot

@@ -1,18 +1,22 @@
-//! A disk that holds one file, to which bytes are appended.
+//! A disk that holds one file, to which bytes are appended, and which may be written again from the start and cut.
 
-ghost use Rattle.std.specs.Prelude.{◌≡◌, ℕ, ◌+◌, ◌<◌, ◌≤◌, ◌^◌, List, length, Option, IfSome, IfOk};
-ghost use Rattle.base_devices.specs.Disk.{Disk as State, IsDisk, Appended, GrowsBy, Synced, ReadsAt, CountsNow, IsOnlyNow, Told, TimePasses};
+ghost use Rattle.std.specs.Prelude.{◌≡◌, ℕ, ◌+◌, ◌<◌, ◌≤◌, ◌^◌, List, length, Option, IfSome, IfOk, OnOk};
+ghost use Rattle.base_devices.specs.Disk.{Disk as State, IsDisk, Appended, GrowsBy, Rewound, Cut, Synced, ReadsAt};
+ghost use Rattle.base_devices.specs.Disk.{CountsNow, IsOnlyNow, Told, TimePasses};
 ghost use Rattle.base_devices.specs.Faults.{HasCause};
 
 use crate::Failed;
 
 /// A disk. Its content has at most `2^63 - 1` bytes.
+///
+/// It has a place, where the next append writes. As it is opened that is the content's end. [`Disk::rewind`] sets it to
+/// the start, and [`Disk::cut`] to the length that it leaves.
 pub trait Disk {
-    /// The content, how much of it is safe, and how far writes may have come, where the disk tells it.
+    /// The content, how much of it is safe, how far writes may have come, and the place, where the disk tells it.
     ghost told: { Self → Option State };
 
-    /// How many bytes appends have added, counted on from some number. This is known where the content isn't told, too,
-    /// so that no sum of lengths overflows.
+    /// How many bytes appends have added, counted on from some number; from 0 once the disk was rewound, and from its
+    /// length once it was cut. This is known where the content isn't told, too, so that no sum of lengths overflows.
     ghost added: { Self → ℕ };
 
     /// The moment at which it stands. Calls never turn it back.
@@ -52,15 +56,37 @@ pub trait Disk {
         ensures time { TimePasses told moment from since self.old self.new }
         ensures cause { HasCause (faults self.old) (faults self.new) result };
 
-    /// Adds `piece` at the end of the content: all of it, or nothing where it fails. Until the next sync a crash may
-    /// leave any bytes after those that are safe, as far as this append came or tried to come.
+    /// Writes `piece` at the place, which moves on behind it. That adds it at the content's end, but behind a rewind
+    /// it is written over old bytes. Where it fails the place and the bytes before it stay, and any bytes may stand
+    /// after them. Either way what was safe from the place on is safe no more: until the next sync a crash may leave
+    /// any bytes after those that are safe, as far as this append came or tried to come.
     fn append(&mut self, piece: &[u8]) -> Result<(), Failed>
         ensures appended { Told (told self.old) (told self.new) (λ old new. Appended old new piece.now result) }
         ensures added { GrowsBy (added self.old) (added self.new) (length piece.now) result }
         ensures time { TimePasses told moment from since self.old self.new }
         ensures cause { HasCause (faults self.old) (faults self.new) result };
 
-    /// Makes the content safe: after it a crash leaves the content and nothing else. Where it fails it changes nothing.
+    /// Sets the place to the start, so that appends write over the content. It changes nothing else: what was safe
+    /// stays so until an append writes there, and what no append has come to stands behind the place. Where it fails,
+    /// the place may be the one from before or the start.
+    fn rewind(&mut self) -> Result<(), Failed>
+        ensures rewound { Told (told self.old) (told self.new) (λ old new. Rewound old new result) }
+        ensures counted { OnOk result (added self.new ≡ 0) }
+        ensures time { TimePasses told moment from since self.old self.new }
+        ensures cause { HasCause (faults self.old) (faults self.new) result };
+
+    /// Cuts the content to its first `at` bytes, and sets the place to their end. What was safe of them stays so. Until
+    /// the next sync a crash may leave any bytes after them, as far as writes came before. Where it fails, the disk may
+    /// be as it was or cut.
+    fn cut(&mut self, at: u64) -> Result<(), Failed>
+        requires there { IfSome (told self.old) (λ d. at ≤ length d.content) }
+        ensures cut { Told (told self.old) (told self.new) (λ old new. Cut old new at result) }
+        ensures counted { OnOk result (added self.new ≡ at) }
+        ensures time { TimePasses told moment from since self.old self.new }
+        ensures cause { HasCause (faults self.old) (faults self.new) result };
+
+    /// Makes the content safe: after it a crash leaves the content and nothing else. The place stays. Where it fails it
+    /// changes nothing.
     fn sync(&mut self) -> Result<(), Failed>
         ensures synced { Told (told self.old) (told self.new) (λ old new. Synced old new result) }
         ensures adds_none { added self.new ≡ added self.old }

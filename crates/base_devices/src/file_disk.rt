@@ -12,23 +12,26 @@ use std::rt::Files;
 
 /// A file of the system as a disk. It tells nothing of its content. Each error of the system is a fault.
 ///
-/// Making one touches nothing. The first `len`, `read` or `sync` opens the file for reading, and the first `append`
-/// opens it for writing, and makes it where there is none. So a file that may only be read can be read, and no file is
-/// made before something is appended. Where there is no file `len` answers 0, or fails where there is no folder for
-/// one, `sync` has nothing to do, and `read` fails. A call that couldn't open it fails, and the next one tries again.
+/// Making one touches nothing. The first `len`, `read`, `rewind` or `sync` opens the file for reading, and the first
+/// `append` or `cut` opens it for writing; the `append` makes it where there is none. So a file that may only be read
+/// can be read, and no file is made before something is appended. Where there is no file `len` answers 0, and `rewind`
+/// and `cut` to 0 have nothing to do, but these three fail where there is no folder for one; `sync` has nothing to do,
+/// and `read` and another `cut` fail. A call that couldn't open it fails, and the next one tries again.
 /// Each call fails where the path is that of a folder, a pipe, a socket or a device; none waits for another program
 /// there.
 ///
-/// It relies on being the only one that writes to the file, and keeps count of its length from the first call on. As it
-/// opens the file for writing it takes the exclusive lock of `flock`, which it keeps until it is dropped, and it fails
-/// where another one has the lock, or where the file hasn't the length any more that was told. A program that doesn't
-/// ask for the lock isn't kept out. An append writes where the content ends, over what a failed one may have left
-/// there, in one call of the system unless that takes a part only.
+/// It relies on being the only one that writes to the file, and keeps count of its length from the first call on. As
+/// it opens the file for writing it takes the exclusive lock of `flock`, which it keeps until it is dropped, and it
+/// fails where another one has the lock, or where the file hasn't the length any more that was told. A program that
+/// doesn't ask for the lock isn't kept out. An append writes at the place, over what stands there, also what a failed
+/// one may have left, in one call of the system unless that takes a part only. `cut` is the system's `ftruncate`, and
+/// fails where the file has fewer bytes.
 ///
-/// `sync` is the system's `fdatasync`: it makes the file's bytes and its length safe. The first one also syncs the
-/// folder that the file lies in, since its entry there may be new: where the path is a link, not the link's. It fails
-/// where that folder may not be read, since nothing else makes the entry safe. Once a sync of the bytes has failed each
-/// later one fails too: the system may have dropped what it couldn't write, and then a sync that works shows nothing.
+/// `sync` is the system's `fdatasync`: it makes the file's bytes and its length safe, also the length that a cut left;
+/// before it a crash may bring back what was cut off. The first one also syncs the folder that the file lies in, since
+/// its entry there may be new: where the path is a link, not the link's. It fails where that folder may not be read,
+/// since nothing else makes the entry safe. Once a sync of the bytes has failed each later one fails too: the system
+/// may have dropped what it couldn't write, and then a sync that works shows nothing.
 ///
 /// It never has the number of a standard stream, also where the caller has closed one: what is meant for the stream
 /// can't come to the file.
@@ -106,6 +109,16 @@ impl<R: Files<File = File> + Drop> Disk for FileDisk<R> {
 
     fn append(&mut self, piece: &[u8]) -> Result<(), Failed> {
         let done = self.file.append(piece);
+        self.answer(done)
+    }
+
+    fn rewind(&mut self) -> Result<(), Failed> {
+        let done = self.file.rewind();
+        self.answer(done)
+    }
+
+    fn cut(&mut self, at: u64) -> Result<(), Failed> {
+        let done = self.file.cut(at);
         self.answer(done)
     }
 

@@ -1,7 +1,10 @@
 //! A disk in memory.
 
-ghost use Rattle.std.specs.Prelude.{◌≡◌, ◌+◌, ◌^◌, ◌<◌, ◌≤◌, length, vec_len, vec_capacity, All, IfOk, OnErr, false};
+ghost use Rattle.std.specs.Prelude.{◌≡◌, ◌+◌, ◌-◌, ◌^◌, ◌<◌, ◌≤◌, length, take, drop, map};
+ghost use Rattle.std.specs.Prelude.{vec_len, vec_capacity, All, IfOk, OnErr, OnOk, false, IsTrue};
+ghost use Rattle.base_devices.specs.Disk.{put_at};
 ghost use Rattle.base_devices.specs.Drawn.{bytes_drawn};
+ghost use Rattle.base_devices.specs.Eras.{set_out_era};
 
 use crate::calls::Calls;
 use crate::{Disk, Failed};
@@ -9,42 +12,59 @@ use base_draws::Draws;
 use model_base::NoMemory;
 use std::alloc::Global;
 
-/// The time between two syncs: how many bytes were safe in it, and how far its writes came or tried to come.
+/// The time between two syncs: how many bytes were safe in it, how far its writes came or tried to come, and the place
+/// at its end. Of one that ended before the last rewind or cut the place is 0.
 #[derive(Clone, Copy)]
 struct Era {
     synced: u64,
     reach: u64,
+    place: u64,
 }
 
-/// A disk in memory. Its calls, of all four kinds, are numbered together from 1, and those of a list fail.
+/// A disk in memory. Its calls, of all six kinds, are numbered together from 1, and those of a list fail. One that
+/// fails leaves it as it was; but an append that fails lets the bytes from the place on be safe no more, and may have
+/// come as far as it tried to.
+///
+/// It tells what a crash might have left at earlier moments too. For that it keeps, of each time between two syncs, how
+/// much was safe and how far writes came, and of the content the bytes as they stood at the last rewind or cut. So it
+/// forgets all moments before now where it has no room for one more such time, of which it keeps as many as it may have
+/// bytes; and at a rewind or a cut where bytes that were safe in such a time have been written over or cut off since,
+/// which is so of a second one at the earliest. Then it tells nothing of crashes any more until it begins anew.
 #[derive(Drop)]
 pub struct MemDisk {
     content: Vec<u8>,
     capacity: usize,
     synced: u64,
     reach: u64,
+    place: u64,
+    /// The content as it stood at the last rewind or cut. There is room for as many bytes as the content may have.
+    before: Vec<u8>,
     /// The eras that have ended. There is room for as many as the content may have bytes.
     past: Vec<Era>,
-    /// Whether there was no room for one. Then it tells nothing more of crashes before now.
+    /// Whether there was no room for one, or the bytes of one are gone. Then nothing is told of crashes before now.
     forgot: bool,
     calls: Calls,
     ghost within: { vec_len content ≤ capacity },
     ghost safe: { synced ≤ length content.items },
     ghost reached: { length content.items ≤ reach },
     ghost small: { length content.items < 2 ^ 63 },
+    ghost placed: { place ≤ length content.items },
     ghost room: { capacity ≤ vec_capacity content },
     ghost room_for_past: { capacity ≤ vec_capacity past },
-    ghost past_within: { All (λ era. era.synced ≤ synced) past.items },
+    ghost room_for_before: { capacity ≤ vec_capacity before },
+    ghost past_placed: { All (λ era. era.place ≤ place) past.items },
+    // What stands behind the place stood there at the last rewind or cut.
+    ghost behind: { drop place content.items ≡ take (length content.items - place) (drop place before.items) },
 }
 
 impl MemDisk {
     ghost use Rattle.base_devices.specs.Listed.{fresh};
-    ghost use Rattle.base_devices.specs.Disk.{all_safe, IsImage};
-    ghost use Rattle.base_devices.specs.MemDisk.{disk_of, len_of, capacity_of, disk_calls, StartsAnew};
-    ghost use Rattle.base_devices.specs.MemDisk.{with_byte, cut_to, torn_to};
+    ghost use Rattle.base_devices.specs.Disk.{all_safe, rewound, IsImage};
+    ghost use Rattle.base_devices.specs.MemDisk.{disk_of, len_of, place_of, capacity_of, disk_calls, StartsAnew};
+    ghost use Rattle.base_devices.specs.MemDisk.{with_byte, cut_to, torn_to, IsTurned};
 
-    /// A disk with this content, all of it safe, which takes at most `capacity` bytes. Its calls with a number in
-    /// `fails` fail. All its room is made here: it fails where there is no memory for it.
+    /// A disk with this content, all of it safe, which takes at most `capacity` bytes. Its place is the content's end.
+    /// Its calls with a number in `fails` fail. All its room is made here: it fails where there is no memory for it.
     pub fn new(
         alloc: Global,
         capacity: usize,
@@ -62,8 +82,10 @@ impl MemDisk {
         Ok(MemDisk {
             synced: bytes.len() as u64,
             reach: bytes.len() as u64,
+            place: bytes.len() as u64,
             content: bytes,
             capacity,
+            before: Vec::with_capacity(alloc, capacity)?,
             past: Vec::with_capacity(alloc, capacity)?,
             forgot: false,
             calls: Calls::new(alloc, fails)?,
@@ -84,8 +106,15 @@ impl MemDisk {
         self.synced
     }
 
-    /// Puts another byte at a place of the content, as a test's own damage. It counts as no call, and what the disk
-    /// tells of crashes begins anew.
+    /// Where the next append writes.
+    pub fn place(&self) -> u64
+        ensures { result ≡ place_of self.now }
+    {
+        self.place
+    }
+
+    /// Puts another byte somewhere in the content, as a test's own damage. It counts as no call, and what the disk
+    /// tells of crashes begins anew. The place stays.
     pub fn set(&mut self, at: u64, byte: u8)
         requires { at < len_of self.old }
         ensures disk { disk_of self.new ≡ with_byte (disk_of self.old) at byte }
@@ -94,12 +123,13 @@ impl MemDisk {
         ensures anew { StartsAnew self.new }
     {
         self.content[at as usize] = byte;
+        copy_over(&mut self.before, &self.content);
         self.past.clear();
         self.forgot = false;
     }
 
-    /// The disk after a crash that left the first `len` bytes of the content. They are safe from then on, and what the
-    /// disk tells of crashes begins anew. The numbering of the calls goes on.
+    /// The disk after a crash that left the first `len` bytes of the content. They are safe from then on, the place is
+    /// their end, and what the disk tells of crashes begins anew. The numbering of the calls goes on.
     pub fn crashed(mut self, len: u64) -> MemDisk
         requires safe { (disk_of self).synced ≤ len }
         requires there { len ≤ len_of self }
@@ -111,6 +141,7 @@ impl MemDisk {
         self.content.truncate(len as usize);
         self.synced = len;
         self.reach = len;
+        self.place = len;
         self.past.clear();
         self.forgot = false;
         self
@@ -118,8 +149,8 @@ impl MemDisk {
 
     /// The disk after a crash that tore the writes since the last sync. It has `len` bytes: those that were safe, as
     /// they were, and then bytes that are drawn from `seed`, whatever the content had there. A draw's byte is its
-    /// number modulo 256. All of them are safe from then on, and what the disk tells of crashes begins anew. The
-    /// numbering of the calls goes on. It takes no memory: the bytes are drawn over the content.
+    /// number modulo 256. All of them are safe from then on, the place is their end, and what the disk tells of crashes
+    /// begins anew. The numbering of the calls goes on. It takes no memory: the bytes are drawn over the content.
     pub fn torn(mut self, len: u64, seed: u64) -> MemDisk
         requires safe { (disk_of self).synced ≤ len }
         requires there { len ≤ len_of self }
@@ -131,9 +162,71 @@ impl MemDisk {
         ensures anew { StartsAnew result }
     {
         let safe = self.synced as usize;
+        self.past.clear();
+        self.place = self.content.len() as u64;
         draw_over(&mut self.content[safe..len as usize], seed);
         self.crashed(len)
     }
+
+    /// Keeps the content as what stands behind the place from then on, as the place is set anew. Eras that have ended
+    /// are told of by it, unless bytes that were safe in one are gone.
+    fn turn(&mut self)
+        ensures turned { IsTurned self.old self.new }
+        ensures disk { disk_of self.new ≡ rewound (disk_of self.old) }
+        ensures capacity { capacity_of self.new ≡ capacity_of self.old }
+        ensures calls { disk_calls self.new ≡ disk_calls self.old }
+    {
+        self.place = 0;
+        if !set_out(&mut self.past) {
+            self.forgot = true;
+        }
+        copy_over(&mut self.before, &self.content);
+    }
+}
+
+/// Makes a list that of the bytes of another one, for which it has room.
+fn copy_over(to: &mut Vec<u8>, from: &[u8])
+    requires room { length from.now ≤ vec_capacity to.old }
+    ensures bytes { to.new.items ≡ from.now }
+    ensures capacity { vec_capacity to.old ≤ vec_capacity to.new }
+{
+    to.clear();
+    match to.extend_from_slice(from) {
+        Ok(()) => {}
+        Err(_) => unreachable!(),
+    }
+}
+
+/// Puts a piece over the bytes from a place on. There is room for it.
+fn put(content: &mut Vec<u8>, place: usize, piece: &[u8])
+    requires placed { place ≤ length content.old.items }
+    requires room { place + length piece.now ≤ vec_capacity content.old }
+    ensures bytes { content.new.items ≡ put_at place piece.now content.old.items }
+    ensures capacity { vec_capacity content.old ≤ vec_capacity content.new }
+{
+    if piece.len() < content.len() - place {
+        content[place..place + piece.len()].copy_from_slice(piece);
+        return;
+    }
+    content.truncate(place);
+    match content.extend_from_slice(piece) {
+        Ok(()) => {}
+        Err(_) => unreachable!(),
+    }
+}
+
+/// Sets the place of each era to 0. It answers whether the bytes that were safe in them were all before their places.
+fn set_out(eras: &mut [Era]) -> bool
+    ensures set { eras.new ≡ map set_out_era eras.old }
+    ensures kept { IsTrue result → All (λ era. era.synced ≤ era.place) eras.old }
+    ensures none { length eras.old ≡ 0 → IsTrue result }
+{
+    let kept = eras.iter().all(|era| era.synced <= era.place);
+    // The eras so far have the place 0, and the others are as they were.
+    for era in eras.iter_mut() {
+        era.place = 0;
+    }
+    kept
 }
 
 /// How many values a byte has.
@@ -151,17 +244,18 @@ fn draw_over(bytes: &mut [u8], seed: u64)
 }
 
 impl Disk for MemDisk {
-    ghost use Rattle.base_devices.specs.Disk.{IsAllSafe, Appended, GrowsBy, Synced, ReadsAt, TimePasses};
+    ghost use Rattle.base_devices.specs.Disk.{IsAllSafe, Appended, GrowsBy, Rewound, Cut, Synced, ReadsAt, TimePasses};
     ghost use Rattle.base_devices.specs.Faults.{HasCause};
     ghost use Rattle.base_devices.specs.Listed.{FailsAsListed};
-    ghost use Rattle.base_devices.specs.MemDisk.{disk_of, told_of, len_of, capacity_of, has_no_room, disk_calls};
+    ghost use Rattle.base_devices.specs.MemDisk.{disk_of, told_of, len_of, place_of, capacity_of, has_no_room};
+    ghost use Rattle.base_devices.specs.MemDisk.{disk_calls};
     ghost use Rattle.base_devices.specs.MemDisk.{moment_of, from_of, since_of, SameEra};
     ghost use Rattle.base_devices.specs.MemDiskLaws.{mem_disk_is_disk, mem_disk_is_small, only_since_now};
     ghost use Rattle.std.proofs.Common.{inl};
 
     ghost told = { told_of };
 
-    ghost added = { len_of };
+    ghost added = { place_of };
 
     ghost moment = { moment_of };
 
@@ -188,7 +282,7 @@ impl Disk for MemDisk {
         ensures len { IfOk result (λ n. n ≡ len_of self.old) }
         ensures small { IfOk result (λ n. n < 2 ^ 63) }
         ensures same { disk_of self.new ≡ disk_of self.old }
-        ensures adds_none { len_of self.new ≡ len_of self.old }
+        ensures adds_none { place_of self.new ≡ place_of self.old }
         ensures time { TimePasses told_of moment_of from_of since_of self.old self.new }
         ensures era { SameEra self.old self.new }
         ensures capacity { capacity_of self.new ≡ capacity_of self.old }
@@ -205,7 +299,7 @@ impl Disk for MemDisk {
         ensures at_most { IfOk result (λ n. n ≤ length buf.new) }
         ensures small { IfOk result (λ n. 0 < n → at + n < 2 ^ 63) }
         ensures same { disk_of self.new ≡ disk_of self.old }
-        ensures adds_none { len_of self.new ≡ len_of self.old }
+        ensures adds_none { place_of self.new ≡ place_of self.old }
         ensures time { TimePasses told_of moment_of from_of since_of self.old self.new }
         ensures era { SameEra self.old self.new }
         ensures capacity { capacity_of self.new ≡ capacity_of self.old }
@@ -223,34 +317,74 @@ impl Disk for MemDisk {
         Ok(n)
     }
 
-    // It fails just at the listed calls, and where the capacity doesn't suffice.
+    // It fails just at the listed calls, and where the capacity doesn't suffice. Then the content stays.
     fn append(&mut self, piece: &[u8]) -> Result<(), Failed>
         ensures appended { Appended (disk_of self.old) (disk_of self.new) piece.now result }
-        ensures added { GrowsBy (len_of self.old) (len_of self.new) (length piece.now) result }
+        ensures added { GrowsBy (place_of self.old) (place_of self.new) (length piece.now) result }
         ensures time { TimePasses told_of moment_of from_of since_of self.old self.new }
         ensures era { SameEra self.old self.new }
+        ensures kept { OnErr result ((disk_of self.new).content ≡ (disk_of self.old).content) }
         ensures capacity { capacity_of self.new ≡ capacity_of self.old }
         ensures listed { FailsAsListed (disk_calls self.old) (disk_calls self.new)
             (has_no_room self.old (length piece.now)) result }
         ensures cause { HasCause (disk_calls self.old).faults (disk_calls self.new).faults result }
     {
-        let end = self.content.len() as u64 + piece.len() as u64;
+        let place = self.place;
+        let end = place + piece.len() as u64;
+        self.synced = self.synced.min(place);
         self.reach = self.reach.max(end);
         self.calls.begin()?;
-        if piece.len() > self.capacity - self.content.len() {
+        if end > self.capacity as u64 {
             return Err(self.calls.fail());
         }
-        match self.content.extend_from_slice(piece) {
-            Ok(()) => Ok(()),
-            Err(_) => unreachable!(),
-        }
+        put(&mut self.content, place as usize, piece);
+        self.place = end;
+        Ok(())
+    }
+
+    // It fails just at the listed calls, and changes nothing then. Where no era has ended, it forgets none.
+    fn rewind(&mut self) -> Result<(), Failed>
+        ensures rewound { Rewound (disk_of self.old) (disk_of self.new) result }
+        ensures kept { OnErr result (disk_of self.new ≡ disk_of self.old) }
+        ensures counted { OnOk result (place_of self.new ≡ 0) }
+        ensures time { TimePasses told_of moment_of from_of since_of self.old self.new }
+        ensures moment { moment_of self.new ≡ moment_of self.old }
+        ensures remembers { moment_of self.old ≡ 0 → from_of self.new ≡ from_of self.old }
+        ensures capacity { capacity_of self.new ≡ capacity_of self.old }
+        ensures listed { FailsAsListed (disk_calls self.old) (disk_calls self.new) false result }
+        ensures cause { HasCause (disk_calls self.old).faults (disk_calls self.new).faults result }
+    {
+        self.calls.begin()?;
+        self.turn();
+        Ok(())
+    }
+
+    // It fails just at the listed calls, and changes nothing then. Where no era has ended, it forgets none.
+    fn cut(&mut self, at: u64) -> Result<(), Failed>
+        requires there { at ≤ len_of self.old }
+        ensures cut { Cut (disk_of self.old) (disk_of self.new) at result }
+        ensures kept { OnErr result (disk_of self.new ≡ disk_of self.old) }
+        ensures counted { OnOk result (place_of self.new ≡ at) }
+        ensures time { TimePasses told_of moment_of from_of since_of self.old self.new }
+        ensures moment { moment_of self.new ≡ moment_of self.old }
+        ensures remembers { moment_of self.old ≡ 0 → from_of self.new ≡ from_of self.old }
+        ensures capacity { capacity_of self.new ≡ capacity_of self.old }
+        ensures listed { FailsAsListed (disk_calls self.old) (disk_calls self.new) false result }
+        ensures cause { HasCause (disk_calls self.old).faults (disk_calls self.new).faults result }
+    {
+        self.calls.begin()?;
+        self.turn();
+        self.content.truncate(at as usize);
+        self.synced = self.synced.min(at);
+        self.place = at;
+        Ok(())
     }
 
     // It fails just at the listed calls. It remembers one era more at most, as long as it has room: as many as it may
     // have bytes. Where it has nothing to do, and where it fails, no era ends.
     fn sync(&mut self) -> Result<(), Failed>
         ensures synced { Synced (disk_of self.old) (disk_of self.new) result }
-        ensures adds_none { len_of self.new ≡ len_of self.old }
+        ensures adds_none { place_of self.new ≡ place_of self.old }
         ensures time { TimePasses told_of moment_of from_of since_of self.old self.new }
         ensures idle { IsAllSafe (disk_of self.old) → SameEra self.old self.new }
         ensures failed { OnErr result (SameEra self.old self.new) }
@@ -265,6 +399,7 @@ impl Disk for MemDisk {
         let ended = Era {
             synced: self.synced,
             reach: self.reach,
+            place: self.place,
         };
         if ended.synced == len && ended.reach == len {
             return Ok(());

@@ -15,7 +15,8 @@ const MAX_LEN: u64 = (1 << 63) - 1;
 /// The number of standard error, the last of the standard streams.
 const LAST_STREAM: i32 = 2;
 
-/// A file of the system. It has `len` bytes, whatever a failed append may have left after them.
+/// A file of the system. It has `len` bytes, whatever a failed append may have left after them. The next append writes
+/// at `place`.
 #[derive(Drop)]
 pub(crate) struct SystemFile<R: Drop> {
     runtime: R,
@@ -26,8 +27,9 @@ pub(crate) struct SystemFile<R: Drop> {
     writes: bool,
     /// Whether its length was asked for.
     measured: bool,
-    /// How many bytes it had then.
+    /// Where the count of added bytes begins: the length that it had then, or 0 once it was rewound or cut.
     start: u64,
+    place: u64,
     len: u64,
     /// Whether its entry in its folder is safe.
     entry_synced: bool,
@@ -35,7 +37,8 @@ pub(crate) struct SystemFile<R: Drop> {
     sync_failed: bool,
     ghost unmeasured: { measured ≡ false → len ≡ 0 },
     ghost written: { writes ≡ true → measured ≡ true },
-    ghost grown: { start ≤ len },
+    ghost counted: { start ≤ place },
+    ghost placed: { place ≤ len },
     ghost small: { len < 2 ^ 63 },
 }
 
@@ -54,6 +57,7 @@ impl<R: Files<File = File> + Drop> SystemFile<R> {
             writes: false,
             measured: false,
             start: 0,
+            place: 0,
             len: 0,
             entry_synced: false,
             sync_failed: false,
@@ -65,10 +69,7 @@ impl<R: Files<File = File> + Drop> SystemFile<R> {
         ensures small { IfOk result (λ n. n < 2 ^ 63) }
         ensures adds_none { added_to self.new ≡ added_to self.old }
     {
-        if !self.is_there()? {
-            self.runtime.metadata(folder_of(self.path.as_str()))?;
-            self.measure(0)?;
-        }
+        self.look()?;
         Ok(self.len)
     }
 
@@ -85,17 +86,48 @@ impl<R: Files<File = File> + Drop> SystemFile<R> {
         Ok(n)
     }
 
-    /// Writes all of the piece where the content ends.
+    /// Writes all of the piece at the place, which moves on behind it.
     pub(crate) fn append(&mut self, piece: &[u8]) -> io::Result<()>
         ensures added { GrowsBy (added_to self.old) (added_to self.new) (length piece.now) result }
     {
         self.open_to_write()?;
         let more = piece.len() as u64;
-        if more > MAX_LEN - self.len {
+        if more > MAX_LEN - self.place {
             return Err(io::Error::from(ErrorKind::FileTooLarge));
         }
-        self.opened()?.write_all_at(piece, self.len)?;
-        self.len += more;
+        self.opened()?.write_all_at(piece, self.place)?;
+        self.place += more;
+        self.len = self.len.max(self.place);
+        Ok(())
+    }
+
+    /// Sets the place to the start. It makes no file.
+    pub(crate) fn rewind(&mut self) -> io::Result<()>
+        ensures counted { OnOk result (added_to self.new ≡ 0) }
+    {
+        self.look()?;
+        self.start = 0;
+        self.place = 0;
+        Ok(())
+    }
+
+    /// Cuts the file to its first bytes, and sets the place to their end. A file that isn't there has none, and isn't
+    /// made. Where it has fewer bytes that is an error. What a failed append left after the content is cut off too.
+    pub(crate) fn cut(&mut self, at: u64) -> io::Result<()>
+        ensures counted { OnOk result (added_to self.new ≡ at) }
+    {
+        if self.look()? {
+            self.open_to_write()?;
+        }
+        if at > self.len {
+            return Err(io::Error::from(ErrorKind::InvalidInput));
+        }
+        if let Some(file) = &self.file {
+            file.set_len(at)?;
+        }
+        self.start = 0;
+        self.place = at;
+        self.len = at;
         Ok(())
     }
 
@@ -124,6 +156,18 @@ impl<R: Files<File = File> + Drop> SystemFile<R> {
             self.entry_synced = true;
         }
         Ok(())
+    }
+
+    /// Finds out the length, and says whether there is a file. Where there is none there is a folder to make it in.
+    fn look(&mut self) -> io::Result<bool>
+        ensures adds_none { added_to self.new ≡ added_to self.old }
+    {
+        let there = self.is_there()?;
+        if !there {
+            self.runtime.metadata(folder_of(self.path.as_str()))?;
+            self.measure(0)?;
+        }
+        Ok(there)
     }
 
     /// Opens the file for reading, where it isn't open yet, and says whether there is one.
@@ -190,7 +234,8 @@ impl<R: Files<File = File> + Drop> SystemFile<R> {
         }
     }
 
-    /// Notes the length at first. Later it must be the same.
+    /// Notes the length at first, and sets the place there. Later it must be the same: that is asked as the file is
+    /// opened for writing, before anything is written or cut.
     fn measure(&mut self, len: u64) -> io::Result<()>
         ensures measured { OnOk result (self.new.measured ≡ true) }
         ensures adds_none { added_to self.new ≡ added_to self.old }
@@ -207,6 +252,7 @@ impl<R: Files<File = File> + Drop> SystemFile<R> {
         }
         self.measured = true;
         self.start = len;
+        self.place = len;
         self.len = len;
         Ok(())
     }

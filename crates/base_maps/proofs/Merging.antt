@@ -3,7 +3,7 @@ use Rattle.std.proofs.Common.{◌≡◌, ℕ, Bool, List, [], ◌∷◌, refl, s
 use Rattle.std.proofs.lemmas.Bool.{true≢false}
 use Rattle.std.specs.declared.cmp.Ordering.{Ordering}
 use Rattle.std.specs.declared.cmp.Ordering.TheVariants.{Less, Equal, Greater}
-use Rattle.std.specs.Ordering.{is_eq, ordering_reverse}
+use Rattle.std.specs.Ordering.{is_eq, match_ordering, ordering_reverse}
 use Rattle.std.specs.Cmp.{IsTotalOrder}
 use Rattle.std.specs.List.{AllByRecursion}
 use Rattle.std.specs.List.Sorted.{IsStrictlySortedBy}
@@ -17,6 +17,11 @@ module _ {K : Type 0} (R : K → K → Ordering) (o : IsTotalOrder R) where
 
   above : (x y z : K) → R x y ≡ Greater → R y z ≡ Greater → R x z ≡ Greater
   above x y z e f = o.antisymm x z ∙ ap ordering_reverse (o.trans z y x (turned y z Greater f) (turned x y Greater e))
+
+  -- what is above a key is above one below it
+  all_past : (x y : K) (l : List K) → R x y ≡ Less → AllByRecursion (λ k. R y k ≡ Less) l → AllByRecursion (λ k. R x k ≡ Less) l
+  all_past x y [] e a = tt
+  all_past x y (k ∷ l) e a = (o.trans x y k e a.0, all_past x y l e a.1)
 
   module _ {V : Type 0} where
     -- none of the pairs has the key
@@ -283,3 +288,42 @@ module _ {K : Type 0} (R : K → K → Ordering) (o : IsTotalOrder R) where
         → AllByRecursion P (keys_of (remove_entry (is_at (R k)) l))
     all_removed P k [] all = all
     all_removed P k (q ∷ l) all = all_removed-by P k q l (is_eq (R k q.0)) refl all (all_removed P k l all.1)
+
+    -- ---- the order of both
+
+    all_put : (P : K → Type 0) (p : K × V) (rest : List (K × V) → List (K × V)) (l : List (K × V)) → P p.0 → AllByRecursion P (keys_of l)
+        → ((m : List (K × V)) → AllByRecursion P (keys_of m) → AllByRecursion P (keys_of (rest m)))
+        → AllByRecursion P (keys_of (put_in_order R p rest l))
+    all_put P p rest [] here all more = (here, more [] tt)
+    all_put P p rest (q ∷ l) here all more = by (R p.0 q.0) (all_put P p rest l here all.1 more)
+      where
+        by : (r : Ordering) → AllByRecursion P (keys_of (put_in_order R p rest l))
+            → AllByRecursion P (keys_of (match_ordering r (p ∷ rest (q ∷ l)) (p ∷ rest (q ∷ l)) (q ∷ put_in_order R p rest l)))
+        by Less ih = (here, more (q ∷ l) all)
+        by Equal ih = (here, more (q ∷ l) all)
+        by Greater ih = (all.0, ih)
+
+    all_merged : (P : K → Type 0) (s l : List (K × V)) → AllByRecursion P (keys_of s) → AllByRecursion P (keys_of l) → AllByRecursion P (keys_of (merge_pairs R s l))
+    all_merged P [] l a b = b
+    all_merged P (p ∷ s) l a b = all_put P p (merge_pairs R s) l a.0 b (λ m c. all_merged P s m a.1 c)
+
+    -- a pair before those of both, where neither list has a key of the other
+    ordered-in : (p : K × V) (s l : List (K × V)) → IsStrictlySortedBy R (keys_of (p ∷ s)) → IsStrictlySortedBy R (keys_of l) → Lacks l p.0
+        → ((m : List (K × V)) → IsStrictlySortedBy R (keys_of m) → LacksAll s m → IsStrictlySortedBy R (keys_of (merge_pairs R s m)))
+        → LacksAll s l → IsStrictlySortedBy R (keys_of (merge_pairs R (p ∷ s) l))
+    unfolding IsStrictlySortedBy
+    ordered-in p s [] below sorted lacks more all = (all_merged (λ k. R p.0 k ≡ Less) s [] below.0 tt, more [] tt all)
+    ordered-in p s (q ∷ l) below sorted lacks more all = by (R p.0 q.0) refl (ordered-in p s l below sorted.1 lacks.1 more (LacksAll-behind s q l all))
+      where
+        by : (r : Ordering) → R p.0 q.0 ≡ r → IsStrictlySortedBy R (keys_of (merge_pairs R (p ∷ s) l))
+            → IsStrictlySortedBy R (keys_of (match_ordering r (p ∷ merge_pairs R s (q ∷ l)) (p ∷ merge_pairs R s (q ∷ l)) (q ∷ merge_pairs R (p ∷ s) l)))
+        by Less e ih = (all_merged (λ k. R p.0 k ≡ Less) s (q ∷ l) below.0 (e, all_past p.0 q.0 (keys_of l) e sorted.0), more (q ∷ l) sorted all)
+        by Equal e ih = absurd (true≢false (sym (ap is_eq e) ∙ lacks.0))
+        by Greater e ih =
+            let less : R q.0 p.0 ≡ Less = turned p.0 q.0 Greater e in
+            (all_merged (λ k. R q.0 k ≡ Less) (p ∷ s) l (less, all_past q.0 p.0 (keys_of s) less below.0) sorted.0, ih)
+
+    pub ordered : (s l : List (K × V)) → IsStrictlySortedBy R (keys_of s) → IsStrictlySortedBy R (keys_of l) → LacksAll s l → IsStrictlySortedBy R (keys_of (merge_pairs R s l))
+    unfolding IsStrictlySortedBy
+    ordered [] l a b all = b
+    ordered (p ∷ s) l a b all = ordered-in p s l a b all.0 (λ m c d. ordered s m a.1 c d) all.1

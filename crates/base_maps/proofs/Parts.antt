@@ -13,7 +13,7 @@ use Rattle.model_base.specs.Map.{Pairs, byte_order, value_at}
 use Rattle.base_maps.specs.Merging.{merge_pairs}
 use Rattle.base_maps.specs.Parts.{AreParts}
 use Rattle.base_maps.proofs.MapPairs.{pairs, pairs-insert_entry, pairs-remove_entry, lookup-pairs}
-use Rattle.base_maps.proofs.Merging.{Lacks, LacksAll, inserted, inserted_second, removed, removed_second, found, found_second, counted, all_inserted, all_removed}
+use Rattle.base_maps.proofs.Merging.{Lacks, LacksAll, inserted, inserted_second, removed, removed_second, found, found_second, counted, all_inserted, all_removed, ordered}
 
 same_behind : (r s : Ordering) → ordering_then r s ≡ Equal → s ≡ Equal
 same_behind Less s e = absurd (true≢false (ap is_lt e))
@@ -224,3 +224,8 @@ module _ {K : Type 0} (seen : K → List ℕ) where
       let both : length (merge_pairs byte_order s (pairs seen es)) ≡ length s + length (pairs seen es) = counted byte_order nat_list_cmp_total s (pairs seen es) in
       let same : length (pairs seen es) ≡ length es = pairs_counted es in
       omega (arith, both, same, ap length is)
+
+-- ---- the order
+
+pub both_ordered : (s l : Pairs) → AreParts s l → IsStrictlySortedBy byte_order (keys_of (merge_pairs byte_order s l))
+both_ordered s l parts = ordered byte_order nat_list_cmp_total s l parts.short_order parts.long_order (lacks_all s l parts.short_keys parts.long_keys)

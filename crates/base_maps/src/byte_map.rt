@@ -3,7 +3,8 @@
 ghost use Rattle.std.specs.Prelude.{◌≡◌, [], length, map, OnOk, OnErr};
 ghost use Rattle.std.specs.Option.{option_copied, option_map};
 ghost use Rattle.std.specs.BTreeMap.{insert_entry, is_at};
-ghost use Rattle.std.specs.Map.{remove_entry};
+ghost use Rattle.std.specs.List.Sorted.{IsStrictlySortedBy};
+ghost use Rattle.std.specs.Map.{keys_of, remove_entry};
 ghost use Rattle.model_base.specs.Map.{byte_order, value_at};
 ghost use Rattle.base_maps.specs.Parts.{with_next, comes_first};
 
@@ -89,6 +90,13 @@ impl ByteMap {
             Some(value) => Some(value.as_slice()),
             None => None,
         }
+    }
+
+    /// No key comes twice, and each stands before those above it. At run time this does nothing.
+    pub fn in_order(&self)
+        ensures { IsStrictlySortedBy byte_order (keys_of self.now) }
+    {
+        let (_, _) = (&self.short, &self.long);
     }
 
     /// How many keys it has.

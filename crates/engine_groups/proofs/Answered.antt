@@ -10,6 +10,7 @@ use Rattle.base_devices.specs.declared.disk.Disk.{Ghosts}
 use Rattle.model_base.specs.declared.write.Refusal.{Refusal}
 use Rattle.model_base.specs.declared.write.Refusal.TheVariants.{Empty, TooLarge, SyncWithoutLog, SelfStop, NoMemory, Incomplete, LogFault, SequenceFull}
 use Rattle.model_base.specs.declared.write.WriteOptions.{WriteOptions}
+use Rattle.model_base.specs.Map.{Pairs}
 use Rattle.model_base.specs.Trace.{Settings}
 use Rattle.model_base.specs.Progress.{early_refusal}
 use Rattle.model_base.specs.Batch.{Record, count_of, size_of_batch}
@@ -113,7 +114,7 @@ keeps_self v = record {
   ends = refl;
   asked = refl;
   attempts = refl;
-  seen = record { start = refl; published = begins_self v.seen.published; controller_calls = prefix_self v.seen.controller_calls };
+  seen = record { start = refl; opening = refl; published = begins_self v.seen.published; controller_calls = prefix_self v.seen.controller_calls };
 }
 
 -- a refusal by the early checks
@@ -134,24 +135,24 @@ pub record Concludes {D : Type 0} {ghosts : Ghosts D} (opened : LogWriter D ghos
   pub refused : IfErr answer (λ (e : Refused). Refuses settings v batch.records how e.why w)
   pub unchanged : IfErr answer (λ (e : Refused). e.batch ≡ batch)
 
-module _ {C D : Type 0} {ghosts : Ghosts D} (controller : Controller C) (opened : LogWriter D ghosts) (start k : ℕ) (settings : Settings) (q : Request) (p : Answer) (mine : List (Request × Answer)) (handled : List (Handling Request Answer)) (kept : AreHandled controller opened start handled) (own : of k handled ≡ mine ++ (q, p) ∷ []) (seen now : List (List MemberVersions)) (sees : Begins seen now)
+module _ {C D : Type 0} {ghosts : Ghosts D} (controller : Controller C) (opened : LogWriter D ghosts) (start : ℕ) (opening : Pairs) (k : ℕ) (settings : Settings) (q : Request) (p : Answer) (mine : List (Request × Answer)) (handled : List (Handling Request Answer)) (kept : AreHandled controller opened start handled) (own : of k handled ≡ mine ++ (q, p) ∷ []) (seen now : List (List MemberVersions)) (sees : Begins seen now)
     (known after : List ControllerCall) (more : SeesMore k known after) (noted_known : noted_in q.note ≡ known) (sees_note : IfSome p.note (λ (n : Note). IsPrefix (seen_by_note n) after))
     (passed : early_refusal settings.batch_bytes (holds_stop (tokens_of k known)) q.batch.records q.options ≡ None) (above : IsAbove (last_of start seen) p.answer) where
   is : commits_of k (map commit_of handled) ≡ own_commits k mine ++ commit k q p ∷ []
   is = commits_told k handled ∙ (ap (own_commits k) own ∙ own_more k mine q p)
 
   abbrev old : Account
-  old = account_of start k (own_commits k mine) seen known
+  old = account_of start opening k (own_commits k mine) seen known
 
   abbrev new : Account
-  new = account_of start k (own_commits k (mine ++ (q, p) ∷ [])) now after
+  new = account_of start opening k (own_commits k (mine ++ (q, p) ∷ [])) now after
 
-  new_is : account_of start k (own_commits k mine ++ commit k q p ∷ []) now after ≡ new
-  new_is = ap (λ cs. account_of start k cs now after) (sym (own_more k mine q p))
+  new_is : account_of start opening k (own_commits k mine ++ commit k q p ∷ []) now after ≡ new
+  new_is = ap (λ cs. account_of start opening k cs now after) (sym (own_more k mine q p))
 
   pub answered_ok : (r : Receipt) → p.answer ≡ Ok r → r.group_last ≤ last_of start now → Wrote settings old q.batch.records q.options r.run.first r.group_last new
   answered_ok r ok reached = subst (Wrote settings old q.batch.records q.options r.run.first r.group_last) new_is
-      (wrote start k (own_commits k mine) (commit k q p) seen now sees known after more (map commit_of handled) kept.answered is settings r.run.first r.group_last (ap answer_in ok) passed (subst (IsAbove (last_of start seen)) ok above) reached)
+      (wrote start opening k (own_commits k mine) (commit k q p) seen now sees known after more (map commit_of handled) kept.answered is settings r.run.first r.group_last (ap answer_in ok) passed (subst (IsAbove (last_of start seen)) ok above) reached)
 
   -- the note of a reply is seen, and so is the delay that it shows
   noted_after : (note : Option Note) → IfSome note (λ (n : Note). IsNoteOf controller n × (seen_by_note n ≡ seen_for p)) → IfSome note (λ (n : Note). IsPrefix (seen_by_note n) after) → (n : Note) → note ≡ Some n → IsPrefix (seen_for p) after
@@ -160,9 +161,9 @@ module _ {C D : Type 0} {ghosts : Ghosts D} (controller : Controller C) (opened 
 
   refused_by : (why : Refusal) (e : Refused) → e.why ≡ why → p.answer ≡ Err e → IsLate why → IsRefused old q.batch.records q.options why new
   refused_by (LogFault n) e is_why err late = subst (IsRefused old q.batch.records q.options (LogFault n)) new_is
-      (refused_failed start k (own_commits k mine) (commit k q p) seen now sees known after more n (ap answer_in err ∙ ap answer_of_refusal is_why))
+      (refused_failed start opening k (own_commits k mine) (commit k q p) seen now sees known after more n (ap answer_in err ∙ ap answer_of_refusal is_why))
   refused_by (SequenceFull l) e is_why err late = subst (IsRefused old q.batch.records q.options (SequenceFull l)) new_is
-      (refused_full start k (own_commits k mine) (commit k q p) seen now sees known after more (map commit_of handled) kept.answered is l (ap answer_in err ∙ ap answer_of_refusal is_why) (subst (IsAbove (last_of start seen)) err above l is_why))
+      (refused_full start opening k (own_commits k mine) (commit k q p) seen now sees known after more (map commit_of handled) kept.answered is l (ap answer_in err ∙ ap answer_of_refusal is_why) (subst (IsAbove (last_of start seen)) err above l is_why))
   refused_by (Incomplete s d w) e is_why err late =
       let numbers : Look = record { stops = s; delays = d; wait = w } in
       let told : answer_in p.answer ≡ held_up numbers = ap answer_in err ∙ ap answer_of_refusal is_why in
@@ -172,7 +173,7 @@ module _ {C D : Type 0} {ghosts : Ghosts D} (controller : Controller C) (opened 
       let front = noted_after p.note shows.note sees_note h.2.0 h.2.1 in
       let later = later_in (seen_for p) after front (length (noted_in q.note)) (length (seen_for p) - 1) (record { client = delayed.by; action = delay delayed.now delayed.bytes; told = Some numbers }) delayed.is_later in
       subst (IsRefused old q.batch.records q.options (Incomplete s d w)) new_is
-      (refused_held_up start k (own_commits k mine) (commit k q p) seen now sees known after more numbers delayed.by delayed.now delayed.bytes told h.0 h.1
+      (refused_held_up start opening k (own_commits k mine) (commit k q p) seen now sees known after more numbers delayed.by delayed.now delayed.bytes told h.0 h.1
       (subst (λ (l : List ControllerCall). IsLater after (length l) (length (seen_for p) - 1) (record { client = delayed.by; action = delay delayed.now delayed.bytes; told = Some numbers })) noted_known later))
   refused_by Empty e is_why err late = absurd late
   refused_by (TooLarge size) e is_why err late = absurd late

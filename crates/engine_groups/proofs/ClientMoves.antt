@@ -11,6 +11,7 @@ use Rattle.model_base.proofs.Prefixes.{prefix_self, prefix_trans}
 use Rattle.table_rule.specs.Histories.{Begins, In, last_of, map_after}
 use Rattle.table_calls.specs.Account.{Learns}
 use Rattle.model_accounts.specs.Accounts.{Keeps, Asks, GivesBack, Reads as ReadsAtEnd}
+use Rattle.model_accounts.proofs.Seeing.{seen_of_all}
 use Rattle.engine_controller.specs.declared.pass.Pass.{Pass}
 use Rattle.engine_controller.specs.Delays.{delays_of, place_if}
 use Rattle.engine_controller.specs.Passes.{IsPassOf, EndsWith, GoesOn, GivesBack as GivesBackIn, asked_by, seen_by, token_in, client_of as pass_client}
@@ -22,7 +23,7 @@ use Rattle.engine_rule.specs.Entries.{SeesMore}
 use Rattle.engine_groups.specs.Meaning.{Meaning}
 use Rattle.engine_groups.specs.declared.engine.GroupEngine.{GroupEngine}
 use Rattle.engine_groups.specs.declared.engine.EngineClient.{EngineClient}
-use Rattle.engine_groups.specs.Clients.{IsClientOf, account_in, own_commits, told_of}
+use Rattle.engine_groups.specs.Clients.{IsClientOf, map_at_opening, account_in, own_commits, told_of}
 use Rattle.engine_groups.proofs.Answered.{begins_self}
 
 pub on_ok : {A B : Type 0} {P Q : Type 0} (r : Result A B) → (P → Q) → OnOk r P → OnOk r Q
@@ -54,6 +55,7 @@ module _ {D T C G S U P : Type 0} {ghosts : Ghosts D} (meaning : Meaning T S U P
       ready = record { idle = learns.stage ∙ s.ready.idle; none_launched = learns.launched ∙ s.ready.none_launched };
       seat_number = learns.number ∙ s.seat_number;
       start = s.start;
+      table = s.table;
       pass = s.pass;
       pass_number = s.pass_number;
       can_lead = record { lists = s.can_lead.lists; layout = s.can_lead.layout };
@@ -69,13 +71,16 @@ module _ {D T C G S U P : Type 0} {ghosts : Ghosts D} (meaning : Meaning T S U P
     ends = refl;
     asked = refl;
     attempts = refl;
-    seen = record { start = refl; published = seen; controller_calls = prefix_self (seen_by c.pass) };
+    seen = record { start = refl; opening = refl; published = seen; controller_calls = prefix_self (seen_by c.pass) };
   }
 
   -- what the seat read is so at the end of what the client has seen
   pub seat_reads : {A B : Type 0} (r : Result A B) (at : A → ℕ) (answers : A → Pairs → Type 0) (seat : S) → IfOk r (λ x. at x ≡ last_of (meaning.opening e.table).start (meaning.account seat).seen)
-      → IfOk r (λ x. answers x (map_after (meaning.account seat).seen)) → IfOk r (λ x. ReadsAtEnd (at x) (answers x) (account_in meaning (record c { seat = seat })))
-  seat_reads (Ok x) at answers seat is answer = record { at_is = is ∙ ap (λ (start : ℕ). last_of start (meaning.account seat).seen) (sym fits.seated.start); answer = answer }
+      → IfOk r (λ x. answers x (map_after (meaning.opening e.table).base (meaning.account seat).seen)) → IfOk r (λ x. ReadsAtEnd (at x) (answers x) (account_in meaning (record c { seat = seat })))
+  seat_reads (Ok x) at answers seat is answer = record {
+    at_is = is ∙ ap (λ (start : ℕ). last_of start (meaning.account seat).seen) (sym fits.seated.start);
+    answer = subst (answers x) (seen_of_all (account_in meaning (record c { seat = seat })).seen (meaning.opening e.table).base (ap (map_at_opening meaning) fits.seated.table)) answer;
+  }
   seat_reads (Err x) at answers seat is answer = tt
 
   -- its pass has seen more, with no delay of its own
@@ -89,6 +94,7 @@ module _ {D T C G S U P : Type 0} {ghosts : Ghosts D} (meaning : Meaning T S U P
       ready = s.ready;
       seat_number = s.seat_number;
       start = s.start;
+      table = s.table;
       pass = own;
       pass_number = same ∙ s.pass_number;
       can_lead = record { lists = s.can_lead.lists; layout = s.can_lead.layout };
@@ -109,7 +115,7 @@ module _ {D T C G S U P : Type 0} {ghosts : Ghosts D} (meaning : Meaning T S U P
     ends = refl;
     asked = ap (tokens_of c.number) same;
     attempts = refl;
-    seen = record { start = refl; published = begins_self (meaning.account c.seat).seen; controller_calls = subst (IsPrefix (seen_by c.pass)) (sym same) (prefix_self (seen_by c.pass)) };
+    seen = record { start = refl; opening = refl; published = begins_self (meaning.account c.seat).seen; controller_calls = subst (IsPrefix (seen_by c.pass)) (sym same) (prefix_self (seen_by c.pass)) };
   }
 
   -- it made a call that is no delay
@@ -131,7 +137,7 @@ module _ {D T C G S U P : Type 0} {ghosts : Ghosts D} (meaning : Meaning T S U P
           ends = refl;
           asked = ends_tokens c.number (seen_by c.pass) action None (seen_by pass) ends_own ∙ ap (λ (l : List Action). tokens_of c.number (seen_by c.pass) ++ l) is;
           attempts = refl;
-          seen = record { start = refl; published = begins_self (meaning.account c.seat).seen; controller_calls = ends_begins c.number (seen_by c.pass) action None (seen_by pass) ends_own };
+          seen = record { start = refl; opening = refl; published = begins_self (meaning.account c.seat).seen; controller_calls = ends_begins c.number (seen_by c.pass) action None (seen_by pass) ends_own };
           place = last.place;
           is_later = last.is_later;
         }
@@ -170,6 +176,7 @@ module _ {D T C G S U P : Type 0} {ghosts : Ghosts D} (meaning : Meaning T S U P
       attempts = refl;
       seen = record {
         start = refl;
+        opening = refl;
         published = begins_self (meaning.account c.seat).seen;
         controller_calls = prefix_trans (seen_by c.pass) middle (seen_by pass) (back_begins a (pass_client c.pass) (seen_by c.pass) unstop middle first) (back_begins b (pass_client c.pass) middle unslow (seen_by pass) second);
       };

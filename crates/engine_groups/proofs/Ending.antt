@@ -28,7 +28,7 @@ use Rattle.engine_controller.specs.declared.pass.Passes.{Passes}
 use Rattle.engine_controller.specs.Passes.{seen_by, AreAll, IsHistoryOf, IsOthersOf, IsPassOf, client_of as pass_client}
 use Rattle.log_writer.specs.declared.writer.LogWriter.{LogWriter}
 use Rattle.engine_parts.specs.LogLaw.{StandsFor}
-use Rattle.engine_groups.specs.Clients.{IsClientOf, IsEngine, opened_log, account_in, own_commits, pass_in, seat_in, writer_in}
+use Rattle.engine_groups.specs.Clients.{IsClientOf, IsEngine, map_at_opening, opened_log, account_in, own_commits, pass_in, seat_in, writer_in}
 use Rattle.engine_parts.specs.Handled.{commit_of}
 use Rattle.engine_rule.specs.Asked.{HasAsked}
 use Rattle.engine_rule.specs.Commits.{Commit, commits_of}
@@ -132,7 +132,7 @@ module _ {D T C G S U P : Type 0} {ghosts : Ghosts D} (meaning : Meaning T S U P
 
     module _ (handled : List (Handling Request Answer)) (published : List (List MemberVersions))
         (merged : Merged handled (map writer_in cs)) (seen : IsTableClosing (meaning.opening e.table).start published (map meaning.account (map seat_in cs))) where
-      part : (i : ℕ) (c : EngineClient D T C S U P ghosts) → slice_get cs i ≡ Some c → HasPart (meaning.opening e.table).start (map commit_of handled) published calls i (account_in meaning c)
+      part : (i : ℕ) (c : EngineClient D T C S U P ghosts) → slice_get cs i ≡ Some c → HasPart (meaning.opening e.table).start (map_at_opening meaning e.table) (map commit_of handled) published calls i (account_in meaning c)
       part i c at =
           let f = fit i c at in
           let number : c.number ≡ i + 1 = (all.each i c at).1 in
@@ -144,15 +144,15 @@ module _ {D T C G S U P : Type 0} {ghosts : Ghosts D} (meaning : Meaning T S U P
             known = seen_by c.pass;
             goes_on = whole.each i c.pass (slice_get-map pass_in cs i ∙ ap (option_map pass_in) at);
             has_asked = subst (λ (z : ℕ × List Commit). HasAsked z.0 z.1 (seen_by c.pass)) (λ j. (number j, own j)) f.has_asked;
-            is = (λ j. account_of (f.seated.start j) (number j) (own j) (meaning.account c.seat).seen (seen_by c.pass));
+            is = (λ j. account_of (f.seated.start j) (map_at_opening meaning (f.seated.table j)) (number j) (own j) (meaning.account c.seat).seen (seen_by c.pass));
           }
 
       -- each client's meaning.account is its part of all
-      pub parts : (i : ℕ) (a : Account) → slice_get (map (account_in meaning) cs) i ≡ Some a → HasPart (meaning.opening e.table).start (map commit_of handled) published calls i a
+      pub parts : (i : ℕ) (a : Account) → slice_get (map (account_in meaning) cs) i ≡ Some a → HasPart (meaning.opening e.table).start (map_at_opening meaning e.table) (map commit_of handled) published calls i a
       parts i a at = elim (slice_get_cases cs i).1 [
         | inl there ↦ (
             let is : account_in meaning there.0 ≡ a = cc (sym (slice_get-map (account_in meaning) cs i) ∙ at, ap (option_map (account_in meaning)) there.2) in
-            subst (HasPart (meaning.opening e.table).start (map commit_of handled) published calls i) is (part i there.0 there.2))
+            subst (HasPart (meaning.opening e.table).start (map_at_opening meaning e.table) (map commit_of handled) published calls i) is (part i there.0 there.2))
         | inr gone ↦ absurd (cc (sym (slice_get-map (account_in meaning) cs i) ∙ at, ap (option_map (account_in meaning)) gone.1))
       ]
 

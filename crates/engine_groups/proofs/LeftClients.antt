@@ -26,10 +26,10 @@ roomy n layout l none = record { clear = (l.no_numberings, l.no_batches, none, l
 
 module _ {D T C G S U P : Type 0} {ghosts : Ghosts D} (meaning : Meaning T S U P) (e : GroupEngine D T C G S U P ghosts)
     (number start : ℕ) (mine : List (Request × Answer)) (own : QueuedWriter Request) (seen : List (Handling Request Answer)) (w : EngineClient D T C S U P ghosts) (leadership : Leadership D T C S U P ghosts) (l : IsToLeave meaning e number start mine own seen w leadership) where
-  pub left_client : (w' : EngineClient D T C S U P ghosts) → w'.number ≡ w.number → w'.start ≡ w.start → Belongs e.list w'.writer → client_of w'.writer ≡ client_of w.writer → IsOut w'.writer → answers_told w'.writer ≡ mine ++ (own.asked, l.p) ∷ []
+  pub left_client : (w' : EngineClient D T C S U P ghosts) → w'.number ≡ w.number → w'.start ≡ w.start → w'.table ≡ w.table → Belongs e.list w'.writer → client_of w'.writer ≡ client_of w.writer → IsOut w'.writer → answers_told w'.writer ≡ mine ++ (own.asked, l.p) ∷ []
       → meaning.ours e.table w'.seat → IsReady (meaning.account w'.seat) → (meaning.account w'.seat).number ≡ (meaning.account w.seat).number → w'.pass ≡ w.pass → AreReady (clients_of e.list) w'.lists → IsRoomy (clients_of e.list) w'.layout
       → IsClientOf meaning e w'
-  left_client w' same_number same_start belongs client out told_now seat ready seat_number pass lists layout =
+  left_client w' same_number same_start same_table belongs client out told_now seat ready seat_number pass lists layout =
       let q = l.seats in record {
         seated = record {
           is_engine = q.is_engine;
@@ -39,6 +39,7 @@ module _ {D T C G S U P : Type 0} {ghosts : Ghosts D} (meaning : Meaning T S U P
           ready = ready;
           seat_number = seat_number ∙ (q.seat_number ∙ sym same_number);
           start = same_start ∙ (l.start_is ∙ l.starts);
+          table = ap (λ t. t.value) same_table ∙ l.table_is;
           pass = subst (λ p. IsPassOf e.controller p) (sym pass) q.pass;
           pass_number = ap pass_client pass ∙ (q.pass_number ∙ sym same_number);
           can_lead = record { lists = lists; layout = layout };

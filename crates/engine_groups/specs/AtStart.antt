@@ -11,7 +11,7 @@ use Rattle.model_accounts.specs.Accounts.{newcomer}
 use Rattle.engine_groups.specs.Meaning.{Meaning}
 use Rattle.engine_groups.specs.declared.engine.GroupEngine.{GroupEngine}
 use Rattle.engine_groups.specs.declared.engine.EngineClient.{EngineClient}
-use Rattle.engine_groups.specs.Clients.{IsClientOf, account_in}
+use Rattle.engine_groups.specs.Clients.{IsClientOf, map_at_opening, account_in}
 
 -- the seats of a table's clients from 1 on, who have seen nothing yet and have nothing to do
 pub record AreSeatsAtStart {Versions Seat Turn Part : Type 0} (meaning : Meaning Versions Seat Turn Part)
@@ -39,7 +39,8 @@ module _ {Device Versions Time Watch Seat Turn Part : Type 0} {ghosts : Ghosts D
     -- it is a client of the engine with this number, that has done and seen nothing
     pub record IsNewcomer (number : ℕ) (c : EngineClient Device Versions Time Seat Turn Part ghosts) : Type 0 where
       pub is_client : IsClientOf meaning e c
-      pub new : account_in meaning c ≡ newcomer (meaning.opening e.table).start number
+      pub new : account_in meaning c
+          ≡ newcomer (meaning.opening e.table).start (map_at_opening meaning e.table) number
 
     -- they have the numbers from one on
     abbrev pub AreNewcomers : ℕ → List (EngineClient Device Versions Time Seat Turn Part ghosts) → Type 0

@@ -1,12 +1,13 @@
 -- An engine and its clients, and a client's account.
-use Rattle.std.specs.Prelude.{◌≡◌, ℕ, ◌<◌, ◌≤◌, List, [], ◌∷◌, ◌++◌, vec_capacity}
+use Rattle.std.specs.Prelude.{◌≡◌, ℕ, ◌<◌, ◌≤◌, List, [], ◌∷◌, ◌++◌, None, vec_capacity}
 use Rattle.base_devices.specs.declared.disk.Disk.{Ghosts}
 use Rattle.model_base.specs.declared.limits.TheConstants.{MAX_SIZE}
 use Rattle.model_base.specs.History.{max_sequence}
+use Rattle.model_base.specs.Map.{Pairs}
 use Rattle.model_base.specs.Trace.{Settings}
 use Rattle.log_writer.specs.declared.writer.LogWriter.{LogWriter}
-use Rattle.log_writer.specs.Words.{disk_of}
-use Rattle.log_writer.specs.Opening.{HasOpened}
+use Rattle.log_writer.specs.Words.{disk_of, fault_of}
+use Rattle.table_rule.specs.Histories.{map_of}
 use Rattle.table_calls.specs.Account.{IsReady}
 use Rattle.line_rule.specs.declared.view.Handling.{Handling}
 use Rattle.line_rule.specs.Chain.{of}
@@ -35,6 +36,10 @@ use Rattle.engine_parts.specs.Layout.{IsRoomy}
 abbrev pub own_commits : ℕ → List (Request × Answer) → List Commit
 own_commits client [] = []
 own_commits client (t ∷ ts) = commit_of (record { by = client; asked = t.0; reply = t.1 }) ∷ own_commits client ts
+
+-- the map that a table was opened over
+abbrev pub map_at_opening : {Versions Seat Turn Part : Type 0} → Meaning Versions Seat Turn Part → Versions → Pairs
+map_at_opening meaning table = map_of (meaning.opening table).base
 
 module _ {Device Versions Time Seat Turn Part : Type 0} {ghosts : Ghosts Device} where
   abbrev pub told_of : EngineClient Device Versions Time Seat Turn Part ghosts → List (Request × Answer)
@@ -66,8 +71,7 @@ module _ {Device Versions Time Seat Turn Part : Type 0} {ghosts : Ghosts Device}
         pub low : (meaning.opening e.table).start ≤ max_sequence
         pub few : clients_of e.list < 255
         pub batch_bytes : e.batch_bytes ≤ MAX_SIZE
-        pub disk : Device
-        pub opened : HasOpened disk (opened_log e)
+        pub no_fault : fault_of (opened_log e) ≡ None
 
     -- it is a client of the engine, but for where its writer and its pass stand
     pub record IsSeated {Watch : Type 0} (e : GroupEngine Device Versions Time Watch Seat Turn Part ghosts)
@@ -80,6 +84,7 @@ module _ {Device Versions Time Seat Turn Part : Type 0} {ghosts : Ghosts Device}
         pub ready : IsReady (meaning.account c.seat)
         pub seat_number : (meaning.account c.seat).number ≡ c.number
         pub start : c.start ≡ (meaning.opening e.table).start
+        pub table : c.table.value ≡ e.table
         pub pass : IsPassOf e.controller c.pass
         pub pass_number : pass_client c.pass ≡ c.number
         pub can_lead : CanLead (clients_of e.list) c
@@ -93,12 +98,13 @@ module _ {Device Versions Time Seat Turn Part : Type 0} {ghosts : Ghosts Device}
         pub has_asked : HasAsked c.number (own_commits c.number (told_of c)) (seen_by c.pass)
 
     abbrev pub account_in : EngineClient Device Versions Time Seat Turn Part ghosts → Account
-    account_in c = account_of c.start c.number (own_commits c.number (told_of c)) (meaning.account c.seat).seen
-        (seen_by c.pass)
+    account_in c = account_of c.start (map_at_opening meaning c.table.value) c.number (own_commits c.number (told_of c))
+        (meaning.account c.seat).seen (seen_by c.pass)
 
     abbrev pub settings_of : {Watch : Type 0} → GroupEngine Device Versions Time Watch Seat Turn Part ghosts → Settings
     settings_of e = record {
       start = (meaning.opening e.table).start;
+      opening = map_at_opening meaning e.table;
       clients = clients_of e.list;
       group_bytes = bound_of e.list;
       batch_bytes = e.batch_bytes;
@@ -126,6 +132,7 @@ module _ {Device Versions Time Seat Turn Part : Type 0} {ghosts : Ghosts Device}
     pub own : of v.number handled ≡ told_of v ++ (q, p) ∷ []
     pub number : w.number ≡ v.number
     pub start_same : w.start ≡ v.start
+    pub table_same : w.table ≡ v.table
 
   abbrev pub writer_in : EngineClient Device Versions Time Seat Turn Part ghosts
       → Writer Request Answer (Leadership Device Versions Time Seat Turn Part ghosts) (Right Versions Seat Turn Part)

@@ -46,6 +46,7 @@ module _ {Device Versions Time Watch Seat Turn Part : Type 0} {ghosts : Ghosts D
       pub number_is : w.number ≡ number
       pub start_is : w.start ≡ start
       pub starts : start ≡ (meaning.opening e.table).start
+      pub table_is : w.table.value ≡ e.table
       pub writer : Belongs e.list w.writer
       pub client : client_of w.writer ≡ number
       pub group : List (QueuedWriter Request)

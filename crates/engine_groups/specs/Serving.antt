@@ -48,6 +48,7 @@ module _ {Device Versions Time Watch Seat Turn Part : Type 0} {ghosts : Ghosts D
       pub seat : w.seat ≡ v.seat
       pub number : w.number ≡ v.number
       pub start : w.start ≡ v.start
+      pub table : w.table ≡ v.table
       pub writer : w.writer ≡ v.writer
       pub room_same : w.lists.room ≡ v.lists.room
       pub in_order : InOrder v.lists.requests.list.items w.lists.replies.list.items

@@ -41,6 +41,7 @@ pub(crate) fn part_all<Device: Disk, Versions: Table<Nodes, Parts>, Time>(
         let EngineClient {
             number: _,
             start: _,
+            table: _,
             writer,
             seat,
             pass,
@@ -141,7 +142,6 @@ impl<
             turn,
             clients: seats,
         });
-        laws::written_by_calls::<Device>();
         laws::closings();
         Closed {
             log: Box::into_inner(log),

@@ -6,6 +6,7 @@ use engine_controller::{Controller, Others, Pass};
 use engine_parts::{Answer, Layout, Request};
 use line_writers::{Lists, Writer, WriterList};
 use std::alloc::Global;
+use std::snapshot::Snapshot;
 use table_calls::Table;
 use table_tree::{Nodes, Parts};
 
@@ -28,6 +29,8 @@ pub struct GroupEngine<Device: Disk, Versions: Table<Nodes, Parts>, Time, Watch>
 pub struct EngineClient<Device: Disk, Versions: Table<Nodes, Parts>, Time> {
     pub(crate) number: u32,
     pub(crate) start: u64,
+    /// The table as it was when the client was made. Its opening says over which map the client reads.
+    pub(crate) table: Snapshot<Versions>,
     pub(crate) writer: Writer<Request, Answer, Leadership<Device, Versions, Time>, Right<Versions>>,
     pub(crate) seat: Versions::Seat,
     pub(crate) pass: Pass,

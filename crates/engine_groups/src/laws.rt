@@ -2,4 +2,3 @@
 
 pub(crate) use engine_rule::{closings, groups_stay_consistent};
 pub(crate) use line_rule::codes_stand_for_items;
-pub(crate) use log_writer::written_by_calls;

@@ -45,7 +45,8 @@ impl<
             → HasAnswered self.now.controller (opened_log self.now) (Versions.opening self.now.table).start number mine
             own.asked result (told_of client.new) }
         ensures same { (client.new.number ≡ client.old.number) × (client.new.start ≡ client.old.start)
-            × (client.new.seat ≡ client.old.seat) × (client.new.pass ≡ client.old.pass) }
+            × (client.new.seat ≡ client.old.seat) × (client.new.pass ≡ client.old.pass)
+            × (client.new.table ≡ client.old.table) }
     {
         // Each reply lies in its member's slot before the log goes on, so that who is told has it at once. The log goes
         // on before any member is told: the next leader works while they wake.
@@ -77,7 +78,7 @@ impl<
             → HasAnswered self.now.controller (opened_log self.now) (Versions.opening self.now.table).start number mine
             own.asked result (told_of client.new) }
         ensures same { (client.new.number ≡ client.old.number) × (client.new.start ≡ client.old.start)
-            × (client.new.pass ≡ client.old.pass) }
+            × (client.new.pass ≡ client.old.pass) × (client.new.table ≡ client.old.table) }
         ensures seen { Begins (Versions.account client.old.seat).seen (Versions.account client.new.seat).seen }
     {
         // The group stands in the second list before the log goes on, so that this list is in the order of the log.

@@ -2,8 +2,7 @@
 
 ghost use Rattle.std.specs.Prelude.{true, false, ◌≡◌, ◌⊎◌, ◌≤◌, ◌<◌, ◌+◌, ℕ, [], length, vec_capacity, IfOk, IfErr, None, Some, slice_get};
 ghost use Rattle.model_base.specs.History.{max_sequence};
-ghost use Rattle.log_writer.specs.Words.{disk_of};
-ghost use Rattle.log_writer.specs.Opening.{HasOpened};
+ghost use Rattle.log_writer.specs.Words.{disk_of, fault_of};
 ghost use Rattle.table_calls.specs.Account.{IsReady};
 ghost use Rattle.line_writers.specs.Roles.{IsNew, AreNew};
 ghost use Rattle.line_writers.specs.Rooms.{AreReady, AllReady};
@@ -13,7 +12,7 @@ ghost use Rattle.model_accounts.specs.Accounts.{newcomer};
 ghost use Rattle.model_accounts.specs.Closing.{AreOurs};
 ghost use Rattle.model_base.specs.Settings.{settings_of as settings_with};
 ghost use Rattle.engine_parts.specs.Layout.{IsRoomy, AreRoomy};
-ghost use Rattle.engine_groups.specs.Clients.{IsEngine, IsClientOf, HasRoomToClose, account_in, settings_of, opened_log};
+ghost use Rattle.engine_groups.specs.Clients.{IsEngine, IsClientOf, HasRoomToClose, map_at_opening, account_in, settings_of, opened_log};
 ghost use Rattle.engine_groups.specs.AtStart.{AreSeatsAtStart, ArePassesAtStart, IsPassAtStart, IsNewcomer, AreNewcomers};
 
 use crate::engine::{ClosingRoom, EngineClient, GroupEngine};
@@ -162,9 +161,9 @@ impl<
     Time: Clock + Drop,
     Watch: Gate + Drop,
 > GroupEngine<Device, Versions, Time, Watch> {
-    /// An engine over an opened log and a table of which nothing is published, with a client for each of its seats.
-    /// Where memory is short, all is handed back. Where it is pipelined a group goes into the table while later ones
-    /// are logged, and its members may put their own parts in.
+    /// An engine over a log that has no fault and a table of which nothing is published, with a client for each of its
+    /// seats. Where memory is short, all is handed back. Where it is pipelined a group goes into the table while later
+    /// ones are logged, and its members may put their own parts in.
     pub fn open(
         alloc: Global,
         log: LogWriter<Device>,
@@ -184,16 +183,17 @@ impl<
         requires options { (options.last ≡ (Versions.opening table).start) × (options.last ≤ max_sequence)
             × (options.batch_bytes ≤ MAX_SIZE) }
         requires clients { (0 < (Versions.opening table).clients) × ((Versions.opening table).clients ≤ MAX_CLIENTS) }
-        requires log { (disk : Device) × HasOpened disk log }
+        requires log { fault_of log ≡ None }
         requires turn { Versions.our_turn table seats.turn × (Versions.history seats.turn ≡ []) }
         requires seats { AreSeatsAtStart Versions.Table table (Versions.opening table).clients seats.clients.items }
         ensures engine { IfOk result (λ r. (r.0.table ≡ table) × (opened_log r.0 ≡ log)
             × (settings_of Versions.Table r.0
-            ≡ settings_with options (Versions.opening table).clients (Device.faults (disk_of log)))) }
+            ≡ settings_with options (map_at_opening Versions.Table table) (Versions.opening table).clients
+            (Device.faults (disk_of log)))) }
         ensures clients { IfOk result (λ r. AreOurs (IsClientOf Versions.Table r.0)
             (account_in Versions.Table) (clients_of r.0.list) r.1.clients.items) }
         ensures new { IfOk result (λ r. (i : ℕ) (c : _) → slice_get r.1.clients.items i ≡ Some c
-            → account_in Versions.Table c ≡ newcomer options.last (i + 1)) }
+            → account_in Versions.Table c ≡ newcomer options.last (map_at_opening Versions.Table table) (i + 1)) }
         ensures room { IfOk result (λ r. HasRoomToClose r.0.controller (clients_of r.0.list) r.1.room) }
         ensures stages { IfOk result (λ r. piped_of r.0.list ≡ pipelined) }
         ensures err { IfErr result (λ e. (e.log ≡ log) × (e.clock ≡ clock) × (e.table ≡ table) × (e.seats ≡ seats)
@@ -247,7 +247,7 @@ impl<
             × (options.batch_bytes ≤ MAX_SIZE) }
         requires clients { (0 < (Versions.opening table).clients)
             × ((Versions.opening table).clients ≤ MAX_CLIENTS) }
-        requires log { (disk : Device) × HasOpened disk log.value }
+        requires log { fault_of log.value ≡ None }
         requires turn { Versions.our_turn table seats.turn × (Versions.history seats.turn ≡ []) }
         requires seats { AreSeatsAtStart Versions.Table table (Versions.opening table).clients
             seats.clients.items }
@@ -257,11 +257,12 @@ impl<
         requires room { (clients.items ≡ []) × ((Versions.opening table).clients ≤ vec_capacity clients) }
         ensures engine { IfOk result (λ r. (r.0.table ≡ table) × (opened_log r.0 ≡ log.value)
             × (settings_of Versions.Table r.0
-            ≡ settings_with options (Versions.opening table).clients (Device.faults (disk_of log.value)))) }
+            ≡ settings_with options (map_at_opening Versions.Table table) (Versions.opening table).clients
+            (Device.faults (disk_of log.value)))) }
         ensures clients { IfOk result (λ r. AreOurs (IsClientOf Versions.Table r.0)
             (account_in Versions.Table) (clients_of r.0.list) r.1.clients.items) }
         ensures new { IfOk result (λ r. (i : ℕ) (c : _) → slice_get r.1.clients.items i ≡ Some c
-            → account_in Versions.Table c ≡ newcomer options.last (i + 1)) }
+            → account_in Versions.Table c ≡ newcomer options.last (map_at_opening Versions.Table table) (i + 1)) }
         ensures room { IfOk result (λ r. HasRoomToClose r.0.controller (clients_of r.0.list) r.1.room) }
         ensures stages { IfOk result (λ r. piped_of r.0.list ≡ pipelined) }
         ensures err { IfErr result (λ e. (e.log ≡ log.value) × (e.clock ≡ clock) × (e.table ≡ table) × (e.seats ≡ seats)
@@ -391,6 +392,7 @@ impl<
         EngineClient {
             number,
             start,
+            table: Snapshot::of(&self.table),
             writer,
             seat,
             pass,

@@ -74,7 +74,7 @@ impl<
         requires note { IfSome note (IsNoteOf self.now.controller) }
         ensures fits { IsClientOf Versions.Table self.now client.new }
         ensures same { (client.new.number ≡ client.old.number) × (client.new.start ≡ client.old.start)
-            × (client.new.writer ≡ client.old.writer) }
+            × (client.new.writer ≡ client.old.writer) × (client.new.table ≡ client.old.table) }
         ensures seen { Begins (Versions.account client.old.seat).seen (Versions.account client.new.seat).seen
             × SeesMore client.old.number (seen_by client.old.pass) (seen_by client.new.pass) }
         ensures published { IfOk answer.now (λ r. r.group_last
@@ -97,7 +97,8 @@ impl<
         requires { IsClientOf Versions.Table self.now client.old }
         ensures fits { IsClientOf Versions.Table self.now client.new }
         ensures same { (client.new.number ≡ client.old.number) × (client.new.start ≡ client.old.start)
-            × (client.new.writer ≡ client.old.writer) × (client.new.pass ≡ client.old.pass) }
+            × (client.new.writer ≡ client.old.writer) × (client.new.pass ≡ client.old.pass)
+            × (client.new.table ≡ client.old.table) }
         ensures seen { Begins (Versions.account client.old.seat).seen (Versions.account client.new.seat).seen }
         ensures published { IfOk answer.now (λ r. r.group_last
             ≤ last_of (Versions.opening self.now.table).start (Versions.account client.new.seat).seen) }
@@ -117,7 +118,8 @@ impl<
         requires { IsClientOf Versions.Table self.now client.old }
         ensures fits { IsClientOf Versions.Table self.now client.new }
         ensures same { (client.new.number ≡ client.old.number) × (client.new.start ≡ client.old.start)
-            × (client.new.writer ≡ client.old.writer) × (client.new.pass ≡ client.old.pass) }
+            × (client.new.writer ≡ client.old.writer) × (client.new.pass ≡ client.old.pass)
+            × (client.new.table ≡ client.old.table) }
         ensures seen { Begins (Versions.account client.old.seat).seen (Versions.account client.new.seat).seen }
         ensures reached { last ≤ last_of (Versions.opening self.now.table).start
             (Versions.account client.new.seat).seen }

@@ -90,7 +90,7 @@ module _ (D C G : RattleType) (ghosts : Ghosts (RattleType.Denot D)) (disk_send 
   pub client_send : IsSend (client.the_row D table.the_row C S U nodes.the_row ghosts)
   client_send =
       let K = client.the_type D table.the_row C S U nodes.the_row ghosts in
-      let all : AllSend (fields K) = (search sendable, (search sendable, (writer.the_field_send request.the_row answer_row.the_row H M request_send answer_send leader_send right_send, (seat_send, (pass.the_field_send, (lists.the_field_send request.the_row answer_row.the_row request_send answer_send, (struct_send (shape layout.the_type) layout_fields, tt))))))) in
+      let all : AllSend (fields K) = (search sendable, (search sendable, (search sendable, (writer.the_field_send request.the_row answer_row.the_row H M request_send answer_send leader_send right_send, (seat_send, (pass.the_field_send, (lists.the_field_send request.the_row answer_row.the_row request_send answer_send, (struct_send (shape layout.the_type) layout_fields, tt)))))))) in
       recorded_send (client.the_field D table.the_row C S U nodes.the_row ghosts).row K.D K.to K.to_one (struct_send (shape K) all)
 
   pub engine_sync : IsSync G → IsSync (engine.the_row D table.the_row C G S U nodes.the_row ghosts table_ghosts.ghosts)

@@ -1,9 +1,8 @@
 //! How an engine with its table in memory is opened.
 
-ghost use Rattle.std.specs.Prelude.{◌≡◌, ◌≤◌, ◌<◌, ◌+◌, ℕ, Some, slice_get, IfOk, IfErr};
+ghost use Rattle.std.specs.Prelude.{◌≡◌, ◌≤◌, ◌<◌, ◌+◌, ℕ, [], None, Some, slice_get, IfOk, IfErr};
 ghost use Rattle.model_base.specs.History.{max_sequence};
-ghost use Rattle.log_writer.specs.Words.{disk_of};
-ghost use Rattle.log_writer.specs.Opening.{HasOpened};
+ghost use Rattle.log_writer.specs.Words.{disk_of, fault_of};
 ghost use Rattle.line_writers.specs.Seats.{clients_of, piped_of};
 ghost use Rattle.model_accounts.specs.Accounts.{newcomer};
 ghost use Rattle.model_accounts.specs.Closing.{AreOurs};
@@ -12,21 +11,25 @@ ghost use Rattle.engine_groups.specs.Clients.{IsClientOf, HasRoomToClose, accoun
 ghost use Rattle.table_memory.specs.Meaning.{memory_table, opening_of};
 
 use base_devices::{Clock, Disk};
+use base_maps::ByteMap;
 use engine_calls::Gate;
 use engine_groups::{Clients, ClosingRoom, EngineClient, GroupEngine, OpenRefused};
 use log_writer::LogWriter;
 use model_base::{MAX_CLIENTS, MAX_SIZE, Options};
 use std::alloc::Global;
 use table_memory::MemoryTable;
+use table_rule::maps_as_bases;
 
-/// An engine over an opened log and a table of so many shards, at least one, with so many clients, of which none has
-/// done anything. Where memory is short, log, clock and gate come back. Its groups go into the table in a stage of
-/// their own where it is pipelined.
+/// An engine over a log that has no fault and a table of so many shards, at least one, which holds this map at its last
+/// sequence, with so many clients, of which none has done anything. Where memory is short, log, clock and gate come
+/// back. Its groups go into the table in a stage of their own where it is pipelined.
 pub fn open_engine<Device: Disk, Time: Clock + Drop, Watch: Gate + Drop>(
     alloc: Global,
     log: LogWriter<Device>,
     clock: Time,
     clients: u32,
+    base_last: u64,
+    map: &ByteMap,
     gate: Watch,
     options: Options,
     shards: u32,
@@ -40,21 +43,31 @@ pub fn open_engine<Device: Disk, Time: Clock + Drop, Watch: Gate + Drop>(
 >
     requires options { (options.last ≤ max_sequence) × (options.batch_bytes ≤ MAX_SIZE) }
     requires clients { (0 < clients) × (clients ≤ MAX_CLIENTS) }
-    requires log { (disk : Device) × HasOpened disk log }
+    requires log { fault_of log ≡ None }
     requires shards { 0 < shards }
+    requires map { (base_last ≤ options.last) × (base_last ≡ 0 → map.now ≡ []) }
     ensures engine { IfOk result (λ r. (opened_log r.0 ≡ log)
         × (settings_of memory_table r.0
-        ≡ settings_with options clients (Device.faults (disk_of log)))) }
+        ≡ settings_with options map.now clients (Device.faults (disk_of log)))) }
     ensures table { IfOk result (λ r. (opening_of r.0.table).shards ≡ shards) }
     ensures clients { IfOk result (λ r. AreOurs (IsClientOf memory_table r.0)
         (account_in memory_table) (clients_of r.0.list) r.1.clients.items) }
     ensures new { IfOk result (λ r. (i : ℕ) (c : _) → slice_get r.1.clients.items i ≡ Some c
-        → account_in memory_table c ≡ newcomer options.last (i + 1)) }
+        → account_in memory_table c ≡ newcomer options.last map.now (i + 1)) }
     ensures room { IfOk result (λ r. HasRoomToClose r.0.controller (clients_of r.0.list) r.1.room) }
     ensures stages { IfOk result (λ r. piped_of r.0.list ≡ pipelined) }
     ensures err { IfErr result (λ e. (e.0 ≡ log) × (e.1 ≡ clock) × (e.2 ≡ gate)) }
 {
-    let Ok((table, seats)) = MemoryTable::open(alloc, clients, options.last, shards) else {
+    map.in_order();
+    maps_as_bases();
+    let Ok((table, seats)) = MemoryTable::open_with(
+        alloc,
+        clients,
+        options.last,
+        shards,
+        base_last,
+        map,
+    ) else {
         return Err((log, clock, gate));
     };
     match GroupEngine::open(alloc, log, clock, table, seats, gate, options, pipelined) {

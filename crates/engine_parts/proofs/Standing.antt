@@ -3,9 +3,9 @@ use Rattle.std.proofs.Common.{◌≡◌, ◌⊎◌, inl, inr, ℕ, ◌+◌, ◌�
 use Rattle.base_devices.specs.declared.disk.Disk.{Ghosts}
 use Rattle.model_base.specs.History.{max_sequence}
 use Rattle.model_base.specs.Controller.{ControllerCall, Look}
-use Rattle.model_base.specs.Log.{record_text, plain_log}
+use Rattle.model_base.specs.Log.{record_text}
 use Rattle.log_writer.specs.declared.writer.LogWriter.{LogWriter}
-use Rattle.log_writer.specs.Words.{fault_of, len_of}
+use Rattle.log_writer.specs.Words.{fault_of, len_of, number_of}
 use Rattle.log_writer.specs.Adding.{GroupCall, Adds, Grows, Stops, record_of_call}
 use Rattle.log_writer.specs.Written.{Wrote, one_more}
 use Rattle.table_rule.specs.declared.content.MemberVersions.{MemberVersions}
@@ -57,7 +57,7 @@ module _ {D : Type 0} {ghosts : Ghosts D} {T U : Type 0} (our_turn : T → U →
           let old = subst (λ f. AreConsistent start clients group_bytes asked (map commit_of hs) last f (history turn) s.calls) alive s.consistent in
           let new = consistent_with_fault start clients group_bytes (map commit_of hs) last (history turn) s.calls (commit_requests_of xs) asked (seen_at delay) numbers lawful whole is_asked comes went proceeds n old c writes failed_is in
           let commits = map_append commit_of hs (handled_with xs (failures delay n xs)) ∙ ap (λ l. map commit_of hs ++ l) (commits_failed delay n xs) in
-          let stops = subst (λ f. MatchOption f (Grows (record_text plain_log (len_of log) (record_of_call c)) log log') (Stops log log')) failed_is (adds.kept alive) in
+          let stops = subst (λ f. MatchOption f (Grows (record_text (number_of log) (len_of log) (record_of_call c)) log log') (Stops log log')) failed_is (adds.kept alive) in
           record { our = s.our; calls = s.calls ++ c ∷ []; wrote = one_more c s.wrote adds; consistent = subst (λ (z : List Commit × Option ℕ). AreConsistent start clients group_bytes went z.0 last z.1 (history turn) (s.calls ++ c ∷ [])) (λ i. (sym commits i, sym stops.fault i)) new }
 
       pub stands_written : fault_of log ≡ None → (log' : LogWriter D ghosts) (turn' : U) → our_turn table turn' → LogsOn last (commit_requests_of xs) log log' → Publishes (versions_from last (commit_requests_of xs)) (history turn) (history turn')
@@ -72,7 +72,7 @@ module _ {D : Type 0} {ghosts : Ghosts D} {T U : Type 0} (our_turn : T → U →
           record { our = our; calls = s.calls; wrote = subst (Wrote opened s.calls) (sym t.0) s.wrote; consistent = subst (λ (z : List Commit × Option ℕ). AreConsistent start clients group_bytes went z.0 end z.1 (history turn') s.calls) (λ i. (sym commits i, sym (ap fault_of t.0 ∙ alive) i)) new })
           (λ (t : (c : GroupCall) × Adds c log log' × WritesBatches last (commit_requests_of xs) c × SyncsFor (commit_requests_of xs) c.sync × (c.failed ≡ None)).
           let c = t.0 in
-          let grows = subst (λ f. MatchOption f (Grows (record_text plain_log (len_of log) (record_of_call c)) log log') (Stops log log')) t.4 (t.1.kept alive) in
+          let grows = subst (λ f. MatchOption f (Grows (record_text (number_of log) (len_of log) (record_of_call c)) log log') (Stops log log')) t.4 (t.1.kept alive) in
           let new = consistent_accepted start clients group_bytes asked (seen_at delay) went (map commit_of hs) last (history turn) s.calls old (commit_requests_of xs) lawful numbers whole is_asked comes proceeds (history turn') (s.calls ++ c ∷ []) published (inr (c, refl, t.2, t.3, t.4)) in
           record { our = our; calls = s.calls ++ c ∷ []; wrote = one_more c s.wrote t.1; consistent = subst (λ (z : List Commit × Option ℕ). AreConsistent start clients group_bytes went z.0 end z.1 (history turn') (s.calls ++ c ∷ [])) (λ i. (sym commits i, sym grows.fault i)) new })
           logs

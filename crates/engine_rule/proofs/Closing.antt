@@ -213,9 +213,9 @@ some_length f (x ∷ xs) n e = ap suc (some_length f xs (length xs) refl) ∙ e
 
 module _ (settings : Settings) (cs : List Commit) (last : ℕ) (fault : Option ℕ) (published : List (List MemberVersions)) (calls : List GroupCall) (asked history : List ControllerCall)
     (k : AreConsistent settings.start settings.clients settings.group_bytes asked cs last fault published calls)
-    (accounts : List Account) (all : length accounts ≡ settings.clients) (are : (i : ℕ) (a : Account) → slice_get accounts i ≡ Some a → HasPart settings.start cs published history i a) where
+    (accounts : List Account) (all : length accounts ≡ settings.clients) (are : (i : ℕ) (a : Account) → slice_get accounts i ≡ Some a → HasPart settings.start settings.opening cs published history i a) where
   abbrev trace : Trace
-  trace = trace_of settings.start cs history
+  trace = trace_of settings.start settings.opening cs history
 
   is_history : IsHistory settings.start (entries_of cs) × (last_sequence settings.start (entries_of cs) ≡ last_after_all settings.start cs)
   is_history = entries_history settings.start None [] cs k.answered
@@ -282,7 +282,7 @@ module _ (settings : Settings) (cs : List Commit) (last : ℕ) (fault : Option �
           tokens = ap (λ n. tokens_of n history) number ∙ (goes_tokens (i + 1) h.known history h.goes_on ∙ sym (ap (λ b. b.asked) h.is));
           statuses = subst (λ (z : ℕ × List Attempt). AreStatuses trace (groups_of led) fault z.0 0 z.1) (λ j. (sym number j, sym (attempts_are i a there) j)) (own_statuses trace (groups_of led) fault (i + 1) 0 cs statuses held);
           seen = subst (λ (b : Account). Saw b.seen trace) (sym h.is)
-              (saw_published trace published (images_entries [] cs published k.images) (record { start = settings.start; published = h.seen; controller_calls = h.known }) refl h.begins (goes_begins (i + 1) h.known history h.goes_on));
+              (saw_published trace published (images_entries [] cs published k.images) (record { start = settings.start; opening = settings.opening; published = h.seen; controller_calls = h.known }) refl refl h.begins (goes_begins (i + 1) h.known history h.goes_on));
         }
       where
         from_none : (j : ℕ) → j ≡ 0 + j
@@ -296,7 +296,7 @@ module _ (settings : Settings) (cs : List Commit) (last : ℕ) (fault : Option �
     closing ended rose = (
       groups_of led,
       record {
-        is_trace = record { start = refl; entries = is_history.0; controller_calls = legal; clients = entries_clients settings.clients [] cs k.of_clients; tokens = of_tokens settings.clients history calls_of };
+        is_trace = record { start = refl; opening = refl; entries = is_history.0; controller_calls = legal; clients = entries_clients settings.clients [] cs k.of_clients; tokens = of_tokens settings.clients history calls_of };
         are_groups = groups_from_led settings.group_bytes history led (all_attempts accounts) is_led;
         parts = parts;
         are_parts = are_parts;

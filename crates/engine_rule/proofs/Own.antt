@@ -5,6 +5,7 @@ use Rattle.std.proofs.lemmas.Grind.{flat_map-append}
 use Rattle.std.proofs.lemmas.Option.{slice_get_within}
 use Rattle.model_base.specs.declared.write.Refusal.TheVariants as no
 use Rattle.model_base.specs.Batch.{Record, count_of}
+use Rattle.model_base.specs.Map.{Pairs}
 use Rattle.model_base.specs.declared.write.WriteOptions.{WriteOptions}
 use Rattle.model_base.specs.History.{Entry, IsHistory, last_of, last_sequence, max_sequence}
 use Rattle.model_base.specs.Attempts.{is_faulted, knows_dead, slowed, faulted, full}
@@ -186,15 +187,15 @@ ends_same old c v is none = ends_as old c v is ∙ (ap (λ l. ends_of old ++ l) 
 mine_same : (k : ℕ) (old : List Commit) (c : Commit) (v : Answer) → c.answer ≡ v → entry_with k (mine_after k [] old) c v ≡ [] → mine_after k [] (old ++ c ∷ []) ≡ mine_after k [] old
 mine_same k old c v is none = mine_more k [] old c ∙ (ap (λ w. mine_after k [] old ++ entry_with k (mine_after k [] old) c w) is ∙ (ap (λ es. mine_after k [] old ++ es) none ∙ append-nil (mine_after k [] old)))
 
-module _ (start k : ℕ) (old : List Commit) (c : Commit) (before after : List (List MemberVersions)) (sees : Begins before after) (known now : List ControllerCall) (more : SeesMore k known now) where
+module _ (start : ℕ) (opening : Pairs) (k : ℕ) (old : List Commit) (c : Commit) (before after : List (List MemberVersions)) (sees : Begins before after) (known now : List ControllerCall) (more : SeesMore k known now) where
   abbrev was : Account
-  was = account_of start k old before known
+  was = account_of start opening k old before known
 
   abbrev becomes : Account
-  becomes = account_of start k (old ++ c ∷ []) after now
+  becomes = account_of start opening k (old ++ c ∷ []) after now
 
   saw : Sees was.seen becomes.seen
-  saw = record { start = refl; published = sees; controller_calls = more.begins }
+  saw = record { start = refl; opening = refl; published = sees; controller_calls = more.begins }
 
   pub refused_held_up : (numbers : Look) (by moment bytes : ℕ) → c.answer ≡ held_up numbers → c.options.no_slowdown ≡ true → HoldUp numbers
       → IsLater now (length known) (place_of c) (record { client = by; action = delay moment bytes; told = Some numbers })
@@ -265,10 +266,10 @@ module _ (start k : ℕ) (old : List Commit) (c : Commit) (before after : List (
         }
 
 -- who looked itself made no commit of it
-pub refused_looked : (start k : ℕ) (own : List Commit) (records : List Record) (how : WriteOptions) (before after : List (List MemberVersions)) (known now : List ControllerCall) (numbers : Look) → Begins before after
+pub refused_looked : (start : ℕ) (opening : Pairs) (k : ℕ) (own : List Commit) (records : List Record) (how : WriteOptions) (before after : List (List MemberVersions)) (known now : List ControllerCall) (numbers : Look) → Begins before after
     → EndsWith k known look (Some numbers) now → how.no_slowdown ≡ true → HoldUp numbers
-    → IsRefused (account_of start k own before known) records how (no.Incomplete numbers.stops numbers.delays numbers.wait) (account_of start k own after now)
-refused_looked start k own records how before after known now numbers sees ends impatient hold =
+    → IsRefused (account_of start opening k own before known) records how (no.Incomplete numbers.stops numbers.delays numbers.wait) (account_of start opening k own after now)
+refused_looked start opening k own records how before after known now numbers sees ends impatient hold =
     let last = ends_last k known look (Some numbers) now ends in record {
       status = None;
       may = (impatient, hold, (last.place, k, last.is_later, slice_get_within now last.place (record { client = k; action = look; told = Some numbers }) last.is_later.there));
@@ -277,5 +278,5 @@ refused_looked start k own records how before after known now numbers sees ends 
       ends = refl;
       asked = ends_tokens k known look (Some numbers) now ends ∙ append-nil (tokens_of k known);
       attempts = refl;
-      seen = record { start = refl; published = sees; controller_calls = ends_begins k known look (Some numbers) now ends };
+      seen = record { start = refl; opening = refl; published = sees; controller_calls = ends_begins k known look (Some numbers) now ends };
     }

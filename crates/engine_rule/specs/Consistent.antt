@@ -73,4 +73,4 @@ pub record AreAccountsOf (settings : Settings) (s : Standing) (history : List Co
     (accounts : List Account) : Type 0 where
   pub all : length accounts ≡ settings.clients
   pub each : (i : ℕ) (a : Account) → slice_get accounts i ≡ Some a
-      → HasPart settings.start s.commits s.published history i a
+      → HasPart settings.start settings.opening s.commits s.published history i a

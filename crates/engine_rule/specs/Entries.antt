@@ -3,6 +3,7 @@ use Rattle.std.specs.Prelude.{◌≡◌, ℕ, ◌+◌, ◌≤◌, List, [], ◌�
 use Rattle.std.specs.List.{AllByRecursion}
 use mathlib.Core.List.{IsPrefix}
 use Rattle.model_base.specs.declared.write.Refusal.{Refusal}
+use Rattle.model_base.specs.Map.{Pairs}
 use Rattle.model_base.specs.History.{Entry}
 use Rattle.model_base.specs.Attempts.{Attempt, WriteStatus, succeeded, slowed, faulted, full}
 use Rattle.model_base.specs.Controller.{ControllerCall}
@@ -41,9 +42,10 @@ abbrev pub entries_of : List Commit → List Entry
 entries_of commits = entries_after [] commits
 
 -- the trace of the commits, beside this history of the controller
-abbrev pub trace_of : ℕ → List Commit → List ControllerCall → Trace
-trace_of start commits history = record {
+abbrev pub trace_of : ℕ → Pairs → List Commit → List ControllerCall → Trace
+trace_of start opening commits history = record {
   start = start;
+  opening = opening;
   entries = entries_of commits;
   controller_calls = history;
 }
@@ -89,36 +91,37 @@ ends_of commits = flat_map (λ (c : Commit). end_with c.answer) commits
 
 -- the account of a client that has made these commits, and has seen these groups published and these calls of the
 -- controller
-abbrev pub account_of : ℕ → ℕ → List Commit → List (List MemberVersions) → List ControllerCall → Account
-account_of start client own published known = record {
+abbrev pub account_of : ℕ → Pairs → ℕ → List Commit → List (List MemberVersions) → List ControllerCall → Account
+account_of start opening client own published known = record {
   number = client;
   mine = mine_after client [] own;
   ends = ends_of own;
   asked = tokens_of client known;
   attempts = map attempt_of own;
-  seen = record { start = start; published = published; controller_calls = known };
+  seen = record { start = start; opening = opening; published = published; controller_calls = known };
 }
 
 -- The client at this place (from 0) has made just its commits of all, has seen a beginning of what was published, and
 -- of the controller's history a beginning with all calls of its own. For each delay among these it has a commit.
-pub record HasPart (start : ℕ) (commits : List Commit) (published : List (List MemberVersions))
+pub record HasPart (start : ℕ) (opening : Pairs) (commits : List Commit) (published : List (List MemberVersions))
     (history : List ControllerCall) (place : ℕ) (a : Account) : Type 0 where
   pub seen : List (List MemberVersions)
   pub begins : Begins seen published
   pub known : List ControllerCall
   pub goes_on : GoesOn (place + 1) known history
   pub has_asked : HasAsked (place + 1) (commits_of (place + 1) commits) known
-  pub is : a ≡ account_of start (place + 1) (commits_of (place + 1) commits) seen known
+  pub is : a ≡ account_of start opening (place + 1) (commits_of (place + 1) commits) seen known
 
 -- the controller's history, as a client has seen it, went on, with no token of its own
 pub record SeesMore (client : ℕ) (known now : List ControllerCall) : Type 0 where
   pub begins : IsPrefix known now
   pub tokens : tokens_of client now ≡ tokens_of client known
 
--- One call of a client: the sequence before the first batch, the client's number and its own commits before the call;
--- and what it had seen published and of the controller then, and has seen at the call's end
+-- One call of a client: the sequence before the first batch and the map before it, the client's number and its own
+-- commits before the call; and what it had seen published and of the controller then, and has seen at the call's end
 pub record ClientCall : Type 0 where
   pub start : ℕ
+  pub opening : Pairs
   pub client : ℕ
   pub own : List Commit
   pub before : List (List MemberVersions)
@@ -128,10 +131,10 @@ pub record ClientCall : Type 0 where
 
 -- its account before the call, and after it, with this commit more
 abbrev pub account_before : ClientCall → Account
-account_before k = account_of k.start k.client k.own k.before k.known
+account_before k = account_of k.start k.opening k.client k.own k.before k.known
 
 abbrev pub account_with : ClientCall → Commit → Account
-account_with k c = account_of k.start k.client (k.own ++ c ∷ []) k.after k.now
+account_with k c = account_of k.start k.opening k.client (k.own ++ c ∷ []) k.after k.now
 
 -- what it had seen went on, with no token of its own
 abbrev pub HasSeenMore : ClientCall → Type 0

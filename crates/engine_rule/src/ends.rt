@@ -56,7 +56,8 @@ pub fn accounts_of_the_commits()
     ensures looked { (k : ClientCall) (records : List Record) (how : WriteOptions) (numbers : Look)
         → Begins k.before k.after → EndsWith k.client k.known look (Some numbers) k.now → how.no_slowdown ≡ true
         → HoldUp numbers → IsRefused (account_before k) records how
-        (Incomplete numbers.stops numbers.delays numbers.wait) (account_of k.start k.client k.own k.after k.now) }
+        (Incomplete numbers.stops numbers.delays numbers.wait)
+        (account_of k.start k.opening k.client k.own k.after k.now) }
 {}
 
 /// A commit that was to be synced, and has a run, was written by a call that synced.
@@ -74,9 +75,10 @@ pub fn closings()
         (accounts : List Account) → IsConsistent settings s → AreAccountsOf settings s history accounts
         → IsLegal history → AreCallsOf settings.clients history → IsPrefix s.asked history
         → RoseInRun settings ended s.fault → (groups : List Group)
-        × IsClosing settings ended (trace_of settings.start s.commits history) groups accounts s.last s.fault }
+        × IsClosing settings ended (trace_of settings.start settings.opening s.commits history) groups accounts s.last
+        s.fault }
     ensures log { (settings : Settings) (s : Standing) (history : List ControllerCall) (accounts : List Account)
         → IsConsistent settings s → AreAccountsOf settings s history accounts
         → WritesLog settings.group_bytes (λ (made : List GroupCall). made ≡ s.calls)
-        (trace_of settings.start s.commits history) (all_attempts accounts) s.fault }
+        (trace_of settings.start settings.opening s.commits history) (all_attempts accounts) s.fault }
 {}

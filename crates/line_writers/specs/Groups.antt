@@ -65,8 +65,8 @@ module _ {Request Reply Log Right : Type 0} where
       × (lead.taken ≡ lead.group) × (count ≡ length (in_hand lead))
 
   -- the log is on top, and has the reply to each member of the group behind it
-  abbrev pub HasLogAndReplies : ℕ → Lead Request Reply → Members Request Reply → Reply → Log → Sat Request Reply Log Right
-      → Type 0
+  abbrev pub HasLogAndReplies : ℕ → Lead Request Reply → Members Request Reply → Reply → Log
+      → Sat Request Reply Log Right → Type 0
   HasLogAndReplies c lead gs p l m = (heads gs ≡ lead.taken) × (m.1 ≡ (0, TheLog l) ∷ slots_of gs ((c, Told p) ∷ []))
 
   -- whatever a leader handled, whose log is on top and has the reply to each member behind it: this holds of it, and of

@@ -7,7 +7,7 @@ use Rattle.std.proofs.lemmas.Grind.{flat_map-append}
 use Rattle.std.proofs.lemmas.List.{drop-drop, take-append-drop, append-nil}
 use Rattle.std.specs.List.{AllByRecursion}
 use Rattle.model_base.specs.declared.log.EndReason.{EndReason}
-use Rattle.model_base.specs.Log.{header_len, Kind, full, first, middle, last, Fragment, fragment_bytes, trailer, next_place, fragments_text, FitFrom, AreOneRecord, kinds_of, all_fragments, record_of, SpellsWhole, text}
+use Rattle.model_base.specs.Log.{header_len, Kind, full, first, middle, last, Fragment, fragment_bytes, trailer, next_place, fragments_text, FitFrom, AreOneRecord, kinds_of, all_fragments, record_of, SpellsWhole}
 use Rattle.model_base.specs.Reading.{Seen, Next, fragment, nothing, damage, seen_at, next_seen, end_of, AreBegun, Stand, Comes, ReadingEnds, clean, broken, bad_order, unfinished}
 use Rattle.model_base.specs.Recovery.{IsRead}
 use Rattle.log_laws.proofs.Next.{cases_bool, fragment_len, seen_laid, next_laid}
@@ -15,7 +15,6 @@ use Rattle.log_laws.proofs.Placed.{behind, end_none, end_more, split_joined, beg
 use Rattle.log_laws.proofs.Agree.{Whole}
 use Rattle.log_laws.proofs.Crash.{not_both}
 use Rattle.log_laws.proofs.Synced.{spells_front, groups_spelled}
-use Rattle.log_laws.proofs.Written.{text_spells}
 
 -- the first of some fragments that stand at a place
 module _ (number : Option ℕ) (file : List ℕ) (offset : ℕ) (f : Fragment) (fs : List Fragment) (stand : Stand number file offset (f ∷ fs)) where
@@ -157,11 +156,11 @@ pub whole_last : (done : List (List Fragment)) (g : List Fragment) (gs : List (L
 whole_last [] g gs whole = whole.0
 whole_last (d ∷ done) g gs whole = whole_last done g gs whole.1
 
-pub reads_synced : (number : Option ℕ) → (image : List ℕ) (synced found : List (List ℕ)) → IsRead number image found → length (text number synced) ≤ length image
-    → take (length (text number synced)) image ≡ text number synced → length synced ≤ length found
-reads_synced number image synced found is within front =
-    let s = length (text number synced) in
-    let spelled : SpellsWhole number (take s image) synced = subst (λ (bytes : List ℕ). SpellsWhole number bytes synced) (sym front) (text_spells number synced) in
+pub reads_synced : (number : Option ℕ) → (image whole : List ℕ) (synced found : List (List ℕ)) → SpellsWhole number whole synced → IsRead number image found → length whole ≤ length image
+    → take (length whole) image ≡ whole → length synced ≤ length found
+reads_synced number image whole synced found spells is within front =
+    let s = length whole in
+    let spelled : SpellsWhole number (take s image) synced = subst (λ (bytes : List ℕ). SpellsWhole number bytes synced) (sym front) spells in
     cases_bool (nat_le s is.kept)
     (λ past.
     let below : s ≤ is.kept = leb-true s is.kept past in
@@ -174,12 +173,12 @@ reads_synced number image synced found is within front =
     let more = groups_spelled number (take s image) (take is.kept image) (drop is.kept (take s image)) synced found parts spelled is.spelled in
     by_rest above spelled more.0 more.1)
   where
-    by_rest : is.kept < length (text number synced) → (spelled : SpellsWhole number (take (length (text number synced)) image) synced) (rest : List (List Fragment)) → spelled.groups ≡ (is.spelled).groups ++ rest → length synced ≤ length found
+    by_rest : is.kept < length whole → (spelled : SpellsWhole number (take (length whole) image) synced) (rest : List (List Fragment)) → spelled.groups ≡ (is.spelled).groups ++ rest → length synced ≤ length found
     by_rest above spelled [] e = let same : synced ≡ found = spelled.same ∙ (ap (map record_of) (e ∙ append-nil (is.spelled).groups) ∙ sym (is.spelled).same) in omega (arith, ap length same)
     by_rest above spelled (g ∷ gs) e =
         let done = all_fragments (is.spelled).groups in
         let flat : all_fragments spelled.groups ≡ done ++ (g ++ all_fragments gs) = ap all_fragments e ∙ flat_map-append (λ (fs : List Fragment). fs) (is.spelled).groups (g ∷ gs) in
         let one : AreOneRecord (kinds_of g) = whole_last (is.spelled).groups g gs (subst Whole e spelled.whole) in
         absurd (reading_goes_on number image is.kept g (all_fragments gs) one
-        (stands_next number image (length (text number synced)) is.kept done (g ++ all_fragments gs) above within (spelled.spelled ∙ ap (fragments_text number 0) flat) (is.spelled).spelled (subst (FitFrom number 0) flat spelled.fit))
+        (stands_next number image (length whole) is.kept done (g ++ all_fragments gs) above within (spelled.spelled ∙ ap (fragments_text number 0) flat) (is.spelled).spelled (subst (FitFrom number 0) flat spelled.fit))
         is.at is.why is.ends)

@@ -4,13 +4,12 @@ use Rattle.std.proofs.Math.Seq.{take-append_seam}
 use Rattle.std.proofs.lemmas.List.{map-append, take-map}
 use Rattle.std.specs.List.{AllByRecursion}
 use Rattle.model_base.specs.Batch.{IsBatch}
-use Rattle.model_base.specs.Log.{Fragment, next_place, all_fragments, record_of, SpellsWhole, text}
+use Rattle.model_base.specs.Log.{Fragment, next_place, all_fragments, record_of, SpellsWhole}
 use Rattle.model_base.specs.Reading.{end_of}
 use Rattle.model_base.specs.Recovery.{Logged, logged_bytes, AreInOrder, last_after, Keeps, Recovered, IsRecovered, Meets, ReaderMeets, NoChance}
 use Rattle.log_laws.proofs.Placed.{length_map}
 use Rattle.log_laws.proofs.Agree.{are_front}
 use Rattle.log_laws.proofs.Crash.{met_front, groups_front}
-use Rattle.log_laws.proofs.Written.{text_spells}
 
 all_take : {A : Type 0} (P : A → Type 0) (n : ℕ) (xs : List A) → AllByRecursion P xs → AllByRecursion P (take n xs)
 all_take P zero xs all = tt
@@ -38,17 +37,18 @@ meets number image kept place batches f n keeps m front = record {
 }
 
 -- What recovery keeps of an image is a front of the batches that were written, none left out and none in part.
-pub keeps_front : (number : Option ℕ) → (image : List ℕ) (kept : ℕ) (batches : List Logged) (written : List (List ℕ)) → Keeps number image kept batches → NoChance number image (text number written) → map logged_bytes batches ≡ take (length batches) written
-keeps_front number image kept batches written keeps no_chance =
-    let spells = text_spells number written in
+pub keeps_front : (number : Option ℕ) → (image whole : List ℕ) (kept : ℕ) (batches : List Logged) (written : List (List ℕ)) → SpellsWhole number whole written → Keeps number image kept batches → NoChance number image whole
+    → map logged_bytes batches ≡ take (length batches) written
+keeps_front number image whole kept batches written spells keeps no_chance =
     let read = keeps.spelled in
     let records = map logged_bytes batches in
-    let flat = are_front number (text number written) [] 0 (all_fragments spells.groups) (all_fragments read.groups) spells.spelled refl spells.fit
+    let flat = are_front number whole [] 0 (all_fragments spells.groups) (all_fragments read.groups) spells.spelled refl spells.fit
     (λ pre f post split. let m = met_front number image kept records keeps.within read pre post f split in no_chance (next_place number (end_of number 0 pre)) f (meets number image kept (next_place number (end_of number 0 pre)) batches f m.1.0 keeps m.0 m.1.1)) in
     let groups = groups_front read.groups spells.groups flat.0 read.whole spells.whole flat.1 in
     let all_records : written ≡ records ++ map record_of groups.0 =
     spells.same ∙ ap (map record_of) groups.1 ∙ map-append record_of read.groups groups.0 ∙ ap (λ (l : List (List ℕ)). l ++ map record_of groups.0) (sym read.same) in
     sym (ap (take (length batches)) all_records ∙ ap (λ (n : ℕ). take n (records ++ map record_of groups.0)) (sym (length_map logged_bytes batches)) ∙ take-append_seam records (map record_of groups.0))
 
-pub recovers_front : (number : Option ℕ) → (image : List ℕ) (written : List (List ℕ)) (r : Recovered) → IsRecovered number image r → NoChance number image (text number written) → map logged_bytes r.batches ≡ take (length r.batches) written
-recovers_front number image written r is no_chance = keeps_front number image r.kept r.batches written is.keeps no_chance
+pub recovers_front : (number : Option ℕ) → (image whole : List ℕ) (written : List (List ℕ)) (r : Recovered) → SpellsWhole number whole written → IsRecovered number image r → NoChance number image whole
+    → map logged_bytes r.batches ≡ take (length r.batches) written
+recovers_front number image whole written r spells is no_chance = keeps_front number image whole r.kept r.batches written spells is.keeps no_chance

@@ -4,14 +4,13 @@ use Rattle.std.proofs.Math.Seq.{take-take}
 use Rattle.std.proofs.lemmas.List.{map-append, take-append-drop, append-nil}
 use Rattle.std.specs.List.{AllByRecursion}
 use Rattle.model_base.specs.Batch.{IsBatch}
-use Rattle.model_base.specs.Log.{Fragment, fragment_bytes, trailer, next_place, fragments_text, FitFrom, all_fragments, record_of, SpellsWhole, text}
+use Rattle.model_base.specs.Log.{Fragment, fragment_bytes, trailer, next_place, fragments_text, FitFrom, all_fragments, record_of, SpellsWhole}
 use Rattle.model_base.specs.Reading.{end_of, seen_at}
 use Rattle.model_base.specs.Recovery.{Logged, logged_bytes, AreInOrder, Recovered, IsRecovered, HasFragment}
 use Rattle.log_laws.proofs.Next.{seen_laid}
 use Rattle.log_laws.proofs.Placed.{length_map, behind, placed_append, fit_back}
 use Rattle.log_laws.proofs.Agree.{are_front}
 use Rattle.log_laws.proofs.Crash.{groups_front}
-use Rattle.log_laws.proofs.Written.{text_spells}
 
 -- The fragments that a front of some bytes spells are a front of those that they spell.
 pub groups_spelled : (number : Option ℕ) → (bytes front more : List ℕ) (all some : List (List ℕ)) → bytes ≡ front ++ more → (whole : SpellsWhole number bytes all) (part : SpellsWhole number front some)
@@ -49,11 +48,11 @@ spells_one number bytes rs qs a b =
     no_length (x ∷ l) e = absurd (omega (arith, e))
 
 -- What stands in the synced bytes is recovered.
-pub holds_synced : (number : Option ℕ) → (image : List ℕ) (synced : List (List ℕ)) (batches : List Logged) (r : Recovered) → IsRecovered number image r → length (text number synced) ≤ length image → take (length (text number synced)) image ≡ text number synced
+pub holds_synced : (number : Option ℕ) → (image whole : List ℕ) (synced : List (List ℕ)) (batches : List Logged) (r : Recovered) → SpellsWhole number whole synced → IsRecovered number image r → length whole ≤ length image → take (length whole) image ≡ whole
     → map logged_bytes batches ≡ synced → AllByRecursion (λ b. IsBatch (logged_bytes b) b.first b.records) batches → AreInOrder 0 batches → length batches ≤ length r.batches
-holds_synced number image synced batches r is within front same are ordered =
-    let s = length (text number synced) in
-    let spelled : SpellsWhole number (take s image) (map logged_bytes batches) = subst (λ bytes. SpellsWhole number bytes (map logged_bytes batches)) (sym front) (subst (λ rs. SpellsWhole number (text number synced) rs) (sym same) (text_spells number synced)) in
+holds_synced number image whole synced batches r spells is within front same are ordered =
+    let s = length whole in
+    let spelled : SpellsWhole number (take s image) (map logged_bytes batches) = subst (λ bytes. SpellsWhole number bytes (map logged_bytes batches)) (sym front) (subst (λ rs. SpellsWhole number whole rs) (sym same) spells) in
     let below : s ≤ r.kept = is.most s batches (record { within = within; spelled = spelled; are_batches = are; in_order = ordered }) in
     let parts : take r.kept image ≡ take s image ++ drop s (take r.kept image) = sym (take-append-drop s (take r.kept image)) ∙ ap (λ (l : List ℕ). l ++ drop s (take r.kept image)) (take-take s r.kept image below) in
     let more = spells_front number (take r.kept image) (take s image) (drop s (take r.kept image)) (map logged_bytes r.batches) (map logged_bytes batches) parts is.keeps.spelled spelled in

@@ -1,12 +1,12 @@
 -- What the writer makes spells the records that it was given.
-use Rattle.std.proofs.Common.{Option, Some, None, ◌≡◌, ℕ, zero, suc, ◌+◌, ◌-◌, ◌*◌, ◌%◌, ◌<◌, ◌≤◌, Bool, true, false, List, [], ◌∷◌, ◌++◌, length, take, drop, map, refl, sym, ◌∙◌, ap, subst, arith, cond, nat_lt, nat_le, length-take, length-drop, add-zero}
-use Rattle.std.proofs.lemmas.List.{take-append-drop, append-nil}
+use Rattle.std.proofs.Common.{Option, Some, None, ◌≡◌, ℕ, zero, suc, ◌+◌, ◌-◌, ◌*◌, ◌%◌, ◌<◌, ◌≤◌, Bool, true, false, List, [], ◌∷◌, ◌++◌, length, take, drop, map, refl, sym, ◌∙◌, ap, subst, arith, cond, nat_lt, nat_le, length-take, length-drop, add-zero, zero-add}
+use Rattle.std.proofs.lemmas.List.{take-append-drop, append-nil, map-append}
 use Rattle.std.proofs.lemmas.Bool.{ltb-false, leb-true, leb-false}
-use Rattle.std.proofs.lemmas.Grind.{div_ceil_times}
+use Rattle.std.proofs.lemmas.Grind.{div_ceil_times, flat_map-append}
 use Rattle.std.proofs.Math.Dec.{lit<}
 use Rattle.std.specs.Simd.{first_chunks}
 use Rattle.std.specs.Int.{div_ceil}
-use Rattle.std.specs.List.{flat_map}
+use Rattle.std.specs.List.{AllByRecursion, flat_map}
 use Rattle.model_base.specs.Log.{header_len, part_len, first, middle, Fragment, room, next_place, fragments_text, FitFrom, GoesToLast, AreOneRecord, kinds_of, all_fragments, record_of, SpellsWhole, pieces_of, parts_of, later_fragments, as_fragments, record_text, text_from, text, plain_log}
 use Rattle.model_base.specs.Reading.{end_of}
 use Rattle.log_laws.proofs.Seen.{header_small, with_header}
@@ -131,6 +131,10 @@ parts_are number offset bytes =
       | false ↦ λ e. long_parts number offset bytes space (omega (arith, room_for_header number offset)) (leb-false (length bytes) space e)
     ] refl
 
+all_joined : {A : Type 0} (P : A → Type 0) (xs ys : List A) → AllByRecursion P xs → AllByRecursion P ys → AllByRecursion P (xs ++ ys)
+all_joined P [] ys all_x all_y = all_y
+all_joined P (x ∷ xs) ys all_x all_y = (all_x.0, all_joined P xs ys all_x.1 all_y)
+
 -- the fragments of several records that are written from an offset on
 groups_from : (number : Option ℕ) → ℕ → List (List ℕ) → List (List Fragment)
 groups_from number offset [] = []
@@ -168,3 +172,21 @@ groups_same number offset (r ∷ rs) =
 -- The text of records spells them.
 pub text_spells : (number : Option ℕ) → (rs : List (List ℕ)) → SpellsWhole number (text number rs) rs
 text_spells number rs = record { groups = groups_from number 0 rs; whole = groups_whole number 0 rs; same = groups_same number 0 rs; fit = groups_fit number 0 rs; spelled = text_is_placed number 0 rs }
+
+-- So does a text that goes on behind bytes that spell others.
+pub spells_on : (number : Option ℕ) → (kept : List ℕ) (old new : List (List ℕ)) → SpellsWhole number kept old → SpellsWhole number (kept ++ text_from number (length kept) new) (old ++ new)
+spells_on number kept old new spells =
+    let groups = groups_from number (length kept) new in
+    let end : end_of number 0 (all_fragments spells.groups) ≡ length kept = zero-add (length (fragments_text number 0 (all_fragments spells.groups))) ∙ ap length (sym spells.spelled) in
+    let flat : all_fragments (spells.groups ++ groups) ≡ all_fragments spells.groups ++ all_fragments groups = flat_map-append (λ (fs : List Fragment). fs) spells.groups groups in
+    record {
+      groups = spells.groups ++ groups;
+      whole = all_joined (λ fs. AreOneRecord (kinds_of fs)) spells.groups groups spells.whole (groups_whole number (length kept) new);
+      same = ap (λ (l : List (List ℕ)). l ++ new) spells.same ∙ ap (λ (l : List (List ℕ)). map record_of spells.groups ++ l) (groups_same number (length kept) new) ∙ sym (map-append record_of spells.groups groups);
+      fit = subst (FitFrom number 0) (sym flat)
+          (fit_joined number 0 (all_fragments spells.groups) (all_fragments groups) spells.fit (subst (λ n. FitFrom number n (all_fragments groups)) (sym end) (groups_fit number (length kept) new)));
+      spelled = ap (λ (l : List ℕ). l ++ text_from number (length kept) new) spells.spelled
+          ∙ ap (λ (l : List ℕ). fragments_text number 0 (all_fragments spells.groups) ++ l) (text_is_placed number (length kept) new ∙ ap (λ (n : ℕ). fragments_text number n (all_fragments groups)) (sym end))
+          ∙ sym (placed_append number 0 (all_fragments spells.groups) (all_fragments groups))
+          ∙ ap (fragments_text number 0) (sym flat);
+    }

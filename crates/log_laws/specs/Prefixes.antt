@@ -1,8 +1,7 @@
 -- What a crash may leave of a log: a front of the records that were written, each of them whole.
-use Rattle.std.specs.Prelude.{◌≡◌, ℕ, ◌≤◌, List, length, take, map, None}
+use Rattle.std.specs.Prelude.{◌≡◌, ℕ, ◌≤◌, List, length, take, map, Option}
 use Rattle.std.specs.List.{AllByRecursion}
 use Rattle.model_base.specs.Batch.{IsBatch}
-use Rattle.model_base.specs.Log.{plain_log}
 use Rattle.model_base.specs.Recovery.{Logged, logged_bytes, AreInOrder, Recovered, IsRecovered, IsRead}
 
 -- These are the first n of the records, none left out and none in part, and P holds of their number.
@@ -12,14 +11,14 @@ pub record IsPrefix (found records : List (List ℕ)) (P : ℕ → Type 0) : Typ
   pub same : found ≡ take many records
   pub enough : P many
 
--- what the file recovers is a prefix of these records
-abbrev pub RecoversPrefix : List (List ℕ) → List ℕ → (ℕ → Type 0) → Type 0
-RecoversPrefix records file P = (r : Recovered) → IsRecovered plain_log file r
+-- what the file recovers, as a log with this number, is a prefix of these records
+abbrev pub RecoversPrefix : Option ℕ → List (List ℕ) → List ℕ → (ℕ → Type 0) → Type 0
+RecoversPrefix number records file P = (r : Recovered) → IsRecovered number file r
     → IsPrefix (map logged_bytes r.batches) records P
 
 -- what a reader of records gets of the file is one
-abbrev pub ReadsPrefix : List (List ℕ) → List ℕ → (ℕ → Type 0) → Type 0
-ReadsPrefix records file P = (found : List (List ℕ)) → IsRead plain_log file found → IsPrefix found records P
+abbrev pub ReadsPrefix : Option ℕ → List (List ℕ) → List ℕ → (ℕ → Type 0) → Type 0
+ReadsPrefix number records file P = (found : List (List ℕ)) → IsRead number file found → IsPrefix found records P
 
 -- the image begins with this text
 abbrev pub BeginsWith : List ℕ → List ℕ → Type 0

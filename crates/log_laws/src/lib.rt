@@ -8,12 +8,10 @@
 //! here so that the laws are proved with the crate, and the crates above cite their proofs.
 #![tactic(auto)]
 
-ghost use Rattle.std.specs.Prelude.{◌≡◌, ◌<◌, ◌≤◌, ◌^◌, ◌++◌, ℕ, List, length, take, map, Option, None, ⊤};
-ghost use Rattle.std.specs.List.{AllByRecursion};
-ghost use Rattle.model_base.specs.Batch.{IsBatch};
+ghost use Rattle.std.specs.Prelude.{◌≡◌, ◌<◌, ◌≤◌, ◌^◌, ◌++◌, ℕ, List, length, take, map, Option, ⊤};
 ghost use Rattle.model_base.specs.Varint.{IsVarint, varint};
-ghost use Rattle.model_base.specs.Log.{SpellsWhole, text, plain_log};
-ghost use Rattle.model_base.specs.Recovery.{Logged, logged_bytes, AreInOrder, Recovered, IsRecovered, IsRead, NoChance, NoChanceForReader};
+ghost use Rattle.model_base.specs.Log.{SpellsWhole, text, text_from};
+ghost use Rattle.model_base.specs.Recovery.{Logged, logged_bytes, Recovered, IsRecovered, IsRead, NoChance, NoChanceForReader};
 ghost use Rattle.log_laws.specs.Prefixes.{RecoversPrefix, ReadsPrefix, BeginsWith, AreTheseBatches};
 
 /// The spelling of a number is a varint, and none begins another.
@@ -22,37 +20,42 @@ pub fn number_spelling()
     ensures one { (a b x y : List ℕ) (m n : ℕ) → IsVarint a m → IsVarint b n → a ++ x ≡ b ++ y → (a ≡ b) × (m ≡ n) }
 {}
 
-/// The text of records spells them, and bytes spell one list of records at most.
+/// The text of records spells them, also where it goes on behind bytes that spell others. Bytes spell one list of
+/// records at most.
 pub fn text_and_spelling()
     ensures spelled { (number : Option ℕ) (records : List (List ℕ)) → SpellsWhole number (text number records) records }
+    ensures goes_on { (number : Option ℕ) (kept : List ℕ) (old new : List (List ℕ)) → SpellsWhole number kept old
+        → SpellsWhole number (kept ++ text_from number (length kept) new) (old ++ new) }
     ensures one { (number : Option ℕ) (bytes : List ℕ) (some others : List (List ℕ)) → SpellsWhole number bytes some
         → SpellsWhole number bytes others → some ≡ others }
 {}
 
-/// What is read or recovered of an image is a front of what was written, none left out and none in part.
+/// What is read or recovered of an image is a front of what was written, none left out and none in part. Here `whole`
+/// is what the log would be once all of it were written, whatever stands behind it in the image.
 pub fn a_front()
-    ensures read { (number : Option ℕ) (image : List ℕ) (kept : ℕ) (records written : List (List ℕ))
-        → kept ≤ length image → SpellsWhole number (take kept image) records
-        → NoChanceForReader number image (text number written) → records ≡ take (length records) written }
-    ensures recovered { (number : Option ℕ) (image : List ℕ) (written : List (List ℕ)) (r : Recovered)
-        → IsRecovered number image r → NoChance number image (text number written)
-        → map logged_bytes r.batches ≡ take (length r.batches) written }
+    ensures read { (number : Option ℕ) (image whole : List ℕ) (kept : ℕ) (records written : List (List ℕ))
+        → kept ≤ length image → SpellsWhole number (take kept image) records → SpellsWhole number whole written
+        → NoChanceForReader number image whole → records ≡ take (length records) written }
+    ensures recovered { (number : Option ℕ) (image whole : List ℕ) (written : List (List ℕ)) (r : Recovered)
+        → IsRecovered number image r → SpellsWhole number whole written
+        → NoChance number image whole → map logged_bytes r.batches ≡ take (length r.batches) written }
 {}
 
 /// So each image recovers a prefix of all that was to be written, and is read as one, unless by chance.
 pub fn a_prefix()
-    ensures recovered { (image : List ℕ) (records : List (List ℕ)) → NoChance plain_log image (text plain_log records)
-        → RecoversPrefix records image (λ n. ⊤) }
-    ensures read { (image : List ℕ) (records : List (List ℕ))
-        → NoChanceForReader plain_log image (text plain_log records)
-        → ReadsPrefix records image (λ n. ⊤) }
+    ensures recovered { (number : Option ℕ) (image whole : List ℕ) (records : List (List ℕ))
+        → SpellsWhole number whole records → NoChance number image whole
+        → RecoversPrefix number records image (λ n. ⊤) }
+    ensures read { (number : Option ℕ) (image whole : List ℕ) (records : List (List ℕ))
+        → SpellsWhole number whole records → NoChanceForReader number image whole
+        → ReadsPrefix number records image (λ n. ⊤) }
 {}
 
 /// What stands in the synced bytes is among it. Recovery keeps it where it is batches whose runs rise.
 pub fn the_synced()
-    ensures recovered { (number : Option ℕ) (image : List ℕ) (synced : List (List ℕ)) (batches : List Logged)
-        (r : Recovered) → IsRecovered number image r → BeginsWith (text number synced) image
+    ensures recovered { (number : Option ℕ) (image whole : List ℕ) (synced : List (List ℕ)) (batches : List Logged)
+        (r : Recovered) → IsRecovered number image r → BeginsWith whole image → SpellsWhole number whole synced
         → AreTheseBatches synced batches → length batches ≤ length r.batches }
-    ensures read { (number : Option ℕ) (image : List ℕ) (synced found : List (List ℕ)) → IsRead number image found
-        → BeginsWith (text number synced) image → length synced ≤ length found }
+    ensures read { (number : Option ℕ) (image whole : List ℕ) (synced found : List (List ℕ)) → IsRead number image found
+        → BeginsWith whole image → SpellsWhole number whole synced → length synced ≤ length found }
 {}

@@ -5,3 +5,4 @@ pub mod Ending
 pub mod Keeping
 pub mod Recovers
 pub mod Telling
+pub mod Numbered

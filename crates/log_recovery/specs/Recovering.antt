@@ -1,6 +1,8 @@
 -- What recovering a log comes to.
-use Rattle.std.specs.Prelude.{◌≡◌, ℕ, ◌≤◌, List, map, Option}
+use Rattle.std.specs.Prelude.{◌≡◌, ℕ, ◌≤◌, List, [], map, Option}
 use Rattle.base_devices.specs.Faults.{Rose}
+use Rattle.model_base.specs.History.{max_sequence}
+use Rattle.model_base.specs.Map.{Pairs}
 use Rattle.model_base.specs.Recovery as recovery
 use Rattle.log_recovery.specs.declared.recovery.Recovered.{Recovered}
 use Rattle.log_recovery.specs.declared.recovery.RecoverError.{RecoverError}
@@ -22,6 +24,12 @@ pub record HasRecovered (number : Option ℕ) (file : List ℕ) (shown : Recover
   pub recovered : recovery.Recovered
   pub is : recovery.IsRecovered number file recovered
   pub shows : ShowsRecovered shown recovered
+
+-- The last sequence is no greater than the greatest one. Where it is 0 there are no keys, since each record but log
+-- data takes a sequence. So it is whether the disk tells its content or not.
+pub record IsNumbered (map : Pairs) (last : ℕ) : Type 0 where
+  pub within : last ≤ max_sequence
+  pub none : last ≡ 0 → map ≡ []
 
 -- why a log was not recovered: the disk's count rose in the call, or there was no memory and no fault
 abbrev pub IsRecoverError : ℕ → ℕ → RecoverError → Type 0

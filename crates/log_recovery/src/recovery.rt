@@ -2,7 +2,7 @@
 
 ghost use Rattle.std.specs.Prelude.{◌≡◌, ◌≤◌, IfOk, IfErr, IfSome, OnOk};
 ghost use Rattle.log_reader.specs.OnlyReads.{OnlyReads};
-ghost use Rattle.log_recovery.specs.Recovering.{HasRecovered, IsRecoverError};
+ghost use Rattle.log_recovery.specs.Recovering.{HasRecovered, IsNumbered, IsRecoverError};
 
 use crate::kept::{GroupNote, Kept};
 use base_devices::Disk;
@@ -61,6 +61,7 @@ pub fn recover<D: Disk>(
     number: Option<u32>,
 ) -> Result<Recovered, RecoverError>
     ensures recovered { IfSome (D.told disk.old) (λ d. IfOk result (HasRecovered number d.content)) }
+    ensures numbered { IfOk result (λ r. IsNumbered r.map r.last) }
     ensures worked { OnOk result (D.faults disk.new ≡ D.faults disk.old) }
     ensures error { IfErr result (IsRecoverError (D.faults disk.old) (D.faults disk.new)) }
     ensures disk { OnlyReads ⟦<D as Disk>⟧ disk.old disk.new }

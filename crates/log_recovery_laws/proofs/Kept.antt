@@ -22,7 +22,7 @@ in_order_more last (c ∷ cs) b ordered may = (ordered.0, in_order_more (last_af
 pub keeps_none : (number : Option ℕ) (file : List ℕ) → Keeps number file 0 []
 keeps_none number file = let b = begins_none number file in record { within = b.within; spelled = b.spelled; are_batches = tt; in_order = tt }
 
-kept_begins : (number : Option ℕ) (file : List ℕ) (kept : ℕ) (bs : List Logged) → Keeps number file kept bs → Begins number file kept (map logged_bytes bs)
+pub kept_begins : (number : Option ℕ) (file : List ℕ) (kept : ℕ) (bs : List Logged) → Keeps number file kept bs → Begins number file kept (map logged_bytes bs)
 kept_begins number file kept bs keeps = record { within = keeps.within; spelled = keeps.spelled }
 
 -- A batch that comes next and may follow is kept too.
@@ -85,7 +85,7 @@ pub record KeptNext (number : Option ℕ) (file : List ℕ) (kept last : ℕ) : 
   pub may : MayBeKept last (record_of fs)
 
 -- where more is kept, such a record stands there
-more_kept : (number : Option ℕ) (file : List ℕ) (kept further : ℕ) (bs cs : List Logged) → Keeps number file kept bs → Keeps number file further cs → kept < further → KeptNext number file kept (last_sequence 0 bs)
+pub more_kept : (number : Option ℕ) (file : List ℕ) (kept further : ℕ) (bs cs : List Logged) → Keeps number file kept bs → Keeps number file further cs → kept < further → KeptNext number file kept (last_sequence 0 bs)
 more_kept number file kept further bs cs a b less =
     let next = next_record number file kept further (map logged_bytes bs) (map logged_bytes cs) (kept_begins number file kept bs a) (kept_begins number file further cs b) less in
     record { fs = next.fs; one = next.one; stands = next.stands; may = next_may 0 bs cs (record_of next.fs) next.more next.others_are a.are_batches b.are_batches b.in_order }

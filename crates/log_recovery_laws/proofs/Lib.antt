@@ -12,3 +12,4 @@ pub mod Batches
 pub mod Kept
 pub mod Recovering
 pub mod OneRecovery
+pub mod ImageOfFile

@@ -4,7 +4,7 @@ use Rattle.std.proofs.lemmas.List.{take-append-drop, drop-drop}
 use Rattle.std.proofs.lemmas.Bool.{ltb-true, ltb-false, lt-ltb, le-ltb, eqb-true}
 use Rattle.model_base.specs.Log.{header_len, Fragment, fragment_bytes, room, trailer, next_place}
 use Rattle.model_base.specs.declared.log.Damage.TheVariants.{BadTrailer}
-use Rattle.model_base.specs.Reading.{Seen, fragment, nothing, damage, seen_within, seen_at, are_zeros, length_field, part_field, next_seen, behind_zeros, Stand}
+use Rattle.model_base.specs.Reading.{Seen, Next, fragment, nothing, damage, seen_within, seen_at, are_zeros, length_field, part_field, next_seen, behind_zeros, Stand}
 use Rattle.log_laws.proofs.Next.{cases_bool}
 use Rattle.log_laws.proofs.Placed.{behind}
 use Rattle.log_recovery_laws.specs.Reads.{AreBytes}
@@ -17,6 +17,19 @@ none_due number offset many = ap (λ (b : Bool). cond b (room offset) 0) (le-ltb
 
 some_due : (number : Option ℕ) (offset : ℕ) → room offset < header_len number → trailer number offset ≡ room offset
 some_due number offset few = ap (λ (b : Bool). cond b (room offset) 0) (lt-ltb (room offset) (header_len number) few)
+
+-- so none where a fragment is seen
+none_there : (number : Option ℕ) (file : List ℕ) (offset : ℕ) (f : Fragment) → seen_at number file offset ≡ fragment f → trailer number offset ≡ 0
+none_there number file offset f seen = none_due number offset (fragment_is number (room offset) (take (room offset) (drop offset file)) f seen).room
+
+-- The fragment that the reader sees next begins at the next place.
+pub next_begins : (number : Option ℕ) (file : List ℕ) (offset place : ℕ) (f : Fragment) → record { at = place; seen = fragment f } ≡ next_seen number file offset → place ≡ next_place number offset
+next_begins number file offset place f e = by_seen (seen_at number file offset) refl e
+  where
+    by_seen : (s : Seen) → seen_at number file offset ≡ s → record { at = place; seen = fragment f } ≡ behind_zeros number file offset s → place ≡ next_place number offset
+    by_seen nothing seen h = ap (λ (n : Next). n.at) h
+    by_seen (damage d) seen h = let wrong : fragment f ≡ damage d = ap (λ (n : Next). n.seen) h in absurd (cc)
+    by_seen (fragment g) seen h = ap (λ (n : Next). n.at) h ∙ sym (ap (λ (n : ℕ). offset + n) (none_there number file offset g seen) ∙ add-zero offset)
 
 -- Where nothing is seen, zeros end the block, or the bytes end.
 data IsNothing (number : Option ℕ) (space : ℕ) (bytes : List ℕ) : Type 0 where
@@ -100,8 +113,7 @@ next_stands number file offset f are e = by_seen (seen_at number file offset) re
   where
     at_once : seen_at number file offset ≡ fragment f → ComesNext number file offset f
     at_once seen =
-        let is = fragment_is number (room offset) (take (room offset) (drop offset file)) f seen in
-        let none : trailer number offset ≡ 0 = none_due number offset is.room in
+        let none : trailer number offset ≡ 0 = none_there number file offset f seen in
         let here : offset ≡ next_place number offset = sym (ap (λ (n : ℕ). offset + n) none ∙ add-zero offset) in
         let stands = seen_stands number file (next_place number offset) f are (subst (λ n. seen_at number file n ≡ fragment f) here seen) in
         by_stand number file offset f stands (ap (λ (n : ℕ). drop n file) here ∙ (stands.there ∙ ap (λ (n : ℕ). replicate n 0 ++ (fragment_bytes number f ++ stands.rest)) (sym none)))

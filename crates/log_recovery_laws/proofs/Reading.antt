@@ -16,7 +16,7 @@ behind_stand : (number : Option ℕ) (file : List ℕ) (offset : ℕ) (fs : List
 behind_stand number file offset fs s =
     sym (drop-append_seam (fragments_text number offset fs) s.rest) ∙ (ap (drop (length (fragments_text number offset fs))) (sym s.there) ∙ drop-drop (length (fragments_text number offset fs)) offset file)
 
-stand_more : (number : Option ℕ) (file : List ℕ) (offset : ℕ) (fs gs : List Fragment) → Stand number file offset fs → Stand number file (end_of number offset fs) gs → Stand number file offset (fs ++ gs)
+pub stand_more : (number : Option ℕ) (file : List ℕ) (offset : ℕ) (fs gs : List Fragment) → Stand number file offset fs → Stand number file (end_of number offset fs) gs → Stand number file offset (fs ++ gs)
 stand_more number file offset fs gs s t = record {
   rest = t.rest;
   there = s.there
@@ -25,7 +25,7 @@ stand_more number file offset fs gs s t = record {
   fit = fit_joined number offset fs gs s.fit t.fit;
 }
 
-end_after : (number : Option ℕ) (offset : ℕ) (fs : List Fragment) (f : Fragment) → end_of number offset (fs ++ f ∷ []) ≡ behind number (end_of number offset fs) f
+pub end_after : (number : Option ℕ) (offset : ℕ) (fs : List Fragment) (f : Fragment) → end_of number offset (fs ++ f ∷ []) ≡ behind number (end_of number offset fs) f
 end_after number offset [] f = end_more number offset f [] ∙ (end_none number (behind number offset f) ∙ ap (λ (n : ℕ). behind number n f) (sym (end_none number offset)))
 end_after number offset (g ∷ fs) f = end_more number offset g (fs ++ f ∷ []) ∙ (end_after number (behind number offset g) fs f ∙ ap (λ (n : ℕ). behind number n f) (sym (end_more number offset g fs)))
 

@@ -22,14 +22,14 @@ begins_none number file = record { within = omega arith; spelled = record { grou
 
 -- their fragments
 module _ (number : Option ℕ) (file : List ℕ) (kept : ℕ) (records : List (List ℕ)) (b : Begins number file kept records) where
-  fragments : List Fragment
+  pub fragments : List Fragment
   fragments = all_fragments b.spelled.groups
 
-  end_is : end_of number 0 fragments ≡ kept
+  pub end_is : end_of number 0 fragments ≡ kept
   unfolding fragments
   end_is = zero-add (length (fragments_text number 0 fragments)) ∙ sym (ap length b.spelled.spelled) ∙ omega (arith, length-take kept file, b.within)
 
-  all_stand : Stand number file 0 fragments
+  pub all_stand : Stand number file 0 fragments
   unfolding fragments
   all_stand = record { rest = drop kept file; there = sym (take-append-drop kept file) ∙ ap (λ (l : List ℕ). l ++ drop kept file) b.spelled.spelled; fit = b.spelled.fit }
 
@@ -70,14 +70,14 @@ pub record NextRecord (number : Option ℕ) (file : List ℕ) (kept : ℕ) (reco
   pub more : List (List ℕ)
   pub others_are : others ≡ records ++ record_of fs ∷ more
 
-stand_front : (number : Option ℕ) (file : List ℕ) (offset : ℕ) (xs ys : List Fragment) → Stand number file offset (xs ++ ys) → Stand number file offset xs
+pub stand_front : (number : Option ℕ) (file : List ℕ) (offset : ℕ) (xs ys : List Fragment) → Stand number file offset (xs ++ ys) → Stand number file offset xs
 stand_front number file offset xs ys s = record {
   rest = fragments_text number (end_of number offset xs) ys ++ s.rest;
   there = s.there ∙ ap (λ (l : List ℕ). l ++ s.rest) (placed_append number offset xs ys) ∙ append_assoc (fragments_text number offset xs) (fragments_text number (end_of number offset xs) ys) s.rest;
   fit = fit_front number offset xs ys s.fit;
 }
 
-no_shorter : (number : Option ℕ) (xs ys rest : List Fragment) → xs ≡ ys ++ rest → end_of number 0 ys ≤ end_of number 0 xs
+pub no_shorter : (number : Option ℕ) (xs ys rest : List Fragment) → xs ≡ ys ++ rest → end_of number 0 ys ≤ end_of number 0 xs
 no_shorter number xs ys rest e =
     omega (arith, ap length (ap (fragments_text number 0) e ∙ placed_append number 0 ys rest), length-append (fragments_text number 0 ys) (fragments_text number (end_of number 0 ys) rest))
 

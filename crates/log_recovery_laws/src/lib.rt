@@ -14,9 +14,10 @@ ghost use Rattle.model_base.specs.declared.log.Damage.TheVariants.{ShortHeader};
 ghost use Rattle.model_base.specs.declared.log.EndReason.{EndReason};
 ghost use Rattle.model_base.specs.declared.log.EndReason.TheVariants.{Clean, Broken};
 ghost use Rattle.model_base.specs.Batch.{Record, IsBatch, IsBatchError};
-ghost use Rattle.model_base.specs.Log.{text, plain_log};
+ghost use Rattle.model_base.specs.Log.{SpellsWhole, plain_log};
 ghost use Rattle.model_base.specs.Recovery.{logged_bytes, Recovered, IsRecovered, IsRead, NoChance, NoChanceForReader};
-ghost use Rattle.log_laws.specs.Prefixes.{IsPrefix};
+ghost use Rattle.log_laws.specs.Prefixes.{IsPrefix, RecoversPrefix};
+ghost use Rattle.log_recovery_laws.specs.Images.{MeetsNoOther};
 ghost use Rattle.log_recovery_laws.specs.Reads.{AreBytes, Answer, found, ended, Reads, nothing_until};
 
 /// Reading on from any place of a log comes to a record or to an end: to one of them, and never to both.
@@ -61,14 +62,23 @@ pub fn recovery_is_a_function()
 {}
 
 /// So what a crash leaves recovers a prefix of all that was to be written, and is read as one, unless by chance: there
-/// is something that is recovered and read, beside the promise of `log_laws` that whatever is so is a prefix.
+/// is something that is recovered and read, beside the promise of `log_laws` that whatever is so is a prefix. Here
+/// `whole` is what the log would be once all of it were written.
 pub fn a_crash_leaves_a_prefix()
-    ensures recovered { (image : List ℕ) (records : List (List ℕ)) → AreBytes image
-        → NoChance plain_log image (text plain_log records)
-        → (r : Recovered) × IsRecovered plain_log image r × IsPrefix (map logged_bytes r.batches) records (λ n. ⊤) }
-    ensures read { (image : List ℕ) (records : List (List ℕ)) → AreBytes image
-        → NoChanceForReader plain_log image (text plain_log records)
-        → (some : List (List ℕ)) × IsRead plain_log image some × IsPrefix some records (λ n. ⊤) }
+    ensures recovered { (number : Option ℕ) (image whole : List ℕ) (records : List (List ℕ)) → AreBytes image
+        → SpellsWhole number whole records → NoChance number image whole
+        → (r : Recovered) × IsRecovered number image r × IsPrefix (map logged_bytes r.batches) records (λ n. ⊤) }
+    ensures read { (number : Option ℕ) (image whole : List ℕ) (records : List (List ℕ)) → AreBytes image
+        → SpellsWhole number whole records → NoChanceForReader number image whole
+        → (some : List (List ℕ)) × IsRead number image some × IsPrefix some records (λ n. ⊤) }
+{}
+
+/// A log may be cut behind what it recovers. Until that is safe a crash may leave the file as it was, and what stood
+/// behind, whole fragments among it. What such an image recovers is a front of what the file recovers, where its
+/// recovery meets no fragment but those that the file's recovery meets.
+pub fn an_image_of_the_file()
+    ensures recovered { (number : Option ℕ) (image file : List ℕ) (r : Recovered) → IsRecovered number file r
+        → MeetsNoOther number image file → RecoversPrefix number (map logged_bytes r.batches) image (λ n. ⊤) }
 {}
 
 /// Examples: the only meaning of a file without bytes, and of one of a single byte.

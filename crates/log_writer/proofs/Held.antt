@@ -1,22 +1,22 @@
 -- What images hold of the calls that have synced, at any moment since the log was opened.
-use Rattle.std.proofs.Common.{◌≡◌, ◌⊎◌, inl, inr, ⊎_elim, ℕ, zero, suc, ◌+◌, ◌<◌, ◌≤◌, max, true, List, [], ◌∷◌, ◌++◌, length, take, slice_get, Option, Some, None, IfSome, IsSomeAnd, refl, sym, ◌∙◌, ap, subst, arith, length-append, length-take}
+use Rattle.std.proofs.Common.{◌≡◌, ◌⊎◌, inl, inr, ⊎_elim, ℕ, zero, suc, ◌+◌, ◌<◌, ◌≤◌, min, max, true, List, [], ◌∷◌, ◌++◌, length, take, slice_get, Option, Some, None, IfSome, IsSomeAnd, refl, sym, ◌∙◌, ap, subst, arith, length-append}
 use Rattle.std.proofs.Math.Seq.{take-take}
 use Rattle.std.proofs.lemmas.List.{take-append-le, take_all}
 use Rattle.std.proofs.lemmas.Option.{same_Some, slice_get_within}
-use Rattle.base_devices.specs.Disk.{Disk, IsDisk, IsImage, Told, LeavesOnly}
+use Rattle.base_devices.specs.Disk.{Disk, IsImage, Told, LeavesOnly}
 use Rattle.base_devices.specs.declared.disk.Disk.{Ghosts}
-use Rattle.model_base.specs.Log.{record_text, text, plain_log}
+use Rattle.model_base.specs.Log.{record_text, Beginning, text_after}
 use Rattle.log_writer.specs.declared.writer.LogWriter.{LogWriter}
 use Rattle.log_writer.specs.Crashes.{KeepsSafe, reach_with, MayBeLeft, HoldsUpTo}
-use Rattle.log_writer.specs.Words.{disk_of, len_of, fault_of}
-use Rattle.log_writer.specs.Opening.{HasOpened}
+use Rattle.log_writer.specs.Words.{disk_of, number_of, len_of, fault_of}
+use Rattle.log_writer.specs.Opening.{MayBeLeftOf, StandsBehind, HasBegun}
 use Rattle.log_writer.specs.Adding.{GroupCall, record_of_call, Adds}
 use Rattle.log_writer.specs.Written.{Wrote, no_call, one_more, IsWritten, if_worked, first_fault, written_by, begun_by, HaveSynced, HoldsCalls, HoldsSynced, Stands}
 use Rattle.log_writer.proofs.Calls.{written_more, begun_more, begun_written, written_len, none_more}
-use Rattle.log_writer.proofs.Keeping.{text_more, text_front}
+use Rattle.log_writer.proofs.Keeping.{after_more, after_front, after_shorter}
 use Rattle.log_writer.proofs.Putting.{leaves_so, leaves_more}
-use Rattle.log_writer.proofs.Standing.{whole_text, stands_first, stands_written}
-use Rattle.log_writer.proofs.Surviving.{Laws, safe_front}
+use Rattle.log_writer.proofs.Standing.{len_after, stands_first, stands_written}
+use Rattle.log_writer.proofs.Surviving.{Laws, safe_begins}
 
 -- Of the calls so far
 
@@ -29,17 +29,16 @@ is_among (d ∷ calls) (suc n) zero c have at worked asked = omega arith
 is_among (d ∷ calls) (suc n) (suc k) c have at worked asked = let before = is_among calls n k c have at worked asked in omega (arith, before)
 
 -- so an image that keeps what was safe begins with all up to its record
-pub holds_synced : (reached : ℕ) (d : Disk) (calls : List GroupCall) (safe : ℕ) (image : List ℕ) → IsDisk d → HoldsCalls d calls safe → KeepsSafe d image → HoldsSynced reached calls image
-holds_synced reached d calls safe image is holds keeps = λ k c at worked asked longer past.
+pub holds_synced : (b : Beginning) (reached : ℕ) (d : Disk) (calls : List GroupCall) (safe : ℕ) (image : List ℕ) → HoldsCalls b d calls safe → KeepsSafe d image → HoldsSynced b reached calls image
+holds_synced b reached d calls safe image holds keeps = λ k c at worked asked longer past.
     let among : k < safe = is_among calls safe k c holds.have_synced at worked asked in
     let all : List (List ℕ) = take safe (written_by calls) in
-    let n : ℕ = length (text plain_log all) in
-    let m : ℕ = length (text plain_log (take (k + 1) all)) in
+    let n : ℕ = length (text_after b all) in
+    let m : ℕ = length (text_after b (take (k + 1) all)) in
     let same : take (k + 1) all ≡ take (k + 1) (written_by calls) = take-take (k + 1) safe (written_by calls) (omega (arith, among)) in
-    let in_front : take m (text plain_log all) ≡ text plain_log (take (k + 1) all) = text_front all (k + 1) in
-    let within : m ≤ n = omega (arith, ap length in_front, length-take m (text plain_log all)) in
-    let there : take m image ≡ text plain_log (take (k + 1) all) = sym (take-take m n image within) ∙ (ap (take m) (safe_front d calls safe image is holds keeps) ∙ in_front) in
-    subst (λ (l : List (List ℕ)). take (length (text plain_log l)) image ≡ text plain_log l) same there
+    let begins = safe_begins b d calls safe image holds keeps in
+    let there : take m image ≡ text_after b (take (k + 1) all) = sym (take-take m n image (after_shorter b all (k + 1))) ∙ (ap (take m) begins.1 ∙ after_front b all (k + 1)) in
+    subst (λ (l : List (List ℕ)). take (length (text_after b l)) image ≡ text_after b l) same there
 
 -- With one call more
 
@@ -51,99 +50,101 @@ in_more (d ∷ calls) c zero e at = inl at
 in_more (d ∷ calls) c (suc k) e at = ⊎_elim (λ before. inl before) (λ last. inr (ap (λ (n : ℕ). suc n) last.0, last.1)) (in_more calls c k e at)
 
 -- how far an image may come: as far as writes could come at first, or to the end of what was begun
-abbrev farthest : ℕ → List GroupCall → ℕ
-farthest reached calls = max reached (length (text plain_log (begun_by calls)))
+abbrev farthest : Beginning → ℕ → List GroupCall → ℕ
+farthest b reached calls = max reached (length (text_after b (begun_by calls)))
 
 -- An image that comes no further holds no less.
-held_more : (reached : ℕ) (calls : List GroupCall) (c : GroupCall) (image : List ℕ) → first_fault calls ≡ None → length image ≤ farthest reached (calls ++ c ∷ []) → HoldsSynced reached calls image → HoldsSynced reached (calls ++ c ∷ []) image
-held_more reached calls c image none within holds = λ k e at worked asked longer past. ⊎_elim
+held_more : (b : Beginning) (reached : ℕ) (calls : List GroupCall) (c : GroupCall) (image : List ℕ) → first_fault calls ≡ None → length image ≤ farthest b reached (calls ++ c ∷ []) → HoldsSynced b reached calls image
+    → HoldsSynced b reached (calls ++ c ∷ []) image
+held_more b reached calls c image none within holds = λ k e at worked asked longer past. ⊎_elim
     (λ before.
     let some : k + 1 ≤ length (written_by calls) = let k_within = slice_get_within calls k e before in omega (arith, k_within, written_len calls none) in
     let same : take (k + 1) (written_by (calls ++ c ∷ [])) ≡ take (k + 1) (written_by calls) =
     ap (take (k + 1)) (written_more calls c none) ∙ take-append-le (k + 1) (written_by calls) (if_worked c.failed (record_of_call c ∷ []) []) some in
-    subst (λ (l : List (List ℕ)). HoldsUpTo reached (text plain_log l) image) (sym same) (holds k e before worked asked) longer past)
+    subst (λ (l : List (List ℕ)). HoldsUpTo reached (text_after b l) image) (sym same) (holds k e before worked asked) longer past)
     (λ last.
     let written : written_by (calls ++ c ∷ []) ≡ begun_by (calls ++ c ∷ []) =
     written_more calls c none ∙ (ap (λ (f : Option ℕ). written_by calls ++ if_worked f (record_of_call c ∷ []) []) (ap (λ (x : GroupCall). x.failed) last.1 ∙ worked) ∙ sym (begun_more calls c none)) in
     let many : length (begun_by (calls ++ c ∷ [])) ≡ k + 1 =
     omega (arith, ap length (begun_more calls c none), length-append (written_by calls) (record_of_call c ∷ []), written_len calls none, last.0) in
     let all : take (k + 1) (written_by (calls ++ c ∷ [])) ≡ begun_by (calls ++ c ∷ []) = ap (take (k + 1)) written ∙ take_all (k + 1) (begun_by (calls ++ c ∷ [])) (omega (arith, many)) in
-    absurd (omega (arith, within, longer, past, ap (λ (l : List (List ℕ)). length (text plain_log l)) all)))
+    absurd (omega (arith, within, longer, past, len_after b (take (k + 1) (written_by (calls ++ c ∷ []))) (begun_by (calls ++ c ∷ [])) all)))
     (in_more calls c k e at)
 
 -- After a fault there is nothing more to hold.
-held_dead : (reached : ℕ) (calls : List GroupCall) (c : GroupCall) (count : ℕ) (image : List ℕ) → first_fault calls ≡ Some count → c.failed ≡ Some count → HoldsSynced reached calls image → HoldsSynced reached (calls ++ c ∷ []) image
-held_dead reached calls c count image dead failed holds = λ k e at worked asked. ⊎_elim
-    (λ before. subst (λ (l : List (List ℕ)). HoldsUpTo reached (text plain_log (take (k + 1) l)) image) (sym (none_more calls (c ∷ []) count dead).written) (holds k e before worked asked))
+held_dead : (b : Beginning) (reached : ℕ) (calls : List GroupCall) (c : GroupCall) (count : ℕ) (image : List ℕ) → first_fault calls ≡ Some count → c.failed ≡ Some count → HoldsSynced b reached calls image → HoldsSynced b reached (calls ++ c ∷ []) image
+held_dead b reached calls c count image dead failed holds = λ k e at worked asked. ⊎_elim
+    (λ before. subst (λ (l : List (List ℕ)). HoldsUpTo reached (text_after b (take (k + 1) l)) image) (sym (none_more calls (c ∷ []) count dead).written) (holds k e before worked asked))
     (λ last. let wrong : ◌≡◌ {A = Option ℕ} None (Some count) = sym worked ∙ (ap (λ (x : GroupCall). x.failed) (sym last.1) ∙ failed) in absurd (cc))
     (in_more calls c k e at)
 
 -- what is said of an image, to be carried from call to call
-record IsHeld (reached : ℕ) (calls : List GroupCall) (image : List ℕ) : Type 0 where
-  holds : HoldsSynced reached calls image
-  within : length image ≤ farthest reached calls
+record IsHeld (b : Beginning) (reached : ℕ) (calls : List GroupCall) (image : List ℕ) : Type 0 where
+  holds : HoldsSynced b reached calls image
+  within : length image ≤ farthest b reached calls
 
 -- A call that puts its record behind those of calls that worked
-module _ (reached : ℕ) (calls : List GroupCall) (c : GroupCall) (len : ℕ) (none : first_fault calls ≡ None) (len_is : len ≡ length (text plain_log (written_by calls))) where
+module _ (b : Beginning) (reached : ℕ) (calls : List GroupCall) (c : GroupCall) (len : ℕ) (number : Option ℕ) (none : first_fault calls ≡ None) (same : number ≡ b.number) (len_is : len ≡ length (text_after b (written_by calls))) where
   abbrev bytes : List ℕ
-  bytes = record_text plain_log len (record_of_call c)
+  bytes = record_text number len (record_of_call c)
 
   -- where it ends
-  begun_len : length (text plain_log (begun_by (calls ++ c ∷ []))) ≡ length (text plain_log (begun_by calls)) + length bytes
+  begun_len : length (text_after b (begun_by (calls ++ c ∷ []))) ≡ length (text_after b (begun_by calls)) + length bytes
   begun_len =
-      let front : List ℕ = text plain_log (written_by calls) in
-      let text_is : text plain_log (begun_by (calls ++ c ∷ [])) ≡ front ++ bytes =
-      ap (text plain_log) (begun_more calls c none) ∙ (text_more (written_by calls) (record_of_call c) ∙ ap (λ (n : ℕ). front ++ record_text plain_log n (record_of_call c)) (sym len_is)) in
-      omega (arith, ap length text_is, length-append front bytes, ap (λ (l : List (List ℕ)). length (text plain_log l)) (begun_written calls none))
+      let front : List ℕ = text_after b (written_by calls) in
+      let text_is : text_after b (begun_by (calls ++ c ∷ [])) ≡ front ++ bytes =
+      ap (text_after b) (begun_more calls c none) ∙ (after_more b (written_by calls) (record_of_call c)
+      ∙ (ap (λ (n : ℕ). front ++ record_text b.number n (record_of_call c)) (sym len_is) ∙ ap (λ (m : Option ℕ). front ++ record_text m len (record_of_call c)) (sym same))) in
+      omega (arith, ap length text_is, length-append front bytes, len_after b (begun_by calls) (written_by calls) (begun_written calls none))
 
-  held_before : (image : List ℕ) → IsHeld reached calls image → IsHeld reached (calls ++ c ∷ []) image
+  held_before : (image : List ℕ) → IsHeld b reached calls image → IsHeld b reached (calls ++ c ∷ []) image
   held_before image held =
-      let within : length image ≤ farthest reached (calls ++ c ∷ []) = omega (arith, held.within, begun_len) in
-      record { holds = held_more reached calls c image none within held.holds; within = within }
+      let within : length image ≤ farthest b reached (calls ++ c ∷ []) = omega (arith, held.within, begun_len) in
+      record { holds = held_more b reached calls c image none within held.holds; within = within }
 
-  -- where the content ends before it
-  content_len : (x : Disk) (safe : ℕ) → HoldsCalls x calls safe → length x.content ≡ length (text plain_log (begun_by calls))
-  content_len x safe holds = ap length (whole_text x calls safe none holds) ∙ ap (λ (l : List (List ℕ)). length (text plain_log l)) (sym (begun_written calls none))
+  -- where the place is before it
+  place_is : (x : Disk) (safe : ℕ) → HoldsCalls b x calls safe → x.place ≡ length (text_after b (begun_by calls))
+  place_is x safe holds = holds.place none ∙ sym (len_after b (begun_by calls) (written_by calls) (begun_written calls none))
 
-  held_in : (a : Option Disk) (image : List ℕ) → IfSome a IsDisk → IfSome a (λ d. (safe : ℕ) × HoldsCalls d calls safe) → IsSomeAnd a (λ d. d.reach ≤ farthest reached calls) → MayBeLeft a (length bytes) image → IsHeld reached (calls ++ c ∷ []) image
-  held_in None image is holds reach left = absurd reach
-  held_in (Some x) image is holds reach left =
-      let within : length image ≤ farthest reached (calls ++ c ∷ []) = omega (arith, left.no_longer, reach, content_len x holds.0 holds.1, begun_len) in
-      record { holds = held_more reached calls c image none within (holds_synced reached x calls holds.0 image is holds.1 left.safe); within = within }
+  held_in : (a : Option Disk) (image : List ℕ) → IfSome a (λ d. (safe : ℕ) × HoldsCalls b d calls safe) → IsSomeAnd a (λ d. d.reach ≤ farthest b reached calls) → MayBeLeft a (length bytes) image → IsHeld b reached (calls ++ c ∷ []) image
+  held_in None image holds reach left = absurd reach
+  held_in (Some x) image holds reach left =
+      let within : length image ≤ farthest b reached (calls ++ c ∷ []) = omega (arith, left.no_longer, reach, place_is x holds.0 holds.1, begun_len) in
+      record { holds = held_more b reached calls c image none within (holds_synced b reached x calls holds.0 image holds.1 left.safe); within = within }
 
-  reach_in : (a b : Option Disk) → IfSome a (λ d. (safe : ℕ) × HoldsCalls d calls safe) → IsSomeAnd a (λ d. d.reach ≤ farthest reached calls) → Told a b (λ x y. y.reach ≤ reach_with x (length bytes)) → IsSomeAnd b (λ d. d.reach ≤ farthest reached (calls ++ c ∷ []))
-  reach_in None b holds reach told = absurd reach
+  reach_in : (a now : Option Disk) → IfSome a (λ d. (safe : ℕ) × HoldsCalls b d calls safe) → IsSomeAnd a (λ d. d.reach ≤ farthest b reached calls) → Told a now (λ x y. y.reach ≤ reach_with x (length bytes))
+      → IsSomeAnd now (λ d. d.reach ≤ farthest b reached (calls ++ c ∷ []))
+  reach_in None now holds reach told = absurd reach
   reach_in (Some x) None holds reach told = absurd told
-  reach_in (Some x) (Some y) holds reach told = omega (arith, told, reach, content_len x holds.0 holds.1, begun_len)
+  reach_in (Some x) (Some y) holds reach told = omega (arith, told, reach, place_is x holds.0 holds.1, begun_len)
 
 -- From the opening on
 
-module _ {D : Type 0} {ghosts : Ghosts D} (laws : Laws ghosts) (disk : D) (first : Disk) (first_is : ghosts.told disk ≡ Some first) where
+module _ {D : Type 0} {ghosts : Ghosts D} (laws : Laws ghosts) (b : Beginning) (disk : D) (first : Disk) (first_is : ghosts.told disk ≡ Some first) where
   record Held (calls : List GroupCall) (log : LogWriter D ghosts) : Type 0 where
-    reach : IsSomeAnd (ghosts.told (disk_of log)) (λ d. d.reach ≤ farthest first.reach calls)
-    leaves : LeavesOnly ghosts.moment ghosts.from ghosts.since disk (disk_of log) (IsHeld first.reach calls)
+    reach : IsSomeAnd (ghosts.told (disk_of log)) (λ d. d.reach ≤ farthest b first.reach calls)
+    leaves : LeavesOnly ghosts.moment ghosts.from ghosts.since disk (disk_of log) (IsHeld b first.reach calls)
 
-  held_image : (a : Option Disk) (image : List ℕ) → a ≡ Some first → IfSome a (λ d. IsImage d image) → IsHeld first.reach [] image
+  held_image : (a : Option Disk) (image : List ℕ) → a ≡ Some first → MayBeLeftOf a (length b.kept) image → IsHeld b first.reach [] image
   held_image a image e is =
-      let of_first : IsImage first image = subst (λ (told : Option Disk). IfSome told (λ d. IsImage d image)) e is in
+      let of_first : IsImage (record first { synced = min first.synced (length b.kept) }) image = subst (λ (told : Option Disk). MayBeLeftOf told (length b.kept) image) e is in
       record { holds = λ k c at worked asked. absurd (cc); within = omega (arith, of_first.no_longer) }
 
-  held_first : (opened : LogWriter D ghosts) → HasOpened disk opened → Held [] opened
-  held_first opened has =
-      let time = has.looked_at.time in
-      let same : ghosts.told (disk_of opened) ≡ Some first = has.looked_at.same ∙ first_is in
-      record {
-        reach = subst (λ (a : Option Disk). IsSomeAnd a (λ d. d.reach ≤ farthest first.reach [])) (sym same) (omega arith);
-        leaves = record {
-          later = time.later;
-          forgets = time.forgets;
-          each = λ image known s. ⊎_elim (λ past. held_image (ghosts.told disk) image first_is (laws.only_now disk image (omega (arith, known, time.forgets)) past))
-              (λ is. held_image (ghosts.told (disk_of opened)) image same is) (time.nothing_else (ghosts.moment disk) image known (omega arith) s);
-          before = λ t image known le s. ⊎_elim (λ past. inl past) (λ is. inr (held_image (ghosts.told (disk_of opened)) image same is)) (time.nothing_else t image known le s);
-        };
-      }
+  reach_first : (a now : Option Disk) → a ≡ Some first → Told a now (StandsBehind b) → IsSomeAnd now (λ d. d.reach ≤ farthest b first.reach [])
+  reach_first a now e told = by_now now (subst (λ (t : Option Disk). Told t now (StandsBehind b)) e told)
+    where
+      by_now : (now : Option Disk) → Told (Some first) now (StandsBehind b) → IsSomeAnd now (λ d. d.reach ≤ farthest b first.reach [])
+      by_now None behind = absurd behind
+      by_now (Some y) behind = omega (arith, behind.reach)
 
-  held_call : (calls : List GroupCall) (c : GroupCall) (now new : LogWriter D ghosts) → Stands calls now → Held calls now → Adds c now new → Held (calls ++ c ∷ []) new
+  held_first : (begun : LogWriter D ghosts) → HasBegun b disk begun → Held [] begun
+  held_first begun has = record {
+    reach = reach_first (ghosts.told disk) (ghosts.told (disk_of begun)) first_is has.told;
+    leaves = leaves_so ghosts.moment ghosts.from ghosts.since (MayBeLeftOf (ghosts.told disk) (length b.kept)) (IsHeld b first.reach []) disk (disk_of begun) has.crash
+        (λ image left. held_image (ghosts.told disk) image first_is left);
+  }
+
+  held_call : (calls : List GroupCall) (c : GroupCall) (now new : LogWriter D ghosts) → Stands b calls now → Held calls now → Adds c now new → Held (calls ++ c ∷ []) new
   held_call calls c now new stands held adds = by_fault (fault_of now) refl adds.dead
     where
       by_fault : (f : Option ℕ) → fault_of now ≡ f → IfSome f (λ count. (c.failed ≡ Some count) × (new ≡ now)) → Held (calls ++ c ∷ []) new
@@ -151,39 +152,39 @@ module _ {D : Type 0} {ghosts : Ghosts D} (laws : Laws ghosts) (disk : D) (first
           let none : first_fault calls ≡ None = sym stands.fault ∙ is_none in
           let put = adds.put is_none in
           let a : Option Disk = ghosts.told (disk_of now) in
-          let P : List ℕ → Type 0 = IsHeld first.reach (calls ++ c ∷ []) in
-          let Q : List ℕ → Type 0 = MayBeLeft a (length (record_text plain_log (len_of now) (record_of_call c))) in
+          let P : List ℕ → Type 0 = IsHeld b first.reach (calls ++ c ∷ []) in
+          let Q : List ℕ → Type 0 = MayBeLeft a (length (record_text (number_of now) (len_of now) (record_of_call c))) in
           let earlier : LeavesOnly ghosts.moment ghosts.from ghosts.since disk (disk_of now) P =
-          leaves_so ghosts.moment ghosts.from ghosts.since (IsHeld first.reach calls) P disk (disk_of now) held.leaves (held_before first.reach calls c (len_of now) none stands.len) in
+          leaves_so ghosts.moment ghosts.from ghosts.since (IsHeld b first.reach calls) P disk (disk_of now) held.leaves (held_before b first.reach calls c (len_of now) (number_of now) none stands.number_is stands.len) in
           record {
-            reach = reach_in first.reach calls c (len_of now) none stands.len a (ghosts.told (disk_of new)) stands.told held.reach put.reached;
+            reach = reach_in b first.reach calls c (len_of now) (number_of now) none stands.number_is stands.len a (ghosts.told (disk_of new)) stands.told held.reach put.reached;
             leaves = leaves_more ghosts.moment ghosts.from ghosts.since P Q disk (disk_of now) (disk_of new) earlier put.crash
-                (λ image left. held_in first.reach calls c (len_of now) none stands.len a image (laws.is_disk (disk_of now)) stands.told held.reach left);
+                (λ image left. held_in b first.reach calls c (len_of now) (number_of now) none stands.number_is stands.len a image stands.told held.reach left);
           }
       by_fault (Some count) is_some kept =
           let dead : first_fault calls ≡ Some count = sym stands.fault ∙ is_some in
           let same : begun_by (calls ++ c ∷ []) ≡ begun_by calls = (none_more calls (c ∷ []) count dead).begun in
-          let len : length (text plain_log (begun_by (calls ++ c ∷ []))) ≡ length (text plain_log (begun_by calls)) = ap (λ (l : List (List ℕ)). length (text plain_log l)) same in
+          let len : length (text_after b (begun_by (calls ++ c ∷ []))) ≡ length (text_after b (begun_by calls)) = len_after b (begun_by (calls ++ c ∷ [])) (begun_by calls) same in
           subst (λ (log : LogWriter D ghosts). Held (calls ++ c ∷ []) log) (sym kept.1) (record {
-            reach = subst (λ (l : List (List ℕ)). IsSomeAnd (ghosts.told (disk_of now)) (λ d. d.reach ≤ max first.reach (length (text plain_log l)))) (sym same) held.reach;
-            leaves = leaves_so ghosts.moment ghosts.from ghosts.since (IsHeld first.reach calls) (IsHeld first.reach (calls ++ c ∷ [])) disk (disk_of now) held.leaves
-                (λ image h. record { holds = held_dead first.reach calls c count image dead kept.0 h.holds; within = let h_within = h.within in omega (arith, h_within, len) });
+            reach = subst (λ (l : List (List ℕ)). IsSomeAnd (ghosts.told (disk_of now)) (λ d. d.reach ≤ max first.reach (length (text_after b l)))) (sym same) held.reach;
+            leaves = leaves_so ghosts.moment ghosts.from ghosts.since (IsHeld b first.reach calls) (IsHeld b first.reach (calls ++ c ∷ [])) disk (disk_of now) held.leaves
+                (λ image h. record { holds = held_dead b first.reach calls c count image dead kept.0 h.holds; within = let h_within = h.within in omega (arith, h_within, len) });
           })
 
-  held_calls : (opened : LogWriter D ghosts) (calls : List GroupCall) (new : LogWriter D ghosts) → HasOpened disk opened → Wrote opened calls new → Held calls new
-  held_calls opened calls new has no_call = held_first opened has
-  held_calls opened calls new has (one_more {calls = before} {now = now} c wrote adds) =
-      held_call before c now new (stands_written opened before now (stands_first disk opened has) wrote) (held_calls opened before now has wrote) adds
+  held_calls : (begun : LogWriter D ghosts) (calls : List GroupCall) (new : LogWriter D ghosts) → HasBegun b disk begun → Wrote begun calls new → Held calls new
+  held_calls begun calls new has no_call = held_first begun has
+  held_calls begun calls new has (one_more {calls = before} {now = now} c wrote adds) =
+      held_call before c now new (stands_written laws.is_disk b begun before now (stands_first b disk begun has) wrote) (held_calls begun before now has wrote) adds
 
-  held_all : (calls : List GroupCall) (log : LogWriter D ghosts) → IsWritten disk calls log → LeavesOnly ghosts.moment ghosts.from ghosts.since disk (disk_of log) (HoldsSynced first.reach calls)
+  held_all : (calls : List GroupCall) (log : LogWriter D ghosts) → IsWritten b disk calls log → LeavesOnly ghosts.moment ghosts.from ghosts.since disk (disk_of log) (HoldsSynced b first.reach calls)
   held_all calls log is =
-      leaves_so ghosts.moment ghosts.from ghosts.since (IsHeld first.reach calls) (HoldsSynced first.reach calls) disk (disk_of log) (held_calls is.opened calls log is.has_opened is.wrote).leaves (λ image held. held.holds)
+      leaves_so ghosts.moment ghosts.from ghosts.since (IsHeld b first.reach calls) (HoldsSynced b first.reach calls) disk (disk_of log) (held_calls is.begun calls log is.has_begun is.wrote).leaves (λ image held. held.holds)
 
 -- where the disk tells
-pub held_so : {D : Type 0} {ghosts : Ghosts D} (laws : Laws ghosts) (disk : D) (calls : List GroupCall) (log : LogWriter D ghosts) → IsWritten disk calls log
-    → IfSome (ghosts.told disk) (λ d. LeavesOnly ghosts.moment ghosts.from ghosts.since disk (disk_of log) (HoldsSynced d.reach calls))
-held_so {ghosts = ghosts} laws disk calls log is = by_told (ghosts.told disk) refl
+pub held_so : {D : Type 0} {ghosts : Ghosts D} (laws : Laws ghosts) (b : Beginning) (disk : D) (calls : List GroupCall) (log : LogWriter D ghosts) → IsWritten b disk calls log
+    → IfSome (ghosts.told disk) (λ d. LeavesOnly ghosts.moment ghosts.from ghosts.since disk (disk_of log) (HoldsSynced b d.reach calls))
+held_so {ghosts = ghosts} laws b disk calls log is = by_told (ghosts.told disk) refl
   where
-    by_told : (told : Option Disk) → ghosts.told disk ≡ told → IfSome told (λ d. LeavesOnly ghosts.moment ghosts.from ghosts.since disk (disk_of log) (HoldsSynced d.reach calls))
+    by_told : (told : Option Disk) → ghosts.told disk ≡ told → IfSome told (λ d. LeavesOnly ghosts.moment ghosts.from ghosts.since disk (disk_of log) (HoldsSynced b d.reach calls))
     by_told None e = tt
-    by_told (Some d) e = held_all laws disk d e calls log is
+    by_told (Some d) e = held_all laws b disk d e calls log is

@@ -6,4 +6,5 @@ pub mod Calls
 pub mod Standing
 pub mod Surviving
 pub mod Held
+pub mod Beginning
 pub mod Filling

@@ -2,13 +2,13 @@
 use Rattle.std.specs.Prelude.{◌≡◌, ℕ, ◌+◌, Bool, List, length, Option, Some, None, Result, Ok, Err, IfSome, MatchOption}
 use Rattle.base_devices.specs.declared.disk.Disk.{Ghosts}
 pub use Rattle.model_base.specs.LogContents.{GroupCall, record_of_call}
-use Rattle.model_base.specs.Log.{record_text, plain_log}
+use Rattle.model_base.specs.Log.{record_text}
 use Rattle.log_batch.specs.Contents.{Contents}
 use Rattle.log_writer.specs.declared.errors.Fault.{Fault}
 use Rattle.log_writer.specs.declared.writer.LogWriter.{LogWriter}
 use Rattle.log_writer.specs.Groups.{batches_of}
 use Rattle.log_writer.specs.Puts.{Puts}
-use Rattle.log_writer.specs.Words.{disk_of, len_of, fault_of}
+use Rattle.log_writer.specs.Words.{disk_of, number_of, len_of, fault_of}
 
 abbrev pub count_of_fault : {T : Type 0} → Result T Fault → Option ℕ
 count_of_fault (Ok x) = None
@@ -42,11 +42,12 @@ module _ {D : Type 0} {ghosts : Ghosts D} where
 
   -- the text of the call's record at the end of the log
   abbrev pub text_at_end : GroupCall → LogWriter D ghosts → List ℕ
-  text_at_end c log = record_text plain_log (len_of log) (record_of_call c)
+  text_at_end c log = record_text (number_of log) (len_of log) (record_of_call c)
 
   -- The call put the record's text at the end of the log, and synced it if that was asked. After a fault nothing is
   -- done.
   pub record Adds (c : GroupCall) (old new : LogWriter D ghosts) : Type 0 where
+    pub number : number_of new ≡ number_of old
     pub dead : IfSome (fault_of old) (λ count. (c.failed ≡ Some count) × (new ≡ old))
     pub put : fault_of old ≡ None
         → Puts ghosts (disk_of old) (disk_of new) (text_at_end c old) c.sync (answer_of c.failed)

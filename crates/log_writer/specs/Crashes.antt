@@ -1,26 +1,30 @@
 -- What a crash leaves of a log's disk, in bytes and in records.
-use Rattle.std.specs.Prelude.{◌≡◌, ℕ, ◌+◌, ◌≤◌, max, List, [], ◌∷◌, ◌++◌, length, take, map, Option, IfSome}
+use Rattle.std.specs.Prelude.{◌≡◌, ℕ, ◌+◌, ◌≤◌, min, max, List, [], ◌∷◌, ◌++◌, length, take, map, Option, IfSome}
 use Rattle.std.specs.List.{AllByRecursion}
 use Rattle.base_devices.specs.Disk.{Disk, IsImage, LeavesOnly}
 use Rattle.base_devices.specs.declared.disk.Disk.{Ghosts}
 use Rattle.model_base.specs.Batch.{IsBatch}
-use Rattle.model_base.specs.Log.{text, plain_log}
+use Rattle.model_base.specs.Log.{Beginning, text_after, SpellsWhole}
 use Rattle.model_base.specs.Recovery.{Logged, logged_bytes, AreInOrder, NoChance, NoChanceForReader}
 use Rattle.log_laws.specs.Prefixes.{RecoversPrefix, ReadsPrefix}
 pub use Rattle.model_base.specs.LogContents.{HoldsUpTo}
 
--- the disk's safe bytes are a prefix of the image
+-- how many bytes are safe, whatever is put at the disk's place
+abbrev pub safe_len : Disk → ℕ
+safe_len d = min d.synced d.place
+
+-- those bytes are a prefix of the image
 pub record KeepsSafe (d : Disk) (image : List ℕ) : Type 0 where
-  pub front : take d.synced image ≡ take d.synced d.content
-  pub no_shorter : d.synced ≤ length image
+  pub front : take (safe_len d) image ≡ take (safe_len d) d.content
+  pub no_shorter : safe_len d ≤ length image
 
 -- the same, where the disk tells what it is
 abbrev pub KeepsWhatWasSafe : Option Disk → List ℕ → Type 0
 KeepsWhatWasSafe told image = IfSome told (λ d. KeepsSafe d image)
 
--- how far writes may come while so many bytes are put at the end of the content: as far as before, or to their end
+-- how far writes may come while so many bytes are put at the place: as far as before, or to their end
 abbrev pub reach_with : Disk → ℕ → ℕ
-reach_with d more = max d.reach (length d.content + more)
+reach_with d more = max d.reach (d.place + more)
 
 -- what a crash may leave meanwhile: the safe bytes, and nothing past that reach
 pub record IsLeft (d : Disk) (more : ℕ) (image : List ℕ) : Type 0 where
@@ -31,11 +35,12 @@ pub record IsLeft (d : Disk) (more : ℕ) (image : List ℕ) : Type 0 where
 abbrev pub MayBeLeft : Option Disk → ℕ → List ℕ → Type 0
 MayBeLeft told more image = IfSome told (λ d. IsLeft d more image)
 
--- the disk's content is the text of these records, and the first of them, so many, are safe
-pub record HoldsRecords (d : Disk) (records : List (List ℕ)) (safe : ℕ) : Type 0 where
-  pub content : d.content ≡ text plain_log records
+-- The disk has the text of these records up to its place, in a log of this beginning, and the first of them, so many,
+-- are safe. What stands behind the place is no part of the log.
+pub record HoldsRecords (b : Beginning) (d : Disk) (records : List (List ℕ)) (safe : ℕ) : Type 0 where
+  pub content : take d.place d.content ≡ text_after b records
   pub some : safe ≤ length records
-  pub synced : length (text plain_log (take safe records)) ≤ d.synced
+  pub synced : length (text_after b (take safe records)) ≤ d.synced
 
 -- the records are batches whose runs rise
 pub record AreRisingBatches (records : List (List ℕ)) : Type 0 where
@@ -44,22 +49,27 @@ pub record AreRisingBatches (records : List (List ℕ)) : Type 0 where
   pub each : AllByRecursion (λ b. IsBatch (logged_bytes b) b.first b.records) batches
   pub rising : AreInOrder 0 batches
 
--- With no chance, recovery and a reader of the image find a prefix of these records, at least so many.
--- Recovery looks at batches, so it is said of recovery where those are batches whose runs rise.
-pub record KeepsPrefix (records : List (List ℕ)) (safe : ℕ) (image : List ℕ) : Type 0 where
-  pub recovered : AreRisingBatches (take safe records) → NoChance plain_log image (text plain_log records)
-      → RecoversPrefix records image (λ n. safe ≤ n)
-  pub read : NoChanceForReader plain_log image (text plain_log records) → ReadsPrefix records image (λ n. safe ≤ n)
+-- With no chance, recovery and a reader of the image find a prefix of the records that the log kept and of these, and
+-- of these at least so many. Recovery looks at batches, so it is said of recovery where those are batches whose runs
+-- rise.
+pub record KeepsPrefix (b : Beginning) (records : List (List ℕ)) (safe : ℕ) (image : List ℕ) : Type 0 where
+  pub recovered : (kept : List (List ℕ)) → SpellsWhole b.number b.kept kept
+      → AreRisingBatches (kept ++ take safe records) → NoChance b.number image (text_after b records)
+      → RecoversPrefix b.number (kept ++ records) image (λ n. length kept + safe ≤ n)
+  pub read : (kept : List (List ℕ)) → SpellsWhole b.number b.kept kept
+      → NoChanceForReader b.number image (text_after b records)
+      → ReadsPrefix b.number (kept ++ records) image (λ n. length kept + safe ≤ n)
 
 -- A crash at any moment of a call that adds a record leaves a prefix of the records before and of this one, with all
 -- that was safe.
 abbrev pub LeavesPrefix : {D : Type 0} → Ghosts D → D → D → List ℕ → Type 0
-LeavesPrefix ghosts old new record_bytes = IfSome (ghosts.told old) (λ d. (records : List (List ℕ)) (safe : ℕ)
-    → HoldsRecords d records safe
-    → LeavesOnly ghosts.moment ghosts.from ghosts.since old new (KeepsPrefix (records ++ record_bytes ∷ []) safe))
+LeavesPrefix ghosts old new record_bytes = IfSome (ghosts.told old) (λ d.
+    (b : Beginning) (records : List (List ℕ)) (safe : ℕ) → HoldsRecords b d records safe
+    → LeavesOnly ghosts.moment ghosts.from ghosts.since old new (KeepsPrefix b (records ++ record_bytes ∷ []) safe))
 
 -- Now that it has returned a crash leaves the records before and this one.
-abbrev pub IsDurable : {D : Type 0} → Ghosts D → D → D → List ℕ → Type 0
-IsDurable ghosts old new record_bytes = IfSome (ghosts.told old) (λ d. (records : List (List ℕ))
-    → d.content ≡ text plain_log records → IfSome (ghosts.told new) (λ e. (image : List ℕ) → IsImage e image
-    → KeepsPrefix (records ++ record_bytes ∷ []) (length records + 1) image))
+abbrev pub IsDurable : {D : Type 0} → Ghosts D → Option ℕ → D → D → List ℕ → Type 0
+IsDurable ghosts number old new record_bytes = IfSome (ghosts.told old) (λ d.
+    (b : Beginning) (records : List (List ℕ)) → b.number ≡ number → take d.place d.content ≡ text_after b records
+    → IfSome (ghosts.told new) (λ e. (image : List ℕ) → IsImage e image
+    → KeepsPrefix b (records ++ record_bytes ∷ []) (length records + 1) image))

@@ -1,30 +1,31 @@
--- What it does to a disk to put bytes at the end of its content, and perhaps to sync them.
-use Rattle.std.specs.Prelude.{◌≡◌, ℕ, ◌+◌, ◌≤◌, Bool, true, false, List, ◌++◌, length, take, Result, MatchResult}
-use Rattle.base_devices.specs.Disk.{Disk, Told, LeavesOnly}
+-- What it does to a disk to put bytes at its place, and perhaps to sync them.
+use Rattle.std.specs.Prelude.{◌≡◌, ℕ, ◌+◌, ◌≤◌, Bool, true, false, List, length, take, Result, MatchResult}
+use Rattle.base_devices.specs.Disk.{Disk, IsAllSafe, put_at, Told, LeavesOnly}
 use Rattle.base_devices.specs.Faults.{HasCause}
 use Rattle.base_devices.specs.declared.disk.Disk.{Ghosts}
-use Rattle.log_writer.specs.Crashes.{reach_with, MayBeLeft}
+use Rattle.log_writer.specs.Crashes.{safe_len, reach_with, MayBeLeft}
 
--- a prefix of the bytes stands after the content
-pub record HasFront (before after : Disk) (bytes : List ℕ) : Type 0 where
-  pub some : ℕ
-  pub content : after.content ≡ before.content ++ take some bytes
-
--- all the content is safe, and a crash leaves nothing else
-pub record IsAllSafe (d : Disk) : Type 0 where
-  pub synced : d.synced ≡ length d.content
-  pub reach : d.reach ≡ length d.content
-
+-- all the content is safe, if that was asked, and else as much as before
 abbrev pub IsSynced : Bool → Disk → Disk → Type 0
 IsSynced true before after = IsAllSafe after
-IsSynced false before after = after.synced ≡ before.synced
+IsSynced false before after = safe_len before ≤ after.synced
 
--- The bytes are there, and safe if that was asked. Where it failed a prefix of them may be there, and no more is safe
--- than before.
+-- the bytes stand where the place was, over what stood there, and the place is behind them
+pub record StandPut (before after : Disk) (bytes : List ℕ) (sync : Bool) : Type 0 where
+  pub content : after.content ≡ put_at before.place bytes before.content
+  pub place : after.place ≡ before.place + length bytes
+  pub synced : IsSynced sync before after
+
+-- what stood in front of the place stands there still, whatever stands behind it, and as much is safe
+pub record StaysInFront (before after : Disk) : Type 0 where
+  pub content : take before.place after.content ≡ take before.place before.content
+  pub place : before.place ≤ after.place
+  pub synced : safe_len before ≤ after.synced
+
+-- They are put, or where that failed, nothing in front of the place has changed.
 abbrev pub ArePut : {T E : Type 0} → Disk → Disk → List ℕ → Bool → Result T E → Type 0
-ArePut before after bytes sync result = MatchResult result
-    (λ _. (after.content ≡ before.content ++ bytes) × IsSynced sync before after)
-    (λ _. HasFront before after bytes × (after.synced ≡ before.synced))
+ArePut before after bytes sync result =
+    MatchResult result (λ _. StandPut before after bytes sync) (λ _. StaysInFront before after)
 
 pub record Puts {D T E : Type 0} (ghosts : Ghosts D) (old new : D) (bytes : List ℕ) (sync : Bool) (result : Result T E)
     : Type 0 where
@@ -35,6 +36,6 @@ pub record Puts {D T E : Type 0} (ghosts : Ghosts D) (old new : D) (bytes : List
   pub cause : HasCause (ghosts.faults old) (ghosts.faults new) result
   pub reached : Told (ghosts.told old) (ghosts.told new)
       (λ before after. after.reach ≤ reach_with before (length bytes))
-  -- a crash at any moment of it leaves what was safe before, and nothing past where these bytes end or writes could
-  -- come before
+  -- a crash at any moment of it leaves what was safe in front of the place, and nothing past where these bytes end or
+  -- writes could come before
   pub crash : LeavesOnly ghosts.moment ghosts.from ghosts.since old new (MayBeLeft (ghosts.told old) (length bytes))

@@ -6,7 +6,11 @@ use Rattle.log_writer.specs.declared.writer.LogWriter.{LogWriter}
 abbrev pub disk_of : {D : Type 0} {ghosts : Ghosts D} → LogWriter D ghosts → D
 disk_of w = w.disk
 
--- the bytes of the groups that were written whole
+-- the log's number, if it has one
+abbrev pub number_of : {D : Type 0} {ghosts : Ghosts D} → LogWriter D ghosts → Option ℕ
+number_of w = w.number
+
+-- the bytes that it kept, and those of the groups that were written whole
 abbrev pub len_of : {D : Type 0} {ghosts : Ghosts D} → LogWriter D ghosts → ℕ
 len_of w = w.len
 

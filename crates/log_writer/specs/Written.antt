@@ -1,14 +1,16 @@
 -- What a log has become by calls of `add_group`.
-use Rattle.std.specs.Prelude.{◌≡◌, ℕ, ◌+◌, ◌≤◌, true, List, [], ◌∷◌, ◌++◌, length, take, drop, slice_get, Option, Some, None, IfSome}
+use Rattle.std.specs.Prelude.{◌≡◌, ℕ, ◌+◌, ◌≤◌, true, List, [], ◌∷◌, ◌++◌, length, take, drop, slice_get}
+use Rattle.std.specs.Prelude.{Option, Some, None, IfSome}
 use Rattle.std.specs.List.{AllByRecursion}
 use Rattle.base_devices.specs.Disk.{Disk}
 use Rattle.base_devices.specs.declared.disk.Disk.{Ghosts}
 use Rattle.model_base.specs.Counts.{Rose}
-use Rattle.model_base.specs.Log.{text, plain_log}
+use Rattle.model_base.specs.Log.{Beginning, text_after}
+use Rattle.log_laws.specs.Prefixes.{BeginsWith}
 use Rattle.log_writer.specs.declared.writer.LogWriter.{LogWriter}
-use Rattle.log_writer.specs.Words.{disk_of, len_of, fault_of}
+use Rattle.log_writer.specs.Words.{disk_of, number_of, len_of, fault_of}
 use Rattle.log_writer.specs.Crashes.{HoldsUpTo}
-use Rattle.log_writer.specs.Opening.{HasOpened}
+use Rattle.log_writer.specs.Opening.{HasBegun}
 use Rattle.log_writer.specs.Adding.{GroupCall, record_of_call, Adds}
 
 -- these calls, one after another, took the log from what it was to what it is
@@ -18,17 +20,29 @@ pub data Wrote {D : Type 0} {ghosts : Ghosts D} (old : LogWriter D ghosts)
   one_more : {calls : List GroupCall} {now new : LogWriter D ghosts} (c : GroupCall)
       → Wrote old calls now → Adds c now new → Wrote old (calls ++ c ∷ []) new
 
--- the log was opened on this disk, and these calls wrote it
-pub record IsWritten {D : Type 0} {ghosts : Ghosts D} (disk : D) (calls : List GroupCall) (log : LogWriter D ghosts)
-    : Type 0 where
-  pub opened : LogWriter D ghosts
-  pub has_opened : HasOpened disk opened
-  pub wrote : Wrote opened calls log
+-- the log began so on this disk, and these calls wrote it
+pub record IsWritten {D : Type 0} {ghosts : Ghosts D} (b : Beginning) (disk : D) (calls : List GroupCall)
+    (log : LogWriter D ghosts) : Type 0 where
+  pub begun : LogWriter D ghosts
+  pub has_begun : HasBegun b disk begun
+  pub wrote : Wrote begun calls log
 
--- the log that was opened on one disk was written by these calls, and then the other disk was handed back
-abbrev pub IsWrittenFrom : {D : Type 0} (ghosts : Ghosts D) → D → D → List GroupCall → Type 0
-IsWrittenFrom {D} ghosts opened ended calls =
-    (log : LogWriter D ghosts) × IsWritten opened calls log × (disk_of log ≡ ended)
+-- the log that began on one disk was written by these calls, and then the other disk was handed back
+abbrev pub IsWrittenFrom : {D : Type 0} (ghosts : Ghosts D) → Beginning → D → D → List GroupCall → Type 0
+IsWrittenFrom {D} ghosts b begun ended calls =
+    (log : LogWriter D ghosts) × IsWritten b begun calls log × (disk_of log ≡ ended)
+
+-- A crash may have left this image once the first of these calls had returned, while the others went on or after them,
+-- and the disk that was handed back still tells of it.
+pub record IsLeftSince {D : Type 0} (ghosts : Ghosts D) (b : Beginning) (begun ended : D)
+    (before after : List GroupCall) (image : List ℕ) : Type 0 where
+  pub between : LogWriter D ghosts
+  pub written : IsWritten b begun before between
+  pub last : LogWriter D ghosts
+  pub wrote : Wrote between after last
+  pub is_ended : disk_of last ≡ ended
+  pub remembered : ghosts.from ended ≤ ghosts.moment (disk_of between)
+  pub left : ghosts.since ended (ghosts.moment (disk_of between)) image
 
 -- one or the other, as a call worked or failed
 abbrev pub if_worked : {A : Type 0} → Option ℕ → A → A → A
@@ -55,25 +69,31 @@ abbrev pub HaveSynced : List GroupCall → ℕ → Type 0
 HaveSynced calls n = AllByRecursion (λ (c : GroupCall). c.failed ≡ None → c.sync ≡ true → ⊥) (drop n calls)
 
 -- Of each of these calls that worked and was to sync, an image holds all up to the end of its record.
-abbrev pub HoldsSynced : ℕ → List GroupCall → List ℕ → Type 0
-HoldsSynced reached calls image = (k : ℕ) (c : GroupCall) → slice_get calls k ≡ Some c → c.failed ≡ None → c.sync ≡ true
-    → HoldsUpTo reached (text plain_log (take (k + 1) (written_by calls))) image
+abbrev pub HoldsSynced : Beginning → ℕ → List GroupCall → List ℕ → Type 0
+HoldsSynced b reached calls image = (k : ℕ) (c : GroupCall) → slice_get calls k ≡ Some c → c.failed ≡ None
+    → c.sync ≡ true → HoldsUpTo reached (text_after b (take (k + 1) (written_by calls))) image
 
--- The disk's content is the text of all that was written, and perhaps a prefix of what was begun. The first records, so
--- many, are safe, and those that were to be synced are among them.
-pub record HoldsCalls (d : Disk) (calls : List GroupCall) (safe : ℕ) : Type 0 where
-  pub many : ℕ
-  pub content : d.content ≡ take many (text plain_log (begun_by calls))
-  pub whole : length (text plain_log (written_by calls)) ≤ many
+-- The disk's content begins with the text of all that was written, and its place is there, or once a call has failed,
+-- there or after it. The first records, so many, are safe, and those that were to be synced are among them.
+pub record HoldsCalls (b : Beginning) (d : Disk) (calls : List GroupCall) (safe : ℕ) : Type 0 where
+  pub content : BeginsWith (text_after b (written_by calls)) d.content
+  pub behind : length (text_after b (written_by calls)) ≤ d.place
+  pub place : first_fault calls ≡ None → d.place ≡ length (text_after b (written_by calls))
   pub some : safe ≤ length (written_by calls)
-  pub synced : length (text plain_log (take safe (written_by calls))) ≤ d.synced
+  pub synced : length (text_after b (take safe (written_by calls))) ≤ d.synced
   pub have_synced : HaveSynced calls safe
 
 -- the log has the first fault of these calls, and what they wrote
-pub record Stands {D : Type 0} {ghosts : Ghosts D} (calls : List GroupCall) (log : LogWriter D ghosts) : Type 0 where
+pub record Stands {D : Type 0} {ghosts : Ghosts D} (b : Beginning) (calls : List GroupCall) (log : LogWriter D ghosts)
+    : Type 0 where
+  pub number_is : number_of log ≡ b.number
   pub fault : fault_of log ≡ first_fault calls
-  pub len : len_of log ≡ length (text plain_log (written_by calls))
-  pub told : IfSome (ghosts.told (disk_of log)) (λ d. (safe : ℕ) × HoldsCalls d calls safe)
+  pub len : len_of log ≡ length (text_after b (written_by calls))
+  pub told : IfSome (ghosts.told (disk_of log)) (λ d. (safe : ℕ) × HoldsCalls b d calls safe)
+
+-- what stands there now is the text, and behind it what stood there as the log began
+abbrev pub IsTextOver : List ℕ → Disk → Disk → Type 0
+IsTextOver t before now = now.content ≡ t ++ drop (length t) before.content
 
 -- the fault came in one of the calls: the disk's count rose to it since then, and where there is none it stands
 pub record HasCauseSince {D : Type 0} {ghosts : Ghosts D} (disk : D) (log : LogWriter D ghosts) : Type 0 where

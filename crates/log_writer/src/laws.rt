@@ -1,44 +1,68 @@
 //! Laws of logs that calls of `add_group` wrote.
 
-ghost use Rattle.std.specs.Prelude.{◌≡◌, ◌+◌, ◌≤◌, ℕ, List, [], ◌∷◌, ◌++◌, IfSome};
-ghost use Rattle.base_devices.specs.Disk.{IsImage, LeavesOnly};
+ghost use Rattle.std.specs.Prelude.{◌≡◌, ◌+◌, ◌≤◌, ℕ, List, [], ◌∷◌, ◌++◌, length, take, Option, Some, None, IfSome};
+ghost use Rattle.base_devices.specs.Disk.{IsImage, LeavesOnly, Told};
+ghost use Rattle.model_base.specs.Log.{Beginning, new_log, text_after};
+ghost use Rattle.log_laws.specs.Prefixes.{BeginsWith};
 ghost use Rattle.log_writer.specs.declared.writer.LogWriter.{LogWriter as Log};
 ghost use Rattle.log_writer.specs.Words.{disk_of};
-ghost use Rattle.log_writer.specs.Opening.{HasOpened};
+ghost use Rattle.log_writer.specs.Opening.{HasOpened, HasReused, HasResumed, HasBegun};
 ghost use Rattle.log_writer.specs.Adding.{GroupCall, Adds};
 ghost use Rattle.log_writer.specs.Crashes.{KeepsPrefix};
-ghost use Rattle.log_writer.specs.Written.{Wrote, IsWritten, begun_by, HaveSynced, HoldsCalls, HoldsSynced, Stands, HasCauseSince};
+ghost use Rattle.log_writer.specs.Written.{Wrote, IsWritten, written_by, begun_by, first_fault, HaveSynced, HoldsCalls, HoldsSynced, IsTextOver, Stands, HasCauseSince};
 
 use base_devices::Disk;
 
-/// A log that is opened is written by no calls, and each call writes on. What the log has then is what the calls wrote.
-pub fn written_by_calls<D: Disk>()
-    ensures no_call { (disk : D) (log : Log D ⟦<D as Disk>⟧) → HasOpened disk log → IsWritten disk [] log }
-    ensures one_more { (disk : D) (calls : List GroupCall) (c : GroupCall) (now new : Log D ⟦<D as Disk>⟧)
-        → IsWritten disk calls now → Adds c now new → IsWritten disk (calls ++ c ∷ []) new }
-    ensures stands { (disk : D) (calls : List GroupCall) (log : Log D ⟦<D as Disk>⟧)
-        → IsWritten disk calls log → Stands calls log }
-    ensures cause { (disk : D) (calls : List GroupCall) (log : Log D ⟦<D as Disk>⟧)
-        → IsWritten disk calls log → HasCauseSince disk log }
+/// A log begins in three ways: on an empty disk, over old bytes with a number, or behind bytes that it keeps.
+pub fn beginnings<D: Disk>()
+    ensures opened { (disk : D) (log : Log D ⟦<D as Disk>⟧) → HasOpened disk log → HasBegun new_log disk log }
+    ensures reused { (disk : D) (n : ℕ) (log : Log D ⟦<D as Disk>⟧) → HasReused disk n log
+        → HasBegun (record { number = Some n; kept = [] }) disk log }
+    ensures resumed { (disk : D) (b : Beginning) (log : Log D ⟦<D as Disk>⟧)
+        → HasResumed disk (length b.kept) b.number log
+        → IfSome (D.told disk) (λ d. take (length b.kept) d.content ≡ b.kept) → HasBegun b disk log }
 {}
 
-/// What a crash leaves of such a log is a prefix of what was written and of the record that was begun, with all that
-/// was safe.
+/// A log that has begun is written by no calls, and each call writes on. What the log has then is what it kept and what
+/// the calls wrote.
+pub fn written_by_calls<D: Disk>()
+    ensures no_call { (b : Beginning) (disk : D) (log : Log D ⟦<D as Disk>⟧)
+        → HasBegun b disk log → IsWritten b disk [] log }
+    ensures one_more { (b : Beginning) (disk : D) (calls : List GroupCall) (c : GroupCall)
+        (now new : Log D ⟦<D as Disk>⟧) → IsWritten b disk calls now → Adds c now new
+        → IsWritten b disk (calls ++ c ∷ []) new }
+    ensures stands { (b : Beginning) (disk : D) (calls : List GroupCall) (log : Log D ⟦<D as Disk>⟧)
+        → IsWritten b disk calls log → Stands b calls log }
+    // Where no call failed, that is written over what stood there, and nothing else has changed.
+    ensures content { (b : Beginning) (disk : D) (calls : List GroupCall) (begun log : Log D ⟦<D as Disk>⟧)
+        → HasBegun b disk begun → Wrote begun calls log → first_fault calls ≡ None
+        → Told (D.told (disk_of begun)) (D.told (disk_of log)) (IsTextOver (text_after b (written_by calls))) }
+    ensures cause { (b : Beginning) (disk : D) (calls : List GroupCall) (log : Log D ⟦<D as Disk>⟧)
+        → IsWritten b disk calls log → HasCauseSince disk log }
+{}
+
+/// What a crash leaves of such a log is a prefix of what was written and of the record that was begun, behind the
+/// records that it kept, with all that was safe.
 pub fn crashes_between_calls<D: Disk>()
     // It is so at any moment of later calls, for what earlier calls had made safe.
-    ensures any_moment { (before after : List GroupCall) (old new : Log D ⟦<D as Disk>⟧) → Wrote old after new
-        → IfSome (D.told (disk_of old)) (λ d. (safe : ℕ) → HoldsCalls d before safe
+    ensures any_moment { (b : Beginning) (before after : List GroupCall) (old new : Log D ⟦<D as Disk>⟧)
+        → Wrote old after new → IfSome (D.told (disk_of old)) (λ d. (safe : ℕ) → HoldsCalls b d before safe
         → LeavesOnly D.moment D.from D.since (disk_of old) (disk_of new)
-        (KeepsPrefix (begun_by (before ++ after)) safe)) }
+        (KeepsPrefix b (begun_by (before ++ after)) safe)) }
+    // The text of that stands in front of each image then.
+    ensures begins { (b : Beginning) (before after : List GroupCall) (old new : Log D ⟦<D as Disk>⟧)
+        → Wrote old after new → IfSome (D.told (disk_of old)) (λ d. (safe : ℕ) → HoldsCalls b d before safe
+        → LeavesOnly D.moment D.from D.since (disk_of old) (disk_of new)
+        (BeginsWith (text_after b (take safe (written_by before))))) }
     // And it is so once they have returned, for all of them.
-    ensures at_end { (calls : List GroupCall) (log : Log D ⟦<D as Disk>⟧)
-        → IfSome (D.told (disk_of log)) (λ d. (safe : ℕ) → HoldsCalls d calls safe
-        → (image : List ℕ) → IsImage d image → KeepsPrefix (begun_by calls) safe image) }
+    ensures at_end { (b : Beginning) (calls : List GroupCall) (log : Log D ⟦<D as Disk>⟧)
+        → IfSome (D.told (disk_of log)) (λ d. (safe : ℕ) → HoldsCalls b d calls safe
+        → (image : List ℕ) → IsImage d image → KeepsPrefix b (begun_by calls) safe image) }
     // Where the calls that were to sync are among the first so many, they are among more.
     ensures synced { (calls : List GroupCall) (safe n : ℕ) → HaveSynced calls safe → safe ≤ n → HaveSynced calls n }
     // At any moment since the log was opened, what is longer than the text up to the end of a call that synced begins
     // with that text, unless writes could come so far before it was opened.
-    ensures held { (disk : D) (calls : List GroupCall) (log : Log D ⟦<D as Disk>⟧) → IsWritten disk calls log
-        → IfSome (D.told disk) (λ d.
-        LeavesOnly D.moment D.from D.since disk (disk_of log) (HoldsSynced d.reach calls)) }
+    ensures held { (b : Beginning) (disk : D) (calls : List GroupCall) (log : Log D ⟦<D as Disk>⟧)
+        → IsWritten b disk calls log → IfSome (D.told disk) (λ d.
+        LeavesOnly D.moment D.from D.since disk (disk_of log) (HoldsSynced b d.reach calls)) }
 {}

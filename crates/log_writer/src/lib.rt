@@ -13,10 +13,17 @@
 //! For example `put a 1` and `put b 2`, as one group from sequence 1 on, are a record of 22 bytes, which is
 //! `010000000000000002000000`, `0101610131` and `0101620132`, and 29 bytes of log.
 //!
-//! A crash may come at any moment. What it leaves of the log is a prefix of the records, each of them whole, with all
-//! that a sync had made safe, unless a torn fragment's checksum matches by chance. That is proved of each call, and of
-//! all calls since the log was opened. What it leaves is longer than what calls had written only where writes could
-//! come so far before the log was opened: so an image that is longer than a call's text holds it, if that call synced.
+//! A log is opened in three ways. On an empty disk it is new. Behind the records that recovery kept of a disk it goes
+//! on: the rest is cut off, and what is kept is synced before anything is written. With a number, which stands in each
+//! fragment, it is written over old bytes from the start of the disk, which is only rewound (RocksDB's
+//! `recycle_log_file_num`).
+//!
+//! A crash may come at any moment. What it leaves of the log is a prefix of the records, those that were kept and
+//! those that were written, each of them whole, with all that a sync had made safe, unless a torn fragment's checksum,
+//! or an old one's, matches by chance. That is proved of each call, and of all calls since the log was opened. What it
+//! leaves is longer than what calls had written only where writes could come so far before the log was opened: so an
+//! image that is longer than a call's text holds it, if that call synced. Over old bytes lengths tell nothing; but
+//! once a call that synced has returned, each image begins with the text up to there.
 #![tactic(auto)]
 
 mod errors;
@@ -26,5 +33,5 @@ mod puts;
 mod writer;
 
 pub use errors::{Fault, OpenError};
-pub use laws::{crashes_between_calls, written_by_calls};
+pub use laws::{beginnings, crashes_between_calls, written_by_calls};
 pub use writer::LogWriter;

@@ -1,18 +1,18 @@
-//! What is put at the end of a log's disk.
+//! What is put at the place of a log's disk, and what is kept of it.
 
-ghost use Rattle.std.specs.Prelude.{◌≡◌, ◌+◌, ◌-◌, ◌^◌, ◌<◌, ◌≤◌, [], ◌++◌, length, take, drop, replicate, true, false, None, OnOk, IfOk};
-ghost use Rattle.model_base.specs.Log.{plain_log};
+ghost use Rattle.std.specs.Prelude.{◌≡◌, ◌+◌, ◌-◌, ◌^◌, ◌<◌, ◌≤◌, [], ◌++◌, length, take, drop, replicate, true, false, OnOk, IfOk, IfSome};
 ghost use Rattle.model_base.specs.Log as log;
 ghost use Rattle.log_writer.specs.Groups.{counts_of, body_lens_of, record_of_group};
 ghost use Rattle.log_writer.specs.Puts.{Puts};
+ghost use Rattle.log_writer.specs.Opening.{Keeps};
 
 use crate::group_bytes::{GroupBytes, bodies_len, count_of, group_header, set_at};
 use base_devices::{Disk, Failed};
 use log_batch::Batch;
 use log_block::{BLOCK_LEN, Fragmenter, Piece, header, header_len};
 
-/// The number of the log: it has none.
-const PLAIN: Option<u32> = None;
+/// The most zeros that end a block: they are too few for a header.
+const MAX_ZEROS: usize = 10;
 
 /// Appends bytes.
 pub(crate) fn append<D: Disk>(disk: &mut D, bytes: &[u8]) -> Result<(), Failed>
@@ -23,13 +23,13 @@ pub(crate) fn append<D: Disk>(disk: &mut D, bytes: &[u8]) -> Result<(), Failed>
 
 /// Appends the zeros that end a block, if there are any.
 pub(crate) fn append_zeros<D: Disk>(disk: &mut D, zeros: usize) -> Result<(), Failed>
-    requires { zeros ≤ 6 }
+    requires { zeros ≤ MAX_ZEROS }
     ensures { Puts ⟦<D as Disk>⟧ disk.old disk.new (replicate zeros 0) false result }
 {
     if zeros == 0 {
         return Ok(());
     }
-    append(disk, &[0; 6][..zeros])
+    append(disk, &[0; MAX_ZEROS][..zeros])
 }
 
 /// Syncs the disk if that is asked.
@@ -41,18 +41,18 @@ pub(crate) fn sync_if<D: Disk>(disk: &mut D, sync: bool) -> Result<(), Failed>
 
 /// Puts a fragment together in the block: its header, and a part of so many bytes, which are moved out of the group's.
 /// The checksum is taken of the part where it stands then, since these bytes have just come into the processor's cache.
-fn fill(block: &mut [u8], rest: &mut GroupBytes<'_>, kind: u8, len: usize)
+fn fill(block: &mut [u8], number: Option<u32>, rest: &mut GroupBytes<'_>, kind: u8, len: usize)
     requires room { length block.old ≡ BLOCK_LEN }
-    requires fits { len ≤ log.part_len plain_log }
+    requires fits { log.header_len number + len ≤ BLOCK_LEN }
     requires there { len ≤ length rest.old }
     ensures filled { let part = take len rest.old in
-        take (log.header_len plain_log + len) block.new ≡ log.header plain_log kind part ++ part }
+        take (log.header_len number + len) block.new ≡ log.header number kind part ++ part }
     ensures rest { rest.new ≡ drop len rest.old }
 {
-    let start = header_len(PLAIN);
+    let start = header_len(number);
     let end = start + len;
     rest.move_to(&mut block[start..end]);
-    let header = header(PLAIN, kind, &block[start..end]);
+    let header = header(number, kind, &block[start..end]);
     set_at(block, 0, header.as_slice());
 }
 
@@ -60,39 +60,41 @@ fn fill(block: &mut [u8], rest: &mut GroupBytes<'_>, kind: u8, len: usize)
 fn put_piece<D: Disk>(
     disk: &mut D,
     block: &mut [u8],
+    number: Option<u32>,
     rest: &mut GroupBytes<'_>,
     piece: Piece,
 ) -> Result<(), Failed>
     requires room { length block.old ≡ BLOCK_LEN }
-    requires zeros { piece.zeros ≤ 6 }
+    requires zeros { piece.zeros ≤ MAX_ZEROS }
     requires ordered { piece.start ≤ piece.end }
-    requires fits { piece.end - piece.start ≤ log.part_len plain_log }
+    requires fits { log.header_len number + (piece.end - piece.start) ≤ BLOCK_LEN }
     requires there { piece.end - piece.start ≤ length rest.old }
     ensures put { let part = take (piece.end - piece.start) rest.old in
-        let text = replicate piece.zeros 0 ++ (log.header plain_log piece.kind part ++ part) in
+        let text = replicate piece.zeros 0 ++ (log.header number piece.kind part ++ part) in
         Puts ⟦<D as Disk>⟧ disk.old disk.new text false result }
     ensures rest { OnOk result (rest.new ≡ drop (piece.end - piece.start) rest.old) }
 {
     append_zeros(disk, piece.zeros)?;
     let len = piece.end - piece.start;
-    fill(block, rest, piece.kind, len);
-    append(disk, &block[..header_len(PLAIN) + len])
+    fill(block, number, rest, piece.kind, len);
+    append(disk, &block[..header_len(number) + len])
 }
 
 /// How many bytes a piece makes.
-fn piece_len(piece: Piece) -> u64
-    requires zeros { piece.zeros ≤ 6 }
+fn piece_len(number: Option<u32>, piece: Piece) -> u64
+    requires zeros { piece.zeros ≤ MAX_ZEROS }
     requires ordered { piece.start ≤ piece.end }
-    requires fits { piece.end - piece.start ≤ log.part_len plain_log }
-    ensures { result ≡ piece.zeros + (log.header_len plain_log + (piece.end - piece.start)) }
+    requires fits { log.header_len number + (piece.end - piece.start) ≤ BLOCK_LEN }
+    ensures { result ≡ piece.zeros + (log.header_len number + (piece.end - piece.start)) }
 {
-    (piece.zeros + header_len(PLAIN) + (piece.end - piece.start)) as u64
+    (piece.zeros + header_len(number) + (piece.end - piece.start)) as u64
 }
 
 /// Writes a record of so many bytes where the log ends, at this offset, and answers where it ends then.
 fn put_record<D: Disk>(
     disk: &mut D,
     block: &mut [u8],
+    number: Option<u32>,
     offset: u64,
     rest: &mut GroupBytes<'_>,
     len: usize,
@@ -100,14 +102,14 @@ fn put_record<D: Disk>(
     requires room { length block.old ≡ BLOCK_LEN }
     requires counted { offset ≤ D.added disk.old }
     requires whole { len ≡ length rest.old }
-    ensures put { Puts ⟦<D as Disk>⟧ disk.old disk.new (log.record_text plain_log offset rest.old) false result }
-    ensures end { IfOk result (λ end. end ≡ offset + length (log.record_text plain_log offset rest.old)) }
+    ensures put { Puts ⟦<D as Disk>⟧ disk.old disk.new (log.record_text number offset rest.old) false result }
+    ensures end { IfOk result (λ end. end ≡ offset + length (log.record_text number offset rest.old)) }
 {
     let mut end = offset;
     // The pieces so far are written, and `end` is where the log ends after them.
-    for piece in Fragmenter::new(PLAIN, (offset % BLOCK_LEN as u64) as usize, len) {
-        put_piece(disk, block, rest, piece)?;
-        end += piece_len(piece);
+    for piece in Fragmenter::new(number, (offset % BLOCK_LEN as u64) as usize, len) {
+        put_piece(disk, block, number, rest, piece)?;
+        end += piece_len(number, piece);
     }
     Ok(end)
 }
@@ -117,6 +119,7 @@ fn put_record<D: Disk>(
 fn put_members<D: Disk>(
     disk: &mut D,
     block: &mut [u8],
+    number: Option<u32>,
     offset: u64,
     first: u64,
     members: &[Batch],
@@ -125,9 +128,9 @@ fn put_members<D: Disk>(
     requires counted { offset ≤ D.added disk.old }
     requires counts { counts_of members.now < 2 ^ 32 }
     requires lens { body_lens_of members.now < 2 ^ 63 }
-    ensures put { let text = log.record_text plain_log offset (record_of_group first members.now) in
+    ensures put { let text = log.record_text number offset (record_of_group first members.now) in
         Puts ⟦<D as Disk>⟧ disk.old disk.new text false result }
-    ensures end { let text = log.record_text plain_log offset (record_of_group first members.now) in
+    ensures end { let text = log.record_text number offset (record_of_group first members.now) in
         IfOk result (λ end. end ≡ offset + length text) }
 {
     if let [only] = members
@@ -135,12 +138,12 @@ fn put_members<D: Disk>(
     {
         let bytes = only.bytes();
         let mut rest = GroupBytes::new(bytes, &[]);
-        return put_record(disk, block, offset, &mut rest, bytes.len());
+        return put_record(disk, block, number, offset, &mut rest, bytes.len());
     }
     let header = group_header(first, count_of(members));
     let len = header.len() + bodies_len(members);
     let mut rest = GroupBytes::new(&header, members);
-    put_record(disk, block, offset, &mut rest, len)
+    put_record(disk, block, number, offset, &mut rest, len)
 }
 
 /// Writes a group's record where the log ends, at this offset, and syncs it if that is asked. The answer is where the
@@ -148,6 +151,7 @@ fn put_members<D: Disk>(
 pub(crate) fn put_group<D: Disk>(
     disk: &mut D,
     block: &mut [u8],
+    number: Option<u32>,
     offset: u64,
     first: u64,
     members: &[Batch],
@@ -157,12 +161,21 @@ pub(crate) fn put_group<D: Disk>(
     requires counted { offset ≤ D.added disk.old }
     requires counts { counts_of members.now < 2 ^ 32 }
     requires lens { body_lens_of members.now < 2 ^ 63 }
-    ensures put { let text = log.record_text plain_log offset (record_of_group first members.now) in
+    ensures put { let text = log.record_text number offset (record_of_group first members.now) in
         Puts ⟦<D as Disk>⟧ disk.old disk.new text sync result }
-    ensures end { let text = log.record_text plain_log offset (record_of_group first members.now) in
+    ensures end { let text = log.record_text number offset (record_of_group first members.now) in
         IfOk result (λ end. end ≡ offset + length text) }
 {
-    let end = put_members(disk, block, offset, first, members)?;
+    let end = put_members(disk, block, number, offset, first, members)?;
     sync_if(disk, sync)?;
     Ok(end)
+}
+
+/// Cuts the disk off behind its first bytes, so many, and makes them safe.
+pub(crate) fn keep<D: Disk>(disk: &mut D, kept: u64) -> Result<(), Failed>
+    requires there { IfSome (D.told disk.old) (λ d. kept ≤ length d.content) }
+    ensures { Keeps ⟦<D as Disk>⟧ disk.old disk.new kept result }
+{
+    disk.cut(kept)?;
+    disk.sync()
 }

@@ -1,9 +1,9 @@
 //! The log of groups.
 
-ghost use Rattle.std.specs.Prelude.{◌≡◌, ◌≤◌, length, vec_len, IfOk, IfSome, None};
+ghost use Rattle.std.specs.Prelude.{◌≡◌, ◌≤◌, vec_len, IfOk, IfSome, None};
 ghost use Rattle.std.proofs.Props.{props};
 
-use crate::puts::put_group;
+use crate::puts::{keep, put_group};
 use crate::{Fault, OpenError};
 use base_devices::Disk;
 use log_batch::Batch;
@@ -16,23 +16,25 @@ pub struct LogWriter<D: Disk> {
     disk: D,
     /// Where a fragment is put together: as many bytes as a block has.
     block: Vec<u8>,
-    /// The bytes of the groups that were written whole.
+    /// The log's number, if it has one.
+    number: Option<u32>,
+    /// The bytes that the log kept, and those of the groups that were written whole.
     len: u64,
     /// The count of the fault, where a write failed.
     fault: Option<u64>,
     ghost room: { vec_len block ≡ 32768 },
     ghost within: { len ≤ D.added disk },
-    ghost told_len: { fault ≡ None → IfSome (D.told disk) (λ d. length d.content ≡ len) } by { Prim.hlevel props },
+    ghost told_len: { fault ≡ None → IfSome (D.told disk) (λ d. d.place ≡ len) } by { Prim.hlevel props },
 }
 
 impl<D: Disk> LogWriter<D> {
-    ghost use Rattle.std.specs.Prelude.{◌+◌, ◌-◌, ◌^◌, ◌<◌, IsTrue, IfErr, OnOk};
+    ghost use Rattle.std.specs.Prelude.{◌+◌, ◌-◌, ◌^◌, ◌<◌, length, IsTrue, IfErr, OnOk};
     ghost use Rattle.model_base.specs.History.{max_sequence};
-    ghost use Rattle.log_writer.specs.Words.{disk_of, len_of, fault_of, room_of};
+    ghost use Rattle.log_writer.specs.Words.{disk_of, number_of, len_of, fault_of, room_of};
     ghost use Rattle.log_writer.specs.Groups.{counts_of, body_lens_of, record_of_group};
     ghost use Rattle.log_writer.specs.Crashes.{LeavesPrefix, IsDurable};
     ghost use Rattle.log_writer.specs.Adding.{Adds, call_of};
-    ghost use Rattle.log_writer.specs.Opening.{HasOpened, IsOpenError};
+    ghost use Rattle.log_writer.specs.Opening.{HasOpened, HasReused, HasResumed, SpellsInFront, IsOpenError, IsReuseError, IsResumeError};
 
     /// Opens the log of an empty disk, with one look at its length.
     pub fn open(alloc: Global, mut disk: D) -> Result<LogWriter<D>, (D, OpenError)>
@@ -53,10 +55,76 @@ impl<D: Disk> LogWriter<D> {
             Ok(block) => Ok(LogWriter {
                 disk,
                 block,
+                number: None,
                 len: 0,
                 fault: None,
             }),
             Err(_) => Err((disk, OpenError::NoMemory)),
+        }
+    }
+
+    /// Opens a log with a number that is written over what stands on the disk, from its start on, as RocksDB recycles
+    /// log files (`recycle_log_file_num`). The disk is only rewound: the bytes of the log that stood there go as they
+    /// are written over, and a reader knows them by their number. So the number must be one that no log on this disk
+    /// had.
+    ///
+    /// It is answered with the disk where that fails, by a fault of the disk, or for want of memory, which is asked for
+    /// first: then the disk is as it was.
+    pub fn reuse(alloc: Global, mut disk: D, number: u32) -> Result<LogWriter<D>, (D, OpenError)>
+        ensures ok { IfOk result (HasReused disk number) }
+        ensures err { IfErr result (λ e. IsReuseError ⟦<D as Disk>⟧ disk e.0 e.1) }
+    {
+        let block = match empty_block(alloc) {
+            Ok(block) => block,
+            Err(_) => return Err((disk, OpenError::NoMemory)),
+        };
+        match disk.rewind() {
+            Ok(()) => Ok(LogWriter {
+                disk,
+                block,
+                number: Some(number),
+                len: 0,
+                fault: None,
+            }),
+            Err(_) => {
+                let count = disk.faults();
+                Err((disk, OpenError::Fault { count }))
+            }
+        }
+    }
+
+    /// Opens the log with this number, or with none, behind the first `kept` bytes of the disk, which are records of
+    /// such a log. What stands behind them is cut off, and what is kept is synced: so a crash can't bring back what
+    /// was cut off, in front of what is written then.
+    ///
+    /// It is answered with the disk where that fails, by a fault of the disk, or for want of memory, which is asked for
+    /// first: then the disk is as it was.
+    pub fn resume(
+        alloc: Global,
+        mut disk: D,
+        kept: u64,
+        number: Option<u32>,
+    ) -> Result<LogWriter<D>, (D, OpenError)>
+        requires records { IfSome (D.told disk) (λ d. SpellsInFront number kept d.content) }
+        ensures ok { IfOk result (HasResumed disk kept number) }
+        ensures err { IfErr result (λ e. IsResumeError ⟦<D as Disk>⟧ disk e.0 kept e.1) }
+    {
+        let block = match empty_block(alloc) {
+            Ok(block) => block,
+            Err(_) => return Err((disk, OpenError::NoMemory)),
+        };
+        match keep(&mut disk, kept) {
+            Ok(()) => Ok(LogWriter {
+                disk,
+                block,
+                number,
+                len: kept,
+                fault: None,
+            }),
+            Err(_) => {
+                let count = disk.faults();
+                Err((disk, OpenError::Fault { count }))
+            }
         }
     }
 
@@ -81,7 +149,8 @@ impl<D: Disk> LogWriter<D> {
         ensures crash { let record_bytes = record_of_group first members.now in
             LeavesPrefix ⟦<D as Disk>⟧ (disk_of self.old) (disk_of self.new) record_bytes }
         ensures durable { let record_bytes = record_of_group first members.now in
-            OnOk result (IsTrue sync → IsDurable ⟦<D as Disk>⟧ (disk_of self.old) (disk_of self.new) record_bytes) }
+            OnOk result (IsTrue sync
+            → IsDurable ⟦<D as Disk>⟧ (number_of self.old) (disk_of self.old) (disk_of self.new) record_bytes) }
     {
         if let Some(count) = self.fault {
             return Err(Fault { count });
@@ -89,6 +158,7 @@ impl<D: Disk> LogWriter<D> {
         match put_group(
             &mut self.disk,
             &mut self.block,
+            self.number,
             self.len,
             first,
             members,
@@ -106,11 +176,18 @@ impl<D: Disk> LogWriter<D> {
         }
     }
 
-    /// The bytes of the groups that were written whole.
+    /// The bytes that the log kept, and those of the groups that were written whole.
     pub fn len(&self) -> u64
         ensures { result ≡ len_of self.now }
     {
         self.len
+    }
+
+    /// The log's number, if it has one.
+    pub fn number(&self) -> Option<u32>
+        ensures { result ≡ number_of self.now }
+    {
+        self.number
     }
 
     /// The count of the fault that ended the log, if one did.
@@ -127,6 +204,7 @@ impl<D: Disk> LogWriter<D> {
         let LogWriter {
             disk,
             block: _,
+            number: _,
             len: _,
             fault: _,
         } = self;

@@ -21,7 +21,7 @@ use Rattle.model_accounts.proofs.Passing.{went_none, went_more, has_run}
 -- What can be seen
 
 pub whole : Saw (sight_of (first_version ∷ second_version ∷ [])) one_batch
-whole = record { start = refl; entries = one_entry ∷ []; begins = ([], refl); groups = (one_entry ∷ [], [], refl, refl, refl); controller_calls = ([], refl) }
+whole = record { start = refl; opening = refl; entries = one_entry ∷ []; begins = ([], refl); groups = (one_entry ∷ [], [], refl, refl, refl); controller_calls = ([], refl) }
 
 -- the first entries of one make all of its versions, or none
 not_half : (first rest : List Entry) → first ++ rest ≡ one_entry ∷ [] → made_by versions_of_entry first ≡ first_version ∷ [] → ⊥
@@ -49,7 +49,7 @@ wrote = record {
   ends = refl;
   asked = refl;
   attempts = refl;
-  seen = record { start = refl; published = (after.seen.published, refl); controller_calls = (after.seen.controller_calls, refl) };
+  seen = record { start = refl; opening = refl; published = (after.seen.published, refl); controller_calls = (after.seen.controller_calls, refl) };
   some = lit≤ tt;
   passed = refl;
   above = lit≤ tt;
@@ -64,7 +64,7 @@ gives_back = record { number = refl; mine = refl; ends = refl; asked = refl; att
 
 has_run_once : HasRun settings 1 commands calls after
 has_run_once =
-    let first = went_more settings [] before [] (add (value (codes "a") (codes "1"))) quiet before _ (went_none settings 0 1) (goes_add settings before [] (value (codes "a") (codes "1"))) in
+    let first = went_more settings [] before [] (add (value (codes "a") (codes "1"))) quiet before _ (went_none settings 0 [] 1) (goes_add settings before [] (value (codes "a") (codes "1"))) in
     let second = went_more settings _ before _ (add (value (codes "b") (codes "2"))) quiet before two_records first (goes_add settings before _ (value (codes "b") (codes "2"))) in
     let third = went_more settings _ before two_records (commit plain) (accepted 1 2 two_records) after [] second (goes_accepted settings before two_records plain 1 2 2 after refl wrote) in
     has_run settings calls after [] after third gives_back
@@ -121,6 +121,7 @@ pub closing : IsClosing settings 0 one_batch (one_group ∷ []) (after ∷ []) 2
 closing = record {
   is_trace = record {
     start = refl;
+    opening = refl;
     entries = (record { counted = refl; some = lit≤ tt; first = refl; fits = lit≤ tt }, tt);
     controller_calls = (refl, tt);
     clients = ((lit≤ tt, lit≤ tt), tt);

@@ -73,7 +73,7 @@ are_groups = record {
 -- The closing
 
 seen : Saw pair_sight pair_trace
-seen = record { start = refl; entries = pair_trace.entries; begins = ([], refl); groups = (pair_trace.entries, [], refl, refl, refl); controller_calls = ([], refl) }
+seen = record { start = refl; opening = refl; entries = pair_trace.entries; begins = ([], refl); groups = (pair_trace.entries, [], refl, refl, refl); controller_calls = ([], refl) }
 
 abbrev OfTrace : Account → Type 0
 OfTrace a = IsAccountOf pair_trace (pair_group ∷ []) (pair_trace.entries ∷ []) None a
@@ -82,6 +82,7 @@ pub closing : IsClosing pair_settings 0 pair_trace (pair_group ∷ []) (pair_acc
 closing = record {
   is_trace = record {
     start = refl;
+    opening = refl;
     entries = (record { counted = refl; some = lit≤ tt; first = refl; fits = lit≤ tt }, (record { counted = refl; some = lit≤ tt; first = refl; fits = lit≤ tt }, tt));
     controller_calls = (refl, tt);
     clients = ((lit≤ tt, lit≤ tt), ((lit≤ tt, lit≤ tt), tt));

@@ -1,6 +1,7 @@
 -- A client's calls, one after another, and how they end.
 use Rattle.std.proofs.Common.{ℕ, List, [], ◌∷◌, ◌++◌, refl, sym, ◌∙◌, subst, arith}
 use Rattle.model_base.specs.Batch.{Record}
+use Rattle.model_base.specs.Map.{Pairs}
 use Rattle.model_base.specs.Trace.{Settings}
 use Rattle.model_base.specs.Progress.{fresh}
 use Rattle.model_base.specs.Runs.{Run, whole, cut_off, commands_of}
@@ -10,8 +11,8 @@ use Rattle.model_accounts.specs.Accounts.{Account, newcomer, progress_at, GivesB
 use Rattle.model_accounts.specs.ClientRuns.{Goes, Lacks, Went, HasRun}
 use Rattle.model_accounts.proofs.Seeing.{saw_earlier, sees_on}
 
-pub went_none : (settings : Settings) (start number : ℕ) → Went settings [] (newcomer start number) []
-went_none settings start number = record { seen_up_to = 0; shown = omega arith; run = λ trace is_history saw. refl }
+pub went_none : (settings : Settings) (start : ℕ) (opening : Pairs) (number : ℕ) → Went settings [] (newcomer start opening number) []
+went_none settings start opening number = record { seen_up_to = 0; shown = omega arith; run = λ trace is_history saw. refl }
 
 pub went_more : (settings : Settings) (calls : List Call) (v : Account) (before : List Record) (c : Command) (r : Reply) (w : Account) (after : List Record)
     → Went settings calls v before → Goes settings v before c r w after → Went settings (calls ++ record { command = c; reply = r } ∷ []) w after

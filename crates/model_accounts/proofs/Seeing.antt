@@ -1,25 +1,28 @@
 -- What was seen of a trace at some time, and what was seen of it earlier.
-use Rattle.std.proofs.Common.{◌≡◌, ℕ, ◌≤◌, List, [], ◌∷◌, ◌++◌, length, refl, ap, sym, ◌∙◌, subst, arith, append_assoc}
+use Rattle.std.proofs.Common.{◌≡◌, ℕ, ◌≤◌, List, [], ◌∷◌, ◌++◌, length, map, refl, ap, sym, ◌∙◌, subst, arith, append_assoc}
 use mathlib.Core.List.{IsPrefix}
-use Rattle.model_base.specs.History.{Entry, IsHistory, last_of as last_of_entry, last_sequence, map_of}
+use Rattle.model_base.specs.History.{Entry, IsHistory, last_of as last_of_entry, last_sequence, map_over}
+use Rattle.model_base.specs.Map.{Pairs, after_records}
 use Rattle.model_base.specs.Trace.{Trace}
 use Rattle.model_base.proofs.Prefixes.{prefix_self, prefix_trans}
 use Rattle.table_rule.specs.declared.content.MemberVersions.{MemberVersions}
-use Rattle.table_rule.specs.Histories.{Begins, Images, versions_of, map_of as map_of_versions, map_after}
+use Rattle.table_rule.specs.declared.content.Version.{Version}
+use Rattle.table_rule.specs.Histories.{Begins, Images, versions_of, record_of, map_of as map_of_versions}
 use Rattle.table_rule.proofs.Histories.{begins_same, begins_trans, longer}
 use Rattle.table_rule.proofs.Images.{images_versions}
 use Rattle.model_accounts.specs.Versions.{versions_of_entry, versions_of_entries}
-use Rattle.model_accounts.specs.Sights.{Sight, last_seen, Sees, Saw}
-use Rattle.model_accounts.proofs.Versions.{versions_reach, versions_map}
+use Rattle.model_accounts.specs.Sights.{Sight, last_seen, map_seen, Sees, Saw}
+use Rattle.model_accounts.proofs.Versions.{versions_reach, after_append, after_entries}
 
 -- Earlier and later
 
 pub sees_self : (v : Sight) → Sees v v
-sees_self v = record { start = refl; published = begins_same v.published; controller_calls = prefix_self v.controller_calls }
+sees_self v = record { start = refl; opening = refl; published = begins_same v.published; controller_calls = prefix_self v.controller_calls }
 
 pub sees_on : (u v w : Sight) → Sees u v → Sees v w → Sees u w
 sees_on u v w a b = record {
   start = b.start ∙ a.start;
+  opening = b.opening ∙ a.opening;
   published = begins_trans u.published v.published w.published a.published b.published;
   controller_calls = prefix_trans u.controller_calls v.controller_calls w.controller_calls a.controller_calls b.controller_calls;
 }
@@ -41,11 +44,15 @@ cut entries (g ∷ some) groups are begins =
     )
 
 -- who has seen the first of all published groups has seen some of the trace whose entries made them
-pub saw_published : (trace : Trace) (history : List (List MemberVersions)) → Images versions_of_entry trace.entries history → (sight : Sight) → sight.start ≡ trace.start
+pub saw_published : (trace : Trace) (history : List (List MemberVersions)) → Images versions_of_entry trace.entries history → (sight : Sight) → sight.start ≡ trace.start → sight.opening ≡ trace.opening
     → Begins sight.published history → IsPrefix sight.controller_calls trace.controller_calls → Saw sight trace
-saw_published trace history are sight start begins calls =
+saw_published trace history are sight start opening begins calls =
     let first = cut trace.entries sight.published history are begins in
-    record { start = start; entries = first.0; begins = first.1; groups = first.2; controller_calls = calls }
+    record { start = start; opening = opening; entries = first.0; begins = first.1; groups = first.2; controller_calls = calls }
+
+-- and where some versions made the map before them, all together make the map that was seen
+pub seen_of_all : (sight : Sight) (before : List Version) → sight.opening ≡ map_of_versions before → map_of_versions (before ++ versions_of sight.published) ≡ map_seen sight
+seen_of_all sight before is = after_append [] before (versions_of sight.published) ∙ ap (λ (m : Pairs). after_records m (map record_of (versions_of sight.published))) (sym is)
 
 -- what was seen earlier was seen of the same trace
 pub saw_earlier : (v w : Sight) → Sees v w → (trace : Trace) → Saw w trace → Saw v trace
@@ -53,6 +60,7 @@ saw_earlier v w sees trace saw =
     let first = cut saw.entries v.published w.published saw.groups sees.published in
     record {
       start = sym sees.start ∙ saw.start;
+      opening = sym sees.opening ∙ saw.opening;
       entries = first.0;
       begins = prefix_trans first.0 saw.entries trace.entries first.1 saw.begins;
       groups = first.2;
@@ -77,5 +85,8 @@ module _ (sight : Sight) (trace : Trace) (is_history : IsHistory trace.start tra
       let start = saw.start in
       omega (arith, reach, same, start)
 
-  pub seen_map : map_after sight.published ≡ map_of saw.entries
-  seen_map = ap map_of_versions (sym same_versions) ∙ versions_map saw.entries
+  pub seen_map : map_seen sight ≡ map_over trace.opening saw.entries
+  seen_map =
+      ap (λ (m : Pairs). after_records m (map record_of (versions_of sight.published))) saw.opening
+      ∙ ap (λ vs. after_records trace.opening (map record_of vs)) (sym same_versions)
+      ∙ after_entries trace.opening saw.entries

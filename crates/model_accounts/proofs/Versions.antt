@@ -3,9 +3,9 @@ use Rattle.std.proofs.Common.{◌≡◌, ℕ, ◌+◌, if◌then◌else◌, List
 use Rattle.std.proofs.lemmas.List.Sums.{sum_by-cons}
 use Rattle.model_base.specs.Batch.{Record, value, deletion, single_deletion, log_data, is_counted, count_of}
 use Rattle.model_base.specs.Map.{Pairs, after_record, after_records}
-use Rattle.model_base.specs.History.{Entry, IsHistory, last_of, last_sequence, map_over, map_of}
+use Rattle.model_base.specs.History.{Entry, IsHistory, last_of, last_sequence, map_over}
 use Rattle.table_rule.specs.declared.content.Version.{Version}
-use Rattle.table_rule.specs.Histories.{record_of, map_of as map_of_versions}
+use Rattle.table_rule.specs.Histories.{record_of}
 use Rattle.table_rule.specs.Batches.{new_versions, number_from}
 use Rattle.model_accounts.specs.Versions.{versions_of_entry, versions_of_entries}
 
@@ -39,7 +39,7 @@ versions_reach start (e ∷ entries) is =
 
 -- Their map
 
-after_append : (m : Pairs) (some more : List Version) → after_records m (map record_of (some ++ more)) ≡ after_records (after_records m (map record_of some)) (map record_of more)
+pub after_append : (m : Pairs) (some more : List Version) → after_records m (map record_of (some ++ more)) ≡ after_records (after_records m (map record_of some)) (map record_of more)
 after_append m [] more = refl
 after_append m (v ∷ some) more = after_append (after_record m (record_of v)) some more
 
@@ -50,12 +50,9 @@ after_made m first (deletion key ∷ records) = after_made (after_record m (dele
 after_made m first (single_deletion key ∷ records) = after_made (after_record m (single_deletion key)) (first + 1) records
 after_made m first (log_data blob ∷ records) = after_made m first records
 
-after_entries : (m : Pairs) (entries : List Entry) → after_records m (map record_of (versions_of_entries entries)) ≡ map_over m entries
+pub after_entries : (m : Pairs) (entries : List Entry) → after_records m (map record_of (versions_of_entries entries)) ≡ map_over m entries
 after_entries m [] = refl
 after_entries m (e ∷ entries) =
     after_append m (versions_of_entry e) (versions_of_entries entries)
     ∙ ap (λ n. after_records n (map record_of (versions_of_entries entries))) (after_made m e.first e.records)
     ∙ after_entries (after_records m e.records) entries
-
-pub versions_map : (entries : List Entry) → map_of_versions (versions_of_entries entries) ≡ map_of entries
-versions_map entries = after_entries [] entries

@@ -12,8 +12,7 @@ use Rattle.model_base.specs.Trace.{Settings}
 use Rattle.model_base.specs.Attempts.{Attempt, WriteStatus, succeeded, with_attempt, knows_dead}
 use Rattle.model_base.specs.Progress.{Progress, next_entry, early_refusal}
 use Rattle.model_base.specs.Replies.{IsLater, AreFullBelow, MayRefuse}
-use Rattle.table_rule.specs.Histories.{map_after}
-use Rattle.model_accounts.specs.Sights.{Sight, unseen, last_seen, Sees}
+use Rattle.model_accounts.specs.Sights.{Sight, unseen, last_seen, map_seen, Sees}
 
 -- One client: its accepted batches, for each of them the last sequence of its group, its calls of the controller that
 -- were done, its commits that a leader took in hand, and what it has seen of the run
@@ -25,14 +24,14 @@ pub record Account : Type 0 where
   pub attempts : List Attempt
   pub seen : Sight
 
-abbrev pub newcomer : ℕ → ℕ → Account
-newcomer start number = record {
+abbrev pub newcomer : ℕ → Pairs → ℕ → Account
+newcomer start opening number = record {
   number = number;
   mine = [];
   ends = [];
   asked = [];
   attempts = [];
-  seen = unseen start;
+  seen = unseen start opening;
 }
 
 -- where a client stands that has this account, this batch in the making, and was shown what is published up to
@@ -100,7 +99,7 @@ Refuses settings v records how why w =
 -- a read is at the end of what the client has now seen published, and answers what the map there has
 pub record Reads (at : ℕ) (answers : Pairs → Type 0) (w : Account) : Type 0 where
   pub at_is : at ≡ last_seen w.seen
-  pub answer : answers (map_after w.seen.published)
+  pub answer : answers (map_seen w.seen)
 
 -- it made this call of the controller, after all that it had seen
 pub record Asks (v : Account) (action : Action) (w : Account) : Type 0 where

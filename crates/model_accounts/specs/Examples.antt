@@ -16,7 +16,7 @@ use Rattle.model_accounts.specs.Sights.{Sight}
 use Rattle.model_accounts.specs.Accounts.{Account, newcomer}
 
 abbrev pub settings : Settings
-settings = record { start = 0; clients = 1; group_bytes = 1048576; batch_bytes = MAX_SIZE; opened = 0 }
+settings = record { start = 0; opening = []; clients = 1; group_bytes = 1048576; batch_bytes = MAX_SIZE; opened = 0 }
 
 -- `put a 1` and `put b 2`, in one batch
 abbrev pub two_records : List Record
@@ -37,7 +37,7 @@ one_delay = record {
 }
 
 abbrev pub one_batch : Trace
-one_batch = record { start = 0; entries = one_entry ∷ []; controller_calls = one_delay ∷ [] }
+one_batch = record { start = 0; opening = []; entries = one_entry ∷ []; controller_calls = one_delay ∷ [] }
 
 -- the commit, and its group
 abbrev pub one_attempt : Attempt
@@ -57,13 +57,14 @@ second_version = record { key = codes "b"; value = Some (codes "2"); sequence = 
 abbrev pub sight_of : List Version → Sight
 sight_of versions = record {
   start = 0;
+  opening = [];
   published = (record { member = 1; versions = versions } ∷ []) ∷ [];
   controller_calls = one_delay ∷ [];
 }
 
 -- the client's account before its commit, and after it
 abbrev pub before : Account
-before = newcomer 0 1
+before = newcomer 0 [] 1
 
 abbrev pub after : Account
 after = record before {
@@ -112,6 +113,7 @@ pair_delay = record {
 abbrev pub pair_trace : Trace
 pair_trace = record {
   start = 0;
+  opening = [];
   entries = entry_with 1 1 first_records ∷ entry_with 2 2 second_records ∷ [];
   controller_calls = pair_delay ∷ [];
 }
@@ -129,7 +131,7 @@ pair_published =
     record { member = 1; versions = first_version ∷ [] } ∷ record { member = 2; versions = second_version ∷ [] } ∷ []
 
 abbrev pub pair_sight : Sight
-pair_sight = record { start = 0; published = pair_published ∷ []; controller_calls = pair_delay ∷ [] }
+pair_sight = record { start = 0; opening = []; published = pair_published ∷ []; controller_calls = pair_delay ∷ [] }
 
 -- the account of a client that wrote these records as this entry, and was told that its group ends there
 abbrev pub account_with : List Record → Entry → ℕ → Account

@@ -1,31 +1,38 @@
 -- What a client can see of a run while the run goes on.
-use Rattle.std.specs.Prelude.{◌≡◌, ℕ, List, []}
+use Rattle.std.specs.Prelude.{◌≡◌, ℕ, List, [], map}
 use mathlib.Core.List.{IsPrefix}
+use Rattle.model_base.specs.Map.{Pairs, after_records}
 use Rattle.model_base.specs.History.{Entry, IsHistory}
 use Rattle.model_base.specs.Controller.{ControllerCall}
 use Rattle.model_base.specs.Trace.{Trace}
 use Rattle.table_rule.specs.declared.content.MemberVersions.{MemberVersions}
-use Rattle.table_rule.specs.Histories.{Begins, Images, last_of}
+use Rattle.table_rule.specs.Histories.{Begins, Images, versions_of, record_of, last_of}
 use Rattle.model_accounts.specs.Versions.{versions_of_entry}
 
 -- The groups that were published, by its reads, and the controller's calls, by its pass. A published group has
 -- versions: they tell neither whose they are nor how they were committed. So this is no trace.
 pub record Sight : Type 0 where
-  -- the sequence before the first batch
+  -- the sequence before the first batch, and the map there
   pub start : ℕ
+  pub opening : Pairs
   pub published : List (List MemberVersions)
   pub controller_calls : List ControllerCall
 
-abbrev pub unseen : ℕ → Sight
-unseen start = record { start = start; published = []; controller_calls = [] }
+abbrev pub unseen : ℕ → Pairs → Sight
+unseen start opening = record { start = start; opening = opening; published = []; controller_calls = [] }
 
 -- the last sequence that was seen published
 abbrev pub last_seen : Sight → ℕ
 last_seen sight = last_of sight.start sight.published
 
+-- the map that was seen there
+abbrev pub map_seen : Sight → Pairs
+map_seen sight = after_records sight.opening (map record_of (versions_of sight.published))
+
 -- one sight is what was seen of a run at some time, and the other what was seen later
 pub record Sees (v w : Sight) : Type 0 where
   pub start : w.start ≡ v.start
+  pub opening : w.opening ≡ v.opening
   pub published : Begins v.published w.published
   pub controller_calls : IsPrefix v.controller_calls w.controller_calls
 
@@ -33,6 +40,7 @@ pub record Sees (v w : Sight) : Type 0 where
 -- them, whole.
 pub record Saw (sight : Sight) (trace : Trace) : Type 0 where
   pub start : sight.start ≡ trace.start
+  pub opening : sight.opening ≡ trace.opening
   pub entries : List Entry
   pub begins : IsPrefix entries trace.entries
   pub groups : Images versions_of_entry entries sight.published

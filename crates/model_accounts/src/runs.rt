@@ -2,6 +2,7 @@
 
 ghost use Rattle.std.specs.Prelude.{◌≡◌, ◌++◌, ℕ, List, [], ◌∷◌};
 ghost use Rattle.model_base.specs.Batch.{Record};
+ghost use Rattle.model_base.specs.Map.{Pairs};
 ghost use Rattle.model_base.specs.Trace.{Settings};
 ghost use Rattle.model_base.specs.Runs.{commands_of};
 ghost use Rattle.model_base.specs.Calls.{Command, Reply, no_memory, Call};
@@ -10,7 +11,8 @@ ghost use Rattle.model_accounts.specs.ClientRuns.{Goes, Lacks, Went, HasRun, wit
 
 /// A client starts with nothing, and each step brings it on.
 pub fn calls_one_after_another()
-    ensures no_call { (settings : Settings) (start number : ℕ) → Went settings [] (newcomer start number) [] }
+    ensures no_call { (settings : Settings) (start : ℕ) (opening : Pairs) (number : ℕ)
+        → Went settings [] (newcomer start opening number) [] }
     ensures one_more { (settings : Settings) (calls : List Call) (v : Account) (before : List Record) (c : Command)
         (r : Reply)
         (w : Account) (after : List Record)

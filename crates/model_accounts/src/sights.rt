@@ -1,13 +1,14 @@
 //! Laws of what a client sees.
 
-ghost use Rattle.std.specs.Prelude.{◌≡◌, ◌≤◌, List};
+ghost use Rattle.std.specs.Prelude.{◌≡◌, ◌≤◌, List, ◌++◌};
 ghost use mathlib.Core.List.{IsPrefix};
-ghost use Rattle.model_base.specs.History.{IsHistory, last_sequence, map_of};
+ghost use Rattle.model_base.specs.History.{IsHistory, last_sequence, map_over};
 ghost use Rattle.model_base.specs.Trace.{Trace};
 ghost use Rattle.table_rule.specs.declared.content.MemberVersions.{MemberVersions};
-ghost use Rattle.table_rule.specs.Histories.{Begins, Images, map_after};
+ghost use Rattle.table_rule.specs.declared.content.Version.{Version};
+ghost use Rattle.table_rule.specs.Histories.{Begins, Images, versions_of, map_of as map_of_versions};
 ghost use Rattle.model_accounts.specs.Versions.{versions_of_entry};
-ghost use Rattle.model_accounts.specs.Sights.{Sight, last_seen, Sees, Saw};
+ghost use Rattle.model_accounts.specs.Sights.{Sight, last_seen, map_seen, Sees, Saw};
 
 /// What was seen earlier is no more than what is seen later, and was seen of the same traces.
 pub fn earlier_sights()
@@ -22,8 +23,12 @@ pub fn earlier_sights()
 pub fn sights_of_the_table()
     ensures saw { (trace : Trace) (history : List (List MemberVersions))
         → Images versions_of_entry trace.entries history
-        → (sight : Sight) → sight.start ≡ trace.start → Begins sight.published history
+        → (sight : Sight) → sight.start ≡ trace.start → sight.opening ≡ trace.opening
+        → Begins sight.published history
         → IsPrefix sight.controller_calls trace.controller_calls → Saw sight trace }
+    // where some versions made the map before the first group, all that stands in the table makes the map that was seen
+    ensures map { (sight : Sight) (before : List Version) → sight.opening ≡ map_of_versions before
+        → map_of_versions (before ++ versions_of sight.published) ≡ map_seen sight }
 {}
 
 /// What was seen published is what the first entries of the trace made: it ends at a batch's end, and its map is
@@ -32,5 +37,5 @@ pub fn sights_of_traces()
     ensures ends { (sight : Sight) (trace : Trace) → IsHistory trace.start trace.entries → (saw : Saw sight trace)
         → last_seen sight ≡ last_sequence trace.start saw.entries }
     ensures map { (sight : Sight) (trace : Trace) → IsHistory trace.start trace.entries → (saw : Saw sight trace)
-        → map_after sight.published ≡ map_of saw.entries }
+        → map_seen sight ≡ map_over trace.opening saw.entries }
 {}

@@ -5,7 +5,7 @@ use Rattle.model_base.specs.declared.write.WriteOptions.{WriteOptions}
 use Rattle.model_base.specs.declared.write.Refusal.{Refusal}
 use Rattle.model_base.specs.declared.write.Refusal.TheVariants as no
 use Rattle.model_base.specs.Map.{Pairs}
-use Rattle.model_base.specs.History.{last_sequence}
+use Rattle.model_base.specs.History.{last_sequence, map_over}
 use Rattle.model_base.specs.Controller.{ControllerCall, Action, Look}
 use Rattle.model_base.specs.Trace.{Trace, Begins, Settings}
 use Rattle.model_base.specs.Attempts.{WriteStatus, succeeded, slowed, faulted, full}
@@ -62,7 +62,7 @@ module _ (v w : Trace) (b : Begins v w) where
           ends = s.is_front.ends ∙ ap (λ n. last_sequence n s.front) b.start;
         });
     not_below = s.not_below;
-    answer = s.answer;
+    answer = subst (λ m. answers (map_over m s.front)) b.opening s.answer;
     after = s.after;
   }
 

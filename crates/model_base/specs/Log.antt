@@ -152,3 +152,16 @@ text_from number offset (r ∷ rs) = record_text number offset r
 
 abbrev pub text : Option ℕ → List (List ℕ) → List ℕ
 text number records = text_from number 0 records
+
+-- How a log begins: its number, if it has one, and the bytes that it keeps of what was there.
+pub record Beginning : Type 0 where
+  pub number : Option ℕ
+  pub kept : List ℕ
+
+-- a plain log that keeps nothing
+abbrev pub new_log : Beginning
+new_log = record { number = plain_log; kept = [] }
+
+-- its bytes once these records are written behind what it keeps
+abbrev pub text_after : Beginning → List (List ℕ) → List ℕ
+text_after b records = b.kept ++ text_from b.number (length b.kept) records

@@ -1,8 +1,8 @@
 -- What a run leaves in the log.
-use Rattle.std.specs.Prelude.{◌≡◌, ℕ, ◌<◌, Bool, Option, List, [], ◌∷◌, length, take, map, flat_map, None}
+use Rattle.std.specs.Prelude.{◌≡◌, ℕ, ◌<◌, Bool, Option, List, [], ◌∷◌, length, take, map, flat_map}
 use Rattle.std.specs.List.{AllByRecursion}
 use Rattle.model_base.specs.Batch.{Record, group_record}
-use Rattle.model_base.specs.Log.{text, plain_log}
+use Rattle.model_base.specs.Log.{Beginning, text_after}
 use Rattle.model_base.specs.History.{Entry, RunsFollow, logged_entries}
 use Rattle.model_base.specs.Calls.{Outcome}
 
@@ -20,11 +20,12 @@ pub record AreGroupsOf (entries : List Entry) (groups : List (List Entry)) : Typ
 abbrev pub records_of : List (List Entry) → List (List ℕ)
 records_of groups = map record_of_entries groups
 
--- The log holds these groups: its content up to the printed length is the text of their records.
-pub record IsLogOf (o : Outcome) (content : List ℕ) (groups : List (List Entry)) : Type 0 where
+-- The log holds these groups behind what it kept: its content up to the printed length is that and the text of their
+-- records.
+pub record IsLogOf (b : Beginning) (o : Outcome) (content : List ℕ) (groups : List (List Entry)) : Type 0 where
   pub of_history : AreGroupsOf o.history groups
-  pub content_is : take o.log_len content ≡ text plain_log (records_of groups)
-  pub length_is : o.log_len ≡ length (text plain_log (records_of groups))
+  pub content_is : take o.log_len content ≡ text_after b (records_of groups)
+  pub length_is : o.log_len ≡ length (text_after b (records_of groups))
 
 -- a call of `add_group`, and the count of faults that it was answered where it failed
 pub record GroupCall : Type 0 where

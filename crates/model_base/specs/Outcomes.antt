@@ -1,7 +1,7 @@
 -- The outcome of a run is legal: its replies are those of a plain map at points of one history.
 use Rattle.std.specs.Prelude.{◌≡◌, ℕ, ◌+◌, ◌≤◌, IsTrue, List, ◌++◌, length, filter, Option, Some, slice_get, ◌==◌, IfSome}
 use Rattle.std.specs.List.{AllByRecursion}
-use Rattle.model_base.specs.History.{Entry, IsHistory, last_sequence, map_of}
+use Rattle.model_base.specs.History.{Entry, IsHistory, last_sequence, map_over}
 use Rattle.model_base.specs.Counts.{Rose}
 use Rattle.model_base.specs.Controller.{ControllerCall}
 use Rattle.model_base.specs.Controller.{IsLegal as IsControllerHistory}
@@ -23,6 +23,7 @@ IsClient settings client = (1 ≤ client) × (client ≤ settings.clients)
 -- one history of whole batches and one of the controller, which name the clients alone
 pub record IsTrace (settings : Settings) (trace : Trace) : Type 0 where
   pub start : trace.start ≡ settings.start
+  pub opening : trace.opening ≡ settings.opening
   pub entries : IsHistory trace.start trace.entries
   pub controller_calls : IsControllerHistory trace.controller_calls
   pub clients : AllByRecursion (λ (e : Entry). IsClient settings e.client) trace.entries
@@ -56,7 +57,7 @@ pub record IsLegalIn (settings : Settings) (ended : ℕ) (script : List (List Co
       → (h : List Attempt) × (slice_get attempts i ≡ Some h)
       × IsLegalTranscript settings trace groups o.fault (i + 1) commands calls h
   pub last : o.last ≡ last_sequence trace.start trace.entries
-  pub state : o.state ≡ map_of trace.entries
+  pub state : o.state ≡ map_over trace.opening trace.entries
   pub fault : IfSome o.fault (λ count. Rose settings.opened count × (count ≤ ended))
 
 -- the outcome of a trace in which the clients were answered so
@@ -66,7 +67,7 @@ outcome_of trace transcripts last log_len fault =
       transcripts = transcripts;
       history = trace.entries;
       last = last;
-      state = map_of trace.entries;
+      state = map_over trace.opening trace.entries;
       log_len = log_len;
       fault = fault;
     }

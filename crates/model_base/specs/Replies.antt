@@ -6,7 +6,7 @@ use Rattle.model_base.specs.declared.write.Refusal.{Refusal}
 use Rattle.model_base.specs.declared.write.Refusal.TheVariants as no
 use Rattle.model_base.specs.Batch.{Record, count_of}
 use Rattle.model_base.specs.Map.{Pairs, value_at, rows_within}
-use Rattle.model_base.specs.History.{Entry, IsUpTo, map_of, max_sequence, last_of}
+use Rattle.model_base.specs.History.{Entry, IsUpTo, map_over, max_sequence, last_of}
 use Rattle.model_base.specs.Controller as controller
 use Rattle.model_base.specs.Controller.{ControllerCall, Action, Look, HoldUp}
 use Rattle.model_base.specs.Tokens.{holds_stop, holds_slow}
@@ -114,7 +114,7 @@ pub record ReadsAt (trace : Trace) (p : Progress) (at : ℕ) (answers : Pairs �
   pub front : List Entry
   pub is_front : IsUpTo trace.start trace.entries at front
   pub not_below : p.seen_up_to ≤ at
-  pub answer : answers (map_of front)
+  pub answer : answers (map_over trace.opening front)
   pub after : q ≡ record p { seen_up_to = at; known = q.known }
 
 abbrev pub Gets : Trace → Progress → List ℕ → Reply → Progress → Type 0

@@ -1,28 +1,33 @@
 -- What happened in a run, side by side: the history of batches and the history of the write controller.
 use Rattle.std.specs.Prelude.{◌≡◌, ℕ, List, []}
 use mathlib.Core.List.{IsPrefix}
+use Rattle.model_base.specs.Map.{Pairs}
 use Rattle.model_base.specs.History.{Entry}
 use Rattle.model_base.specs.Controller.{ControllerCall}
 
 pub record Trace : Type 0 where
   -- the sequence before the first batch
   pub start : ℕ
+  -- the map before it
+  pub opening : Pairs
   pub entries : List Entry
   pub controller_calls : List ControllerCall
 
-abbrev pub empty_trace : ℕ → Trace
-empty_trace start = record { start = start; entries = []; controller_calls = [] }
+abbrev pub empty_trace : ℕ → Pairs → Trace
+empty_trace start opening = record { start = start; opening = opening; entries = []; controller_calls = [] }
 
 -- one trace begins another
 pub record Begins (v w : Trace) : Type 0 where
   pub start : v.start ≡ w.start
+  pub opening : v.opening ≡ w.opening
   pub entries : IsPrefix v.entries w.entries
   pub controller_calls : IsPrefix v.controller_calls w.controller_calls
 
--- How a run was set up: the sequence before the first batch, the number of clients, the limits on a group's bytes and
--- on a batch's, and the count of faults of the log's disk at opening
+-- How a run was set up: the sequence before the first batch and the map before it, the number of clients, the limits on
+-- a group's bytes and on a batch's, and the count of faults of the log's disk at opening
 pub record Settings : Type 0 where
   pub start : ℕ
+  pub opening : Pairs
   pub clients : ℕ
   pub group_bytes : ℕ
   pub batch_bytes : ℕ

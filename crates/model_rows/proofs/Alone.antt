@@ -2,7 +2,7 @@
 use Rattle.std.proofs.Common.{◌≡◌, ℕ, zero, suc, ◌+◌, Option, Some, List, [], ◌∷◌, ◌++◌, max, slice_get, refl, ap, subst, arith}
 use Rattle.std.specs.List.{AllByRecursion}
 use Rattle.model_base.specs.Batch.{Record}
-use Rattle.model_base.specs.Trace.{Trace}
+use Rattle.model_base.specs.Trace.{Trace, Settings}
 use Rattle.model_base.specs.Attempts.{Attempt, WriteStatus, succeeded, with_attempt}
 use Rattle.model_base.specs.Groups.{Group}
 use Rattle.model_base.specs.Progress.{Progress, next_entry}
@@ -11,7 +11,6 @@ use Rattle.model_base.specs.Runs.{Step}
 use Rattle.model_base.specs.Calls.{Command, Reply, Call}
 use Rattle.model_base.specs.Outcomes.{IsLegalTranscript}
 use Rattle.model_rows.specs.Examples.{plain}
-use Rattle.model_rows.specs.Runs.{one_client}
 
 pub some_same : {A : Type 0} {a b : A} → Some a ≡ Some b → a ≡ b
 some_same e = cc
@@ -28,11 +27,11 @@ first_only x y zero h = (refl, cc h)
 first_only x y (suc i) h = absurd (cc h)
 
 -- the one client's transcript is all that has to be legal
-pub each_one : (trace : Trace) (groups : List Group) (fault : Option ℕ) (commands : List Command) (calls : List Call) (attempts : List Attempt)
-    → IsLegalTranscript one_client trace groups fault 1 commands calls attempts
+pub each_one : (settings : Settings) (trace : Trace) (groups : List Group) (fault : Option ℕ) (commands : List Command) (calls : List Call) (attempts : List Attempt)
+    → IsLegalTranscript settings trace groups fault 1 commands calls attempts
     → (i : ℕ) (cs : List Command) (ks : List Call) → slice_get (commands ∷ []) i ≡ Some cs → slice_get (calls ∷ []) i ≡ Some ks
-    → (h : List Attempt) × (slice_get (attempts ∷ []) i ≡ Some h) × IsLegalTranscript one_client trace groups fault (i + 1) cs ks h
-each_one trace groups fault commands calls attempts t i cs ks a b =
+    → (h : List Attempt) × (slice_get (attempts ∷ []) i ≡ Some h) × IsLegalTranscript settings trace groups fault (i + 1) cs ks h
+each_one settings trace groups fault commands calls attempts t i cs ks a b =
     let f = first_only commands cs i a in
     let g = first_only calls ks i b in (
       attempts,
@@ -41,9 +40,9 @@ each_one trace groups fault commands calls attempts t i cs ks a b =
     )
 
 -- a call of a client that knows nothing of the controller
-pub quietly : (trace : Trace) (p : Progress) (c : Command) (r : Reply) (q : Progress) → Replies one_client trace 1 p c r q → p.known ≡ 0 → q.known ≡ 0
-    → Step one_client trace 1 p c r q
-quietly trace p c r q h k l = record { replies = h; rises = omega (arith, k, l); within = omega (arith, l) }
+pub quietly : (settings : Settings) (trace : Trace) (p : Progress) (c : Command) (r : Reply) (q : Progress) → Replies settings trace 1 p c r q → p.known ≡ 0 → q.known ≡ 0
+    → Step settings trace 1 p c r q
+quietly settings trace p c r q h k l = record { replies = h; rises = omega (arith, k, l); within = omega (arith, l) }
 
 -- Where the client stands after each kind of call
 

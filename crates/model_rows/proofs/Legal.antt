@@ -29,13 +29,13 @@ next_attempt = attempt_of put_b2 (faulted 1)
 
 -- the trace of one batch, that of a lost one, and that of one batch and two lost ones
 abbrev one_batch : Trace
-one_batch = record { start = 0; entries = entry_at 1 1 put_a1 ∷ []; controller_calls = delays_of first_attempt }
+one_batch = record { start = 0; opening = []; entries = entry_at 1 1 put_a1 ∷ []; controller_calls = delays_of first_attempt }
 
 abbrev no_batch : Trace
-no_batch = record { start = 0; entries = []; controller_calls = delays_of lost_attempt }
+no_batch = record { start = 0; opening = []; entries = []; controller_calls = delays_of lost_attempt }
 
 abbrev one_of_three : Trace
-one_of_three = record { start = 0; entries = entry_at 1 1 put_a1 ∷ []; controller_calls = three_delays first_attempt next_attempt next_attempt }
+one_of_three = record { start = 0; opening = []; entries = entry_at 1 1 put_a1 ∷ []; controller_calls = three_delays first_attempt next_attempt next_attempt }
 
 abbrev three_own_groups : List Group
 three_own_groups = three_groups first_attempt next_attempt next_attempt
@@ -58,13 +58,13 @@ accepted_transcript = record {
   end = seen_once;
   is_transcript = whole refl (
     begun,
-    quietly one_batch fresh _ _ begun refl refl refl,
+    quietly one_client one_batch fresh _ _ begun refl refl refl,
     (
       taken_once,
-      quietly one_batch begun _ _ taken_once (record { batch = refl; run = refl; above = lit≤ tt; behind = tt; alive = refl; after = refl }) refl refl,
+      quietly one_client one_batch begun _ _ taken_once (record { batch = refl; run = refl; above = lit≤ tt; behind = tt; alive = refl; after = refl }) refl refl,
       (
         seen_once,
-        quietly one_batch taken_once _ _ seen_once (record { front = entry_at 1 1 put_a1 ∷ []; is_front = record { rest = []; split = refl; ends = refl }; not_below = lit≤ tt; answer = refl; after = refl }) refl refl,
+        quietly one_client one_batch taken_once _ _ seen_once (record { front = entry_at 1 1 put_a1 ∷ []; is_front = record { rest = []; split = refl; ends = refl }; not_below = lit≤ tt; answer = refl; after = refl }) refl refl,
         refl,
       ),
     ),
@@ -83,6 +83,7 @@ one_commit-legal = record {
   legal = record {
     is_trace = record {
       start = refl;
+      opening = refl;
       entries = (record { counted = refl; some = lit≤ tt; first = refl; fits = lit≤ tt }, tt);
       controller_calls = (refl, tt);
       clients = ((lit≤ tt, lit≤ tt), tt);
@@ -94,7 +95,7 @@ one_commit-legal = record {
     count_attempts = refl;
     groups = groups_of first_attempt;
     are_groups = one_alone first_attempt refl refl;
-    each = each_one one_batch (groups_of first_attempt) None _ one_calls seen_once.attempts accepted_transcript;
+    each = each_one one_client one_batch (groups_of first_attempt) None _ one_calls seen_once.attempts accepted_transcript;
     last = refl;
     state = refl;
     fault = tt;
@@ -111,13 +112,13 @@ refused_transcript = record {
   end = fell_first;
   is_transcript = whole refl (
     begun,
-    quietly no_batch fresh _ _ begun refl refl refl,
+    quietly one_client no_batch fresh _ _ begun refl refl refl,
     (
       fell_first,
-      quietly no_batch begun _ _ fell_first (Some (faulted 1), refl, refl) refl refl,
+      quietly one_client no_batch begun _ _ fell_first (Some (faulted 1), refl, refl) refl refl,
       (
         fell_first,
-        quietly no_batch fell_first _ _ fell_first (record { front = []; is_front = record { rest = []; split = refl; ends = refl }; not_below = lit≤ tt; answer = refl; after = refl }) refl refl,
+        quietly one_client no_batch fell_first _ _ fell_first (record { front = []; is_front = record { rest = []; split = refl; ends = refl }; not_below = lit≤ tt; answer = refl; after = refl }) refl refl,
         refl,
       ),
     ),
@@ -136,6 +137,7 @@ refused_commit-legal = record {
   legal = record {
     is_trace = record {
       start = refl;
+      opening = refl;
       entries = tt;
       controller_calls = (refl, tt);
       clients = tt;
@@ -147,7 +149,7 @@ refused_commit-legal = record {
     count_attempts = refl;
     groups = groups_of lost_attempt;
     are_groups = one_alone lost_attempt refl refl;
-    each = each_one no_batch (groups_of lost_attempt) (Some 1) _ refused_calls fell_first.attempts refused_transcript;
+    each = each_one one_client no_batch (groups_of lost_attempt) (Some 1) _ refused_calls fell_first.attempts refused_transcript;
     last = refl;
     state = refl;
     fault = (lit≤ tt, lit≤ tt);
@@ -173,25 +175,25 @@ failing_transcript = record {
   end = seen_at_last;
   is_transcript = whole refl (
     begun,
-    quietly one_of_three fresh _ _ begun refl refl refl,
+    quietly one_client one_of_three fresh _ _ begun refl refl refl,
     (
       taken_once,
-      quietly one_of_three begun _ _ taken_once (record { batch = refl; run = refl; above = lit≤ tt; behind = tt; alive = refl; after = refl }) refl refl,
+      quietly one_client one_of_three begun _ _ taken_once (record { batch = refl; run = refl; above = lit≤ tt; behind = tt; alive = refl; after = refl }) refl refl,
       (
         begun_again,
-        quietly one_of_three taken_once _ _ begun_again refl refl refl,
+        quietly one_client one_of_three taken_once _ _ begun_again refl refl refl,
         (
           fell_once,
-          quietly one_of_three begun_again _ _ fell_once (Some (faulted 1), refl, refl) refl refl,
+          quietly one_client one_of_three begun_again _ _ fell_once (Some (faulted 1), refl, refl) refl refl,
           (
             fell_twice,
-            quietly one_of_three fell_once _ _ fell_twice (Some (faulted 1), refl, refl) refl refl,
+            quietly one_client one_of_three fell_once _ _ fell_twice (Some (faulted 1), refl, refl) refl refl,
             (
               seen_at_last,
-              quietly one_of_three fell_twice _ _ seen_at_last (record { front = entry_at 1 1 put_a1 ∷ []; is_front = record { rest = []; split = refl; ends = refl }; not_below = lit≤ tt; answer = refl; after = refl }) refl refl,
+              quietly one_client one_of_three fell_twice _ _ seen_at_last (record { front = entry_at 1 1 put_a1 ∷ []; is_front = record { rest = []; split = refl; ends = refl }; not_below = lit≤ tt; answer = refl; after = refl }) refl refl,
               (
                 seen_at_last,
-                quietly one_of_three seen_at_last _ _ seen_at_last (record { front = entry_at 1 1 put_a1 ∷ []; is_front = record { rest = []; split = refl; ends = refl }; not_below = lit≤ tt; answer = refl; after = refl }) refl refl,
+                quietly one_client one_of_three seen_at_last _ _ seen_at_last (record { front = entry_at 1 1 put_a1 ∷ []; is_front = record { rest = []; split = refl; ends = refl }; not_below = lit≤ tt; answer = refl; after = refl }) refl refl,
                 refl,
               ),
             ),
@@ -214,6 +216,7 @@ failed_write-legal = record {
   legal = record {
     is_trace = record {
       start = refl;
+      opening = refl;
       entries = (record { counted = refl; some = lit≤ tt; first = refl; fits = lit≤ tt }, tt);
       controller_calls = (refl, (refl, (refl, tt)));
       clients = ((lit≤ tt, lit≤ tt), tt);
@@ -225,7 +228,7 @@ failed_write-legal = record {
     count_attempts = refl;
     groups = three_own_groups;
     are_groups = three_alone first_attempt next_attempt next_attempt (refl, (refl, (refl, tt))) (refl, (refl, (refl, tt)));
-    each = each_one one_of_three three_own_groups (Some 1) _ failing_calls seen_at_last.attempts failing_transcript;
+    each = each_one one_client one_of_three three_own_groups (Some 1) _ failing_calls seen_at_last.attempts failing_transcript;
     last = refl;
     state = refl;
     fault = (lit≤ tt, lit≤ tt);

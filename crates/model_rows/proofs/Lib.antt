@@ -1,5 +1,6 @@
 pub mod Alone
 pub mod Full
+pub mod GoingOn
 pub mod LaterStop
 pub mod Legal
 pub mod NoLook

@@ -24,6 +24,7 @@ one_stop = record { stops = 1; delays = 0; wait = 0 }
 abbrev waited_trace : Trace
 waited_trace = record {
   start = 0;
+  opening = [];
   entries = entry_at 1 1 put_a1 ∷ [];
   controller_calls = told_of_a_stop ++ record { client = 1; action = controller.look; told = Some calm } ∷ [];
 }
@@ -114,6 +115,7 @@ waited_out-legal = record {
   legal = record {
     is_trace = record {
       start = refl;
+      opening = refl;
       entries = (record { counted = refl; some = lit≤ tt; first = refl; fits = lit≤ tt }, tt);
       controller_calls = (refl, (refl, (refl, (refl, tt))));
       clients = ((lit≤ tt, lit≤ tt), tt);

@@ -13,7 +13,7 @@ use Rattle.model_rows.specs.Examples.{put_a1, put_a2, put_b2, plain, noslow}
 
 -- one client, a fresh store, and the limits of RocksDB's groups and of a batch
 abbrev pub one_client : Settings
-one_client = record { start = 0; clients = 1; group_bytes = 1048576; batch_bytes = MAX_SIZE; opened = 0 }
+one_client = record { start = 0; opening = []; clients = 1; group_bytes = 1048576; batch_bytes = MAX_SIZE; opened = 0 }
 
 abbrev pub two_clients : Settings
 two_clients = record one_client { clients = 2 }
@@ -21,6 +21,10 @@ two_clients = record one_client { clients = 2 }
 -- the same, where two sequences are left
 abbrev pub nearly_full : Settings
 nearly_full = record one_client { start = 72057594037927933 }
+
+-- the same, behind one batch that was recovered: `a 1` at the sequence 1
+abbrev pub begun_before : Settings
+begun_before = record one_client { start = 1; opening = (codes "a", codes "1") ∷ [] }
 
 -- the client's how many-th batch, at this sequence, of one record
 abbrev pub entry_at : ℕ → ℕ → Record → Entry
@@ -143,6 +147,24 @@ early_calls = reads (codes "a") 1 (Some (codes "1")) ∷ adds put_a1 ∷ commits
 
 abbrev pub read_ahead : Outcome
 read_ahead = record one_commit { transcripts = early_calls ∷ [] }
+
+-- `get a`, `put b 2`, `commit`
+abbrev pub going_on_script : List (List Command)
+going_on_script = (get (codes "a") ∷ add put_b2 ∷ commit plain ∷ []) ∷ []
+
+-- The read answers what stood there before the run, and the commit is accepted behind it.
+abbrev pub going_on_calls : List Call
+going_on_calls = reads (codes "a") 1 (Some (codes "1")) ∷ adds put_b2 ∷ commits 2 put_b2 ∷ []
+
+abbrev pub went_on : Outcome
+went_on = record {
+  transcripts = going_on_calls ∷ [];
+  history = entry_at 1 2 put_b2 ∷ [];
+  last = 2;
+  state = (codes "a", codes "1") ∷ (codes "b", codes "2") ∷ [];
+  log_len = 48;
+  fault = None;
+}
 
 -- client 1: `get b`, `put a 1`, `commit`; client 2: `put b 2`, `commit`
 abbrev pub crossing_script : List (List Command)

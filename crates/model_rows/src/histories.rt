@@ -5,7 +5,7 @@ ghost use Rattle.model_base.specs.declared.history.Flag.TheVariants.{Log, NoLog,
 ghost use Rattle.model_base.specs.Batch.{value, deletion, single_deletion, log_data, batch};
 ghost use Rattle.model_base.specs.Map.{after_records, value_at};
 ghost use Rattle.model_base.specs.History.{flag_of};
-ghost use Rattle.model_base.specs.Log.{text, plain_log};
+ghost use Rattle.model_base.specs.Log.{text, plain_log, new_log};
 ghost use Rattle.model_base.specs.LogContents.{IsLogOf, record_of_entries};
 ghost use Rattle.model_rows.specs.Examples.{put_a1, put_a2, put_b2, plain};
 ghost use Rattle.model_rows.specs.Runs.{one_commit, entry_at};
@@ -34,6 +34,6 @@ pub fn flags_of_commits()
 pub fn logs_of_histories()
     ensures one_group { record_of_entries (entry_at 1 1 put_a1 ∷ entry_at 2 2 put_b2 ∷ [])
         ≡ batch 1 (put_a1 ∷ put_b2 ∷ []) }
-    ensures one_commit { IsLogOf one_commit (text plain_log (batch 1 (put_a1 ∷ []) ∷ []))
+    ensures one_commit { IsLogOf new_log one_commit (text plain_log (batch 1 (put_a1 ∷ []) ∷ []))
         ((entry_at 1 1 put_a1 ∷ []) ∷ []) }
 {}

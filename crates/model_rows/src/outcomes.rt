@@ -1,14 +1,21 @@
 //! Outcomes of runs that are legal, and some that are not.
 
-ghost use Rattle.std.specs.Prelude.{◌≡◌, ℕ, List};
+ghost use Rattle.std.specs.Prelude.{◌≡◌, ℕ, List, []};
 ghost use Rattle.model_base.specs.Attempts.{Attempt};
 ghost use Rattle.model_base.specs.Trace.{Trace};
 ghost use Rattle.model_base.specs.Outcomes.{IsLegal, IsLegalIn};
-ghost use Rattle.model_rows.specs.Runs.{one_client, two_clients, nearly_full, one_script, one_commit, refused_commit, failing_script, failed_write, stale_script, stale_read, early_script, read_ahead, crossing_script, run_below_what_was_read, later_stop_script, refused_by_a_later_stop, filling_script, lower_than_full, waiting_script, waited_out, told_of_a_stop};
+ghost use Rattle.model_rows.specs.Runs.{one_client, two_clients, nearly_full, one_script, one_commit, refused_commit, failing_script, failed_write, stale_script, stale_read, early_script, read_ahead, crossing_script, run_below_what_was_read, later_stop_script, refused_by_a_later_stop, filling_script, lower_than_full, begun_before, going_on_script, went_on, waiting_script, waited_out, told_of_a_stop};
 
 /// A batch is accepted and then read.
 pub fn one_commit()
     ensures legal { IsLegal one_client 0 one_script one_commit }
+{}
+
+/// A run over a map that was recovered reads from it, and goes on behind the sequence that was given last. Over nothing
+/// it is no outcome.
+pub fn went_on()
+    ensures legal { IsLegal begun_before 0 going_on_script went_on }
+    ensures not_over_nothing { IsLegal (record begun_before { opening = [] }) 0 going_on_script went_on → ⊥ }
 {}
 
 /// The log's first write fails: the commit is refused, and the key isn't there. It is no outcome of a log that had no

@@ -1,9 +1,9 @@
 -- Two batches of one client, of which the first was to be synced; and calls that may have written a log.
-use Rattle.std.specs.Prelude.{ℕ, Bool, true, false, List, [], ◌∷◌, codes, replicate, Option, Some, None}
+use Rattle.std.specs.Prelude.{◌≡◌, ℕ, Bool, true, false, List, [], ◌∷◌, codes, replicate, Option, Some, None}
 use Rattle.model_base.specs.declared.history.Flag.{Flag}
 use Rattle.model_base.specs.declared.history.Flag.TheVariants.{Log, Sync}
 use Rattle.model_base.specs.Batch.{Record, value}
-use Rattle.model_base.specs.Log.{text, plain_log}
+use Rattle.model_base.specs.Log.{Beginning, text, plain_log, new_log}
 use Rattle.model_base.specs.History.{Entry}
 use Rattle.model_base.specs.LogContents.{GroupCall, records_of}
 use Rattle.model_runs.specs.Crashes.{text_through}
@@ -32,7 +32,7 @@ abbrev pub text_of_both : List ℕ
 text_of_both = text plain_log (records_of two_groups)
 
 abbrev pub text_of_first : List ℕ
-text_of_first = text_through two_groups 0
+text_of_first = text_through new_log two_groups 0
 
 -- as many zeros
 abbrev pub zeros : ℕ → List ℕ
@@ -52,3 +52,11 @@ in_one_record = call_of 1 (put_a ∷ put_b ∷ []) true None ∷ []
 
 abbrev pub in_two_records : List GroupCall
 in_two_records = call_of 1 (put_a ∷ []) true None ∷ call_of 2 (put_b ∷ []) false None ∷ []
+
+-- a log with the number 7, that is written over the old bytes of its disk
+abbrev pub over_old_bytes : Beginning
+over_old_bytes = record { number = Some 7; kept = [] }
+
+-- both calls have returned, and all of the old bytes still stand there: these are zeros
+abbrev pub nothing_written : List GroupCall → List GroupCall → List ℕ → Type 0
+nothing_written before after image = image ≡ zeros 56

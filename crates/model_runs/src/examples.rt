@@ -4,24 +4,28 @@ ghost use Rattle.std.specs.Prelude.{◌≡◌, ◌++◌, ℕ, List, [], Option, 
 ghost use Rattle.model_base.specs.Trace.{Trace};
 ghost use Rattle.model_base.specs.Attempts.{Attempt};
 ghost use Rattle.model_base.specs.Calls.{Outcome};
-ghost use Rattle.model_runs.specs.Crashes.{HoldsSynced, IsCrashSafe};
+ghost use Rattle.model_base.specs.Log.{new_log};
+ghost use Rattle.model_runs.specs.Crashes.{HoldsSynced, KeepsSynced, IsCrashSafe};
 ghost use Rattle.model_runs.specs.Written.{WritesLog};
-ghost use Rattle.model_runs.specs.Examples.{two_groups, two_entries, text_of_both, text_of_first, zeros, failed_then_worked, in_one_record, in_two_records};
+ghost use Rattle.model_runs.specs.Examples.{two_groups, two_entries, text_of_both, text_of_first, zeros, failed_then_worked, in_one_record, in_two_records, over_old_bytes, nothing_written};
 
 /// A run may not put the second group into the log before the first one is safe.
 pub fn synced_before_the_next_group()
     // Until the first group is safe anything may stand in its place.
-    ensures torn_before { HoldsSynced two_groups 0 (zeros 24) }
+    ensures torn_before { HoldsSynced new_log two_groups 0 (zeros 24) }
     // Then anything may stand in the place of the second one.
-    ensures torn_after { HoldsSynced two_groups 0 (text_of_first ++ zeros 9) }
+    ensures torn_after { HoldsSynced new_log two_groups 0 (text_of_first ++ zeros 9) }
     // But where anything stands there, the first group stands before it,
-    ensures nothing_before { HoldsSynced two_groups 0 (zeros 25) → ⊥ }
+    ensures nothing_before { HoldsSynced new_log two_groups 0 (zeros 25) → ⊥ }
     // unless it may have come there before the run.
-    ensures reached_before { HoldsSynced two_groups 25 (zeros 25) }
+    ensures reached_before { HoldsSynced new_log two_groups 25 (zeros 25) }
     // So a run that may leave such an image isn't safe, though at its end all is synced: it synced at its end alone.
     ensures synced_at_the_end { (group_bytes : ℕ) (attempts : List (List Attempt)) (o : Outcome)
-        → IsCrashSafe group_bytes attempts o two_groups text_of_both [] 0 (λ image. image ≡ zeros 25)
-        (λ image. image ≡ text_of_both) → ⊥ }
+        → IsCrashSafe group_bytes attempts o new_log two_groups [] text_of_both in_two_records [] 0
+        (λ image. image ≡ zeros 25) (λ before after image. ⊥) (λ image. image ≡ text_of_both) → ⊥ }
+    // Over old bytes an image is as long as they are from the first moment on. There too a run isn't safe that leaves
+    // them as they are once the first call has returned.
+    ensures synced_late_over_old_bytes { KeepsSynced over_old_bytes two_groups in_two_records nothing_written → ⊥ }
 {}
 
 /// A run writes one record for each group, as the group is accepted, and none after a write that failed.

@@ -1,19 +1,24 @@
 //! What recovery finds of the groups that were to be synced.
 
-ghost use Rattle.std.specs.Prelude.{◌≡◌, ◌+◌, ◌<◌, ◌≤◌, ℕ, List, length, take, Some, slice_get};
-ghost use Rattle.model_base.specs.Log.{plain_log};
+ghost use Rattle.std.specs.Prelude.{◌≡◌, ◌+◌, ◌<◌, ◌≤◌, ◌++◌, ℕ, List, length, take, Some, slice_get};
+ghost use Rattle.model_base.specs.Log.{Beginning, SpellsWhole};
 ghost use Rattle.model_base.specs.History.{Entry};
 ghost use Rattle.model_base.specs.LogContents.{records_of};
 ghost use Rattle.model_base.specs.Recovery.{Logged, Recovered, IsRecovered};
-ghost use Rattle.log_laws.specs.Prefixes.{AreTheseBatches};
+ghost use Rattle.log_laws.specs.Prefixes.{AreTheseBatches, BeginsWith};
 ghost use Rattle.model_runs.specs.Crashes.{HasSync, HoldsSynced, text_through};
 
-/// Where anything of an image stands after a group that was to be synced, recovery finds that group and all before it,
-/// if those are batches whose runs rise. No premise is needed of what torn fragments are.
+/// Where an image begins with the text up to the end of a group, or where that group was to be synced and anything of
+/// the image stands after it, recovery finds what the log kept, that group and all before it, if those are batches
+/// whose runs rise. No premise is needed of what torn fragments are.
 pub fn synced_groups_are_recovered()
-    ensures recovered { (groups : List (List Entry)) (reached : ℕ) (image : List ℕ) → HoldsSynced groups reached image
-        → (k : ℕ) (group : List Entry) → slice_get groups k ≡ Some group → HasSync group
-        → length (text_through groups k) < length image → reached < length image
-        → (batches : List Logged) → AreTheseBatches (records_of (take (k + 1) groups)) batches
-        → (r : Recovered) → IsRecovered plain_log image r → k + 1 ≤ length r.batches }
+    ensures recovered { (b : Beginning) (kept : List (List ℕ)) (groups : List (List Entry)) (image : List ℕ) (k : ℕ)
+        (group : List Entry) → SpellsWhole b.number b.kept kept → slice_get groups k ≡ Some group
+        → BeginsWith (text_through b groups k) image
+        → (batches : List Logged) → AreTheseBatches (kept ++ records_of (take (k + 1) groups)) batches
+        → (r : Recovered) → IsRecovered b.number image r → length kept + k + 1 ≤ length r.batches }
+    ensures long { (b : Beginning) (groups : List (List Entry)) (reached : ℕ) (image : List ℕ)
+        → HoldsSynced b groups reached image → (k : ℕ) (group : List Entry) → slice_get groups k ≡ Some group
+        → HasSync group → length (text_through b groups k) < length image → reached < length image
+        → BeginsWith (text_through b groups k) image }
 {}

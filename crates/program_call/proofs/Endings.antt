@@ -2,18 +2,21 @@
 use Rattle.std.proofs.Common.{◌≡◌, inl, inr, ℕ, ◌<◌, ◌≤◌, Bool, true, false, eqb, List, [], length, Option, Some, None, IfSome, le_trans, refl, sym, ◌∙◌, subst}
 use Rattle.std.specs.Prelude.{IsSome, ⊤}
 use Rattle.base_devices.specs.Disk.{Disk, Told}
+use Rattle.base_devices.specs.declared.disk.Disk as disk
+use Rattle.base_devices.specs.declared.sink.Sink as sink
 use Rattle.model_base.specs.Counts.{Rose}
 use Rattle.model_base.specs.Calls as calls
-use Rattle.model_base.specs.LogContents.{GroupCall}
 use Rattle.model_base.specs.History.{IsHistory}
 use Rattle.model_base.specs.Map.{Pairs}
 use Rattle.model_base.specs.Script.{Script}
 use Rattle.run_outcome.specs.declared.outcome.Outcome.{Outcome}
 use Rattle.model_base.specs.declared.options.Options.{Options}
-use Rattle.run_outcome.specs.Running.{Execution, execution_of, IsRunOf, HasRun, LeavesSafeLog, IsReached}
+use Rattle.run_outcome.specs.declared.log_start.LogStart.{LogStart}
+use Rattle.run_outcome.specs.declared.log_start.LogStart.TheVariants.{New}
+use Rattle.run_outcome.specs.Running.{Execution, Before, GoesOnFrom, IsRunOf, HasRun, LeavesSafeLog, IsAsFound, IsReached}
 use Rattle.run_execution.specs.declared.end.RunEnd.{RunEnd}
 use Rattle.run_execution.specs.declared.end.RunEnd.TheVariants as end
-use Rattle.run_execution.specs.Ends.{IsEnd}
+use Rattle.run_execution.specs.Ends.{HasOutcome, EndsOn, execution_on}
 use Rattle.program_text.specs.Refusals.{not_empty, disk_fault}
 use Rattle.program_call.specs.declared.reading.ReadError.{ReadError}
 use Rattle.program_call.specs.declared.reading.ReadError.TheVariants as read
@@ -22,7 +25,7 @@ use Rattle.program_call.specs.declared.report.Status.{Status}
 use Rattle.program_call.specs.declared.report.Status.TheVariants as status
 use Rattle.program_call.specs.Texts.{SaysTo}
 use Rattle.program_call.specs.Reports.{Refuses, EndsSo, TellsEnd, TellsReadError, text_of, code}
-use Rattle.program_call.specs.Outcomes.{Observation, IsScript, RanScript, RanWhole, DiskFailed, RanToSinkFault, RanOutOfMemory}
+use Rattle.program_call.specs.Outcomes.{Observation, observation_of, IsScript, RanScript, RanWhole, DiskFailed, RanToSinkFault, RanOutOfMemory}
 use Rattle.program_call.proofs.Memory.{all_whole, short_of}
 
 abbrev either : Bool → Type 0 → Type 0 → Type 0
@@ -33,7 +36,7 @@ either false A B = B
 module _ (seen : Observation) (failed fails kf kfs : ℕ) where
   pub record AtWhole : Type 0 where
     pub whole : RanWhole seen
-    pub empty : IfSome seen.opened (λ d. d.content ≡ [])
+    pub empty : seen.start ≡ New → IfSome seen.opened (λ d. d.content ≡ [])
     pub disk : fails ≡ failed
     pub sink : kfs ≡ kf
 
@@ -43,10 +46,11 @@ module _ (seen : Observation) (failed fails kf kfs : ℕ) where
 
   pub record AtSinkFault : Type 0 where
     pub front : RanToSinkFault seen
-    pub empty : IfSome seen.opened (λ d. d.content ≡ [])
+    pub empty : seen.start ≡ New → IfSome seen.opened (λ d. d.content ≡ [])
     pub rose : Rose kf kfs
 
   pub record AtNotEmpty : Type 0 where
+    pub plain : seen.start ≡ New
     pub len : ℕ
     pub some : 0 < len
     pub of_disk : IfSome seen.opened (λ d. length d.content ≡ len)
@@ -58,105 +62,141 @@ module _ (seen : Observation) (failed fails kf kfs : ℕ) where
   AtStatus n = either (eqb n 0) AtWhole (either (eqb n 3) AtFault (either (eqb n 5) AtSinkFault (either (eqb n 6) (RanOutOfMemory seen) (either (eqb n 7) AtNotEmpty ⊤))))
 
   -- nothing was run or printed for lack of memory
-  pub nothing : (given : Status) → given ≡ status.Memory → seen.ended ≡ seen.opened → seen.after ≡ seen.before → AtStatus (code given)
-  nothing given is same quiet = subst (λ s. AtStatus (code s)) (sym is) (inl (record { untouched = same; silent = quiet }))
+  pub nothing : (given : Status) → given ≡ status.Memory → IsAsFound seen.start seen.opened seen.ended → seen.after ≡ seen.before → AtStatus (code given)
+  nothing given is found quiet = subst (λ s. AtStatus (code s)) (sym is) (inl (record { untouched = found; silent = quiet }))
 
   -- no script was read
   refused : (text : List ℕ) (wanted given : Status) → AtStatus (code wanted) → seen.ended ≡ seen.opened → Refuses seen.before seen.after kf kfs text wanted given → AtStatus (code given)
   refused text wanted given there same (inl said) = subst (λ s. AtStatus (code s)) (sym said.0) there
-  refused text wanted given there same (inr none) = nothing given none.0 same none.1
+  refused text wanted given there same (inr none) = nothing given none.0 (inl same) none.1
 
   pub unread : (why : ReadError) (given : Status) → seen.ended ≡ seen.opened → TellsReadError seen.before seen.after kf kfs why given → AtStatus (code given)
   unread (read.Fault count) given same tells = refused _ status.Source given tt same tells
   unread (read.Script line kind) given same tells = refused _ status.Script given tt same tells
-  unread read.NoMemory given same tells = nothing given tells.0 same tells.1
+  unread read.NoMemory given same tells = nothing given tells.0 (inl same) tells.1
 
 -- A script was to be run: `here` is what the devices tell.
-module _ (options : Options) (script : Script) (form : Form) (failed fails : ℕ) (images : List ℕ → Type 0) (wrote : List GroupCall → Type 0) (kf kfs : ℕ) (sold snew : Option (List ℕ)) (old new : Option Disk) where
+module _ {D K : Type 0} (disk : disk.Ghosts D) (sink : sink.Ghosts K) (options : Options) (start : LogStart) (script : Script) (form : Form) (opened ended : D) (before after : K) where
   abbrev here : Observation
-  here = record { says = IsScript script; form = form; before = sold; after = snew; opened = old; ended = new; execution = λ s. execution_of options s failed fails images wrote }
+  here = observation_of disk sink (IsScript script) form options start opened ended before after
 
-  abbrev execution : Execution
-  execution = execution_of options script failed fails images wrote
+  abbrev execution : Before → Execution
+  execution from = execution_on disk options start from script opened ended
+
+  abbrev failed : ℕ
+  failed = disk.faults opened
+
+  abbrev fails : ℕ
+  fails = disk.faults ended
+
+  abbrev kf : ℕ
+  kf = sink.faults before
+
+  abbrev kfs : ℕ
+  kfs = sink.faults after
+
+  abbrev sold : Option (List ℕ)
+  sold = sink.taken before
+
+  abbrev snew : Option (List ℕ)
+  snew = sink.taken after
+
+  abbrev old : Option Disk
+  old = disk.told opened
+
+  abbrev new : Option Disk
+  new = disk.told ended
 
   abbrev At : ℕ → Type 0
   At n = AtStatus here failed fails kf kfs n
 
-  disk_refused : (count : ℕ) (given : Status) → new ≡ old → IsReached failed count fails → Refuses sold snew kf kfs (disk_fault count) status.Disk given → At (code given)
-  disk_refused count given same reached (inl said) =
+  disk_refused : (count : ℕ) (given : Status) → IsAsFound start old new → IsReached failed count fails → Refuses sold snew kf kfs (disk_fault count) status.Disk given → At (code given)
+  disk_refused count given found reached (inl said) =
       let there : AtFault here failed fails kf kfs = record {
-        told = inl (record { script = script; said = refl; count = count; reached = reached; untouched = same; refused = said.1 });
+        told = inl (record { script = script; said = refl; count = count; reached = reached; untouched = found; refused = said.1 });
         rose = le_trans reached.0 reached.1;
       } in
       subst (λ s. At (code s)) (sym said.0) there
-  disk_refused count given same reached (inr none) = nothing here failed fails kf kfs given none.0 same none.1
+  disk_refused count given found reached (inr none) = nothing here failed fails kf kfs given none.0 found none.1
 
-  has_bytes : (len : ℕ) (given : Status) → new ≡ old → 0 < len → IfSome old (λ d. length d.content ≡ len) → Refuses sold snew kf kfs (not_empty len) status.NotEmpty given → At (code given)
-  has_bytes len given same some is (inl said) =
-      let there : AtNotEmpty here failed fails kf kfs = record { len = len; some = some; of_disk = is; says = said.1; as_before = same } in
+  has_bytes : (len : ℕ) (given : Status) → start ≡ New → new ≡ old → 0 < len → IfSome old (λ d. length d.content ≡ len) → Refuses sold snew kf kfs (not_empty len) status.NotEmpty given → At (code given)
+  has_bytes len given plain same some is (inl said) =
+      let there : AtNotEmpty here failed fails kf kfs = record { plain = plain; len = len; some = some; of_disk = is; says = said.1; as_before = same } in
       subst (λ s. At (code s)) (sym said.0) there
-  has_bytes len given same some is (inr none) = nothing here failed fails kf kfs given none.0 same none.1
+  has_bytes len given plain same some is (inr none) = nothing here failed fails kf kfs given none.0 (inl same) none.1
 
-  found_empty : (was is : Option Disk) (o : calls.Outcome) (run : IsRunOf execution o) → Told was is (LeavesSafeLog execution o run) → IfSome was (λ d. d.content ≡ [])
-  found_empty None is o run log = tt
-  found_empty (Some d) (Some e) o run log = log.found_empty
-  found_empty (Some d) None o run log = absurd log
+  found_empty : (from : Before) (was is : Option Disk) (o : calls.Outcome) (run : IsRunOf (execution from) o) → Told was is (LeavesSafeLog (execution from) o run) → start ≡ New → IfSome was (λ d. d.content ≡ [])
+  found_empty from None is o run log plain = tt
+  found_empty from (Some d) (Some e) o run log plain = log.found_empty plain
+  found_empty from (Some d) None o run log plain = absurd log
 
   rose_so : (fault : Option ℕ) → IsSome fault → IfSome fault (λ count. Rose failed count × (count ≤ fails)) → Rose failed fails
   rose_so (Some count) some both = le_trans both.0 both.1
   rose_so None some both = absurd (cc some)
 
-  ran_script : (shown : Outcome Pairs) (ran : HasRun execution old new shown) → RanScript here ran.outcome
-  ran_script shown ran = record {
+  ran_script : (from : Before) → GoesOnFrom start old from → (shown : Outcome Pairs) (ran : HasRun (execution from) old new shown) → RanScript here ran.outcome
+  ran_script from goes_on shown ran = record {
     script = script;
     said = refl;
+    before = from;
+    goes_on = goes_on;
     is_outcome = record { run = ran.run; log = ran.log };
     refusals = λ alive. ran.refusals (sym ran.shows.fault ∙ alive);
   }
 
-  ran_so : (shown : Outcome Pairs) (ran : HasRun execution old new shown) (given : Status) → EndsSo sold snew kf kfs shown (text_of form ran.outcome) given → At (code given)
-  ran_so shown ran status.Done so = record {
+  ran_so : (from : Before) → GoesOnFrom start old from → (shown : Outcome Pairs) (ran : HasRun (execution from) old new shown) (given : Status) → EndsSo sold snew kf kfs shown (text_of form ran.outcome) given → At (code given)
+  ran_so from goes_on shown ran status.Done so = record {
     whole = record {
       outcome = ran.outcome;
-      ran = ran_script shown ran;
+      ran = ran_script from goes_on shown ran;
       printed = so.0;
       no_fault = ran.shows.fault ∙ so.1;
       whole = all_whole shown.transcripts.items ran.outcome.transcripts ran.shows.transcripts so.2;
     };
-    empty = found_empty old new ran.outcome ran.run ran.log;
+    empty = found_empty from old new ran.outcome ran.run ran.log;
     disk = ran.counted so.1;
     sink = so.3;
   }
-  ran_so shown ran status.Disk so =
+  ran_so from goes_on shown ran status.Disk so =
       let fault : IsSome ran.outcome.fault = subst IsSome (sym ran.shows.fault) so.1 in
       record {
-        told = inr (record { outcome = ran.outcome; ran = ran_script shown ran; printed = so.0; fault = fault });
+        told = inr (record { outcome = ran.outcome; ran = ran_script from goes_on shown ran; printed = so.0; fault = fault });
         rose = rose_so ran.outcome.fault fault ran.run.legal.fault;
       }
-  ran_so shown ran status.Sink so = record {
-    front = record { outcome = ran.outcome; ran = ran_script shown ran; printed = (so.1, so.2) };
-    empty = found_empty old new ran.outcome ran.run ran.log;
+  ran_so from goes_on shown ran status.Sink so = record {
+    front = record { outcome = ran.outcome; ran = ran_script from goes_on shown ran; printed = (so.1, so.2) };
+    empty = found_empty from old new ran.outcome ran.run ran.log;
     rose = so.0;
   }
-  ran_so shown ran status.Memory (inl none) = inr (inl (record { outcome = ran.outcome; ran = ran_script shown ran; silent = none }))
-  ran_so shown ran status.Memory (inr so) = inr (inr (record {
+  ran_so from goes_on shown ran status.Memory (inl none) = inr (inl (record { outcome = ran.outcome; ran = ran_script from goes_on shown ran; silent = none }))
+  ran_so from goes_on shown ran status.Memory (inr so) = inr (inr (record {
     outcome = ran.outcome;
-    ran = ran_script shown ran;
+    ran = ran_script from goes_on shown ran;
     printed = so.0;
     no_fault = ran.shows.fault ∙ so.1;
     short = short_of shown ran.outcome ran.shows so.2;
   }))
-  ran_so shown ran other so = absurd so
+  ran_so from goes_on shown ran other so = absurd so
 
-  pub ended_so : (e : RunEnd) (given : Status) → IsEnd options script old new failed fails images wrote e → TellsEnd form sold snew kf kfs e given → At (code given)
+  no_outcome : (from : Before) → GoesOnFrom start old from → (ran : HasOutcome (execution from) old new) → RanScript here ran.outcome
+  no_outcome from goes_on ran = record {
+    script = script;
+    said = refl;
+    before = from;
+    goes_on = goes_on;
+    is_outcome = record { run = ran.run; log = ran.log };
+    refusals = ran.refusals;
+  }
+
+  pub ended_so : (e : RunEnd) (given : Status) → EndsOn disk options start script opened ended e → TellsEnd form sold snew kf kfs e given → At (code given)
   ended_so (end.DiskFault count) given ends tells = disk_refused count given ends.0 ends.1 tells
-  ended_so (end.NotEmpty len) given ends tells = has_bytes len given ends.0 ends.1 ends.2 tells
+  ended_so (end.NotEmpty len) given ends tells = has_bytes len given ends.0 ends.1 ends.2 ends.3 tells
   ended_so end.NoMemory given ends tells = nothing here failed fails kf kfs given tells.0 ends tells.1
-  ended_so end.NoOutcome given ends tells =
-      let ran : RanScript here ends.outcome = record { script = script; said = refl; is_outcome = record { run = ends.run; log = ends.log }; refusals = ends.refusals } in
-      subst (λ s. At (code s)) (sym tells.0) (inr (inl (record { outcome = ends.outcome; ran = ran; silent = tells.1 })))
-  ended_so (end.Ran shown) given ran tells =
+  ended_so end.NoOutcome given (from, goes_on, has) tells =
+      let ran : RanScript here has.outcome = no_outcome from goes_on has in
+      subst (λ s. At (code s)) (sym tells.0) (inr (inl (record { outcome = has.outcome; ran = ran; silent = tells.1 })))
+  ended_so (end.Ran shown) given (from, goes_on, ran) tells =
       let legal = ran.run.legal in
-      let start = ran.run.trace.start in
-      let history : IsHistory start ran.outcome.history = subst (λ entries. IsHistory start entries) (sym legal.history) legal.is_trace.entries in
-      ran_so shown ran given (tells ran.outcome start history ran.shows)
+      let begun = ran.run.trace.start in
+      let history : IsHistory begun ran.outcome.history = subst (λ entries. IsHistory begun entries) (sym legal.history) legal.is_trace.entries in
+      ran_so from goes_on shown ran given (tells ran.outcome begun history ran.shows)

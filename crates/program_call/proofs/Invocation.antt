@@ -4,15 +4,19 @@ use Rattle.program_words.specs.declared.invocation.Invocation.{Invocation}
 use Rattle.program_words.specs.declared.invocation.Invocation.TheVariants.{Run, Generate, Recover, Replay}
 use Rattle.model_base.specs.declared.options.Options.{Options}
 use Rattle.replay_core.specs.declared.state.CoreOptions.{CoreOptions}
+use Rattle.program_call.specs.Asking.{start_of}
 
-pub of_run : (asked : Invocation) (pipelined : Bool) (shards : Option ℕ) (group_bytes batch_bytes last : ℕ) (wanted_pipelined : Bool) (wanted_shards : Option ℕ) (options : Options)
-    → asked ≡ Run pipelined shards group_bytes batch_bytes last
-    → asked ≡ Run wanted_pipelined wanted_shards options.group_bytes options.batch_bytes options.last → options ≡ record { last = last; group_bytes = group_bytes; batch_bytes = batch_bytes }
-of_run asked pipelined shards group_bytes batch_bytes last wanted_pipelined wanted_shards options given wanted =
+pub of_run : (asked : Invocation) (pipelined : Bool) (shards : Option ℕ) (group_bytes batch_bytes last : ℕ) (number : Option ℕ) (resume : Bool) (wanted_pipelined : Bool) (wanted_shards : Option ℕ) (options : Options) (wanted_number : Option ℕ) (wanted_resume : Bool)
+    → asked ≡ Run pipelined shards group_bytes batch_bytes last number resume
+    → asked ≡ Run wanted_pipelined wanted_shards options.group_bytes options.batch_bytes options.last wanted_number wanted_resume
+    → (options ≡ record { last = last; group_bytes = group_bytes; batch_bytes = batch_bytes }) × (start_of wanted_number wanted_resume ≡ start_of number resume)
+of_run asked pipelined shards group_bytes batch_bytes last number resume wanted_pipelined wanted_shards options wanted_number wanted_resume given wanted =
     let groups : options.group_bytes ≡ group_bytes = cc (given, wanted) in
     let batches : options.batch_bytes ≡ batch_bytes = cc (given, wanted) in
     let start : options.last ≡ last = cc (given, wanted) in
-    rw (← groups, ← batches, ← start) refl
+    let numbers : wanted_number ≡ number = cc (given, wanted) in
+    let resumes : wanted_resume ≡ resume = cc (given, wanted) in
+    (rw (← groups, ← batches, ← start) refl, rw (numbers, resumes) refl)
 
 pub of_generate : (asked : Invocation) (pipelined : Bool) (shards : Option ℕ) (seed clients batches : ℕ) (p : Bool) (t : Option ℕ) (s k b : ℕ)
     → asked ≡ Generate pipelined shards seed clients batches → asked ≡ Generate p t s k b → (s ≡ seed) × (k ≡ clients) × (b ≡ batches)
@@ -33,25 +37,25 @@ of_replay asked pipelined group_bytes batch_bytes last options given wanted =
 
 -- words that ask for one command ask for no other, and words that ask for any are lawful
 abbrev pub is_run : Invocation → Bool
-is_run (Run a b c d e) = true
+is_run (Run a b c d e f g) = true
 is_run (Generate a b c d e) = false
 is_run (Recover a) = false
 is_run (Replay a b c d) = false
 
 abbrev pub is_generate : Invocation → Bool
-is_generate (Run a b c d e) = false
+is_generate (Run a b c d e f g) = false
 is_generate (Generate a b c d e) = true
 is_generate (Recover a) = false
 is_generate (Replay a b c d) = false
 
 abbrev pub is_recover : Invocation → Bool
-is_recover (Run a b c d e) = false
+is_recover (Run a b c d e f g) = false
 is_recover (Generate a b c d e) = false
 is_recover (Recover a) = true
 is_recover (Replay a b c d) = false
 
 abbrev pub is_replay : Invocation → Bool
-is_replay (Run a b c d e) = false
+is_replay (Run a b c d e f g) = false
 is_replay (Generate a b c d e) = false
 is_replay (Recover a) = false
 is_replay (Replay a b c d) = true

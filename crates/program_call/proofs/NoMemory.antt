@@ -7,6 +7,8 @@ use Rattle.base_devices.specs.declared.sink.Sink as sink
 use Rattle.model_base.specs.Script.{Script}
 use Rattle.model_base.specs.declared.options.Options.{Options}
 use Rattle.replay_core.specs.declared.state.CoreOptions.{CoreOptions}
+use Rattle.run_outcome.specs.declared.log_start.LogStart.{LogStart}
+use Rattle.run_outcome.specs.declared.log_start.LogStart.TheVariants.{New}
 use Rattle.program_call.specs.declared.report.Form.{Form}
 use Rattle.program_call.specs.declared.report.Form.TheVariants as form
 use Rattle.program_call.specs.Asking.{usual_options}
@@ -35,14 +37,14 @@ no_text n six (inl e) = omega (arith, six, e)
 no_text n six (inr e) = omega (arith, six, e)
 
 module _ {S D K : Type 0} (source : source.Ghosts S) (disk : disk.Ghosts D) (sink : sink.Ghosts K) (had : S) (opened : D) (before : K) (n : ℕ) (six : n ≡ 6) where
-  runs_none : (says : Script → Type 0) (form : Form) (options : Options) → RunsScript disk sink (observation_of disk sink says form options opened opened before before) opened opened before before n
-  runs_none says form options =
-      let At : ℕ → Type 0 = λ m. AtStatus (observation_of disk sink says form options opened opened before before) (disk.faults opened) (disk.faults opened) (sink.faults before) (sink.faults before) m in
-      let none : At 6 = inl (record { untouched = refl; silent = refl }) in
-      runs_script disk sink says form options opened opened before before n (subst At (sym six) none)
+  runs_none : (says : Script → Type 0) (form : Form) (options : Options) (start : LogStart) → RunsScript disk sink (observation_of disk sink says form options start opened opened before before) opened opened before before n
+  runs_none says form options start =
+      let At : ℕ → Type 0 = λ m. AtStatus (observation_of disk sink says form options start opened opened before before) (disk.faults opened) (disk.faults opened) (sink.faults before) (sink.faults before) m in
+      let none : At 6 = inl (record { untouched = inl refl; silent = refl }) in
+      runs_script disk sink says form options start opened opened before before n (subst At (sym six) none)
 
-  pub none_run : (options : Options) → AnswersRun source disk sink had had opened opened before before options n
-  none_run options = record {
+  pub none_run : (options : Options) (start : LogStart) → AnswersRun source disk sink had had opened opened before before options start n
+  none_run options start = record {
     other = (omega (arith, six), λ e. omega (arith, six, e));
     script = λ e. absurd (omega (arith, six, e));
     other_script = λ e. absurd (e six);
@@ -50,15 +52,15 @@ module _ {S D K : Type 0} (source : source.Ghosts S) (disk : disk.Ghosts D) (sin
     source_stood = λ e. absurd (omega (arith, six, e));
     read_to_end = λ e. absurd (no_device n six e);
     disk_untouched = λ e. refl;
-    runs = runs_none (SaysScript (source.left had)) form.Whole options;
-    completes = λ a b c. if_some _ (source.left had) (λ text. if_some _ (disk.told opened) (λ d script said none. inr six));
+    runs = runs_none (SaysScript (source.left had)) form.Whole options start;
+    completes = λ a b c. if_some _ (source.left had) (λ text. if_some _ (disk.told opened) (λ d script said fit. inr six));
   }
 
   pub none_generated : (seed clients batches : ℕ) → AnswersGenerate source disk sink had had opened opened before before seed clients batches n
   none_generated seed clients batches = record {
     one = inr (inr (inr (inl six)));
     source_untouched = refl;
-    runs = runs_none (IsGenerated seed clients batches) form.Summary usual_options;
+    runs = runs_none (IsGenerated seed clients batches) form.Summary usual_options New;
     completes = λ a b. if_some _ (disk.told opened) (λ d none. inr six);
     one_summary = λ e. absurd (omega (arith, six, e));
   }

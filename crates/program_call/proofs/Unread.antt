@@ -1,9 +1,11 @@
 -- No script was read, or no schedule: what stands printed where the source failed.
-use Rattle.std.proofs.Common.{◌≡◌, ◌⊎◌, inl, inr, ⊎_elim, ℕ, List, length, Option, Some, None, Ok, IfSome, le_trans, ap, ◌∙◌, arith}
+use Rattle.std.proofs.Common.{◌≡◌, ◌≢◌, ◌⊎◌, inl, inr, ⊎_elim, ℕ, List, length, Option, Some, None, Ok, IfSome, le_trans, ap, ◌∙◌, arith}
 use Rattle.base_devices.specs.Disk.{Disk}
 use Rattle.model_base.specs.Counts.{Rose}
 use Rattle.model_base.specs.Script.{Script, Fault, script_of, whole_grammar}
 use Rattle.model_base.specs.declared.script.ScriptFault.{ScriptFault}
+use Rattle.run_outcome.specs.declared.log_start.LogStart.{LogStart}
+use Rattle.run_outcome.specs.declared.log_start.LogStart.TheVariants.{New}
 use Rattle.run_outcome.specs.Running.{IsReached}
 use Rattle.program_text.specs.Refusals.{source_fault, script_fault}
 use Rattle.program_call.specs.declared.reading.ReadError.{ReadError}
@@ -38,14 +40,14 @@ fault_said Why Is first sold snew kf kfs n given is (read.Script line kind) erro
 fault_said Why Is first sold snew kf kfs n given is read.NoMemory error tells two = absurd (let a : n ≡ 6 = is ∙ ap code tells.0 in omega (arith, a, two))
 
 -- where no device failed, no script was read for lack of memory alone, if the text is one
-pub unread_completes : (left : Option (List ℕ)) (told : Option Disk) (failed fails kf kfs n : ℕ) (sold snew : Option (List ℕ)) (given : Status) → n ≡ code given → (why : ReadError)
+pub unread_completes : (left : Option (List ℕ)) (told : Option Disk) (start : LogStart) (failed fails kf kfs n : ℕ) (sold snew : Option (List ℕ)) (given : Status) → n ≡ code given → (why : ReadError)
     → IsScriptError left failed fails why → TellsReadError sold snew kf kfs why given → Stood failed fails
-    → IfSome left (λ text. IfSome told (λ d. (script : Script) → script_of whole_grammar text ≡ Ok script → length d.content ≡ 0 → (n ≡ 0) ⊎ (n ≡ 6)))
-unread_completes None told failed fails kf kfs n sold snew given is why error tells stood = tt
-unread_completes (Some text) None failed fails kf kfs n sold snew given is why error tells stood = tt
-unread_completes (Some text) (Some d) failed fails kf kfs n sold snew given is (read.Fault count) error tells stood = λ script said empty. absurd (stood (le_trans error.0 error.1))
-unread_completes (Some text) (Some d) failed fails kf kfs n sold snew given is (read.Script line kind) error tells stood = λ script said empty. absurd (cc (error, said))
-unread_completes (Some text) (Some d) failed fails kf kfs n sold snew given is read.NoMemory error tells stood = λ script said empty. inr (is ∙ ap code tells.0)
+    → IfSome left (λ text. IfSome told (λ d. (script : Script) → script_of whole_grammar text ≡ Ok script → (length d.content ≡ 0) ⊎ (start ≢ New) → (n ≡ 0) ⊎ (n ≡ 6)))
+unread_completes None told start failed fails kf kfs n sold snew given is why error tells stood = tt
+unread_completes (Some text) None start failed fails kf kfs n sold snew given is why error tells stood = tt
+unread_completes (Some text) (Some d) start failed fails kf kfs n sold snew given is (read.Fault count) error tells stood = λ script said fit. absurd (stood (le_trans error.0 error.1))
+unread_completes (Some text) (Some d) start failed fails kf kfs n sold snew given is (read.Script line kind) error tells stood = λ script said fit. absurd (cc (error, said))
+unread_completes (Some text) (Some d) start failed fails kf kfs n sold snew given is read.NoMemory error tells stood = λ script said fit. inr (is ∙ ap code tells.0)
 
 -- the same of a schedule
 pub unread_schedule_completes : (left : Option (List ℕ)) (failed fails kf kfs n : ℕ) (sold snew : Option (List ℕ)) (given : Status) → n ≡ code given → (why : ReadError)

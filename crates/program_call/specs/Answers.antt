@@ -12,6 +12,8 @@ use Rattle.run_scripts.specs.ReplayLanguage.{replay_grammar, event_words}
 use Rattle.model_base.specs.declared.options.Options.{Options}
 use Rattle.replay_core.specs.declared.state.CoreOptions.{CoreOptions}
 use Rattle.program_text.specs.Refusals.{usage, script_fault, source_fault, disk_fault, not_empty}
+use Rattle.run_outcome.specs.declared.log_start.LogStart.{LogStart}
+use Rattle.run_outcome.specs.declared.log_start.LogStart.TheVariants.{New}
 use Rattle.run_outcome.specs.Running.{IsReached}
 use Rattle.run_laws.specs.Summaries.{summary_of}
 use Rattle.program_call.specs.declared.report.Form.TheVariants as form
@@ -29,16 +31,22 @@ module _ {D K : Type 0} (disk : disk.Ghosts D) (sink : sink.Ghosts K) (seen : Ob
     pub no_fault : status ≡ 0 → (disk.faults ended ≡ disk.faults opened) × (sink.faults after ≡ sink.faults before)
     pub disk_failed : status ≡ 3 → Rose (disk.faults opened) (disk.faults ended)
     pub sink_failed : status ≡ 5 → Rose (sink.faults before) (sink.faults after)
-    -- 7: The log isn't empty, and stays as it was. Then no other status comes, but of a fault of the disk or for lack
-    -- of memory.
-    pub not_empty : status ≡ 7 → (len : ℕ) × (0 < len) × IfSome (disk.told opened) (λ d. length d.content ≡ len)
+    -- 7: The log was to be a new one, isn't empty, and stays as it was. Then no other status comes, but of a fault of
+    -- the disk or for lack of memory.
+    pub not_empty : status ≡ 7 → (seen.start ≡ New) × (len : ℕ) × (0 < len)
+        × IfSome (disk.told opened) (λ d. length d.content ≡ len)
         × SaysTo (sink.taken before) (sink.taken after) (not_empty len) (sink.faults before) (sink.faults after)
     pub as_before : status ≡ 7 → disk.told ended ≡ disk.told opened
-    pub empty : IfSome (disk.told opened) (λ d. 0 < length d.content → (status ≢ 0) × (status ≢ 5))
+    pub empty : seen.start ≡ New
+        → IfSome (disk.told opened) (λ d. 0 < length d.content → (status ≢ 0) × (status ≢ 5))
     -- However the clients' threads interleave, every reply in the output is that of a plain map at its point of one
     -- printed history of whole batches, in which each client's acknowledged batches stand once, in its order, each
     -- under its own run of sequences; and a crash at any moment of the run leaves a log that recovers a prefix of the
     -- logged batches, with every acknowledged synced one that the log goes past, and at the run's end with all of them.
+    -- A run whose log goes on begins from the map and the last sequence that the log recovers. Its map, its sequences
+    -- and its log stand behind these: the prefix is one of the records that recovery keeps and then of its own; once it
+    -- has begun to write it has all of the kept ones, and until then too, where recovery of what the crash leaves meets
+    -- no fragment that recovery of the log doesn't meet.
     pub ran : status ≡ 0 → RanWhole seen
     pub ran_to_fault : status ≡ 3
         → DiskFailed seen (disk.faults opened) (disk.faults ended) (sink.faults before) (sink.faults after)
@@ -66,8 +74,8 @@ module _ {S D K : Type 0} (source : source.Ghosts S) (disk : disk.Ghosts D) (sin
     pub source_untouched : has ≡ had
     pub disk_untouched : ended ≡ opened
 
-  -- `run`
-  pub record AnswersRun (options : Options) (status : ℕ) : Type 0 where
+  -- `run`, over a log that is opened so
+  pub record AnswersRun (options : Options) (start : LogStart) (status : ℕ) : Type 0 where
     pub other : (status < 8) × (status ≢ 1)
     -- 2: the text isn't a script, and its first fault is told
     pub script : status ≡ 2 → (f : Fault)
@@ -83,20 +91,22 @@ module _ {S D K : Type 0} (source : source.Ghosts S) (disk : disk.Ghosts D) (sin
     -- a refusal of the text never comes to the disk
     pub disk_untouched : (status ≡ 2) ⊎ (status ≡ 4) → ended ≡ opened
     pub runs : RunsScript disk sink
-        (observation_of disk sink (SaysScript (source.left had)) form.Whole options opened ended
+        (observation_of disk sink (SaysScript (source.left had)) form.Whole options start opened ended
         before after) opened ended before after status
-    -- where no device fails, a script over an empty log ends well, lack of memory aside
+    -- where no device fails, a script over an empty log ends well, and so does one whose log is written over or goes
+    -- on, lack of memory aside
     pub completes : Stood (source.faults had) (source.faults has) → Stood (sink.faults before) (sink.faults after)
         → Stood (disk.faults opened) (disk.faults ended)
         → IfSome (source.left had) (λ text. IfSome (disk.told opened) (λ d. (script : Script)
-        → script_of whole_grammar text ≡ Ok script → length d.content ≡ 0 → (status ≡ 0) ⊎ (status ≡ 6)))
+        → script_of whole_grammar text ≡ Ok script → (length d.content ≡ 0) ⊎ (start ≢ New)
+        → (status ≡ 0) ⊎ (status ≡ 6)))
 
   -- `gen`
   pub record AnswersGenerate (seed clients batches : ℕ) (status : ℕ) : Type 0 where
     pub one : (status ≡ 0) ⊎ (status ≡ 3) ⊎ (status ≡ 5) ⊎ (status ≡ 6) ⊎ (status ≡ 7)
     pub source_untouched : has ≡ had
     pub runs : RunsScript disk sink
-        (observation_of disk sink (IsGenerated seed clients batches) form.Summary usual_options
+        (observation_of disk sink (IsGenerated seed clients batches) form.Summary usual_options New
         opened ended before after) opened ended before after status
     -- where no device fails a run over an empty log ends well, lack of memory aside
     pub completes : Stood (sink.faults before) (sink.faults after) → Stood (disk.faults opened) (disk.faults ended)

@@ -12,18 +12,19 @@ use Rattle.model_base.specs.Script.{Script, script_of, whole_grammar}
 use Rattle.model_base.specs.Generator.{script_of_seed}
 use Rattle.model_base.specs.Runs.{NoneWithoutMemory}
 use Rattle.model_base.specs.declared.options.Options.{Options}
-use Rattle.model_runs.specs.Crashes.{IsImageSince}
-use Rattle.run_outcome.specs.Running.{Execution, execution_of, IsRunOf, LeavesSafeLog, IsReached}
+use Rattle.run_outcome.specs.declared.log_start.LogStart.{LogStart}
+use Rattle.run_outcome.specs.Running.{Execution, Before, GoesOnFrom, IsRunOf, LeavesSafeLog, IsAsFound, IsReached}
 use Rattle.model_runs.specs.Refusals.{AreRefusedForThemselves}
-use Rattle.log_writer.specs.Written.{IsWrittenFrom}
+use Rattle.run_execution.specs.Ends.{execution_on}
 use Rattle.program_text.specs.Refusals.{disk_fault}
 use Rattle.program_call.specs.declared.report.Form.{Form}
 use Rattle.program_call.specs.Reports.{text_of}
 use Rattle.program_call.specs.Texts.{SaysTo, TakesPrefix}
 
 -- The outcome of a run: it is legal, and the log was written by just the calls that wrote its history's groups. Where
--- the disk tells its bytes the run found the log empty and left the batches of this outcome there, and a crash at any
--- moment of it leaves a prefix of them to recover.
+-- the disk tells its bytes the run found the log empty, or wrote one with a number over what stood there, or one behind
+-- what it recovered, and left the batches of this outcome there; and a crash at any moment of it leaves a prefix to
+-- recover, of them or of what it went on from and then of them.
 pub record IsOutcome (execution : Execution) (opened ended : Option Disk) (o : calls.Outcome) : Type 0 where
   pub run : IsRunOf execution o
   pub log : Told opened ended (LeavesSafeLog execution o run)
@@ -32,31 +33,31 @@ pub record IsOutcome (execution : Execution) (opened ended : Option Disk) (o : c
 abbrev pub RefusesForThemselves : calls.Outcome → Type 0
 RefusesForThemselves o = o.fault ≡ None → AllByRecursion AreRefusedForThemselves o.transcripts
 
--- Which script was to be run, how an outcome is printed, what the devices tell of the call, where they do, and how a
--- script is run there
+-- Which script was to be run, how an outcome is printed, how the log was to be opened, what the devices tell of the
+-- call, where they do, and how a script is run there that goes on from something
 pub record Observation : Type 1 where
   pub says : Script → Type 0
   pub form : Form
+  pub start : LogStart
   -- what the sink had taken before the call, and after it
   pub before : Option (List ℕ)
   pub after : Option (List ℕ)
   -- the log's disk before the call, and after it
   pub opened : Option Disk
   pub ended : Option Disk
-  pub execution : Script → Execution
+  pub execution : Script → Before → Execution
 
-abbrev pub observation_of : {D K : Type 0} → disk.Ghosts D → sink.Ghosts K → (Script → Type 0) → Form → Options → D
-    → D → K
-    → K → Observation
-observation_of disk sink says form options opened ended before after = record {
+abbrev pub observation_of : {D K : Type 0} → disk.Ghosts D → sink.Ghosts K → (Script → Type 0) → Form → Options
+    → LogStart → D → D → K → K → Observation
+observation_of disk sink says form options start opened ended before after = record {
   says = says;
   form = form;
+  start = start;
   before = sink.taken before;
   after = sink.taken after;
   opened = disk.told opened;
   ended = disk.told ended;
-  execution = λ script. execution_of options script (disk.faults opened) (disk.faults ended)
-      (IsImageSince disk.moment disk.from disk.since opened ended) (IsWrittenFrom disk opened ended);
+  execution = λ script from. execution_on disk options start from script opened ended;
 }
 
 -- the script of a text, where it is told
@@ -82,11 +83,13 @@ pub record LacksMemory (o : calls.Outcome) : Type 0 where
   pub reply : call.reply ≡ calls.no_memory
 
 module _ (seen : Observation) where
-  -- A script was run, and this is its outcome.
+  -- A script was run, which went on from what its log was to go on from, and this is its outcome.
   pub record RanScript (o : calls.Outcome) : Type 0 where
     pub script : Script
     pub said : seen.says script
-    pub is_outcome : IsOutcome (seen.execution script) seen.opened seen.ended o
+    pub before : Before
+    pub goes_on : GoesOnFrom seen.start seen.opened before
+    pub is_outcome : IsOutcome (seen.execution script before) seen.opened seen.ended o
     pub refusals : RefusesForThemselves o
 
   -- status 0: it was printed, no write of the log failed, and no client ran out of memory
@@ -104,13 +107,13 @@ module _ (seen : Observation) where
     pub printed : Appends seen.before seen.after (text_of seen.form outcome)
     pub fault : IsSome outcome.fault
 
-  -- and where it wasn't: the disk tells what it told before
+  -- and where it wasn't: the disk is as it was found
   pub record DiskRefused (failed fails sink_failed sink_fails : ℕ) : Type 0 where
     pub script : Script
     pub said : seen.says script
     pub count : ℕ
     pub reached : IsReached failed count fails
-    pub untouched : seen.ended ≡ seen.opened
+    pub untouched : IsAsFound seen.start seen.opened seen.ended
     pub refused : SaysTo seen.before seen.after (disk_fault count) sink_failed sink_fails
 
   -- status 3
@@ -123,9 +126,9 @@ module _ (seen : Observation) where
     pub ran : RanScript outcome
     pub printed : TakesPrefix seen.before seen.after (text_of seen.form outcome)
 
-  -- status 6: nothing was run or printed, and the disk tells what it told before
+  -- status 6: nothing was run or printed, and the disk is as it was found
   pub record RanNothing : Type 0 where
-    pub untouched : seen.ended ≡ seen.opened
+    pub untouched : IsAsFound seen.start seen.opened seen.ended
     pub silent : seen.after ≡ seen.before
 
   -- or a script was run, and there was no memory for its outcome, or for the text

@@ -1,5 +1,5 @@
 -- What the command `recover` promises.
-use Rattle.std.specs.Prelude.{ℕ, List, Option, Some, None, ⊤}
+use Rattle.std.specs.Prelude.{ℕ, List, Option, Some, ⊤}
 use Rattle.base_devices.specs.Disk.{Disk}
 use Rattle.model_base.specs.Recovery.{Recovered, IsRecovered}
 use Rattle.model_base.specs.Text.{recovered_text}

@@ -4,8 +4,9 @@ ghost use Rattle.std.specs.Prelude.{◌≡◌, ◌≢◌, ◌<◌, ◌≤◌, �
 ghost use Rattle.model_base.specs.declared.options.Options.{Options as RunOptions};
 ghost use Rattle.replay_core.specs.declared.state.CoreOptions.{CoreOptions as ReplayOptions};
 ghost use Rattle.program_words.specs.Limits.{KeepsLimits};
+ghost use Rattle.run_outcome.specs.declared.log_start.LogStart.{LogStart as Start};
 ghost use Rattle.program_call.specs.Answers.{AnswersNothing, AnswersRun, AnswersGenerate, AnswersRecover, AnswersReplay};
-ghost use Rattle.program_call.specs.Asking.{AskNothing, AskToRun, AskToGenerate, AskToRecover, AskToReplay, IsToRun, IsToGenerate, IsToReplay};
+ghost use Rattle.program_call.specs.Asking.{AskNothing, AskToRun, AskToGenerate, AskToRecover, AskToReplay, IsToRun, IsToGenerate, IsToReplay, start_of};
 
 use crate::ended::{Ended, end_with};
 use crate::generating::run_generated;
@@ -20,6 +21,7 @@ use program_text::usage;
 use program_words::{Invocation, WordsError, read_words};
 use replay_core::CoreOptions;
 use run_execution::{Host, Setup};
+use run_outcome::LogStart;
 use std::alloc::Global;
 use std::rt;
 use std::sync::Wait;
@@ -27,25 +29,31 @@ use std::thread::Threads;
 
 /// Does what the words ask for, over the log on a disk, and prints what came of it to a sink.
 ///
-/// The words are the program's name, a command, and the command's options. `run` reads a script of 1 to 16 clients
-/// from the source to its end, runs each client in a thread of its own over one write path, and prints the outcome; the
-/// log must be empty. A commit is refused for itself where its batch is empty or larger than `--batch-bytes`, where it
-/// is to be synced without the log, where its client holds a stop token, and where no sequences are left for it; and
-/// where it has `noslow` and writes are held up. Else only a fault of the log refuses it. `gen SEED CLIENTS BATCHES`
-/// runs the script that a seed makes so too, with the usual limits, and prints a summary of its outcome; it doesn't
-/// look at the source. `recover` prints what the log recovers, and changes nothing; with `--number` it reads the log as
-/// one whose fragments have that number in their headers, as those of RocksDB that are written over older ones.
-/// `replay` reads a script of 1 to 16 clients and a schedule of events after it, runs the schedule on the write path's
-/// core, and prints what the clients were told, the history and the published state; it doesn't look at the disk. The
-/// disk comes back on every path.
+/// The words are the program's name, a command, and the command's options. `run` reads a script of 1 to 16 clients from
+/// the source to its end, runs each client in a thread of its own over one write path, and prints the outcome; the log
+/// must be empty. With `--number` it needn't be: then the log is written over what stands on the disk, from its start
+/// on, and its fragments have that number in their headers. The number must be one that no log on this disk had, for a
+/// reader tells what is old by its number alone. With `--resume` the log goes on, with `--number` as one that has this
+/// number: what it recovers is what the clients find there, and stands in the printed state; what recovery doesn't keep
+/// is cut off, and the new batches come behind what it keeps, in the log and in their sequences. A commit is refused
+/// for itself where its batch is empty or larger than `--batch-bytes`, where it is to be synced without the log, where
+/// its client holds a stop token, and where no sequences are left for it; and where it has `noslow` and writes are held
+/// up. Else only a fault of the log refuses it. `gen SEED CLIENTS BATCHES` runs the script that a seed makes so too,
+/// with the usual limits and over an empty log, and prints a summary of its outcome; it doesn't look at the source.
+/// `recover` prints what the log recovers, and changes nothing; with `--number` it reads the log as one whose fragments
+/// have that number, as those that `run` writes so, and those of RocksDB that are written over older ones. `replay`
+/// reads a script of 1 to 16 clients and a schedule of events after it, runs the schedule on the write path's core, and
+/// prints what the clients were told, the history and the published state; it doesn't look at the disk. The disk comes
+/// back on every path.
 ///
 /// | Option | Commands | Range | Without it | Meaning |
 /// |---|---|---|---|---|
 /// | `--batch-bytes` | `run`, `replay` | 12 to 16777216 | 16777216 | the most bytes of a batch |
 /// | `--group-bytes` | `run`, `replay` | 1 to 16777216 | 1048576 | the most bytes of a write group |
-/// | `--last` | `run`, `replay` | 0 to 2^56 - 1 | 0 | the sequence before the first batch |
-/// | `--number` | `recover` | 1 to 4294967295 | none | the number that the log's headers have |
+/// | `--last` | `run`, `replay` | 0 to 2^56 - 1 | 0 | the sequence before the first batch, or the recovered last one |
+/// | `--number` | `run`, `recover` | 1 to 4294967295 | none | the number that the log's headers have |
 /// | `--pipelined` | `run`, `gen`, `replay` | no value | a single stage | the log is handed on before a group is inserted |
+/// | `--resume` | `run` | no value | the log begins anew | the log goes on behind what it recovers |
 /// | `--shards` | `run`, `gen` | 1 to 64 | 16 | with `--table shards`, how many shards the table has |
 /// | `--table` | `run`, `gen` | `one`, `shards` | `one` | a tree under one lock, or a tree and a lock for each shard |
 ///
@@ -70,9 +78,9 @@ pub fn run<
     ensures words { result.status ≡ 1 → AskNothing words.now }
     ensures nothing { AskNothing words.now → AnswersNothing ⟦<S as Source>⟧ ⟦<D as Disk>⟧ ⟦<K as Sink>⟧
         source.old source.new disk result.disk sink.old sink.new result.status }
-    ensures run { (options : RunOptions) → AskToRun words.now options
+    ensures run { (options : RunOptions) (start : Start) → AskToRun words.now options start
         → AnswersRun ⟦<S as Source>⟧ ⟦<D as Disk>⟧ ⟦<K as Sink>⟧
-        source.old source.new disk result.disk sink.old sink.new options result.status }
+        source.old source.new disk result.disk sink.old sink.new options start result.status }
     ensures generate { (seed clients batches : ℕ) → AskToGenerate words.now seed clients batches
         → AnswersGenerate ⟦<S as Source>⟧ ⟦<D as Disk>⟧ ⟦<K as Sink>⟧
         source.old source.new disk result.disk sink.old sink.new seed clients batches result.status }
@@ -108,9 +116,9 @@ pub fn run_gated<
     ensures words { result.status ≡ 1 → AskNothing words.now }
     ensures nothing { AskNothing words.now → AnswersNothing ⟦<S as Source>⟧ ⟦<D as Disk>⟧ ⟦<K as Sink>⟧
         source.old source.new disk result.disk sink.old sink.new result.status }
-    ensures run { (options : RunOptions) → AskToRun words.now options
+    ensures run { (options : RunOptions) (start : Start) → AskToRun words.now options start
         → AnswersRun ⟦<S as Source>⟧ ⟦<D as Disk>⟧ ⟦<K as Sink>⟧
-        source.old source.new disk result.disk sink.old sink.new options result.status }
+        source.old source.new disk result.disk sink.old sink.new options start result.status }
     ensures generate { (seed clients batches : ℕ) → AskToGenerate words.now seed clients batches
         → AnswersGenerate ⟦<S as Source>⟧ ⟦<D as Disk>⟧ ⟦<K as Sink>⟧
         source.old source.new disk result.disk sink.old sink.new seed clients batches result.status }
@@ -150,9 +158,9 @@ fn carry_out<
 ) -> Ended<D>
     requires { KeepsLimits asked }
     ensures other { (result.status < 8) × (result.status ≢ 1) }
-    ensures run { (options : RunOptions) → IsToRun asked options
+    ensures run { (options : RunOptions) (start : Start) → IsToRun asked options start
         → AnswersRun ⟦<S as Source>⟧ ⟦<D as Disk>⟧ ⟦<K as Sink>⟧
-        source.old source.new disk result.disk sink.old sink.new options result.status }
+        source.old source.new disk result.disk sink.old sink.new options start result.status }
     ensures generate { (seed clients batches : ℕ) → IsToGenerate asked seed clients batches
         → AnswersGenerate ⟦<S as Source>⟧ ⟦<D as Disk>⟧ ⟦<K as Sink>⟧
         source.old source.new disk result.disk sink.old sink.new seed clients batches result.status }
@@ -170,8 +178,11 @@ fn carry_out<
             group_bytes,
             batch_bytes,
             last,
+            number,
+            resume,
         } => {
-            let setup = setup_of(pipelined, shards, group_bytes, batch_bytes, last);
+            let start = log_start(number, resume);
+            let setup = setup_of(pipelined, shards, group_bytes, batch_bytes, last, start);
             run_script(host, setup, source, disk, sink, clock)
         }
         Invocation::Generate {
@@ -217,6 +228,21 @@ fn log_number(number: Option<u64>) -> Option<u32>
     }
 }
 
+/// How the log of a run is opened, by what the words say of it.
+fn log_start(number: Option<u64>, resume: bool) -> LogStart
+    requires { IfSome number (λ n. (1 ≤ n) × (n < 2 ^ 32)) }
+    ensures { result ≡ start_of number resume }
+{
+    let number = log_number(number);
+    if resume {
+        return LogStart::Behind { number };
+    }
+    match number {
+        Some(number) => LogStart::Over { number },
+        None => LogStart::New,
+    }
+}
+
 /// How the write path is set up for `run`, by what the words say of it.
 fn setup_of(
     pipelined: bool,
@@ -224,8 +250,10 @@ fn setup_of(
     group_bytes: u64,
     batch_bytes: u64,
     last: u64,
+    start: LogStart,
 ) -> Setup
     requires { IfSome shards (λ n. (1 ≤ n) × (n ≤ 64)) }
+    ensures start { result.start ≡ start }
     ensures stages { result.pipelined ≡ pipelined }
     ensures shards { MatchOption shards (result.shards ≡ 1) (λ n. result.shards ≡ n) }
     ensures some { 0 < result.shards }
@@ -238,6 +266,7 @@ fn setup_of(
     };
     Setup {
         options,
+        start,
         shards: shards_or_one(shards),
         pipelined,
     }

@@ -18,7 +18,7 @@ pub struct Ended<D> {
     /// | 4 | the source failed | `source fault COUNT` |
     /// | 5 | the sink failed | a prefix of the outcome |
     /// | 6 | there was no memory | nothing, or the outcome where clients alone lacked it |
-    /// | 7 | the log isn't empty | `log not empty LEN` |
+    /// | 7 | the log isn't empty, and is neither to be written over nor to go on | `log not empty LEN` |
     pub status: u8,
     pub disk: D,
 }

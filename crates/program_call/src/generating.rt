@@ -8,6 +8,7 @@ ghost use Rattle.program_call.specs.Answers.{RunsScript};
 ghost use Rattle.program_call.specs.Asking.{usual_options};
 ghost use Rattle.program_call.specs.Outcomes.{observation_of, IsGenerated};
 ghost use Rattle.program_call.specs.Texts.{Stood};
+ghost use Rattle.run_outcome.specs.declared.log_start.LogStart.TheVariants.{New};
 ghost use Rattle.program_call.specs.declared.report.Form.TheVariants as form;
 
 use crate::ended::{Ended, end_with};
@@ -19,6 +20,7 @@ use model_base::{MAX_CLIENTS, MAX_SIZE, Options};
 use run_execution::{Host, Setup};
 use run_generator::generate;
 use run_laws::summaries_are_one;
+use run_outcome::LogStart;
 use std::rt;
 use std::sync::Wait;
 use std::thread::Threads;
@@ -54,7 +56,7 @@ pub fn run_generated<
     ensures status { (result.status ≡ 0) ⊎ (result.status ≡ 3) ⊎ (result.status ≡ 5) ⊎ (result.status ≡ 6)
         ⊎ (result.status ≡ 7) }
     ensures runs { RunsScript ⟦<D as Disk>⟧ ⟦<K as Sink>⟧ (observation_of ⟦<D as Disk>⟧ ⟦<K as Sink>⟧
-        (IsGenerated seed clients batches) form.Summary usual_options disk result.disk sink.old sink.new)
+        (IsGenerated seed clients batches) form.Summary usual_options New disk result.disk sink.old sink.new)
         disk result.disk sink.old sink.new result.status }
     ensures completes { Stood (K.faults sink.old) (K.faults sink.new)
         → Stood (D.faults disk) (D.faults result.disk)
@@ -68,6 +70,7 @@ pub fn run_generated<
     summaries_are_one();
     let setup = Setup {
         options: USUAL_OPTIONS,
+        start: LogStart::New,
         shards,
         pipelined,
     };

@@ -7,6 +7,7 @@ ghost use Rattle.model_base.specs.Script.{Script as Said, Fault, script_of, whol
 ghost use Rattle.run_scripts.specs.Scripts.{commands_of, FitsBatches};
 ghost use Rattle.program_text.specs.Refusals.{script_fault, source_fault};
 ghost use Rattle.run_outcome.specs.Running.{IsReached};
+ghost use Rattle.run_outcome.specs.declared.log_start.LogStart.TheVariants.{New};
 ghost use Rattle.program_call.specs.Answers.{RunsScript};
 ghost use Rattle.program_call.specs.Outcomes.{observation_of, IsScript, SaysScript};
 ghost use Rattle.program_call.specs.Texts.{Stood, SaysTo};
@@ -50,12 +51,12 @@ pub fn run_script<
     ensures read_to_end { (result.status ≡ 0) ⊎ (result.status ≡ 3) ⊎ (result.status ≡ 5) ⊎ (result.status ≡ 7)
         → IfSome (S.left source.new) (λ left. left ≡ []) }
     ensures runs { RunsScript ⟦<D as Disk>⟧ ⟦<K as Sink>⟧ (observation_of ⟦<D as Disk>⟧ ⟦<K as Sink>⟧
-        (SaysScript (S.left source.old)) form.Whole setup.options disk result.disk sink.old sink.new)
+        (SaysScript (S.left source.old)) form.Whole setup.options setup.start disk result.disk sink.old sink.new)
         disk result.disk sink.old sink.new result.status }
     ensures completes { Stood (S.faults source.old) (S.faults source.new)
         → Stood (K.faults sink.old) (K.faults sink.new) → Stood (D.faults disk) (D.faults result.disk)
         → IfSome (S.left source.old) (λ text. IfSome (D.told disk) (λ d. (script : Said)
-        → script_of whole_grammar text ≡ Ok script → length d.content ≡ 0
+        → script_of whole_grammar text ≡ Ok script → (length d.content ≡ 0) ⊎ (setup.start ≢ New)
         → (result.status ≡ 0) ⊎ (result.status ≡ 6))) }
 {
     match read_script(host.alloc, source) {
@@ -99,7 +100,7 @@ pub fn run_and_tell<
     ensures status { (result.status ≡ 0) ⊎ (result.status ≡ 3) ⊎ (result.status ≡ 5) ⊎ (result.status ≡ 6)
         ⊎ (result.status ≡ 7) }
     ensures runs { RunsScript ⟦<D as Disk>⟧ ⟦<K as Sink>⟧ (observation_of ⟦<D as Disk>⟧ ⟦<K as Sink>⟧
-        (IsScript (commands_of script)) form setup.options disk result.disk sink.old sink.new)
+        (IsScript (commands_of script)) form setup.options setup.start disk result.disk sink.old sink.new)
         disk result.disk sink.old sink.new result.status }
 {
     let (disk, end) = execute(host, disk, clock, &script, setup);

@@ -1,5 +1,5 @@
 -- Each command with lawful words: clap takes them, and its matches ask for what they say.
-use Rattle.std.proofs.Common.{◌≡◌, ◌∙◌, inr, ℕ, Bool, true, false, List, [], ◌∷◌, append-nil, Option, Some, None, cond, fold, refl, sym, ap, subst, codes}
+use Rattle.std.proofs.Common.{◌≡◌, ◌∙◌, inl, inr, ℕ, Bool, true, false, List, [], ◌∷◌, append-nil, Option, Some, None, cond, fold, refl, sym, ap, subst, codes}
 use Rattle.std.proofs.lemmas.Slice.Eq.{bytes_eq-Decides}
 use Rattle.std.specs.Prelude.{bytes_eq, is_some, option_map}
 use Rattle.model_base.specs.declared.limits.TheConstants.{MAX_SIZE}
@@ -12,7 +12,8 @@ use Rattle.program_words.specs.Lawful.{Given, Known, command_asked, generate_ask
 use Rattle.program_words.specs.Meaning.{invocation_by, invocation_in, flag_in, number_in, recover_by, replay_by, run_by, shards_in}
 use Rattle.program_words.specs.declared.invocation.Invocation.{Invocation}
 use Rattle.program_words.specs.declared.invocation.Invocation.TheVariants.{Run, Recover, Replay}
-use Rattle.program_words.proofs.Four.{five, four, mapped_of}
+use Rattle.program_words.proofs.Defaults.{HasNoDefault}
+use Rattle.program_words.proofs.Four.{four, mapped_of, six}
 use Rattle.program_words.proofs.GivenValues.{flag_found, number_found, optional_found, shards_found}
 use Rattle.program_words.proofs.LeafOptions.{Fits, given_shown, nothing_given, options_pass, rows_given}
 use Rattle.program_words.proofs.LeafWalks.{HasOption, between, leaf, recover_has, replay_has, run_has}
@@ -47,21 +48,30 @@ options_ask name word s known is takes words given asked e says =
 -- ---- `run`
 
 run_takes : TakesOptions (leaf run.top) run_options
-run_takes = record { options = run_has; once = refl; defaults = (refl, (refl, (refl, (refl, (refl, (refl, tt)))))); checks = λ rows. refl }
+run_takes = record { options = run_has; once = refl; defaults = (refl, (refl, (refl, (refl, (refl, (refl, (refl, (refl, tt)))))))); checks = λ rows. refl }
+
+run_has_no_number : HasNoDefault (leaf run.top).rules (codes "number")
+run_has_no_number = (inl refl, (inl refl, (inl refl, (inl refl, (inl refl, (inl refl, (inr refl, (inl refl, tt))))))))
 
 run_says : (given : Given) → Each (Fits run_options) given → run_by (fold with_default (rows_given given) (leaf run.top).rules) ≡ Some (run_with given)
 run_says given fits =
     let c = (leaf run.top).rules in
     let rows = rows_given given in
     let end = fold with_default rows c in
-    let make = λ (p : Bool) (k : Option ℕ) (g : ℕ) (b : ℕ) (l : ℕ). Run p k g b l in
-    five make (flag_in (codes "pipelined") end) (shards_in end) (number_in (codes "group-bytes") end) (number_in (codes "batch-bytes") end) (number_in (codes "last") end)
+    let make = λ (p : Bool) (k : Option ℕ) (g : ℕ) (b : ℕ) (l : ℕ) (r : Bool). Run p k g b l (number_in (codes "number") end) r in
+    six make (flag_in (codes "pipelined") end) (shards_in end) (number_in (codes "group-bytes") end) (number_in (codes "batch-bytes") end) (number_in (codes "last") end)
+    (flag_in (codes "resume") end)
     (is_some (value_of (codes "pipelined") given)) (shards_given given) (number_or 1048576 lawful.group_bytes given) (number_or MAX_SIZE lawful.batch_bytes given) (number_or 0 lawful.last given)
-    (flag_found run_options c refl refl given fits rows (given_shown (codes "pipelined") given))
+    (is_some (value_of (codes "resume") given))
+    (flag_found run_options c (codes "pipelined") refl refl given fits rows (given_shown (codes "pipelined") given))
     (shards_found run_options c refl refl refl refl given fits rows (given_shown (codes "table") given) (given_shown (codes "shards") given))
     (number_found run_options c (codes "group-bytes") 1 MAX_SIZE 1048576 (codes "1048576") refl refl refl given fits rows (given_shown (codes "group-bytes") given))
     (number_found run_options c (codes "batch-bytes") 12 MAX_SIZE MAX_SIZE (codes "16777216") refl refl refl given fits rows (given_shown (codes "batch-bytes") given))
     (number_found run_options c (codes "last") 0 72057594037927935 0 (codes "0") refl refl refl given fits rows (given_shown (codes "last") given))
+    (flag_found run_options c (codes "resume") refl refl given fits rows (given_shown (codes "resume") given))
+    ∙ ap (λ (n : Option ℕ). Some (Run (is_some (value_of (codes "pipelined") given)) (shards_given given) (number_or 1048576 lawful.group_bytes given)
+    (number_or MAX_SIZE lawful.batch_bytes given) (number_or 0 lawful.last given) n (is_some (value_of (codes "resume") given))))
+    (optional_found run_options c (codes "number") 1 4294967295 refl run_has_no_number given fits rows (given_shown (codes "number") given))
 
 run_asks : (name : Text) (words : List Text) (given : Given) → options_of run_options words ≡ Some given → invocation_in (name ∷ codes "run" ∷ words) ≡ Some (run_with given)
 run_asks name words given e = options_ask name (codes "run") (leaf run.top) run_options is_run run_takes words given (run_with given) e (run_says given)
@@ -92,7 +102,7 @@ replay_says given fits =
     let make = λ (p : Bool) (g : ℕ) (b : ℕ) (l : ℕ). Replay p g b l in
     four make (flag_in (codes "pipelined") end) (number_in (codes "group-bytes") end) (number_in (codes "batch-bytes") end) (number_in (codes "last") end)
     (is_some (value_of (codes "pipelined") given)) (number_or 1048576 lawful.group_bytes given) (number_or MAX_SIZE lawful.batch_bytes given) (number_or 0 lawful.last given)
-    (flag_found replay_options c refl refl given fits rows (given_shown (codes "pipelined") given))
+    (flag_found replay_options c (codes "pipelined") refl refl given fits rows (given_shown (codes "pipelined") given))
     (number_found replay_options c (codes "group-bytes") 1 MAX_SIZE 1048576 (codes "1048576") refl refl refl given fits rows (given_shown (codes "group-bytes") given))
     (number_found replay_options c (codes "batch-bytes") 12 MAX_SIZE MAX_SIZE (codes "16777216") refl refl refl given fits rows (given_shown (codes "batch-bytes") given))
     (number_found replay_options c (codes "last") 0 72057594037927935 0 (codes "0") refl refl refl given fits rows (given_shown (codes "last") given))

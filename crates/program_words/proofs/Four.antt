@@ -1,4 +1,4 @@
--- Four values, and five, that are all there.
+-- Four values, five and six, that are all there.
 use Rattle.std.proofs.Common.{◌≡◌, Option, Some, None, refl}
 use Rattle.std.specs.Prelude.{option_and_then, option_map}
 
@@ -38,3 +38,15 @@ module _ {A B C D E Z : Type 0} (f : A → B → C → D → E → Z) where
   pub five_of : (oa : Option A) (ob : Option B) (oc : Option C) (od : Option D) (oe : Option E) (z : Z) → all_five oa ob oc od oe ≡ Some z
       → (a : A) × (oa ≡ Some a) × (all_four (f a) ob oc od oe ≡ Some z)
   five_of oa ob oc od oe z is = some_of (λ (a : A). all_four (f a) ob oc od oe) oa z is
+
+module _ {A B C D E F Z : Type 0} (f : A → B → C → D → E → F → Z) where
+  abbrev pub all_six : Option A → Option B → Option C → Option D → Option E → Option F → Option Z
+  all_six oa ob oc od oe of = option_and_then (λ a. all_five (f a) ob oc od oe of) oa
+
+  pub six : (oa : Option A) (ob : Option B) (oc : Option C) (od : Option D) (oe : Option E) (of : Option F) (a : A) (b : B) (c : C) (d : D) (e : E) (g : F)
+      → oa ≡ Some a → ob ≡ Some b → oc ≡ Some c → od ≡ Some d → oe ≡ Some e → of ≡ Some g → all_six oa ob oc od oe of ≡ Some (f a b c d e g)
+  six oa ob oc od oe of a b c d e g is_a is_b is_c is_d is_e is_g = rw (is_a, is_b, is_c, is_d, is_e, is_g) refl
+
+  pub six_of : (oa : Option A) (ob : Option B) (oc : Option C) (od : Option D) (oe : Option E) (of : Option F) (z : Z) → all_six oa ob oc od oe of ≡ Some z
+      → (a : A) × (oa ≡ Some a) × (all_five (f a) ob oc od oe of ≡ Some z)
+  six_of oa ob oc od oe of z is = some_of (λ (a : A). all_five (f a) ob oc od oe of) oa z is

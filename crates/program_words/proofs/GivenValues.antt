@@ -8,7 +8,7 @@ use Rattle.clap.specs.Simple.{filled}
 use Rattle.clap.specs.Walk.{arg_by_id, row_text, with_default}
 use Rattle.clap.specs.declared.parser.matches.ValueSource.{ValueSource}
 use Rattle.clap.specs.declared.parser.matches.ValueSource.TheVariants.{CommandLine, DefaultValue}
-use Rattle.program_words.specs.Definition.{number_option, pipelined, shards, table}
+use Rattle.program_words.specs.Definition.{flag, number_option, shards, table}
 use Rattle.program_words.specs.Lawful as lawful
 use Rattle.program_words.specs.Lawful.{Given, Known, Word, number_given, number_or, shards_given, value_of, within, word_of}
 use Rattle.program_words.specs.Meaning.{bool_of, flag_in, number_in, shards_in, shards_of, whole_number}
@@ -96,19 +96,19 @@ optional_found known c name least most found none given fits rows shows =
     ap (λ (r : Option Row). option_and_then whole_number (option_and_then row_text r)) (row_given c name none given rows shows)
     ∙ given_said least most name (value_of name given) (λ v e. value_fits known name (lawful.number_option name least most) found given fits v e)
 
--- ---- the flag
+-- ---- flags
 
 flag_said : (given : Option Text) → ((v : Text) → given ≡ Some v → bytes_eq v (codes "true") ≡ true) → bool_of (unwrap_or given (codes "false")) ≡ Some (is_some given)
 flag_said None fits = refl
 flag_said (Some v) fits = subst (λ (w : Text). bool_of w ≡ Some true) (sym ((bytes_eq-Decides v (codes "true")).0 (fits v refl))) refl
 
-pub flag_found : (known : List Known) (c : List Rule) → find (λ (x : Known). bytes_eq (word_of x) (word_of lawful.pipelined)) known ≡ Some lawful.pipelined
-    → arg_by_id c (codes "pipelined") ≡ Some (filled pipelined) → (given : Given) → Each (Fits known) given → (rows : List Row) → Shows given rows (codes "pipelined")
-    → flag_in (codes "pipelined") (fold with_default rows c) ≡ Some (is_some (value_of (codes "pipelined") given))
-flag_found known c found by_id given fits rows shows =
-    let has : HasDefault c (codes "pipelined") (codes "false") = record { rule = filled pipelined; found = by_id; reads = refl; defaults = refl } in
-    ap (λ (r : Option Row). option_and_then bool_of (option_and_then row_text r)) (row_found c (codes "pipelined") (codes "false") has given rows shows).1
-    ∙ flag_said (value_of (codes "pipelined") given) (λ v e. value_fits known (codes "pipelined") lawful.pipelined found given fits v e)
+pub flag_found : (known : List Known) (c : List Rule) (name : Text) → find (λ (x : Known). bytes_eq (word_of x) (codes "--" ++ name)) known ≡ Some (lawful.flag name)
+    → arg_by_id c name ≡ Some (filled (flag name)) → (given : Given) → Each (Fits known) given → (rows : List Row) → Shows given rows name
+    → flag_in name (fold with_default rows c) ≡ Some (is_some (value_of name given))
+flag_found known c name found by_id given fits rows shows =
+    let has : HasDefault c name (codes "false") = record { rule = filled (flag name); found = by_id; reads = refl; defaults = refl } in
+    ap (λ (r : Option Row). option_and_then bool_of (option_and_then row_text r)) (row_found c name (codes "false") has given rows shows).1
+    ∙ flag_said (value_of name given) (λ v e. value_fits known name (lawful.flag name) found given fits v e)
 
 -- ---- the shards
 

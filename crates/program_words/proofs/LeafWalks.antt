@@ -11,12 +11,12 @@ use Rattle.clap.specs.Simple.{built_leaf, inherited, marked_built, with_leaf_not
 use Rattle.clap.specs.Takes.{value_passes}
 use Rattle.clap.specs.Walk.{Held, Outcome, Step, Walk, Waiting, after_flag, after_step, arg_by_id, arg_by_long, flag_met, has_row, idle, long_met, next, option, option_met, option_word, plain_word, settled_rows, subcommand_or_other, takes_values, used, used_by_id, walked, word_met}
 use Rattle.clap.specs.declared.parser.matches.ValueSource.TheVariants.{CommandLine}
-use Rattle.program_words.specs.Definition.{batch_bytes, generate, group_bytes, last, number, pipelined, recover, replay, run, shards, table, writepath}
+use Rattle.program_words.specs.Definition.{batch_bytes, generate, group_bytes, last, number, pipelined, recover, replay, resume, run, shards, table, writepath}
 use Rattle.program_words.specs.Lawful as lawful
 use Rattle.program_words.specs.Lawful.{Known, generate_options, recover_options, replay_options, run_options, word_of}
 use Rattle.program_words.proofs.Lists.{Each, cond_false, cond_true}
 use Rattle.program_words.proofs.NumberTexts.{IsPlain}
-use Rattle.program_words.proofs.Options.{HasValue, IsFlag, IsValued, awaiting, number_valued, optional_valued, pipelined_flag, table_valued}
+use Rattle.program_words.proofs.Options.{HasValue, IsFlag, IsValued, awaiting, flag_flag, number_valued, optional_valued, table_valued}
 use Rattle.program_words.proofs.Rows.{first_use, value_row}
 
 -- a command as clap builds it
@@ -84,8 +84,20 @@ last_valued = number_valued (codes "last") 0 72057594037927935 (codes "0")
 log_valued : IsValued lawful.number (filled number)
 log_valued = optional_valued (codes "number") 1 4294967295
 
+pipelined_flag : IsFlag lawful.pipelined (filled pipelined)
+pipelined_flag = flag_flag (codes "pipelined")
+
+resume_flag : IsFlag lawful.resume (filled resume)
+resume_flag = flag_flag (codes "resume")
+
 run_pipelined : Finds (leaf run.top) lawful.pipelined (filled pipelined)
 run_pipelined = record { no_escape = refl; long = refl; by_long = refl; by_id = refl; once = refl }
+
+run_number : Finds (leaf run.top) lawful.number (filled number)
+run_number = record { no_escape = refl; long = refl; by_long = refl; by_id = refl; once = refl }
+
+run_resume : Finds (leaf run.top) lawful.resume (filled resume)
+run_resume = record { no_escape = refl; long = refl; by_long = refl; by_id = refl; once = refl }
 
 pub run_has : Each (HasOption (leaf run.top)) run_options
 run_has = (
@@ -94,7 +106,13 @@ run_has = (
     (filled table, run_table, inl table_valued),
     (
       (filled shards, run_shards, inl shards_valued),
-      ((filled group_bytes, run_group, inl group_valued), ((filled batch_bytes, run_batch, inl batch_valued), ((filled last, run_last, inl last_valued), tt))),
+      (
+        (filled group_bytes, run_group, inl group_valued),
+        (
+          (filled batch_bytes, run_batch, inl batch_valued),
+          ((filled last, run_last, inl last_valued), ((filled number, run_number, inl log_valued), ((filled resume, run_resume, inr resume_flag), tt))),
+        ),
+      ),
     ),
   ),
 )

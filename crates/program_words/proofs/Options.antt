@@ -10,7 +10,7 @@ use Rattle.clap.specs.Takes.{value_passes}
 use Rattle.clap.specs.Walk.{Held, idle, option_word, takes_values, used, with_values, without}
 use Rattle.clap.specs.declared.builder.value_parser.Reading.TheVariants.{AsWritten}
 use Rattle.clap.specs.declared.parser.matches.ValueSource.TheVariants.{CommandLine}
-use Rattle.program_words.specs.Definition.{number_option, number_word, optional_number, pipelined, table}
+use Rattle.program_words.specs.Definition.{flag, number_option, number_word, optional_number, table}
 use Rattle.program_words.specs.Lawful as lawful
 use Rattle.program_words.specs.Lawful.{Known}
 use Rattle.program_words.proofs.Lists.{either}
@@ -91,8 +91,8 @@ table_valued = record {
   passes = table_passes;
 }
 
-pub pipelined_flag : IsFlag lawful.pipelined (filled pipelined)
-pipelined_flag = record { flag = refl; takes_none = refl; use_is = λ rows. refl; fault_is = λ rows. refl; stands = refl }
+pub flag_flag : (name : Text) → IsFlag (lawful.flag name) (filled (flag name))
+flag_flag name = record { flag = refl; takes_none = refl; use_is = λ rows. refl; fault_is = λ rows. refl; stands = refl }
 
 -- ---- the numbers that have their places
 

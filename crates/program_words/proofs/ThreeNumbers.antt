@@ -195,7 +195,7 @@ module _ (given : Given) (fits : Each (Fits generate_options) given) (s c b : Te
       let number_of_row = λ (r : Option Row). option_and_then whole_number (option_and_then row_text r) in
       five make (flag_in (codes "pipelined") end_rows) (shards_in end_rows) (number_in (codes "SEED") end_rows) (number_in (codes "CLIENTS") end_rows) (number_in (codes "BATCHES") end_rows)
       (in_stages given) (shards_given given) i j k
-      (flag_found generate_options shape.rules refl refl given fits with_batches (shown (codes "pipelined") refl refl refl))
+      (flag_found generate_options shape.rules (codes "pipelined") refl refl given fits with_batches (shown (codes "pipelined") refl refl refl))
       (shards_found generate_options shape.rules refl refl refl refl given fits with_batches (shown (codes "table") refl refl refl) (shown (codes "shards") refl refl refl))
       (ap number_of_row seed_row ∙ are.is_seed.whole) (ap number_of_row clients_row ∙ are.is_clients.whole) (ap number_of_row batches_row ∙ are.is_batches.whole)
 

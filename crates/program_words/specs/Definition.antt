@@ -50,6 +50,10 @@ last = number_option (codes "last") 0 72057594037927935 (codes "0")
 abbrev pub number : Rule
 number = optional_number (codes "number") 1 4294967295
 
+-- whether the log goes on behind what it recovers
+abbrev pub resume : Rule
+resume = flag (codes "resume")
+
 -- what the numbers of a script are drawn from, how many clients it has, and how many batches each commits
 abbrev pub seed : Rule
 seed = number_word (codes "SEED") 0 2147483647
@@ -63,8 +67,8 @@ batches = number_word (codes "BATCHES") 1 100000
 -- the commands, with their options
 
 abbrev pub run : App
-run = with_rule (with_rule (with_rule (with_rule (with_rule (with_rule (new_app (codes "run")) pipelined) table) shards)
-    group_bytes) batch_bytes) last
+run = with_rule (with_rule (with_rule (with_rule (with_rule (with_rule (with_rule (with_rule (new_app (codes "run"))
+    pipelined) table) shards) group_bytes) batch_bytes) last) number) resume
 
 abbrev pub recover : App
 recover = with_rule (new_app (codes "recover")) number

@@ -58,10 +58,14 @@ last = number_option (codes "last") 0 (2 ^ 56 - 1)
 abbrev pub number : Known
 number = number_option (codes "number") 1 (2 ^ 32 - 1)
 
+-- the log goes on behind what it recovers
+abbrev pub resume : Known
+resume = flag (codes "resume")
+
 -- what each command takes
 
 abbrev pub run_options : List Known
-run_options = pipelined ∷ table ∷ shards ∷ group_bytes ∷ batch_bytes ∷ last ∷ []
+run_options = pipelined ∷ table ∷ shards ∷ group_bytes ∷ batch_bytes ∷ last ∷ number ∷ resume ∷ []
 
 abbrev pub recover_options : List Known
 recover_options = number ∷ []
@@ -125,6 +129,7 @@ shards_given given =
 abbrev pub run_with : Given → Invocation
 run_with given = Run (is_some (value_of pipelined.name given)) (shards_given given)
     (number_or 1048576 group_bytes given) (number_or MAX_SIZE batch_bytes given) (number_or 0 last given)
+    (number_given number given) (is_some (value_of resume.name given))
 
 abbrev pub recover_with : Given → Invocation
 recover_with given = Recover (number_given number given)

@@ -8,12 +8,17 @@ use Rattle.program_words.specs.declared.invocation.Invocation.TheVariants.{Run, 
 abbrev pub KeepsShards : Option ℕ → Type 0
 KeepsShards shards = IfSome shards (λ n. (1 ≤ n) × (n ≤ 64))
 
--- a batch may have its head at least, a write group a byte, and the sequence number is below 2^56; a log's number is
--- not zero, and below 2^32; a script that is made has from one client to 16, each with from one batch to 100000
+-- a log's number, where it has one, is not zero, and below 2^32
+abbrev pub KeepsNumber : Option ℕ → Type 0
+KeepsNumber number = IfSome number (λ n. (1 ≤ n) × (n < 2 ^ 32))
+
+-- a batch may have its head at least, a write group a byte, and the sequence number is below 2^56; a script that
+-- is made has from one client to 16, each with from one batch to 100000
 abbrev pub KeepsLimits : Invocation → Type 0
-KeepsLimits (Run pipelined shards group_bytes batch_bytes last) = KeepsShards shards × (1 ≤ group_bytes)
-    × (group_bytes ≤ 16777216) × (12 ≤ batch_bytes) × (batch_bytes ≤ MAX_SIZE) × (last < 2 ^ 56)
-KeepsLimits (Recover number) = IfSome number (λ n. (1 ≤ n) × (n < 2 ^ 32))
+KeepsLimits (Run pipelined shards group_bytes batch_bytes last number resume) = KeepsShards shards
+    × (1 ≤ group_bytes) × (group_bytes ≤ 16777216) × (12 ≤ batch_bytes) × (batch_bytes ≤ MAX_SIZE) × (last < 2 ^ 56)
+    × KeepsNumber number
+KeepsLimits (Recover number) = KeepsNumber number
 KeepsLimits (Replay pipelined group_bytes batch_bytes last) = (1 ≤ group_bytes) × (group_bytes ≤ 16777216)
     × (12 ≤ batch_bytes) × (batch_bytes ≤ MAX_SIZE) × (last < 2 ^ 56)
 KeepsLimits (Generate pipelined shards seed clients batches) = KeepsShards shards × (seed < 2 ^ 31) × (1 ≤ clients)

@@ -48,9 +48,12 @@ shards_in rows =
 -- what `run` asks for, by its matches
 abbrev pub run_by : List Row → Option Invocation
 run_by rows =
+    let number = number_in (codes "number") rows in
     option_and_then (λ pipelined. option_and_then (λ shards. option_and_then (λ group_bytes. option_and_then
-    (λ batch_bytes. option_map (λ last. Run pipelined shards group_bytes batch_bytes last)
-    (number_in (codes "last") rows)) (number_in (codes "batch-bytes") rows)) (number_in (codes "group-bytes") rows))
+    (λ batch_bytes. option_and_then (λ last. option_map
+    (λ resume. Run pipelined shards group_bytes batch_bytes last number resume)
+    (flag_in (codes "resume") rows)) (number_in (codes "last") rows))
+    (number_in (codes "batch-bytes") rows)) (number_in (codes "group-bytes") rows))
     (shards_in rows)) (flag_in (codes "pipelined") rows)
 
 -- and `recover`

@@ -45,7 +45,9 @@ fn run<'a>(alloc: Global) -> Result<Command<'a>, AllocError>
     ensures local { IfOk result (λ command. (out-Command command).has_globals ≡ false) }
 {
     let staged = Command::new(alloc, "run").arg(pipelined(alloc))?;
-    with_limits(with_table(staged, alloc)?, alloc)
+    with_limits(with_table(staged, alloc)?, alloc)?
+        .arg(number(alloc))?
+        .arg(resume(alloc))
 }
 
 fn recover<'a>(alloc: Global) -> Result<Command<'a>, AllocError>
@@ -117,9 +119,7 @@ fn pipelined<'a>(alloc: Global) -> Arg<'a>
     ensures rule { rule_of result ≡ clap_words.pipelined }
     ensures local { result.global ≡ false }
 {
-    Arg::new(alloc, "pipelined")
-        .long("pipelined")
-        .action(ArgAction::SetTrue)
+    flag(alloc, "pipelined")
 }
 
 /// The most bytes of a batch: its head alone has 12.
@@ -152,6 +152,22 @@ fn number<'a>(alloc: Global) -> Arg<'a>
     ensures local { result.global ≡ false }
 {
     optional_number(alloc, "number", 1, 4294967295)
+}
+
+/// Whether the log goes on behind what it recovers.
+fn resume<'a>(alloc: Global) -> Arg<'a>
+    ensures rule { rule_of result ≡ clap_words.resume }
+    ensures local { result.global ≡ false }
+{
+    flag(alloc, "resume")
+}
+
+/// A flag `--name`, which takes no value.
+fn flag<'a>(alloc: Global, name: &'a str) -> Arg<'a>
+    ensures rule { rule_of result ≡ clap_words.flag name.entry.now }
+    ensures local { result.global ≡ false }
+{
+    Arg::new(alloc, name).long(name).action(ArgAction::SetTrue)
 }
 
 /// An option `--name` that takes a whole number from `least` to `most`, and is `default` unless it is given.

@@ -28,6 +28,11 @@ pub enum Invocation {
         batch_bytes: u64,
         /// The sequence number before that of the first batch.
         last: u64,
+        /// The number of the log; none where it has none.
+        number: Option<u64>,
+        /// Whether the log goes on behind what it recovers; else it is written over where it has a number, and has to
+        /// be empty where it has none.
+        resume: bool,
     },
     /// To say what the log recovers.
     Recover {
@@ -122,6 +127,8 @@ fn run_by(options: &ArgMatches) -> Option<Invocation>
         group_bytes: number_in("group-bytes", options)?,
         batch_bytes: number_in("batch-bytes", options)?,
         last: number_in("last", options)?,
+        number: number_in("number", options),
+        resume: flag_in("resume", options)?,
     })
 }
 

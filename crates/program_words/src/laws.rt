@@ -17,7 +17,22 @@ pub fn lawful_words()
 pub fn words_that_are_lawful()
     ensures run { lawful_in (codes "writepath" ∷ codes "run" ∷ codes "--last" ∷ codes "5" ∷ codes "--shards"
         ∷ codes "64" ∷ codes "--batch-bytes" ∷ codes "12" ∷ codes "--table" ∷ codes "shards"
-        ∷ codes "--pipelined" ∷ codes "--group-bytes" ∷ codes "1" ∷ []) ≡ Some (Run true (Some 64) 1 12 5) }
+        ∷ codes "--pipelined" ∷ codes "--group-bytes" ∷ codes "1" ∷ []) ≡ Some (Run true (Some 64) 1 12 5 None false) }
+    ensures run_by_number { lawful_in (codes "writepath" ∷ codes "run" ∷ codes "--number" ∷ codes "7" ∷ [])
+        ≡ Some (Run false None 1048576 16777216 0 (Some 7) false) }
+    ensures number_before_others { lawful_in (codes "writepath" ∷ codes "run" ∷ codes "--number" ∷ codes "4294967295"
+        ∷ codes "--last" ∷ codes "5" ∷ codes "--pipelined" ∷ [])
+        ≡ Some (Run true None 1048576 16777216 5 (Some 4294967295) false) }
+    ensures number_behind_others { lawful_in (codes "writepath" ∷ codes "run" ∷ codes "--pipelined" ∷ codes "--last"
+        ∷ codes "5" ∷ codes "--number" ∷ codes "4294967295" ∷ [])
+        ≡ Some (Run true None 1048576 16777216 5 (Some 4294967295) false) }
+    ensures going_on { lawful_in (codes "writepath" ∷ codes "run" ∷ codes "--resume" ∷ [])
+        ≡ Some (Run false None 1048576 16777216 0 None true) }
+    ensures going_on_by_number { lawful_in (codes "writepath" ∷ codes "run" ∷ codes "--resume" ∷ codes "--number"
+        ∷ codes "7" ∷ []) ≡ Some (Run false None 1048576 16777216 0 (Some 7) true) }
+    ensures going_on_behind_others { lawful_in (codes "writepath" ∷ codes "run" ∷ codes "--number" ∷ codes "7"
+        ∷ codes "--last" ∷ codes "5" ∷ codes "--resume" ∷ [])
+        ≡ Some (Run false None 1048576 16777216 5 (Some 7) true) }
     ensures recover { lawful_in (codes "writepath" ∷ codes "recover" ∷ []) ≡ Some (Recover None) }
     ensures recover_by_number { lawful_in (codes "writepath" ∷ codes "recover" ∷ codes "--number"
         ∷ codes "4294967295" ∷ []) ≡ Some (Recover (Some 4294967295)) }
@@ -29,18 +44,31 @@ pub fn words_that_are_lawful()
 
 /// Words that ask for something, in lawful form and in another that is read too.
 pub fn words_that_ask()
-    ensures run { invocation_in (codes "writepath" ∷ codes "run" ∷ []) ≡ Some (Run false None 1048576 16777216 0) }
+    ensures run { invocation_in (codes "writepath" ∷ codes "run" ∷ [])
+        ≡ Some (Run false None 1048576 16777216 0 None false) }
     ensures run_with_groups { invocation_in (codes "writepath" ∷ codes "run" ∷ codes "--group-bytes" ∷ codes "1" ∷ [])
-        ≡ Some (Run false None 1 16777216 0) }
+        ≡ Some (Run false None 1 16777216 0 None false) }
     ensures run_in_shards { invocation_in (codes "writepath" ∷ codes "run" ∷ codes "--table" ∷ codes "shards" ∷ [])
-        ≡ Some (Run false (Some 16) 1048576 16777216 0) }
+        ≡ Some (Run false (Some 16) 1048576 16777216 0 None false) }
     ensures run_in_one { invocation_in (codes "writepath" ∷ codes "run" ∷ codes "--shards" ∷ codes "7" ∷ [])
-        ≡ Some (Run false None 1048576 16777216 0) }
+        ≡ Some (Run false None 1048576 16777216 0 None false) }
     ensures run_in_most_shards { invocation_in (codes "writepath" ∷ codes "run" ∷ codes "--table" ∷ codes "shards"
         ∷ codes "--shards" ∷ codes "64" ∷ codes "--last" ∷ codes "3" ∷ [])
-        ≡ Some (Run false (Some 64) 1048576 16777216 3) }
+        ≡ Some (Run false (Some 64) 1048576 16777216 3 None false) }
     ensures run_in_two_stages { invocation_in (codes "writepath" ∷ codes "run" ∷ codes "--pipelined" ∷ [])
-        ≡ Some (Run true None 1048576 16777216 0) }
+        ≡ Some (Run true None 1048576 16777216 0 None false) }
+    ensures run_by_number { invocation_in (codes "writepath" ∷ codes "run" ∷ codes "--number" ∷ codes "7" ∷ [])
+        ≡ Some (Run false None 1048576 16777216 0 (Some 7) false) }
+    ensures run_by_most { invocation_in (codes "writepath" ∷ codes "run" ∷ codes "--last" ∷ codes "3"
+        ∷ codes "--number=4294967295" ∷ codes "--pipelined" ∷ [])
+        ≡ Some (Run true None 1048576 16777216 3 (Some 4294967295) false) }
+    ensures going_on { invocation_in (codes "writepath" ∷ codes "run" ∷ codes "--resume" ∷ [])
+        ≡ Some (Run false None 1048576 16777216 0 None true) }
+    ensures going_on_by_number { invocation_in (codes "writepath" ∷ codes "run" ∷ codes "--resume" ∷ codes "--number=7"
+        ∷ []) ≡ Some (Run false None 1048576 16777216 0 (Some 7) true) }
+    ensures going_on_behind_others { invocation_in (codes "writepath" ∷ codes "run" ∷ codes "--number" ∷ codes "7"
+        ∷ codes "--pipelined" ∷ codes "--resume" ∷ [])
+        ≡ Some (Run true None 1048576 16777216 0 (Some 7) true) }
     ensures recover { invocation_in (codes "writepath" ∷ codes "recover" ∷ []) ≡ Some (Recover None) }
     ensures recover_by_number { invocation_in (codes "writepath" ∷ codes "recover" ∷ codes "--number" ∷ codes "7" ∷ [])
         ≡ Some (Recover (Some 7)) }
@@ -53,9 +81,9 @@ pub fn words_that_ask()
         ∷ codes "--pipelined"
         ∷ []) ≡ Some (Replay true 1048576 16777216 7) }
     ensures with_equals_sign { invocation_in (codes "writepath" ∷ codes "run" ∷ codes "--last=4" ∷ [])
-        ≡ Some (Run false None 1048576 16777216 4) }
+        ≡ Some (Run false None 1048576 16777216 4 None false) }
     ensures with_leading_zero { invocation_in (codes "writepath" ∷ codes "run" ∷ codes "--last" ∷ codes "04" ∷ [])
-        ≡ Some (Run false None 1048576 16777216 4) }
+        ≡ Some (Run false None 1048576 16777216 4 None false) }
     ensures generate { invocation_in (codes "writepath" ∷ codes "gen" ∷ codes "7" ∷ codes "16" ∷ codes "100000" ∷ [])
         ≡ Some (Generate false None 7 16 100000) }
     ensures generate_in_shards { invocation_in (codes "writepath" ∷ codes "gen" ∷ codes "--table" ∷ codes "shards"
@@ -97,8 +125,27 @@ pub fn words_that_do_not_ask()
         ≡ None }
     ensures number_twice { invocation_in (codes "writepath" ∷ codes "recover" ∷ codes "--number" ∷ codes "7"
         ∷ codes "--number" ∷ codes "7" ∷ []) ≡ None }
+    ensures number_zero_of_run { invocation_in (codes "writepath" ∷ codes "run" ∷ codes "--number" ∷ codes "0" ∷ [])
+        ≡ None }
+    ensures number_above_range_of_run { invocation_in (codes "writepath" ∷ codes "run" ∷ codes "--number"
+        ∷ codes "4294967296" ∷ []) ≡ None }
+    ensures number_without_value_of_run { invocation_in (codes "writepath" ∷ codes "run" ∷ codes "--number" ∷ [])
+        ≡ None }
+    ensures number_twice_of_run { invocation_in (codes "writepath" ∷ codes "run" ∷ codes "--number" ∷ codes "7"
+        ∷ codes "--last" ∷ codes "1" ∷ codes "--number" ∷ codes "7" ∷ []) ≡ None }
+    ensures number_of_generate { invocation_in (codes "writepath" ∷ codes "gen" ∷ codes "--number" ∷ codes "7"
+        ∷ codes "7" ∷ codes "2" ∷ codes "3" ∷ []) ≡ None }
     ensures number_of_replay { invocation_in (codes "writepath" ∷ codes "replay" ∷ codes "--number" ∷ codes "7" ∷ [])
         ≡ None }
+    ensures resume_with_value { invocation_in (codes "writepath" ∷ codes "run" ∷ codes "--resume=yes" ∷ []) ≡ None }
+    ensures resume_with_word { invocation_in (codes "writepath" ∷ codes "run" ∷ codes "--resume" ∷ codes "yes" ∷ [])
+        ≡ None }
+    ensures resume_twice { invocation_in (codes "writepath" ∷ codes "run" ∷ codes "--resume" ∷ codes "--last"
+        ∷ codes "1" ∷ codes "--resume" ∷ []) ≡ None }
+    ensures resume_of_recover { invocation_in (codes "writepath" ∷ codes "recover" ∷ codes "--resume" ∷ []) ≡ None }
+    ensures resume_of_generate { invocation_in (codes "writepath" ∷ codes "gen" ∷ codes "--resume" ∷ codes "7"
+        ∷ codes "2" ∷ codes "3" ∷ []) ≡ None }
+    ensures resume_of_replay { invocation_in (codes "writepath" ∷ codes "replay" ∷ codes "--resume" ∷ []) ≡ None }
     ensures unknown_table { invocation_in (codes "writepath" ∷ codes "run" ∷ codes "--table" ∷ codes "tree" ∷ [])
         ≡ None }
     ensures table_twice { invocation_in (codes "writepath" ∷ codes "run" ∷ codes "--table" ∷ codes "one"

@@ -3,4 +3,6 @@ pub mod LegalRuns
 mod LoggedGroups
 mod GroupCalls
 pub mod SafeLogs
+mod Openings
+mod Resumed
 mod RunEnds

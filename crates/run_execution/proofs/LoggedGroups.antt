@@ -2,7 +2,7 @@
 use Rattle.std.proofs.Common.{◌≡◌, ◌≢◌, inl, inr, ℕ, zero, suc, ◌+◌, ◌-◌, ◌*◌, ◌^◌, ◌<◌, ◌≤◌, Bool, true, false, eqb, IsTrue, List, [], ◌∷◌, ◌++◌, length, take, map, flat_map, cond, ◌==◌, refl, ap, sym, ◌∙◌, subst, arith, length-append}
 use Rattle.std.proofs.lemmas.Bool.{eqb-true, ne_eqb, or_cases}
 use Rattle.std.proofs.lemmas.Grind.{flat_map-append}
-use Rattle.std.proofs.lemmas.List.{length-map, take-map}
+use Rattle.std.proofs.lemmas.List.{length-map, take-map, map-append}
 use Rattle.std.proofs.lemmas.List.Sums.{count_by-le-length, sum_by-append}
 use Rattle.std.proofs.lemmas.Map.Steps.{length-le_from_distinct_below}
 use Rattle.std.specs.List.{AllByRecursion, AllZip, IsDistinct, list_any}
@@ -11,7 +11,7 @@ use Rattle.model_base.specs.Varint.{varint}
 use Rattle.model_base.specs.Batch.{Record, value, deletion, single_deletion, log_data, tag_of, is_tag, strings_of, is_counted, count_of, varstring, record_bytes, header, body, size_of_batch, IsReadable, IsBatch}
 use Rattle.model_base.specs.History.{Entry, max_sequence, last_of, IsHistory, RunsFollow, last_sequence, is_logged, logged_entries}
 use Rattle.model_base.specs.LogContents.{GroupCall, record_of_entries, records_of}
-use Rattle.model_base.specs.Recovery.{Logged, logged_bytes, last_after, AreInOrder}
+use Rattle.model_base.specs.Recovery.{Logged, logged_bytes, last_after, AreInOrder, last_sequence as last_kept}
 use Rattle.log_writer.specs.Crashes.{AreRisingBatches}
 use Rattle.model_runs.specs.Written.{AreOfOwnClients, WroteEntries}
 
@@ -137,7 +137,7 @@ run_ends last (e ∷ entries) is =
 
 -- Each group is a batch, and each comes after the one before it
 
-abbrev IsOwnBatch : Logged → Type 0
+abbrev pub IsOwnBatch : Logged → Type 0
 IsOwnBatch b = IsBatch (logged_bytes b) b.first b.records
 
 -- what is known of a group that a call wrote
@@ -233,16 +233,36 @@ order_take last zero batches ordered = tt
 order_take last (suc n) [] ordered = tt
 order_take last (suc n) (b ∷ batches) ordered = (ordered.0, order_take (last_after last b) n batches ordered.1)
 
--- the first of the log's records, so many
+-- Behind batches that a log keeps
+
+-- these records are batches whose runs rise, up to a last sequence
+pub record AreKept (start : ℕ) (records : List (List ℕ)) : Type 0 where
+  pub batches : List Logged
+  pub same : map logged_bytes batches ≡ records
+  pub each : AllByRecursion IsOwnBatch batches
+  pub rising : AreInOrder 0 batches
+  pub below : last_kept 0 batches ≤ start
+
+all_joined : {A : Type 0} (P : A → Type 0) (xs ys : List A) → AllByRecursion P xs → AllByRecursion P ys → AllByRecursion P (xs ++ ys)
+all_joined P [] ys first later = later
+all_joined P (x ∷ xs) ys first later = (first.0, all_joined P xs ys first.1 later)
+
+order_joined : (last : ℕ) (xs ys : List Logged) → AreInOrder last xs → AreInOrder (last_kept last xs) ys → AreInOrder last (xs ++ ys)
+order_joined last [] ys first later = later
+order_joined last (x ∷ xs) ys first later = (first.0, order_joined (last_after last x) xs ys first.1 later)
+
+-- and the first of the records of the groups above it, so many
 pub rising_groups : (start : ℕ) (entries : List Entry) (groups : List (List Entry)) (calls : List GroupCall) (n : ℕ) → IsHistory start entries → AllByRecursion Suits entries
-    → all_of groups ≡ logged_entries entries → AllByRecursion RunsFollow groups → AllZip WroteEntries groups calls → AreRisingBatches (take n (records_of groups))
-rising_groups start entries groups calls n is suit cut runs each =
+    → all_of groups ≡ logged_entries entries → AllByRecursion RunsFollow groups → AllZip WroteEntries groups calls → (records : List (List ℕ)) → AreKept start records → AreRisingBatches (records ++ take n (records_of groups))
+rising_groups start entries groups calls n is suit cut runs each records kept =
     let small = are_small groups calls each runs (subst (AllByRecursion Suits) (sym cut) (all_logged Suits entries suit)) in
-    let rise = subst (Rise 0) (sym cut) (logged_rise 0 start entries (omega arith) is) in
+    let low : ℕ = last_kept 0 kept.batches in
+    let rise = subst (Rise low) (sym cut) (logged_rise low start entries kept.below is) in
     let batches : List Logged = map as_logged groups in
+    let more : map logged_bytes (take n batches) ≡ take n (records_of groups) = sym (take-map logged_bytes n batches) ∙ ap (take n) (same_records groups (each_has_entries groups calls each)) in
     record {
-      batches = take n batches;
-      same = sym (take-map logged_bytes n batches) ∙ ap (take n) (same_records groups (each_has_entries groups calls each));
-      each = all_take IsOwnBatch n batches (are_own 0 groups small rise);
-      rising = order_take 0 n batches (in_order 0 0 groups (omega arith) small rise);
+      batches = kept.batches ++ take n batches;
+      same = map-append logged_bytes kept.batches (take n batches) ∙ ap (λ (l : List (List ℕ)). l ++ map logged_bytes (take n batches)) kept.same ∙ ap (λ (l : List (List ℕ)). records ++ l) more;
+      each = all_joined IsOwnBatch kept.batches (take n batches) kept.each (all_take IsOwnBatch n batches (are_own low groups small rise));
+      rising = order_joined 0 kept.batches (take n batches) kept.rising (order_take low n batches (in_order low low groups (omega arith) small rise));
     }

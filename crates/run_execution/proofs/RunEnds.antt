@@ -1,13 +1,17 @@
 -- How a run ends, by what it came to over its opened log.
-use Rattle.std.proofs.Common.{◌≡◌, ℕ, ◌≤◌, List, [], ◌∷◌, ◌++◌, length, IfSome, Option, Vec, Global, refl, ap, ◌∙◌, subst, arith, length-append}
+use Rattle.std.proofs.Common.{◌≡◌, ℕ, ◌≤◌, max, List, [], ◌∷◌, ◌++◌, length, take, IfSome, Option, None, Vec, Global, refl, ap, sym, ◌∙◌, subst, arith, length-append}
 use Rattle.model_base.specs.declared.limits.TheConstants.{MAX_CLIENTS, MAX_SIZE}
 use Rattle.base_devices.specs.declared.disk.Disk.{Ghosts}
+use Rattle.base_devices.specs.Disk as dev
+use Rattle.base_devices.specs.Disk.{LeavesOnly}
+use Rattle.model_base.specs.Log.{Beginning, text_after}
 use Rattle.model_base.specs.LogContents.{GroupCall}
 use Rattle.model_base.specs.Trace.{Settings}
 use Rattle.model_base.specs.Calls.{Command}
 use Rattle.model_base.specs.Outcomes.{outcome_of}
 use Rattle.model_base.specs.Map.{Pairs}
 use Rattle.log_batch.specs.Contents.{Contents}
+use Rattle.log_laws.specs.Prefixes.{BeginsWith}
 use Rattle.run_outcome.specs.declared.history_entry.HistoryEntry.{HistoryEntry}
 use Rattle.run_outcome.specs.declared.reply.Reply.{Reply}
 use Rattle.run_outcome.specs.Shows.{ShowsOutcome}
@@ -15,17 +19,18 @@ use Rattle.model_base.specs.declared.options.Options.{Options}
 use Rattle.model_base.specs.Settings.{settings_of}
 use Rattle.log_writer.specs.declared.writer.LogWriter.{LogWriter}
 use Rattle.log_writer.specs.Words.{disk_of, len_of, fault_of}
-use Rattle.log_writer.specs.Opening.{HasOpened}
-use Rattle.log_writer.specs.Written.{Wrote, no_call, one_more, IsWritten, IsWrittenFrom, HoldsSynced, Stands, HasCauseSince}
-use Rattle.model_runs.specs.Crashes.{IsImageSince}
-use Rattle.run_outcome.specs.Running.{Execution, execution_of, IsRunOf, GoesOn}
-use Rattle.base_devices.specs.Disk.{LeavesOnly}
+use Rattle.log_writer.specs.Opening.{HasBegun}
+use Rattle.log_writer.specs.Written.{Wrote, no_call, one_more, IsWritten, first_fault, written_by, HoldsSynced, HoldsCalls, IsTextOver, Stands, HasCauseSince}
+use Rattle.run_outcome.specs.declared.log_start.LogStart.{LogStart}
+use Rattle.run_outcome.specs.Running.{Execution, Before, GoesOnFrom, beginning_of, IsRunOf, HasRun, IsAsFound, GoesOn}
 use Rattle.run_threads.specs.declared.run.ClientsEnd.{ClientsEnd}
 use Rattle.run_threads.specs.declared.run.ClientsEnd.TheVariants.{NotRun, Untold, Told}
 use Rattle.run_threads.specs.Runs.{HaveRun, ComesTo, log_of, outcome_with}
-use Rattle.run_execution.specs.Ends.{HasOutcome, IsEnd, end_of_run}
+use Rattle.run_execution.specs.declared.opening.Opened.{Opened}
+use Rattle.run_execution.specs.Ends.{HasOutcome, HasOpenedAs, IsOpenedFor, options_behind, execution_on, EndsOn, end_of_run}
 use Rattle.run_execution.proofs.LegalRuns.{small_entries, refused_for_themselves}
-use Rattle.run_execution.proofs.SafeLogs.{len_is, safe_log, held_images, is_written, goes_on, later}
+use Rattle.run_execution.proofs.Openings.{ImageLaw, keeps_as, recovers_as, content_as, empty_as, found_as, no_fault_as}
+use Rattle.run_execution.proofs.SafeLogs.{len_is, safe_log, left_since, kept_left, held_images, is_written, goes_on, later}
 
 -- the same of what is equal
 pub comes_to : {L : Type 0} (fault : L → Option ℕ) (faults : L → ℕ) (ran : ClientsEnd L) (s t : Settings) (xs ys : List (List Command)) (v w : List GroupCall → L → Type 0)
@@ -35,105 +40,122 @@ comes_to fault faults ran s t xs ys v w same_settings same_script same_calls com
     (subst (λ (zs : List (List Command)). ComesTo s zs w fault faults ran) same_script
     (subst (λ (u : List GroupCall → _ → Type 0). ComesTo s xs u fault faults ran) same_calls comes))
 
+-- The settings of an engine over what was opened are those of a run that goes on from it.
+pub settings_behind : {D : Type 0} {ghosts : Ghosts D} (start : LogStart) (disk : D) (opened : Opened D ghosts) (options : Options) (last n m : ℕ) (is : IsOpenedFor ghosts start disk opened) → last ≡ max options.last opened.last → n ≡ m
+    → settings_of (record options { last = last }) opened.map n (ghosts.faults (disk_of opened.log)) ≡ settings_of (options_behind options is.before) is.before.map m (ghosts.faults disk)
+settings_behind {ghosts = ghosts} start disk opened options last n m is last_is same =
+    ap (λ (l : ℕ). settings_of (record options { last = l }) opened.map n (ghosts.faults (disk_of opened.log))) (last_is ∙ ap (max options.last) is.last)
+    ∙ (ap (λ (p : Pairs). settings_of (options_behind options is.before) p n (ghosts.faults (disk_of opened.log))) is.map
+    ∙ (ap (λ (k : ℕ). settings_of (options_behind options is.before) is.before.map k (ghosts.faults (disk_of opened.log))) same
+    ∙ ap (settings_of (options_behind options is.before) is.before.map m) (no_fault_as start is.before disk opened.log is.is_opened)))
+
+-- What the laws say of a log that began so, and of its calls
+module _ {D : Type 0} (ghosts : Ghosts D) (b : Beginning) where
+  module _ (disk : D) where
+    abbrev StandsBy : Type 0
+    StandsBy = (calls : List GroupCall) (log : LogWriter D ghosts) → IsWritten b disk calls log → Stands b calls log
+
+    abbrev HasContent : Type 0
+    HasContent = (calls : List GroupCall) (begun log : LogWriter D ghosts) → HasBegun b disk begun → Wrote begun calls log → first_fault calls ≡ None
+        → dev.Told (ghosts.told (disk_of begun)) (ghosts.told (disk_of log)) (IsTextOver (text_after b (written_by calls)))
+
+    abbrev HasCause : Type 0
+    HasCause = (calls : List GroupCall) (log : LogWriter D ghosts) → IsWritten b disk calls log → HasCauseSince disk log
+
+    abbrev Holds : Type 0
+    Holds = (calls : List GroupCall) (log : LogWriter D ghosts) → IsWritten b disk calls log → IfSome (ghosts.told disk) (λ d. LeavesOnly ghosts.moment ghosts.from ghosts.since disk (disk_of log) (HoldsSynced b d.reach calls))
+
+  abbrev Begins : Type 0
+  Begins = (before after : List GroupCall) (old new : LogWriter D ghosts) → Wrote old after new → IfSome (ghosts.told (disk_of old)) (λ d. (safe : ℕ) → HoldsCalls b d before safe
+      → LeavesOnly ghosts.moment ghosts.from ghosts.since (disk_of old) (disk_of new) (BeginsWith (text_after b (take safe (written_by before)))))
+
 module _ {D : Type 0} {ghosts : Ghosts D} where
   -- a log that no call wrote is as it was opened
   not_written : (old : LogWriter D ghosts) (calls : List GroupCall) (new : LogWriter D ghosts) → Wrote old calls new → calls ≡ [] → new ≡ old
   not_written old calls new no_call none = refl
   not_written old calls new (one_more {calls = before} c wrote adds) none = absurd (omega (arith, ap length none, length-append before (c ∷ [])))
 
-  module _ (disk : D) (opened log : LogWriter D ghosts) (options : Options) (script : List (List Command)) (last : ℕ) (has_opened : HasOpened disk opened)
-      (few : length script ≤ MAX_CLIENTS) (bounded : options.batch_bytes ≤ MAX_SIZE)
-      (stands : (calls : List GroupCall) → IsWritten disk calls log → Stands calls log) (cause : (calls : List GroupCall) → IsWritten disk calls log → HasCauseSince disk log)
-      (held : (calls : List GroupCall) → IsWritten disk calls log → IfSome (ghosts.told disk) (λ d. LeavesOnly ghosts.moment ghosts.from ghosts.since disk (disk_of log) (HoldsSynced d.reach calls))) where
-    abbrev images : List ℕ → Type 0
-    images = IsImageSince ghosts.moment ghosts.from ghosts.since disk (disk_of log)
+  module _ (start : LogStart) (before : Before) (disk : D) (opened : LogWriter D ghosts) (options : Options) (script : List (List Command)) (goes : GoesOnFrom start (ghosts.told disk) before)
+      (has_opened : HasOpenedAs start before disk opened) (begun : HasBegun (beginning_of start before) disk opened) (few : length script ≤ MAX_CLIENTS) (bounded : options.batch_bytes ≤ MAX_SIZE) (recovers : ImageLaw)
+      (stands : StandsBy ghosts (beginning_of start before) disk) (content : HasContent ghosts (beginning_of start before) disk) (cause : HasCause ghosts (beginning_of start before) disk) (held : Holds ghosts (beginning_of start before) disk) (begins : Begins ghosts (beginning_of start before)) where
+    abbrev settings : Settings
+    settings = settings_of (options_behind options before) before.map (length script) (ghosts.faults disk)
 
-    abbrev by_calls : List GroupCall → Type 0
-    by_calls = IsWrittenFrom ghosts disk (disk_of log)
+    module _ (log : LogWriter D ghosts) (last : ℕ) where
+      abbrev execution : Execution
+      execution = execution_on ghosts options start before script disk (disk_of log)
 
-    abbrev execution : Execution
-    execution = execution_of options script (ghosts.faults disk) (ghosts.faults (disk_of log)) images by_calls
+      abbrev Ran : Type 0
+      Ran = HaveRun settings script (Wrote opened) fault_of (λ l. ghosts.faults (disk_of l)) log last
 
-    abbrev Ran : Type 0
-    Ran = HaveRun (settings_of options (length script) (ghosts.faults disk)) script (Wrote opened) fault_of (λ l. ghosts.faults (disk_of l)) log last
-
-    -- all clients have run: there is an outcome
-    has_outcome : Ran → HasOutcome execution (ghosts.told disk) (ghosts.told (disk_of log))
-    has_outcome ran =
-        let o = outcome_of ran.trace ran.transcripts last (len_of log) (fault_of log) in
-        let settings = settings_of options (length script) (ghosts.faults disk) in
-        let ended = ghosts.faults (disk_of log) in
-        let legal = ran.legal (len_of log) in
-        let calls = ran.writes.calls ++ ran.writes.lost in
-        let written = is_written disk opened log calls has_opened ran.writes.by in
-        let run : IsRunOf execution o = record {
-          trace = ran.trace;
-          attempts = ran.attempts;
-          legal = legal;
-          writes = record {
-            parts = ran.writes.parts;
-            calls = ran.writes.calls;
-            lost = ran.writes.lost;
-            cut = ran.writes.cut;
-            runs = ran.writes.runs;
-            each = ran.writes.each;
-            none_else = ran.writes.none_else;
-            by = (log, written, refl);
-          };
-          length_is = len_is ran.trace ran.attempts settings.group_bytes (λ cs. Wrote opened cs log) log ran.writes (stands calls written);
-        } in
-        record {
-          outcome = o;
-          run = run;
-          refusals = refused_for_themselves settings ended script ran.trace ran.attempts o legal;
-          log = safe_log disk opened log execution o run few (small_entries settings ended script ran.trace ran.attempts o legal bounded) has_opened ran.writes.by (stands calls written)
-              (held_images ghosts.moment ghosts.from ghosts.since (ghosts.told disk) disk (disk_of log) calls (held calls written));
-        }
-
-    -- and the values show it, where they are at hand
-    module _ (transcripts : Vec (Vec Reply Global) Global) (history : List (HistoryEntry Contents)) (state : Pairs) where
-      abbrev told : ClientsEnd (LogWriter D ghosts)
-      told = Told log last transcripts history state
-
-      has_run : (ran : Ran) → ((log_len : ℕ) → ShowsOutcome (outcome_with transcripts history last state log_len (fault_of log)) (outcome_of ran.trace ran.transcripts last log_len (fault_of log)))
-          → IsEnd options script (ghosts.told disk) (ghosts.told (disk_of log)) (ghosts.faults disk) (ghosts.faults (disk_of log)) images by_calls (end_of_run told)
-      unfolding has_outcome
-      has_run ran shows =
-          let there = has_outcome ran in
+      -- all clients have run: there is an outcome
+      has_outcome : Ran → HasOutcome execution (ghosts.told disk) (ghosts.told (disk_of log))
+      has_outcome ran =
+          let o = outcome_of ran.trace ran.transcripts last (len_of log) (fault_of log) in
+          let b = beginning_of start before in
+          let ended = ghosts.faults (disk_of log) in
+          let legal = ran.legal (len_of log) in
           let calls = ran.writes.calls ++ ran.writes.lost in
+          let written = is_written b disk opened log calls begun ran.writes.by in
+          let run : IsRunOf execution o = record {
+            trace = ran.trace;
+            attempts = ran.attempts;
+            legal = legal;
+            writes = record {
+              parts = ran.writes.parts;
+              calls = ran.writes.calls;
+              lost = ran.writes.lost;
+              cut = ran.writes.cut;
+              runs = ran.writes.runs;
+              each = ran.writes.each;
+              none_else = ran.writes.none_else;
+              by = (log, written, refl);
+            };
+            length_is = len_is b ran.trace ran.attempts settings.group_bytes (λ cs. Wrote opened cs log) log ran.writes (stands calls log written);
+          } in
           record {
-            outcome = there.outcome;
-            shows = shows (len_of log);
-            run = there.run;
-            refusals = there.refusals;
-            counted = (cause calls (is_written disk opened log calls has_opened ran.writes.by)).no_fault;
-            log = there.log;
+            outcome = o;
+            run = run;
+            refusals = refused_for_themselves settings ended script ran.trace ran.attempts o legal;
+            log = safe_log disk opened log execution o run few (small_entries settings ended script ran.trace ran.attempts o legal bounded)
+                (keeps_as start before (ghosts.told disk) ran.trace.start goes (let first = (legal.is_trace).start in omega (arith, first))) (empty_as start before disk opened has_opened) (content_as start before disk opened has_opened) begun ran.writes.by
+                (stands calls log written) (content calls opened log begun ran.writes.by) (held_images b ghosts.moment ghosts.from ghosts.since (ghosts.told disk) disk (disk_of log) calls (held calls log written))
+                (kept_left b disk (disk_of log) calls stands begins)
+                (left_since b disk (disk_of log) settings.group_bytes ran.attempts _ ran.writes.parts ran.writes.calls ran.writes.lost ran.writes.each (fault_of log) ran.writes.none_else stands begins)
+                (recovers_as recovers start before (ghosts.told disk) execution.images goes);
           }
 
-  -- how the run ends, by what it came to
-  pub is_end : (disk : D) (opened : LogWriter D ghosts) (ran : ClientsEnd (LogWriter D ghosts)) (options : Options) (script : List (List Command)) → HasOpened disk opened
-      → length script ≤ MAX_CLIENTS → options.batch_bytes ≤ MAX_SIZE
-      → ((log : LogWriter D ghosts) (calls : List GroupCall) → IsWritten disk calls log → Stands calls log)
-      → ((log : LogWriter D ghosts) (calls : List GroupCall) → IsWritten disk calls log → HasCauseSince disk log)
-      → ((log : LogWriter D ghosts) (calls : List GroupCall) → IsWritten disk calls log
-      → IfSome (ghosts.told disk) (λ d. LeavesOnly ghosts.moment ghosts.from ghosts.since disk (disk_of log) (HoldsSynced d.reach calls)))
-      → ComesTo (settings_of options (length script) (ghosts.faults disk)) script (Wrote opened) fault_of (λ l. ghosts.faults (disk_of l)) ran
-      → IsEnd options script (ghosts.told disk) (ghosts.told (disk_of (log_of ran))) (ghosts.faults disk) (ghosts.faults (disk_of (log_of ran)))
-      (IsImageSince ghosts.moment ghosts.from ghosts.since disk (disk_of (log_of ran))) (IsWrittenFrom ghosts disk (disk_of (log_of ran))) (end_of_run ran)
-  is_end disk opened (NotRun log) options script has_opened few bounded stands cause held wrote =
-      ap (λ (l : LogWriter D ghosts). ghosts.told (disk_of l)) (not_written opened [] log wrote refl) ∙ has_opened.looked_at.same
-  is_end disk opened (Untold log last) options script has_opened few bounded stands cause held ran =
-      has_outcome disk opened log options script last has_opened few bounded (stands log) (cause log) (held log) ran
-  is_end disk opened (Told log last transcripts history state) options script has_opened few bounded stands cause held told =
-      has_run disk opened log options script last has_opened few bounded (stands log) (cause log) (held log) transcripts history state told.0 told.1
+      -- and the values show it, where they are at hand
+      module _ (transcripts : Vec (Vec Reply Global) Global) (history : List (HistoryEntry Contents)) (state : Pairs) where
+        has_run : (ran : Ran) → ((log_len : ℕ) → ShowsOutcome (outcome_with transcripts history last state log_len (fault_of log)) (outcome_of ran.trace ran.transcripts last log_len (fault_of log)))
+            → HasRun execution (ghosts.told disk) (ghosts.told (disk_of log)) (outcome_with transcripts history last state (len_of log) (fault_of log))
+        unfolding has_outcome
+        has_run ran shows =
+            let there = has_outcome ran in
+            let calls = ran.writes.calls ++ ran.writes.lost in
+            record {
+              outcome = there.outcome;
+              shows = shows (len_of log);
+              run = there.run;
+              refusals = there.refusals;
+              counted = (cause calls log (is_written (beginning_of start before) disk opened log calls begun ran.writes.by)).no_fault;
+              log = there.log;
+            }
+
+    -- how the run ends, by what it came to
+    pub is_end : (ran : ClientsEnd (LogWriter D ghosts)) → ComesTo settings script (Wrote opened) fault_of (λ l. ghosts.faults (disk_of l)) ran
+        → EndsOn ghosts options start script disk (disk_of (log_of ran)) (end_of_run ran)
+    is_end (NotRun log) wrote = subst (λ (l : LogWriter D ghosts). IsAsFound start (ghosts.told disk) (ghosts.told (disk_of l))) (sym (not_written opened [] log wrote refl)) (found_as start before disk opened goes has_opened)
+    is_end (Untold log last) ran = (before, goes, has_outcome log last ran)
+    is_end (Told log last transcripts history state) told = (before, goes, has_run log last transcripts history state told.0 told.1)
 
   -- what no call wrote, or these calls
   abbrev WentOn : LogWriter D ghosts → LogWriter D ghosts → Type 0
   WentOn opened log = GoesOn ghosts.moment ghosts.from (disk_of opened) (disk_of log) × (ghosts.faults (disk_of opened) ≤ ghosts.faults (disk_of log))
 
-  pub went_on : (opened : LogWriter D ghosts) (options : Options) (script : List (List Command)) (counted : ℕ) (ran : ClientsEnd (LogWriter D ghosts))
-      → ComesTo (settings_of options (length script) counted) script (Wrote opened) fault_of (λ l. ghosts.faults (disk_of l)) ran → WentOn opened (log_of ran)
-  went_on opened options script counted (NotRun log) wrote = (goes_on opened log [] wrote, later opened log [] wrote)
-  went_on opened options script counted (Untold log last) ran = (goes_on opened log (ran.writes.calls ++ ran.writes.lost) ran.writes.by, later opened log (ran.writes.calls ++ ran.writes.lost) ran.writes.by)
-  went_on opened options script counted (Told log last transcripts history state) told =
+  pub went_on : (opened : LogWriter D ghosts) (options : Options) (map : Pairs) (script : List (List Command)) (counted : ℕ) (ran : ClientsEnd (LogWriter D ghosts))
+      → ComesTo (settings_of options map (length script) counted) script (Wrote opened) fault_of (λ l. ghosts.faults (disk_of l)) ran → WentOn opened (log_of ran)
+  went_on opened options map script counted (NotRun log) wrote = (goes_on opened log [] wrote, later opened log [] wrote)
+  went_on opened options map script counted (Untold log last) ran = (goes_on opened log (ran.writes.calls ++ ran.writes.lost) ran.writes.by, later opened log (ran.writes.calls ++ ran.writes.lost) ran.writes.by)
+  went_on opened options map script counted (Told log last transcripts history state) told =
       let ran = told.0 in (goes_on opened log (ran.writes.calls ++ ran.writes.lost) ran.writes.by, later opened log (ran.writes.calls ++ ran.writes.lost) ran.writes.by)

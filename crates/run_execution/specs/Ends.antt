@@ -1,23 +1,27 @@
 -- How a run ends, and what stands then.
-use Rattle.std.specs.Prelude.{◌≡◌, ◌<◌, ℕ, List, length, Option, None, IfSome}
+use Rattle.std.specs.Prelude.{◌≡◌, ◌<◌, ℕ, max, List, [], length, take, Option, None, IfSome}
 use Rattle.std.specs.List.{AllByRecursion}
 use Rattle.base_devices.specs.Disk.{Disk, Told}
 use Rattle.base_devices.specs.declared.disk.Disk.{Ghosts}
 use Rattle.model_base.specs.Settings.{settings_of}
 use Rattle.model_base.specs.Calls as calls
-use Rattle.model_base.specs.LogContents.{GroupCall}
+use Rattle.model_base.specs.Map.{Pairs}
 use Rattle.model_base.specs.declared.options.Options.{Options}
 use Rattle.model_runs.specs.Crashes.{IsImageSince}
 use Rattle.model_runs.specs.Refusals.{AreRefusedForThemselves}
-use Rattle.run_outcome.specs.Running.{Execution, execution_of, IsRunOf, LeavesSafeLog, HasRun, IsReached}
+use Rattle.run_outcome.specs.declared.log_start.LogStart.{LogStart}
+use Rattle.run_outcome.specs.declared.log_start.LogStart.TheVariants.{New, Over, Behind}
+use Rattle.run_outcome.specs.Running.{Execution, Before, GoesOnFrom, beginning_of, IsRunOf, LeavesSafeLog, HasRun, IsAsFound, IsReached}
 use Rattle.log_writer.specs.declared.errors.OpenError.{OpenError}
 use Rattle.log_writer.specs.declared.errors.OpenError.TheVariants as why
 use Rattle.log_writer.specs.declared.writer.LogWriter.{LogWriter}
 use Rattle.log_writer.specs.Words.{disk_of, len_of, fault_of}
-use Rattle.log_writer.specs.Written.{IsWrittenFrom, Wrote}
+use Rattle.log_writer.specs.Opening.{HasOpened, HasReused, HasResumed}
+use Rattle.log_writer.specs.Written.{IsWrittenFrom, IsLeftSince, Wrote}
 use Rattle.run_threads.specs.declared.run.ClientsEnd.{ClientsEnd}
 use Rattle.run_threads.specs.declared.run.ClientsEnd.TheVariants as clients
 use Rattle.run_threads.specs.Runs.{ComesTo, outcome_with}
+use Rattle.run_execution.specs.declared.opening.Opened.{Opened}
 use Rattle.run_execution.specs.declared.end.RunEnd.{RunEnd}
 use Rattle.run_execution.specs.declared.end.RunEnd.TheVariants as end
 
@@ -42,28 +46,76 @@ pub record HasOutcome (execution : Execution) (old new : Option Disk) : Type 0 w
   pub refusals : outcome.fault ≡ None → AllByRecursion AreRefusedForThemselves outcome.transcripts
   pub log : Told old new (LeavesSafeLog execution outcome run)
 
--- A refusal leaves the disk as it was, and so does a run that never began. Else there is an outcome.
-abbrev pub IsEnd : Options → List (List calls.Command) → Option Disk → Option Disk → ℕ → ℕ → (List ℕ → Type 0)
-    → (List GroupCall → Type 0) → RunEnd → Type 0
-IsEnd options script old new opened ended images wrote (end.DiskFault count) =
-    (new ≡ old) × IsReached opened count ended
-IsEnd options script old new opened ended images wrote (end.NotEmpty len) = (new ≡ old) × (0 < len)
-    × IfSome old (λ d. length d.content ≡ len)
-IsEnd options script old new opened ended images wrote end.NoMemory = new ≡ old
-IsEnd options script old new opened ended images wrote end.NoOutcome =
-    HasOutcome (execution_of options script opened ended images wrote) old new
-IsEnd options script old new opened ended images wrote (end.Ran shown) =
-    HasRun (execution_of options script opened ended images wrote) old new shown
+-- The log was opened so: a new one on an empty disk, one with a number over what stands there, and one that goes on
+-- behind the bytes that are kept.
+abbrev pub HasOpenedAs : {D : Type 0} {ghosts : Ghosts D} → LogStart → Before → D → LogWriter D ghosts → Type 0
+HasOpenedAs New before disk log = HasOpened disk log
+HasOpenedAs (Over number) before disk log = HasReused disk number log
+HasOpenedAs {ghosts = ghosts} (Behind number) before disk log = HasResumed disk (length before.kept) number log
+    × IfSome (ghosts.told disk) (λ d. take (length before.kept) d.content ≡ before.kept)
+
+-- these options, but for the last sequence, which is that of what the run goes on from, where that is greater
+abbrev pub options_behind : Options → Before → Options
+options_behind options before = record options { last = max options.last before.last }
 
 -- The clients of a script have run over a log that was opened so, or none has. `opened` is how many faults the disk
--- had counted then.
-abbrev pub HasRunOver : {D : Type 0} {ghosts : Ghosts D} → LogWriter D ghosts → Options → ℕ
+-- had counted then, and `map` the table's.
+abbrev pub HasRunOver : {D : Type 0} {ghosts : Ghosts D} → LogWriter D ghosts → Options → Pairs → ℕ
     → List (List calls.Command) → ClientsEnd (LogWriter D ghosts) → Type 0
-HasRunOver {D} {ghosts} log options opened script ran = ComesTo (settings_of options (length script) opened) script
-    (Wrote log) fault_of (λ l. ghosts.faults (disk_of l)) ran
+HasRunOver {D} {ghosts} log options map opened script ran =
+    ComesTo (settings_of options map (length script) opened) script (Wrote log) fault_of
+    (λ l. ghosts.faults (disk_of l)) ran
 
--- the run of a script ends so, on this disk, and leaves that one
-abbrev pub EndsOn : {D : Type 0} → Ghosts D → Options → List (List calls.Command) → D → D → RunEnd → Type 0
-EndsOn ghosts options script old new end = IsEnd options script (ghosts.told old) (ghosts.told new)
-    (ghosts.faults old) (ghosts.faults new) (IsImageSince ghosts.moment ghosts.from ghosts.since old new)
-    (IsWrittenFrom ghosts old new) end
+-- a run of a script with these options, whose log is opened so, and which goes on from that, from one state of its disk
+-- to another
+abbrev pub execution_on : {D : Type 0} → Ghosts D → Options → LogStart → Before → List (List calls.Command) → D → D
+    → Execution
+execution_on ghosts options start before script old new = record {
+  settings = settings_of (options_behind options before) before.map (length script) (ghosts.faults old);
+  script = script;
+  ended = ghosts.faults new;
+  start = start;
+  before = before;
+  images = IsImageSince ghosts.moment ghosts.from ghosts.since old new;
+  since = IsLeftSince ghosts (beginning_of start before) old new;
+  wrote = IsWrittenFrom ghosts (beginning_of start before) old new;
+}
+
+-- The log was opened for a run that goes on from this map with this last sequence.
+pub record IsOpenedFor {D : Type 0} (ghosts : Ghosts D) (start : LogStart) (disk : D) (opened : Opened D ghosts)
+    : Type 0 where
+  pub before : Before
+  pub goes_on : GoesOnFrom start (ghosts.told disk) before
+  pub is_opened : HasOpenedAs start before disk opened.log
+  pub map : opened.map ≡ before.map
+  pub last : opened.last ≡ before.last
+  -- a last sequence of 0 has no keys
+  pub none : before.last ≡ 0 → before.map ≡ []
+
+module _ {D : Type 0} (ghosts : Ghosts D) (start : LogStart) (old new : D) where
+  -- The log was not opened, or no client ran, and this is told. The disk is as it was found.
+  abbrev pub IsRefused : RunEnd → Type 0
+  IsRefused (end.DiskFault count) = IsAsFound start (ghosts.told old) (ghosts.told new)
+      × IsReached (ghosts.faults old) count (ghosts.faults new)
+  IsRefused (end.NotEmpty len) = (start ≡ New) × (ghosts.told new ≡ ghosts.told old) × (0 < len)
+      × IfSome (ghosts.told old) (λ d. length d.content ≡ len)
+  IsRefused end.NoMemory = IsAsFound start (ghosts.told old) (ghosts.told new)
+  IsRefused end.NoOutcome = ⊥
+  IsRefused (end.Ran shown) = ⊥
+
+  -- The run of a script ends so, on this disk, and leaves that one: it was refused, or there is an outcome, of a run
+  -- that went on from what it was to go on from.
+  module _ (options : Options) (script : List (List calls.Command)) where
+    abbrev pub Went : (Execution → Type 0) → Type 0
+    Went Ran = (before : Before) × GoesOnFrom start (ghosts.told old) before
+        × Ran (execution_on ghosts options start before script old new)
+
+    abbrev pub Ends : RunEnd → Type 0
+    Ends (end.DiskFault count) = IsRefused (end.DiskFault count)
+    Ends (end.NotEmpty len) = IsRefused (end.NotEmpty len)
+    Ends end.NoMemory = IsRefused end.NoMemory
+    Ends end.NoOutcome = Went (λ execution. HasOutcome execution (ghosts.told old) (ghosts.told new))
+    Ends (end.Ran shown) = Went (λ execution. HasRun execution (ghosts.told old) (ghosts.told new) shown)
+
+abbrev pub EndsOn : {D : Type 0} → Ghosts D → Options → LogStart → List (List calls.Command) → D → D → RunEnd → Type 0
+EndsOn ghosts options start script old new end = Ends ghosts start old new options script end

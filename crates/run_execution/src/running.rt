@@ -4,19 +4,18 @@ ghost use Rattle.std.specs.Prelude.{◌≡◌, ◌≤◌, length, ◌<◌};
 ghost use Rattle.model_base.specs.History.{max_sequence};
 ghost use Rattle.run_scripts.specs.Scripts.{commands_of, FitsBatches};
 ghost use Rattle.log_writer.specs.Words.{disk_of};
-ghost use Rattle.log_writer.specs.Opening.{HasOpened};
 ghost use Rattle.run_outcome.specs.Running.{GoesOn};
-ghost use Rattle.run_execution.specs.Ends.{EndsOn};
+ghost use Rattle.run_execution.specs.Ends.{EndsOn, IsOpenedFor};
 
 use crate::end::{RunEnd, end_run};
 use crate::laws::runs_leave_safe_logs;
+use crate::opening::{Opened, open_log};
 use crate::setup::{Host, Setup};
 use crate::shared_gate::SharedGate;
 use base_devices::{Clock, Disk};
 use engine_calls::Gate;
 use engine_memory::open_engine;
-use log_writer::LogWriter;
-use model_base::{MAX_CLIENTS, MAX_SIZE};
+use model_base::{MAX_CLIENTS, MAX_SIZE, Options};
 use run_scripts::Script;
 use run_threads::run_engine;
 use std::rt;
@@ -24,7 +23,7 @@ use std::sync::Wait;
 use std::thread::Threads;
 
 /// Runs a script over the write path of a disk's log, each client in a thread of its own, and gives the disk back. The
-/// log must be empty. The gate is told of what happens.
+/// log is opened as the setup says. The gate is told of what happens.
 pub fn execute<
     D: Disk + Send,
     C: Clock + Send + Drop,
@@ -35,16 +34,16 @@ pub fn execute<
     requires fits { FitsBatches script.now }
     requires options { (setup.options.last ≤ max_sequence) × (setup.options.batch_bytes ≤ MAX_SIZE) }
     requires shards { 0 < setup.shards }
-    ensures end { EndsOn ⟦<D as Disk>⟧ setup.options (commands_of script.now) disk result.0 result.1 }
+    ensures end { EndsOn ⟦<D as Disk>⟧ setup.options setup.start (commands_of script.now) disk result.0 result.1 }
     ensures later { D.faults disk ≤ D.faults result.0 }
     ensures time { GoesOn D.moment D.from disk result.0 }
 {
-    match LogWriter::open(host.alloc, disk) {
-        Ok(log) => {
+    match open_log(host.alloc, disk, setup.start) {
+        Ok(opened) => {
             let shared = SharedGate { gate: host.gate };
-            run_over(host, log, clock, shared, script, setup)
+            run_over(host, opened, clock, shared, script, setup)
         }
-        Err((disk, why)) => (disk, RunEnd::from(why)),
+        Err((disk, end)) => (disk, end),
     }
 }
 
@@ -57,7 +56,7 @@ fn run_over<
     R: Threads + Wait + rt::Clock + Sync,
 >(
     host: &Host<'_, R, G>,
-    log: LogWriter<D>,
+    opened: Opened<D>,
     clock: C,
     shared: H,
     script: &Script,
@@ -67,25 +66,34 @@ fn run_over<
     requires fits { FitsBatches script.now }
     requires options { (setup.options.last ≤ max_sequence) × (setup.options.batch_bytes ≤ MAX_SIZE) }
     requires shards { 0 < setup.shards }
-    requires opened { (disk : D) × HasOpened disk log }
-    ensures end { (disk : D) → HasOpened disk log
-        → EndsOn ⟦<D as Disk>⟧ setup.options (commands_of script.now) disk result.0 result.1 }
-    ensures later { D.faults (disk_of log) ≤ D.faults result.0 }
-    ensures time { GoesOn D.moment D.from (disk_of log) result.0 }
+    requires last { opened.last ≤ max_sequence }
+    requires opened { (disk : D) × IsOpenedFor ⟦<D as Disk>⟧ setup.start disk opened }
+    ensures end { (disk : D) → IsOpenedFor ⟦<D as Disk>⟧ setup.start disk opened
+        → EndsOn ⟦<D as Disk>⟧ setup.options setup.start (commands_of script.now) disk result.0 result.1 }
+    ensures later { D.faults (disk_of opened.log) ≤ D.faults result.0 }
+    ensures time { GoesOn D.moment D.from (disk_of opened.log) result.0 }
 {
     let commands = script.clients.as_slice();
     let clients = commands.len() as u32;
+    let Opened { log, map, last } = opened;
     let Setup {
         options,
+        start: _,
         shards,
         pipelined,
     } = setup;
+    let options = Options {
+        last: options.last.max(last),
+        ..options
+    };
     match open_engine(
-        host.alloc, log, clock, clients, shared, options, shards, pipelined,
+        host.alloc, log, clock, clients, last, &map, shared, options, shards, pipelined,
     ) {
         Ok((engine, clients)) => {
             runs_leave_safe_logs::<D>();
-            end_run(run_engine(host.rt, host.alloc, engine, clients, commands, host.gate))
+            end_run(run_engine(
+                host.rt, host.alloc, engine, clients, map, commands, host.gate,
+            ))
         }
         Err((log, _clock, _gate)) => (log.into_disk(), RunEnd::NoMemory),
     }

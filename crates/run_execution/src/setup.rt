@@ -1,6 +1,7 @@
 //! What a script is run with.
 
 use model_base::Options;
+use run_outcome::LogStart;
 use std::alloc::Global;
 
 /// Where a script is run: the runtime with its threads, the memory, and who is told of what the clients do.
@@ -11,11 +12,14 @@ pub struct Host<'a, R, G> {
     pub gate: &'a G,
 }
 
-/// How the write path is set up: its limits, how many shards its table has, and whether groups go into the table in a
-/// stage of their own.
+/// How the write path is set up: its limits, how its log is opened, how many shards its table has, and whether groups
+/// go into the table in a stage of their own.
+///
+/// The last sequence of a run whose log goes on is that of its options or the recovered one, whichever is greater.
 #[derive(Drop)]
 pub struct Setup {
     pub options: Options,
+    pub start: LogStart,
     pub shards: u32,
     pub pipelined: bool,
 }

@@ -5,7 +5,7 @@ use Rattle.std.proofs.lemmas.List.Sums.{sum_by-cons}
 use Rattle.model_base.specs.declared.limits.TheConstants.{MAX_CLIENTS, MAX_SIZE}
 use Rattle.model_base.specs.Batch.{Record, count_of}
 use Rattle.model_base.specs.Map.{Pairs}
-use Rattle.model_base.specs.History.{Entry}
+use Rattle.model_base.specs.History.{Entry, map_over}
 use Rattle.model_base.specs.Calls.{Command, Call, Outcome}
 use Rattle.model_base.specs.Script.{value_of_digits}
 use Rattle.model_base.specs.Trace.{Trace, Settings}
@@ -46,7 +46,7 @@ text_of clients batches records last state =
     ++ number_line (codes "keys") (length state)
     ++ number_line (codes "sum") (sum_by (λ p. value_of_digits p.1) state)
 
-module _ (seed clients batches ended : ℕ) (settings : Settings) (o : Outcome) (few : clients ≤ MAX_CLIENTS) (bounded : batches ≤ 100000) (start : settings.start ≡ 0) (bytes : settings.batch_bytes ≡ MAX_SIZE)
+module _ (seed clients batches ended : ℕ) (settings : Settings) (o : Outcome) (few : clients ≤ MAX_CLIENTS) (bounded : batches ≤ 100000) (start : settings.start ≡ 0) (opening : settings.opening ≡ []) (bytes : settings.batch_bytes ≡ MAX_SIZE)
     (legal : IsLegal settings ended (script_of_seed seed clients batches) o) (no_fault : o.fault ≡ None) (found : AllByRecursion NoneWithoutMemory o.transcripts) where
   abbrev trace : Trace
   trace = legal.trace
@@ -116,7 +116,7 @@ module _ (seed clients batches ended : ℕ) (settings : Settings) (o : Outcome) 
   last_same = let l = legal.legal in let last = l.last in let end = last_is trace.start trace.entries l.is_trace.entries in omega (arith, last, end, trace_start, sequences_same)
 
   state_same : o.state ≡ map_of_batches (batches_of (script_of_seed seed clients batches))
-  state_same = legal.legal.state ∙ same_state trace.entries (script_of_seed seed clients batches) owned named below_script have_batches
+  state_same = legal.legal.state ∙ ap (λ m. map_over m trace.entries) (legal.legal.is_trace.opening ∙ opening) ∙ same_state trace.entries (script_of_seed seed clients batches) owned named below_script have_batches
 
   pub one_summary : summary_text o ≡ summary_of (script_of_seed seed clients batches)
   one_summary =

@@ -58,7 +58,8 @@ small_map m (e ∷ entries) small a = small_map (after_records m e.records) entr
 small_drawn : (client : ℕ) → HoldsOfDrawn HasSmallValue client
 small_drawn client = record { deletions = λ n small. tt; values = λ n v small below. omega (arith, below, value_of_digits-decimal v (omega arith)) }
 
-pub small_values : (seed clients batches ended : ℕ) (settings : Settings) (o : Outcome) → IsLegal settings ended (script_of_seed seed clients batches) o → AllByRecursion IsSmall o.state
-small_values seed clients batches ended settings o legal =
+pub small_values : (seed clients batches ended : ℕ) (settings : Settings) (o : Outcome) → AllByRecursion IsSmall settings.opening → IsLegal settings ended (script_of_seed seed clients batches) o → AllByRecursion IsSmall o.state
+small_values seed clients batches ended settings o small legal =
     let all = all_drawn seed clients batches ended settings o legal HasSmallValue (λ client some most. small_drawn client) in
-    subst (AllByRecursion IsSmall) (sym legal.legal.state) (small_map [] legal.trace.entries all tt)
+    let before = subst (AllByRecursion IsSmall) (sym legal.legal.is_trace.opening) small in
+    subst (AllByRecursion IsSmall) (sym legal.legal.state) (small_map legal.trace.opening legal.trace.entries all before)

@@ -1,48 +1,116 @@
 -- What a run of a script comes to: an outcome, and the log that it leaves.
-use Rattle.std.specs.Prelude.{◌≡◌, ℕ, ◌≤◌, List, [], length, Option, None}
+use Rattle.std.specs.Prelude.{◌≡◌, ◌⊎◌, ℕ, ◌≤◌, ⊤, List, [], length, take, Option, Some, None, IfSome}
 use Rattle.std.specs.List.{AllByRecursion}
-use Rattle.base_devices.specs.Disk.{Disk, Told, IsImage}
+use Rattle.base_devices.specs.Disk.{Disk, Told, IsImage, all_safe, rewound, cut_at}
 use Rattle.model_base.specs.Counts.{Rose}
 use Rattle.model_base.specs.Map.{Pairs}
 use Rattle.model_base.specs.Trace.{Settings}
 use Rattle.model_base.specs.Calls as calls
+use Rattle.model_base.specs.Log.{Beginning, plain_log, SpellsWhole}
+use Rattle.model_base.specs.Recovery.{Recovered, IsRecovered, recovered_map, recovered_last}
 use Rattle.model_base.specs.LogContents.{GroupCall}
-use Rattle.model_base.specs.declared.options.Options.{Options}
 use Rattle.run_outcome.specs.declared.outcome.Outcome.{Outcome}
-use Rattle.model_base.specs.Settings.{settings_of}
+use Rattle.run_outcome.specs.declared.log_start.LogStart.{LogStart}
+use Rattle.run_outcome.specs.declared.log_start.LogStart.TheVariants.{New, Over, Behind}
 use Rattle.run_outcome.specs.Shows.{ShowsOutcome}
+use Rattle.log_laws.specs.Prefixes.{RecoversPrefix}
+use Rattle.log_recovery_laws.specs.Images.{MeetsNoOther}
 use Rattle.model_runs.specs.Refusals.{AreRefusedForThemselves}
 use Rattle.model_runs.specs.Crashes.{IsRun, IsSafe}
 
--- How a run was set up, what its clients were to do, the count of faults of the log's disk at its end, what a crash at
--- some moment of it might have left, and by which calls of the log writer the disk came to be as it was handed back
+-- the number of a log that is opened so, if it has one
+abbrev pub number_in : LogStart → Option ℕ
+number_in New = plain_log
+number_in (Over number) = Some number
+number_in (Behind number) = number
+
+-- what a run goes on from: a map with its last sequence, and the bytes that its log keeps
+pub record Before : Type 0 where
+  pub map : Pairs
+  pub last : ℕ
+  pub kept : List ℕ
+
+abbrev pub nothing : Before
+nothing = record { map = []; last = 0; kept = [] }
+
+-- a log with this number in the file recovers that, to the end of its last record that is kept
+pub record RecoversTo (number : Option ℕ) (file : List ℕ) (before : Before) : Type 0 where
+  pub recovered : Recovered
+  pub is : IsRecovered number file recovered
+  pub map : before.map ≡ recovered_map recovered
+  pub last : before.last ≡ recovered_last recovered
+  pub kept : before.kept ≡ take recovered.kept file
+
+-- A run whose log begins anew goes on from nothing. Else it goes on from what the log recovers, where the disk tells
+-- its content.
+abbrev pub GoesOnFrom : LogStart → Option Disk → Before → Type 0
+GoesOnFrom New told before = before ≡ nothing
+GoesOnFrom (Over number) told before = before ≡ nothing
+GoesOnFrom (Behind number) told before = IfSome told (λ d. RecoversTo number d.content before)
+
+-- How a run was set up, what its clients were to do, the count of faults of the log's disk at its end, how its log was
+-- opened, and what it went on from. Then what a crash may have left: at some moment of the run (images), and once some
+-- calls of the log writer had returned, while others went on or after them (since). And by which of these calls the
+-- disk came to be as it was handed back.
 pub record Execution : Type 1 where
   pub settings : Settings
   pub script : List (List calls.Command)
   pub ended : ℕ
+  pub start : LogStart
+  pub before : Before
   pub images : List ℕ → Type 0
+  pub since : List GroupCall → List GroupCall → List ℕ → Type 0
   pub wrote : List GroupCall → Type 0
 
--- a run with these options, from one count of faults to another
-abbrev pub execution_of : Options → List (List calls.Command) → ℕ → ℕ → (List ℕ → Type 0)
-    → (List GroupCall → Type 0) → Execution
-execution_of options script opened ended images wrote = record {
-  settings = settings_of options (length script) opened;
-  script = script;
-  ended = ended;
-  images = images;
-  wrote = wrote;
-}
+-- how the log begins that is opened so
+abbrev pub beginning_of : LogStart → Before → Beginning
+beginning_of start before = record { number = number_in start; kept = before.kept }
 
 -- a legal outcome, and how the log was written
 abbrev pub IsRunOf : Execution → calls.Outcome → Type 0
-IsRunOf execution o = IsRun execution.settings execution.ended execution.script execution.wrote o
+IsRunOf execution o = IsRun execution.settings execution.ended execution.script
+    (beginning_of execution.start execution.before) execution.wrote o
 
--- The log was found empty. It holds the logged batches of the outcome, and a crash leaves a prefix of them.
+-- what stands on the disk as the log begins: all that was there, or what the log keeps
+abbrev pub begun_on : LogStart → Before → List ℕ → List ℕ
+begun_on New before content = content
+begun_on (Over number) before content = content
+begun_on (Behind number) before content = before.kept
+
+-- A log that goes on was opened behind what its file recovers. Until it is cut a crash may leave the file as it was,
+-- with what stood there behind the kept records: so of an image it is said too that it recovers a prefix of these,
+-- where its recovery meets nothing that recovery of the file doesn't meet.
+abbrev pub RecoversKept : LogStart → Before → List ℕ → (List ℕ → Type 0) → Type 0
+RecoversKept start before content images = (image : List ℕ) → images image
+    → MeetsNoOther (number_in start) image content → (kept : List (List ℕ))
+    → SpellsWhole (number_in start) before.kept kept → RecoversPrefix (number_in start) kept image (λ n. ⊤)
+
+abbrev pub IfGoesOn : LogStart → Type 0 → Type 0
+IfGoesOn New T = Unit {0}
+IfGoesOn (Over number) T = Unit {0}
+IfGoesOn (Behind number) T = T
+
+-- A new log was found empty. It holds the logged batches of the outcome behind what it keeps, and a crash leaves a
+-- prefix of them.
 pub record LeavesSafeLog (execution : Execution) (o : calls.Outcome) (run : IsRunOf execution o)
     (opened ended : Disk) : Type 0 where
-  pub found_empty : opened.content ≡ []
-  pub safe : IsSafe run ended.content opened.reach execution.images (IsImage ended)
+  pub found_empty : execution.start ≡ New → opened.content ≡ []
+  pub safe : IsSafe run (begun_on execution.start execution.before opened.content) ended.content opened.reach
+      execution.images execution.since (IsImage ended)
+  pub went_on : IfGoesOn execution.start
+      (RecoversKept execution.start execution.before opened.content execution.images)
+
+-- the disk as the opening of the log leaves it, or would
+abbrev pub IsOpened : LogStart → Before → Disk → Disk → Type 0
+IsOpened New before old new = new ≡ old
+IsOpened (Over number) before old new = new ≡ rewound old
+IsOpened (Behind number) before old new =
+    (new ≡ cut_at (length before.kept) old) ⊎ (new ≡ all_safe before.kept)
+
+-- Nothing was written: the disk tells what it told before, or it is as the opening of the log leaves it.
+abbrev pub IsAsFound : LogStart → Option Disk → Option Disk → Type 0
+IsAsFound start old new =
+    (new ≡ old) ⊎ ((before : Before) × GoesOnFrom start old before × Told old new (IsOpened start before))
 
 -- The values show the outcome of a run, and the log is left so where the disk tells it. Where the log has no fault the
 -- disk has counted none, and commits were refused for themselves alone.

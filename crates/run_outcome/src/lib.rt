@@ -7,6 +7,7 @@
 //!   (`places`), which are sorted by first sequences (`merged`): a place takes sixteen bytes.
 //!   [`HistoryEntry`] is one of them with its run.
 //! - [`Outcome`] is all of it, with the map and the log's length.
+//! - [`LogStart`] is how the log of a run is opened.
 //!
 //! - `specs/Shows`: the replies, the entries and the outcome of the model that values show.
 //! - `specs/Histories`: the entries that the clients' lists of accepted batches are.
@@ -18,6 +19,7 @@
 mod entry;
 mod history;
 mod history_entry;
+mod log_start;
 mod merged;
 mod outcome;
 mod places;
@@ -25,5 +27,6 @@ mod reply;
 
 pub use history::History;
 pub use history_entry::HistoryEntry;
+pub use log_start::LogStart;
 pub use outcome::Outcome;
 pub use reply::Reply;

@@ -16,7 +16,7 @@ pub struct Outcome<M> {
     /// The published sequence, and the map there.
     pub last: u64,
     pub state: M,
-    /// The bytes of the groups that were written whole, and the count of the log's fault.
+    /// The bytes that the log kept and those of the groups that were written whole, and the count of the log's fault.
     pub log_len: u64,
     pub fault: Option<u64>,
 }

@@ -59,7 +59,7 @@ map_both f h (x ∷ xs) = ap (λ ys. f (h x) ∷ ys) (map_both f h xs)
 
 module _ {C : Type 0} (belongs : C → Type 0) (account : C → Account) (settings : Settings) (script : List (List Command)) where
   pub ready_all : (clients : List C) (replies : List (Vec Reply Global)) (jobs : List (Job C))
-      → AreOurs belongs account settings.clients clients → AreNew account settings.start clients → length script ≡ settings.clients → length script < 2 ^ 32 → FitBatches script
+      → AreOurs belongs account settings.clients clients → AreNew account settings.start settings.opening clients → length script ≡ settings.clients → length script < 2 ^ 32 → FitBatches script
       → IsRoom script replies → AllByRecursion AreNone (map batches_of jobs)
       → map client_of jobs ≡ clients → map replies_of jobs ≡ replies → AreReady belongs account settings script jobs
   ready_all clients replies jobs ours new many few fit for_replies no_batches from_clients from_replies = record {

@@ -4,6 +4,7 @@ use Rattle.std.specs.List.{AllByRecursion, AllZip}
 use Rattle.std.specs.Option.{option_map}
 use Rattle.std.proofs.lemmas.Option.{slice_get-map, slice_get_cases}
 use Rattle.model_base.specs.Batch.{Record}
+use Rattle.model_base.specs.Map.{Pairs}
 use Rattle.model_base.specs.History.{Entry, logged_entries}
 use Rattle.model_base.specs.Trace.{Trace, Settings}
 use Rattle.model_base.specs.Attempts.{Attempt}
@@ -58,23 +59,23 @@ no_lost group_bytes attempts (Some count) last lost idle are =
     absurd (no_member attempts count idle group.members group.all group.is_group.some group.each)
 
 -- none of these clients has called anything
-abbrev pub AreNewcomers : ℕ → List Account → Type 0
-AreNewcomers start accounts = (i : ℕ) (a : Account) → slice_get accounts i ≡ Some a → a ≡ newcomer start (i + 1)
+abbrev pub AreNewcomers : ℕ → Pairs → List Account → Type 0
+AreNewcomers start opening accounts = (i : ℕ) (a : Account) → slice_get accounts i ≡ Some a → a ≡ newcomer start opening (i + 1)
 
 -- clients who were handed back as they came
 pub handed_back : {C : Type 0} (P : List C → Type 0) (given back : Vec C Global) → back ≡ given → P given.items → P back.items
 handed_back {C = C} P given back is holds = subst (λ (v : Vec C Global). P v.items) (sym is) holds
 
-pub newcomers : {C : Type 0} (account : C → Account) (start : ℕ) (clients : List C) → AreNew account start clients → AreNewcomers start (map account clients)
-newcomers account start clients new i a at =
+pub newcomers : {C : Type 0} (account : C → Account) (start : ℕ) (opening : Pairs) (clients : List C) → AreNew account start opening clients → AreNewcomers start opening (map account clients)
+newcomers account start opening clients new i a at =
     let e = slice_get-map account clients i in
     elim (slice_get_cases clients i).1 [
       | inl w ↦ (let is : account w.0 ≡ a = cc (sym e ∙ at, ap (option_map account) w.2) in sym is ∙ new.each i w.0 w.2)
       | inr w ↦ absurd (cc (sym e ∙ at, ap (option_map account) w.1))
     ]
 
-all_idle : (start : ℕ) (accounts : List Account) → AreNewcomers start accounts → (i : ℕ) (own : List Attempt) → slice_get (all_attempts accounts) i ≡ Some own → own ≡ []
-all_idle start accounts new i own at =
+all_idle : (start : ℕ) (opening : Pairs) (accounts : List Account) → AreNewcomers start opening accounts → (i : ℕ) (own : List Attempt) → slice_get (all_attempts accounts) i ≡ Some own → own ≡ []
+all_idle start opening accounts new i own at =
     let e = slice_get-map (λ (a : Account). a.attempts) accounts i in
     elim (slice_get_cases accounts i).1 [
       | inl w ↦ (let is : (w.0).attempts ≡ own = cc (sym e ∙ at, ap (option_map (λ (a : Account). a.attempts)) w.2) in sym is ∙ ap (λ (a : Account). a.attempts) (new i w.0 w.2))
@@ -82,7 +83,7 @@ all_idle start accounts new i own at =
     ]
 
 module _ (settings : Settings) (ended : ℕ) (trace : Trace) (groups : List Group) (accounts : List Account) (last : ℕ) (fault : Option ℕ) (closing : IsClosing settings ended trace groups accounts last fault)
-    (start : ℕ) (count : length accounts ≡ settings.clients) (new : AreNewcomers start accounts) where
+    (start : ℕ) (opening : Pairs) (count : length accounts ≡ settings.clients) (new : AreNewcomers start opening accounts) where
   none_written : trace.entries ≡ []
   none_written = no_entries settings.clients trace.entries closing.is_trace.clients (λ i within.
       elim (slice_get_cases accounts i).1 [
@@ -97,6 +98,6 @@ module _ (settings : Settings) (ended : ℕ) (trace : Trace) (groups : List Grou
   log_by_no_call wrote writes =
       let cut : flat_map (λ part. part) writes.parts ≡ [] = writes.cut ∙ ap logged_entries none_written in
       let calls : writes.calls ≡ [] = no_calls writes.parts writes.calls cut writes.each in
-      let lost : writes.lost ≡ [] = no_lost settings.group_bytes (all_attempts accounts) fault _ writes.lost (all_idle start accounts new) writes.none_else in
+      let lost : writes.lost ≡ [] = no_lost settings.group_bytes (all_attempts accounts) fault _ writes.lost (all_idle start opening accounts new) writes.none_else in
       let both : writes.calls ++ writes.lost ≡ [] = ap (λ (cs : List GroupCall). cs ++ writes.lost) calls ∙ lost in
       subst wrote both writes.by

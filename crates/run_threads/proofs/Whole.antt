@@ -95,7 +95,7 @@ module _ {L : Type 0} (settings : Settings) (wrote : List GroupCall → L → Ty
       legal = λ log_len. legal told.transcripts log_len told.run;
     }
 
-    pub have_told : (shown : List (HistoryEntry Contents)) (state : Pairs) → ShowsEntries shown trace.entries → state ≡ history.map_of trace.entries
+    pub have_told : (shown : List (HistoryEntry Contents)) (state : Pairs) → ShowsEntries shown trace.entries → state ≡ history.map_over trace.opening trace.entries
         → ComesTo settings script wrote fault faults (Told log last replies shown state)
     unfolding have_run
     have_told shown state shows is = (

@@ -4,6 +4,7 @@ use Rattle.std.specs.List.{AllByRecursion, AllZip}
 use Rattle.std.specs.declared.alloc.Global.{Global}
 use Rattle.model_base.specs.declared.limits.TheConstants.{MAX_SIZE}
 use Rattle.model_base.specs.Batch.{size_of_batch}
+use Rattle.model_base.specs.Map.{Pairs}
 use Rattle.model_base.specs.Trace.{Settings}
 use Rattle.model_base.specs.Calls.{Command, Call}
 use Rattle.run_outcome.specs.declared.reply.Reply.{Reply}
@@ -21,8 +22,9 @@ abbrev pub FitBatches : List (List Command) → Type 0
 FitBatches script = AllByRecursion (λ cs. size_of_batch (additions_of cs) ≤ MAX_SIZE) script
 
 -- no client has called anything
-pub record AreNew {C : Type 0} (account : C → Account) (start : ℕ) (clients : List C) : Type 0 where
-  pub each : (i : ℕ) (c : C) → slice_get clients i ≡ Some c → account c ≡ newcomer start (i + 1)
+pub record AreNew {C : Type 0} (account : C → Account) (start : ℕ) (opening : Pairs) (clients : List C)
+    : Type 0 where
+  pub each : (i : ℕ) (c : C) → slice_get clients i ≡ Some c → account c ≡ newcomer start opening (i + 1)
 
 -- the clients have run their parts of the script, and their replies show how
 pub record HaveTold (settings : Settings) (script : List (List Command)) (replies : List (Vec Reply Global))
@@ -54,7 +56,7 @@ module _ {C : Type 0} (belongs : C → Type 0) (account : C → Account) (settin
     pub within : i < length script
     pub few : i + 1 < 2 ^ 32
     pub ours : belongs job.client
-    pub new : account job.client ≡ newcomer settings.start (i + 1)
+    pub new : account job.client ≡ newcomer settings.start settings.opening (i + 1)
     pub none : job.replies.items ≡ []
     pub empty : vec_len job.replies ≡ 0
     pub no_batches : AreNone job.batches

@@ -33,7 +33,8 @@ pub fn run_client<E: Engine, G: Gate, R: Wait + rt::Clock>(
     batches: &mut ClientBatches,
 )
     requires belongs { E.belongs engine.now client.old }
-    requires new { E.account client.old ≡ newcomer (E.settings engine.now).start number }
+    requires new { E.account client.old
+        ≡ newcomer (E.settings engine.now).start (E.settings engine.now).opening number }
     requires fits { size_of_batch (additions_of commands.now) ≤ MAX_SIZE }
     requires none { replies.old.items ≡ [] }
     requires empty { vec_len replies.old ≡ 0 }

@@ -39,7 +39,7 @@ pub fn run_clients<E: Engine + Sync, G: Gate + Sync, R: Threads + Wait + rt::Clo
 where
     E::Client: Send,
     requires ours { AreOurs (E.belongs engine.now) E.account (E.settings engine.now).clients clients.old.items }
-    requires new { AreNew E.account (E.settings engine.now).start clients.old.items }
+    requires new { AreNew E.account (E.settings engine.now).start (E.settings engine.now).opening clients.old.items }
     requires script { length script.now ≡ (E.settings engine.now).clients }
     requires few { length script.now < 2 ^ 32 }
     requires fits { FitBatches script.now }

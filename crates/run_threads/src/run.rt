@@ -35,7 +35,7 @@ pub enum ClientsEnd<L> {
         last: u64,
     },
     /// All clients have run: the last published sequence, the replies of each client, the accepted batches in order of
-    /// their sequences, and the map that they make.
+    /// their sequences, and the map after them.
     Told {
         log: L,
         last: u64,
@@ -45,7 +45,8 @@ pub enum ClientsEnd<L> {
     },
 }
 
-/// Runs a script's clients over a write path, closes it, and puts together what they were told.
+/// Runs a script's clients over a write path, closes it, and puts together what they were told. The map that stood
+/// before the run is handed in.
 ///
 /// The write path is closed also where there is no memory.
 pub fn run_engine<E: Engine + Sync, G: Gate + Sync, R: Threads + Wait + rt::Clock + Sync>(
@@ -53,13 +54,15 @@ pub fn run_engine<E: Engine + Sync, G: Gate + Sync, R: Threads + Wait + rt::Cloc
     alloc: Global,
     engine: E,
     clients: Clients<E::Client, E::Room>,
+    opening: ByteMap,
     script: &[CommandList],
     gate: &G,
 ) -> ClientsEnd<E::Log>
 where
     E::Client: Send,
     requires ours { AreOurs (E.belongs engine) E.account (E.settings engine).clients clients.clients.items }
-    requires new { AreNew E.account (E.settings engine).start clients.clients.items }
+    requires new { AreNew E.account (E.settings engine).start (E.settings engine).opening clients.clients.items }
+    requires opening { opening ≡ (E.settings engine).opening }
     requires script { length script.now ≡ (E.settings engine).clients }
     requires few { length script.now < 2 ^ 32 }
     requires fits { FitBatches script.now }
@@ -73,7 +76,7 @@ where
     let Ok((transcripts, batches)) = ran else {
         return ClientsEnd::NotRun { log };
     };
-    let Ok((history, state)) = history_and_map(alloc, batches) else {
+    let Ok((history, state)) = history_and_map(alloc, opening, batches) else {
         return ClientsEnd::Untold { log, last };
     };
     ClientsEnd::Told {
@@ -85,19 +88,20 @@ where
     }
 }
 
-/// The history of all clients' batches, and the map that it makes.
+/// The history of all clients' batches, and the map that it makes of the one that stood before it.
 fn history_and_map(
     alloc: Global,
+    opening: ByteMap,
     batches: Vec<ClientBatches>,
 ) -> Result<(History, ByteMap), NoMemory>
     requires { length batches.items < 2 ^ 32 }
     ensures history { (start : ℕ) (entries : List model.Entry) → MakeUp start (map accepted_in batches.items) entries
         → IfOk result (λ made. ShowsEntries made.0 entries) }
     ensures state { (start : ℕ) (entries : List model.Entry) → MakeUp start (map accepted_in batches.items) entries
-        → IfOk result (λ made. made.1 ≡ model.map_of entries) }
+        → IfOk result (λ made. made.1 ≡ model.map_over opening entries) }
 {
     let lists = lists_of(alloc, batches)?;
     let history = history_of(alloc, lists)?;
-    let state = state_of(alloc, &history)?;
+    let state = state_of(opening, &history)?;
     Ok((history, state))
 }

@@ -8,14 +8,13 @@ use base_maps::ByteMap;
 use log_batch::write_records;
 use model_base::NoMemory;
 use run_outcome::History;
-use std::alloc::Global;
 
-/// The map that a history makes.
-pub fn state_of(alloc: Global, history: &History) -> Result<ByteMap, NoMemory>
+/// The map that a history makes of the one that stood before it.
+pub fn state_of(opening: ByteMap, history: &History) -> Result<ByteMap, NoMemory>
     ensures { (entries : List model.Entry) → ShowsEntries history.now entries
-        → IfOk result (λ state. state ≡ model.map_of entries) }
+        → IfOk result (λ state. state ≡ model.map_over opening entries) }
 {
-    let mut map = ByteMap::new(alloc);
+    let mut map = opening;
     // The map is that of the batches so far.
     for at in 0..history.len() {
         write_records(&mut map, history.entry(at).batch.records())?;

@@ -81,7 +81,8 @@ pub trait Table<NodeList: Versioned, GroupList: GroupParts<NodeList>> {
         ensures ours { ours self.now seat.new }
         ensures seen { Learns (opening self.now).start (account seat.old) (account seat.new) }
         ensures at { IfOk result (λ read. read.at ≡ last_of (opening self.now).start (account seat.new).seen) }
-        ensures value { IfOk result (λ read. found_value read.value ≡ value_in key.now (account seat.new).seen) };
+        ensures value { IfOk result (λ read. found_value read.value
+            ≡ value_in (opening self.now).base key.now (account seat.new).seen) };
 
     /// The values of keys, all of one published sequence.
     fn read_many<R: Wait + rt::Clock>(
@@ -96,7 +97,7 @@ pub trait Table<NodeList: Versioned, GroupList: GroupParts<NodeList>> {
         ensures seen { Learns (opening self.now).start (account seat.old) (account seat.new) }
         ensures at { IfOk result (λ reads. reads.at ≡ last_of (opening self.now).start (account seat.new).seen) }
         ensures values { IfOk result (λ reads. reads.values
-            ≡ map (λ key. value_in key (account seat.new).seen) keys.now) };
+            ≡ map (λ key. value_in (opening self.now).base key (account seat.new).seen) keys.now) };
 
     /// The keys from `lo` on and below `hi` with their values, all of one published sequence, in byte order.
     fn scan<R: Wait + rt::Clock>(
@@ -112,7 +113,7 @@ pub trait Table<NodeList: Versioned, GroupList: GroupParts<NodeList>> {
         ensures seen { Learns (opening self.now).start (account seat.old) (account seat.new) }
         ensures at { IfOk result (λ rows. rows.at ≡ last_of (opening self.now).start (account seat.new).seen) }
         ensures rows { IfOk result (λ rows. rows.rows ≡ rows_within lo.now hi.now
-            (map_after (account seat.new).seen)) };
+            (map_after (opening self.now).base (account seat.new).seen)) };
 
     /// Launches a group, and hands each member its nodes: each takes its own part next, by its own seat. The client
     /// that launches needn't have a part. Its seat keeps the turn until `await_published`.

@@ -39,9 +39,10 @@ pub trait VersionTree<Node: VersionNode>: Versioned {
     fn new() -> Self
         ensures { Self.versions result ≡ [] };
 
-    /// Puts a node in whose sequence no other of the tree has. This takes no memory.
+    /// Puts a node in whose sequence no other version of its key has. This takes no memory.
     fn insert(&mut self, node: Node)
-        requires { (v : Version) → In v (Self.versions self.old) → v.sequence ≢ (Node.version node).sequence }
+        requires { (v : Version) → In v (Self.versions self.old) → v.key ≡ (Node.version node).key
+            → v.sequence ≢ (Node.version node).sequence }
         ensures { Adds (Self.versions self.old) (Node.version node) (Self.versions self.new) };
 
     /// The key's value as of a sequence: what the map has that the versions make up to it.

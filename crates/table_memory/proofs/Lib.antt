@@ -3,3 +3,4 @@ pub mod Splits
 pub mod Ordered
 pub mod Runs
 pub mod Crossing
+mod Planting

@@ -1,9 +1,11 @@
 -- What a table in memory says of itself.
-use Rattle.std.specs.Prelude.{ℕ, List}
+use Rattle.std.specs.Prelude.{◌≡◌, ℕ, List}
 use Rattle.table_tree.specs.declared.node.Nodes.{Nodes}
 use Rattle.table_tree.specs.declared.parts.Parts.{Parts}
 use Rattle.table_tree.specs.declared.tree.Tree.{Tree}
 use Rattle.table_rule.specs.declared.view.Opening.{Opening}
+use Rattle.table_rule.specs.Histories.{In}
+use Rattle.table_tree.specs.Shapes.{Shape, leaf}
 use Rattle.table_calls.specs.declared.table.Table.{Ghosts}
 use Rattle.table_calls.specs.Account.{Account}
 use Rattle.table_steps.specs.declared.launching.Turn as turn
@@ -51,3 +53,7 @@ IsTurnAtStart t u = steps.IsTurnAtStart t.steps u
 -- the seats of clients from 1 on, who have seen nothing yet and have nothing to do
 abbrev pub AreSeatsAtStart : MemoryTable → ℕ → List Seat → Type 0
 AreSeatsAtStart t count seats = steps.AreSeatsAtStart t.steps count seats
+
+-- no tree has a version
+abbrev pub AreLeaves : List Shape → Type 0
+AreLeaves trees = (tree : Shape) → In tree trees → tree ≡ leaf

@@ -1,13 +1,66 @@
 //! How the table is made.
-ghost use Rattle.std.specs.Prelude.{◌≡◌, ◌<◌, IfOk};
-ghost use Rattle.table_memory.specs.Meaning.{opening_of, IsTurnAtStart, AreSeatsAtStart};
+ghost use Rattle.std.specs.Prelude.{◌≡◌, ℕ, ◌<◌, ◌≤◌, List, [], length, IfOk, OnOk};
+ghost use Rattle.table_rule.specs.Histories.{versions_at};
+ghost use Rattle.table_tree.specs.Shapes.{Shape, leaf, versions_in};
+ghost use Rattle.table_steps.specs.Ends.{BearBase};
+ghost use Rattle.table_memory.specs.Meaning.{opening_of, IsTurnAtStart, AreSeatsAtStart, AreLeaves};
 
 use crate::memory_table::MemoryTable;
+use crate::reading::shard_of;
+use base_maps::ByteMap;
 use model_base::NoMemory;
 use std::alloc::Global;
+use std::marker::Brand;
 use table_calls::Seats;
+use table_rule::{Base, VersionPlan};
 use table_steps::{SharedTable, TableSeat, Turn};
-use table_tree::{Nodes, Tree};
+use table_tree::{Node, Nodes, Tree};
+
+/// Trees of no versions.
+fn empty_trees(alloc: Global, count: u32) -> Result<Vec<Tree>, NoMemory>
+    ensures count { IfOk result (λ trees. length trees.items ≡ count) }
+    ensures empty { IfOk result (λ trees. AreLeaves trees.items) }
+{
+    let mut trees = Vec::new(alloc);
+    // All trees so far are empty.
+    for made in 0..count {
+        trees.push(Tree::new())?;
+    }
+    Ok(trees)
+}
+
+/// Puts a map's pairs into the trees of their shards, each as a value at a sequence.
+fn put_pairs(
+    alloc: Global,
+    trees: &mut [Tree],
+    sequence: u64,
+    map: &ByteMap,
+) -> Result<(), NoMemory>
+    requires some { 0 < length trees.old }
+    requires empty { AreLeaves trees.old }
+    ensures count { OnOk result (length trees.new ≡ length trees.old) }
+    ensures put { OnOk result (BearBase versions_in (versions_at sequence map.now) trees.new) }
+{
+    map.in_order();
+    let shards = trees.len() as u64;
+    // The trees have the pairs so far, each in its own.
+    for (key, value) in map.iter() {
+        let node = Node::of_value(alloc, key, value, sequence)?;
+        trees[shard_of(key, shards) as usize].insert(node);
+    }
+    Ok(())
+}
+
+/// The versions of a map's pairs at a sequence, for contracts alone.
+fn base_of<Plan: VersionPlan>(
+    alloc: Global,
+    _sequence: u64,
+    _map: &ByteMap,
+) -> Result<Base, NoMemory>
+    ensures { IfOk result (λ base. base ≡ Plan.versions) }
+{
+    Base::of::<Plan>(alloc)
+}
 
 impl MemoryTable {
     /// A table of no versions for so many clients, with the published sequence `last` and so many shards, at least one;
@@ -26,11 +79,47 @@ impl MemoryTable {
     >
         requires { 0 < shards }
         ensures table { IfOk result (λ opened. opening_of opened.0
-            ≡ record { clients = clients; shards = shards; start = last }) }
+            ≡ record { clients = clients; shards = shards; start = last; base = [] }) }
         ensures turn { IfOk result (λ opened. IsTurnAtStart opened.0 opened.1.turn) }
         ensures clients { IfOk result (λ opened. AreSeatsAtStart opened.0 clients opened.1.clients.items) }
     {
-        let (steps, seats) = SharedTable::open(alloc, clients, shards, last)?;
+        let trees = empty_trees(alloc, shards)?;
+        let (steps, seats) = SharedTable::open(alloc, clients, last, trees, Base::none())?;
+        Ok((MemoryTable { steps }, seats))
+    }
+
+    /// The same over a map: the table has its pairs, each as a value at the sequence `base_last`, which is published.
+    /// Each key and value is copied once.
+    pub fn open_with(
+        alloc: Global,
+        clients: u32,
+        last: u64,
+        shards: u32,
+        base_last: u64,
+        map: &ByteMap,
+    ) -> Result<
+        (
+            MemoryTable,
+            Seats<TableSeat<Tree, Nodes>, Turn<Tree, Nodes>>,
+        ),
+        NoMemory,
+    >
+        requires shards { 0 < shards }
+        requires published { base_last ≤ last }
+        requires none_before { base_last ≡ 0 → map.now ≡ [] }
+        ensures table { IfOk result (λ opened. opening_of opened.0 ≡ record {
+          clients = clients;
+          shards = shards;
+          start = last;
+          base = versions_at base_last map.now;
+        }) }
+        ensures turn { IfOk result (λ opened. IsTurnAtStart opened.0 opened.1.turn) }
+        ensures clients { IfOk result (λ opened. AreSeatsAtStart opened.0 clients opened.1.clients.items) }
+    {
+        let mut trees = empty_trees(alloc, shards)?;
+        put_pairs(alloc, trees.as_mut_slice(), base_last, map)?;
+        let base = base_of::<Brand>(alloc, base_last, map)?;
+        let (steps, seats) = SharedTable::open(alloc, clients, last, trees, base)?;
         Ok((MemoryTable { steps }, seats))
     }
 }

@@ -13,18 +13,26 @@ use std::sync::Wait;
 use table_steps::TableSeat;
 use table_tree::{Nodes, Tree};
 
+/// The shard of a key among so many, by the key's checksum. One shard is every key's.
+pub(crate) fn shard_of(key: &[u8], shards: u64) -> u64
+    requires { 0 < shards }
+    ensures shard { result ≡ shard_of_key shards key.now }
+    ensures within { result < shards }
+{
+    if shards == 1 {
+        0
+    } else {
+        u64::from(crc32c(key)) % shards
+    }
+}
+
 impl MemoryTable {
-    /// The shard of a key, by the key's checksum. One shard is every key's.
+    /// The shard of a key.
     pub(crate) fn shard_of(&self, key: &[u8]) -> u64
         ensures shard { result ≡ shard_of_key (opening_of self.now).shards key.now }
         ensures within { result < (opening_of self.now).shards }
     {
-        let shards = self.steps.shards();
-        if shards == 1 {
-            0
-        } else {
-            u64::from(crc32c(key)) % shards
-        }
+        shard_of(key, self.steps.shards())
     }
 
     /// The key's value as of `at`, the end of what the seat has seen.
@@ -41,7 +49,8 @@ impl MemoryTable {
         requires at { at ≡ last_of (opening_of self.now).start (account_of seat.old).seen }
         ensures ours { IsOurs self.now seat.new }
         ensures same { account_of seat.new ≡ account_of seat.old }
-        ensures value { IfOk result (λ found. found_value found ≡ value_in key.now (account_of seat.old).seen) }
+        ensures value { IfOk result (λ found. found_value found
+            ≡ value_in (opening_of self.now).base key.now (account_of seat.old).seen) }
     {
         let shard = self.shard_of(key);
         seat.find(&self.steps, alloc, rt, shard, key, at)
@@ -62,7 +71,7 @@ impl MemoryTable {
         ensures ours { IsOurs self.now seat.new }
         ensures same { account_of seat.new ≡ account_of seat.old }
         ensures values { IfOk result (λ values. values
-            ≡ map (λ key. value_in key (account_of seat.old).seen) keys.now) }
+            ≡ map (λ key. value_in (opening_of self.now).base key (account_of seat.old).seen) keys.now) }
     {
         let mut values = FoundList::new(alloc);
         // `values` has those of the first `i` keys.

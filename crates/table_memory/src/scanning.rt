@@ -42,7 +42,7 @@ impl MemoryTable {
         ensures same { account_of seat.new ≡ account_of seat.old }
         ensures at { IfOk result (λ rows. rows.at ≡ at) }
         ensures rows { IfOk result (λ rows. rows.rows
-            ≡ rows_within lo.now hi.now (map_after (account_of seat.old).seen)) }
+            ≡ rows_within lo.now hi.now (map_after (opening_of self.now).base (account_of seat.old).seen)) }
     {
         if self.steps.shards() == 1 {
             return seat.find_rows(&self.steps, alloc, rt, 0, lo, hi, at);
@@ -68,7 +68,8 @@ impl MemoryTable {
         ensures ours { IsOurs self.now seat.new }
         ensures same { account_of seat.new ≡ account_of seat.old }
         ensures rows { IfOk result (λ rows. IsPermutation
-            (rows_within lo.now hi.now (map_after (account_of seat.old).seen)) rows.items) }
+            (rows_within lo.now hi.now (map_after (opening_of self.now).base (account_of seat.old).seen))
+            rows.items) }
     {
         let mut rows = Vec::new(alloc);
         let shards = self.steps.shards();

@@ -1,12 +1,13 @@
 -- What a locked tree answers is the map of what its seat has seen.
-use Rattle.std.proofs.Common.{◌≡◌, ℕ, suc, eqb, cond, Bool, true, false, List, [], ◌∷◌, filter, refl, sym, ap, ◌∙◌, inl, inr, ⊎_elim, arith, eq-eqb, eqb-true}
+use Rattle.std.proofs.Common.{◌≡◌, ℕ, suc, ◌≤◌, eqb, cond, Bool, true, false, List, [], ◌∷◌, ◌++◌, filter, refl, sym, ap, ◌∙◌, inl, inr, ⊎_elim, arith, eq-eqb, eqb-true}
 use Rattle.std.proofs.Math.Nat.{mod-one}
 use Rattle.model_base.specs.Checksum.{crc32c}
 use Rattle.table_rule.specs.declared.content.Version.{Version}
 use Rattle.table_rule.specs.declared.content.MemberVersions.{MemberVersions}
-use Rattle.table_rule.specs.Histories.{In, versions_of, Runs, last_of, shard_of, of_shard, AreRising, IsOrderUpTo}
+use Rattle.table_rule.specs.Histories.{In, versions_of, standing, Runs, last_of, shard_of, of_shard, AreRising, IsOrderUpTo}
 use Rattle.table_rule.specs.Steps.{Shows}
-use Rattle.table_rule.proofs.Histories.{in_run}
+use Rattle.table_rule.specs.declared.view.Opening.{Opening}
+use Rattle.table_rule.proofs.Histories.{in_run, in_split, standing_below}
 
 module _ {A : Type 0} (p : A → Bool) where
   -- the test's answer at the head decides
@@ -41,15 +42,24 @@ rising_run : (last : ℕ) (vs : List Version) → Runs last vs → AreRising vs
 rising_run last [] r = tt
 rising_run last (v ∷ vs) r = ((λ w h. let k = (in_run (suc last) vs w r.1 h).0 in let e = r.0 in omega arith), rising_run (suc last) vs r.1)
 
+-- one list behind another that is below it
+pub rising_both : (xs ys : List Version) → AreRising xs → AreRising ys → ((x y : Version) → In x xs → In y ys → x.sequence ≤ y.sequence) → AreRising (xs ++ ys)
+rising_both [] ys a b below = b
+rising_both (x ∷ xs) ys a b below = (
+  (λ w h. ⊎_elim (λ (t : In w xs). a.0 w t) (λ (t : In w ys). below x w (inl refl) t) (in_split w xs ys h)),
+  rising_both xs ys a.1 b (λ v w i j. below v w (inr i) j),
+)
+
 -- What was seen of the shard is an order of the tree's versions up to its end, whatever stands past it.
-pub seen_order : (shards j start : ℕ) (seen : List (List MemberVersions)) (vs : List Version) → Runs start (versions_of seen) → Shows shards j start seen vs → IsOrderUpTo (last_of start seen) vs (of_shard shards j (versions_of seen))
-seen_order shards j start seen vs runs shows =
-    let p : Version → Bool = λ v. eqb (shard_of shards v) j in record {
+pub seen_order : (z : Opening) (j : ℕ) (seen : List (List MemberVersions)) (vs : List Version) → Runs z.start (versions_of seen) → Shows z j seen vs → IsOrderUpTo (last_of z.start seen) vs (of_shard z.shards j (standing z.base seen))
+seen_order z j seen vs runs shows =
+    let p : Version → Bool = λ v. eqb (shard_of z.shards v) j in let all : List Version = standing z.base seen in record {
       same = λ v. (
-        (λ h. let k = in_kept p v (versions_of seen) h in (shows.1 v k.0 (eqb-true (shard_of shards v) j k.1), (in_run start (versions_of seen) v runs k.0).1)),
-        (λ h. kept_in p v (versions_of seen) (shows.2 v h.0 h.1) (eq-eqb (shard_of shards v) j (shows.0 v h.0))),
+        (λ h. let k = in_kept p v all h in (shows.1 v k.0 (eqb-true (shard_of z.shards v) j k.1), standing_below z.base z.start seen v shows.3 runs k.0)),
+        (λ h. kept_in p v all (shows.2 v h.0 h.1) (eq-eqb (shard_of z.shards v) j (shows.0 v h.0))),
       );
-      rising = rising_kept p (versions_of seen) (rising_run start (versions_of seen) runs);
+      rising = rising_kept p all (rising_both z.base (versions_of seen) shows.3.rising (rising_run z.start (versions_of seen) runs)
+          (λ x y i j. let low = shows.3.below x i in let high = (in_run z.start (versions_of seen) y runs j).0 in omega arith));
     }
 
 -- of one shard that is all

@@ -1,5 +1,5 @@
 -- Who counts down, who publishes, and who launches.
-use Rattle.std.proofs.Common.{◌≡◌, ◌≢◌, ℕ, zero, suc, ◌+◌, ◌-◌, ◌^◌, ◌%◌, ◌<◌, ◌≤◌, ◌⊎◌, List, [], ◌∷◌, ◌++◌, length, get_or, set, refl, sym, ap, ◌∙◌, subst, inl, inr, ⊎_elim, cond, arith, length-set, get_or-set_other, get_or-set_same}
+use Rattle.std.proofs.Common.{◌≡◌, ◌≢◌, ℕ, zero, suc, ◌+◌, ◌-◌, ◌^◌, ◌%◌, ◌<◌, ◌≤◌, ◌⊎◌, List, [], ◌∷◌, ◌++◌, length, get_or, set, refl, sym, ap, ◌∙◌, subst, inl, inr, ⊎_elim, cond, arith, length-set, get_or-set_other, get_or-set_same, append_assoc}
 use mathlib.Core.Logic.{dite}
 use mathlib.Core.Option.{none, some}
 use native.Mathlib.Decide.{ℕ_discrete}
@@ -14,7 +14,7 @@ use Rattle.table_rule.specs.declared.view.Launched.{Launched}
 use Rattle.table_rule.specs.declared.view.Lock.TheVariants.{Free}
 use Rattle.table_rule.specs.declared.view.Stage.{Stage}
 use Rattle.table_rule.specs.declared.view.Stage.TheVariants.{Idle, Waiting, Holding, Stored, Publishing, Resting, Handing, Filling}
-use Rattle.table_rule.specs.Histories.{In, versions_in, versions_of, Runs, last_of, Begins, Apart, AreSome, IsHistory}
+use Rattle.table_rule.specs.Histories.{In, versions_in, versions_of, standing, Runs, last_of, Begins, Apart, AreSome, IsHistory}
 use Rattle.table_rule.specs.Rule.{Place, out, coming, filling, handed, busy, inserted, finished, ShardState, Mode, still, running, ended, stored_in, InPart, NotTaken, IsComing, open_part, unfinished, AllParts, AllFinished, end_of, IsLaunched, InMode, KnowsLock, Knows, seat_state, InPlace}
 use Rattle.table_rule.specs.Steps.{SeatNow, IsAt}
 use Rattle.table_rule.proofs.Puts.{put, put_at, put_here}
@@ -102,7 +102,7 @@ module _ {ShardTree NodeList : Type 0} (held_by : ShardTree → List Version) (n
           mode_is = subst (λ (i : ℕ). InMode z.clients i after (last_of z.start r.published) mode) (sym (get_or-set_same s.words k y 0 (omega arith))) mode_is;
           sound = λ j v lt h. let o = r.sound j v lt h in (
             o.0,
-            ⊎_elim (λ (a : In v (versions_of r.published)). inl a)
+            ⊎_elim (λ (a : In v (standing z.base r.published)). inl a)
                 (λ (b : (i : ℕ) × In v (stored_in (r.place i))). inr (b.0, put_at r.place c (finished l vs) (λ i p. In v (stored_in (r.place i)) → In v (stored_in p)) b.0 (λ e o. subst (λ (p : Place). In v (stored_in p)) (ap r.place e ∙ now) o) (λ _ o. o) b.1)) o.1,
           );
           complete = r.complete;
@@ -258,6 +258,7 @@ module _ {ShardTree NodeList : Type 0} (held_by : ShardTree → List Version) (n
       let w : (i : ℕ) → i ≢ z.shards → get_or ws i 0 ≡ get_or s.words i 0 = λ i ne. get_or-set_other s.words z.shards i l 0 (λ e. ne (omega arith)) in
       let wide : length s.words ≡ z.shards + 2 + z.clients = r.wide in
       let parts = versions_snoc r.published g in
+      let grown : standing z.base now ≡ standing z.base r.published ++ versions_in g = ap (λ l. z.base ++ l) parts ∙ sym (append_assoc z.base (versions_of r.published) (versions_in g)) in
       let runs_now : Runs z.start (versions_of now) = subst (Runs z.start) (sym parts) (runs_append z.start (versions_of r.published) (versions_in g) r.runs ok.2.0) in
       let some_now : AreSome now = some_snoc r.published g r.some_each ok.2.1 in
       let rule : IsNow held_by nodes_of z (table_now now still (λ _. out)) (record { words = ws; homes = s.homes; views = set s.views id (h' ∷ []) }) = moved held_by nodes_of z s r id ws s.homes h h' now still (λ _. out) r.lock record {
@@ -274,15 +275,15 @@ module _ {ShardTree NodeList : Type 0} (held_by : ShardTree → List Version) (n
         mode_is = (w (z.shards + 1) (λ e. omega arith) ∙ ok.0, λ _. refl);
         sound = λ j v lt h. let o = r.sound j v lt h in (
           o.0,
-          inl (subst (In v) (sym parts) (⊎_elim
-              (λ (a : In v (versions_of r.published)). in_left v (versions_of r.published) (versions_in g) a)
-              (λ (b : (i : ℕ) × In v (stored_in (r.place i))). in_right v (versions_of r.published) (versions_in g) (stored_group z.clients (get_or s.words (z.shards + 1) 0) r.place last g (finished_parts r.place (end_of last g) g ok.1) ok.2 b.0 v b.1))
+          inl (subst (In v) (sym grown) (⊎_elim
+              (λ (a : In v (standing z.base r.published)). in_left v (standing z.base r.published) (versions_in g) a)
+              (λ (b : (i : ℕ) × In v (stored_in (r.place i))). in_right v (standing z.base r.published) (versions_in g) (stored_group z.clients (get_or s.words (z.shards + 1) 0) r.place last g (finished_parts r.place (end_of last g) g ok.1) ok.2 b.0 v b.1))
               o.1)),
         );
         complete = λ v h. ⊎_elim
-            (λ (a : In v (versions_of r.published)). r.complete v a)
+            (λ (a : In v (standing z.base r.published)). r.complete v a)
             (λ (b : In v (versions_in g)). let p = in_group g v b in r.stored p.0.member v (subst (λ (x : Place). In v (stored_in x)) (sym (finished_at r.place (end_of last g) g p.0 ok.1 p.1)) p.2))
-            (in_split v (versions_of r.published) (versions_in g) (subst (In v) parts h));
+            (in_split v (standing z.base r.published) (versions_in g) (subst (In v) grown h));
         stored = λ i v h. absurd h;
         seen = subst (λ (b : List (List MemberVersions)). Begins b now) now_is (begins_same now);
         grows = (g ∷ [], refl);

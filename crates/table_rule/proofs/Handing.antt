@@ -17,7 +17,7 @@ use Rattle.table_rule.specs.declared.view.Lock.{Lock}
 use Rattle.table_rule.specs.declared.view.Lock.TheVariants.{Free, Held}
 use Rattle.table_rule.specs.declared.view.Stage.{Stage}
 use Rattle.table_rule.specs.declared.view.Stage.TheVariants.{Idle, Waiting, Holding, Stored, Publishing, Resting, Handing, Filling}
-use Rattle.table_rule.specs.Histories.{In, versions_of, last_of, Apart, Begins, IsHistory}
+use Rattle.table_rule.specs.Histories.{In, standing, last_of, Apart, Begins, IsHistory}
 use Rattle.table_rule.specs.Rule.{Place, out, coming, filling, handed, busy, inserted, finished, ShardState, Mode, running, stored_in, InPart, NotTaken, IsComing, AllComing, end_of, IsRunning, InMode, KnowsLock, Knows, seat_state, InPlace}
 use Rattle.table_rule.specs.Steps.{SeatNow, work, launched_behind, part_of, IsAt, IsNext, IsPartOf, IsAwaited, MayTake}
 use Rattle.table_rule.proofs.Puts.{put, put_at, put_here}
@@ -91,7 +91,7 @@ module _ {ShardTree NodeList : Type 0} (held_by : ShardTree → List Version) (n
               (λ ne o. place_stays held_by nodes_of s.words ws s.homes hs z.shards i (w (z.shards + 1 + i) (λ e. ne (omega arith))) (same_h (z.shards + i) (λ e. ne (omega arith))) (r.place i) o) ok;
           mode_is = subst (λ (y : ℕ). InMode z.clients y place (last_of z.start r.published) r.mode) (sym (w (z.shards + 1) (λ e. omega arith)))
               (mode_put r.place m new z.clients (get_or s.words (z.shards + 1) 0) (last_of z.start r.published) r.mode (subst IsOpen (sym now) was_open) is_open (λ end vs o. to end vs (subst (InPart end vs) now o)) r.mode_is);
-          sound = λ j v lt h. let o = r.sound j v lt h in (o.0, ⊎_elim (λ (a : In v (versions_of r.published)). inl a) (λ (b : (i : ℕ) × In v (stored_in (r.place i))). inr (b.0, kept b.0 v b.1)) o.1);
+          sound = λ j v lt h. let o = r.sound j v lt h in (o.0, ⊎_elim (λ (a : In v (standing z.base r.published)). inl a) (λ (b : (i : ℕ) × In v (stored_in (r.place i))). inr (b.0, kept b.0 v b.1)) o.1);
           complete = r.complete;
           stored = λ i v h. r.stored i v (back i v h);
           seen = subst (λ (y : List (List MemberVersions)). Begins y r.published) (sym same_seen) fit.3;

@@ -4,7 +4,7 @@ use native.Mathlib.Decide.{ℕ_discrete}
 use mathlib.Core.Logic.{dite}
 use Rattle.table_rule.specs.declared.content.Version.{Version}
 use Rattle.table_rule.specs.declared.content.MemberVersions.{MemberVersions}
-use Rattle.table_rule.specs.Histories.{In, versions_in, versions_of, Runs, last_of, Begins, Apart, AreSome}
+use Rattle.table_rule.specs.Histories.{In, versions_in, versions_of, standing, Runs, last_of, Begins, Apart, AreSome, IsBase}
 
 module _ {A : Type 0} where
   pub in_left : (a : A) (xs ys : List A) → In a xs → In a (xs ++ ys)
@@ -68,6 +68,26 @@ up_to start seen all v runs begins h low =
 
 pub begins_in : (seen all : List (List MemberVersions)) (v : Version) → Begins seen all → In v (versions_of seen) → In v (versions_of all)
 begins_in seen all v b h = subst (In v) (sym (ap versions_of b.1 ∙ versions_append seen b.0)) (in_left v (versions_of seen) (versions_of b.0) h)
+
+-- the same of all that stands over a base, none of which is past the start
+module _ (base : List Version) where
+  pub standing_more : (seen all : List (List MemberVersions)) (v : Version) → Begins seen all → In v (standing base seen) → In v (standing base all)
+  standing_more seen all v b h = ⊎_elim
+      (λ (t : In v base). in_left v base (versions_of all) t)
+      (λ (t : In v (versions_of seen)). in_right v base (versions_of all) (begins_in seen all v b t))
+      (in_split v base (versions_of seen) h)
+
+  pub standing_up_to : (start : ℕ) (seen all : List (List MemberVersions)) (v : Version) → Runs start (versions_of all) → Begins seen all → In v (standing base all) → v.sequence ≤ last_of start seen → In v (standing base seen)
+  standing_up_to start seen all v runs b h low = ⊎_elim
+      (λ (t : In v base). in_left v base (versions_of seen) t)
+      (λ (t : In v (versions_of all)). in_right v base (versions_of seen) (up_to start seen all v runs b t low))
+      (in_split v base (versions_of all) h)
+
+  pub standing_below : (start : ℕ) (gs : List (List MemberVersions)) (v : Version) → IsBase start base → Runs start (versions_of gs) → In v (standing base gs) → v.sequence ≤ last_of start gs
+  standing_below start gs v is runs h = ⊎_elim
+      (λ (t : In v base). let low = is.below v t in omega arith)
+      (λ (t : In v (versions_of gs)). (in_run start (versions_of gs) v runs t).1)
+      (in_split v base (versions_of gs) h)
 
 pub some_snoc : (gs : List (List MemberVersions)) (g : List MemberVersions) → AreSome gs → 0 < length (versions_in g) → AreSome (gs ++ g ∷ [])
 some_snoc [] g a b = (b, tt)

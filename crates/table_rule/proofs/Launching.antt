@@ -11,7 +11,7 @@ use Rattle.table_rule.specs.declared.view.Launched.{Launched}
 use Rattle.table_rule.specs.declared.view.Lock.TheVariants.{Free}
 use Rattle.table_rule.specs.declared.view.Stage.{Stage}
 use Rattle.table_rule.specs.declared.view.Stage.TheVariants.{Idle, Waiting, Holding, Stored, Publishing, Resting, Handing, Filling}
-use Rattle.table_rule.specs.Histories.{In, versions_in, versions_of, Runs, last_of, Apart, Members}
+use Rattle.table_rule.specs.Histories.{In, versions_in, standing, Runs, last_of, Apart, Members}
 use Rattle.table_rule.specs.Rule.{Place, out, coming, ShardState, Mode, still, running, ended, stored_in, NotTaken, IsComing, AllComing, end_of, IsRunning, InMode, Knows, seat_state, InPlace}
 use Rattle.table_rule.specs.Steps.{SeatNow, IsAt, IsWithTurn, launched_behind}
 use Rattle.table_rule.proofs.Histories.{begins_same, last_snoc}
@@ -112,7 +112,7 @@ module _ {ShardTree NodeList : Type 0} (held_by : ShardTree → List Version) (n
         shards_are = λ i lt o. shard_stays held_by nodes_of s.words ws s.homes s.homes z.shards i (w i (λ e. omega arith)) refl (r.lock i) o;
         rows = λ i lo _ o. row_in ws s.homes i end (place i) (placed_is end g i) (subst (InPlace held_by nodes_of z.shards ws s.homes i) (ok.1 i) (place_stays held_by nodes_of s.words ws s.homes s.homes z.shards i (w (z.shards + 1 + i) (λ e. omega arith)) refl (r.place i) o));
         mode_is = (get_or-set_same s.words (z.shards + 1) x 0 (omega arith) ∙ (count ∙ sym (coming_open place end g come)), subst (λ (i : ℕ). 0 < i) (sym (get_or-set_same s.words (z.shards + 1) x 0 (omega arith) ∙ count)) (some_part g nonempty), coming_parts place end g come, (run', nonempty, members, placed_out end g));
-        sound = λ j v lt h. let o = r.sound j v lt h in (o.0, ⊎_elim (λ (a : In v (versions_of r.published)). inl a) (λ (b : (i : ℕ) × In v (stored_in (r.place i))). absurd (nothing b.0 v b.1)) o.1);
+        sound = λ j v lt h. let o = r.sound j v lt h in (o.0, ⊎_elim (λ (a : In v (standing z.base r.published)). inl a) (λ (b : (i : ℕ) × In v (stored_in (r.place i))). absurd (nothing b.0 v b.1)) o.1);
         complete = r.complete;
         stored = λ i v h. absurd (none_in end (place i) (placed_is end g i) v h);
         grows = begins_same r.published;

@@ -18,13 +18,13 @@ use Rattle.table_rule.specs.declared.view.Lock.{Lock}
 use Rattle.table_rule.specs.declared.view.Lock.TheVariants.{Free, Held}
 use Rattle.table_rule.specs.declared.view.Stage.{Stage}
 use Rattle.table_rule.specs.declared.view.Stage.TheVariants.{Idle, Waiting, Holding, Stored, Publishing, Resting, Handing, Filling}
-use Rattle.table_rule.specs.Histories.{In, versions_of, last_of, shard_of, Begins, IsHistory}
+use Rattle.table_rule.specs.Histories.{In, standing, last_of, shard_of, Begins, IsHistory}
 use Rattle.table_rule.specs.Rule.{Place, out, coming, filling, handed, busy, inserted, finished, ShardState, opened, held, Mode, contents, stored_in, InPart, NotTaken, IsComing, end_of, InMode, KnowsLock, Knows, seat_state, InShard, InPlace, IsConsistent}
 use Rattle.table_rule.specs.Steps.{SeatNow, work, Shows, AddsAll, AreOfShard, IsAt, IsFresh, after_learn, after_lock, after_unlock, after_add}
 use Rattle.table_rule.specs.Steps.{IsClient}
 use Rattle.table_rule.specs.Events.{TableNow, table_now, progress_of, Stays, IsRead, now_of, IsNow, StepIs}
 use Rattle.table_rule.proofs.Puts.{put, put_at, put_here, put_else}
-use Rattle.table_rule.proofs.Histories.{in_left, in_right, in_split, begins_same, in_run, up_to, begins_in, longer}
+use Rattle.table_rule.proofs.Histories.{in_left, in_right, in_split, begins_same, standing_more, standing_up_to, standing_below, longer}
 use Rattle.table_rule.proofs.Fresh.{fresh, rest_runs}
 use Rattle.table_rule.proofs.Parts.{later, IsOpen, mode_put, coming_put}
 use Rattle.table_rule.proofs.Moves.{TableState, Homes, shard_stays, place_stays, moved, Goes, unmoved, same_now, allows, progress_stays}
@@ -35,7 +35,7 @@ one f [] = []
 one f (h ∷ hs) = f h ∷ []
 
 abbrev pub own : List SeatState → SeatState
-own [] = seat_state 0 (record { clients = 0; shards = 0; start = 0 }) [] Free Idle
+own [] = seat_state 0 (record { clients = 0; shards = 0; start = 0; base = [] }) [] Free Idle
 own (h ∷ hs) = h
 
 -- the group that a client has a part of, or u
@@ -131,17 +131,18 @@ module _ {ShardTree NodeList : Type 0} (held_by : ShardTree → List Version) (n
   learns slots id me c k seen stage is client mid = allows held_by nodes_of (IsRead z.start) z slots id me k (λ y. y) (after_learn (step slots k 0 0 none) me) (learns_is slots id me c k seen stage is client mid)
 
   -- a shard's tree shows what a seat has seen
-  pub shows : (s : TableState held_by nodes_of) (r : Rule s) (j : ℕ) (seen : List (List MemberVersions)) (vs : List Version) → j < z.shards → Begins seen r.published → contents (r.lock j) ≡ vs → Shows z.shards j z.start seen vs
+  pub shows : (s : TableState held_by nodes_of) (r : Rule s) (j : ℕ) (seen : List (List MemberVersions)) (vs : List Version) → j < z.shards → Begins seen r.published → contents (r.lock j) ≡ vs → Shows z j seen vs
   shows s r j seen vs lt begins is = (
     (λ v h. (r.sound j v lt (subst (In v) (sym is) h)).0),
-    (λ v h e. subst (In v) is (subst (λ (i : ℕ). In v (contents (r.lock i))) e (r.complete v (begins_in seen r.published v begins h)))),
-    λ v h low. ⊎_elim
-        (λ (t : In v (versions_of r.published)). up_to z.start seen r.published v r.runs begins t low)
+    (λ v h e. subst (In v) is (subst (λ (i : ℕ). In v (contents (r.lock i))) e (r.complete v (standing_more z.base seen r.published v begins h)))),
+    (λ v h low. ⊎_elim
+        (λ (t : In v (standing z.base r.published)). standing_up_to z.base z.start seen r.published v r.runs begins t low)
         (λ (t : (i : ℕ) × In v (stored_in (r.place i))).
         let a = later z.clients (get_or s.words (z.shards + 1) 0) r.place (last_of z.start r.published) r.mode r.mode_is t.0 v t.1 in
         let b = longer seen r.published begins in
         absurd (omega arith))
-        (r.sound j v lt (subst (In v) (sym is) h)).1,
+        (r.sound j v lt (subst (In v) (sym is) h)).1),
+    r.base_is,
   )
 
   door_open : (words : List ℕ) (homes : Homes held_by nodes_of) (j : ℕ) (d : ShardState) → InShard held_by nodes_of z.shards words homes j d → get_or words j 0 ≡ 0 → (t : ShardTree) × (d ≡ opened (held_by t)) × (get_elem? homes j ≡ some (some (Tree t)))
@@ -203,7 +204,7 @@ module _ {ShardTree NodeList : Type 0} (held_by : ShardTree → List Version) (n
           λ c' z' seen' stage' mid'.
               let e = sym mid ∙ mid' in
               let z_is : z ≡ z' = ap (λ l. (own l).opening) e in (
-                (λ _. (d.0, ap (one (λ x. seat_state x.client x.opening x.seen (Held j vs) x.stage)) e, refl, subst (λ (y : Opening). Shows y.shards j y.start seen' vs) z_is (shows s r j seen' vs lt ((r.seats id _ (at ∙ ap some mid')).0).3 (ap contents d.1)), new_ones c' seen' stage' vs ((r.seats id _ (at ∙ ap some mid')).0).5 lt (ap contents d.1))),
+                (λ _. (d.0, ap (one (λ x. seat_state x.client x.opening x.seen (Held j vs) x.stage)) e, refl, subst (λ (y : Opening). Shows y j seen' vs) z_is (shows s r j seen' vs lt ((r.seats id _ (at ∙ ap some mid')).0).3 (ap contents d.1)), new_ones c' seen' stage' vs ((r.seats id _ (at ∙ ap some mid')).0).5 lt (ap contents d.1))),
                 λ ne. absurd (ne zero_now),
               ),
         )
@@ -214,7 +215,7 @@ module _ {ShardTree NodeList : Type 0} (held_by : ShardTree → List Version) (n
         new_ones k now (Holding w) vs ok lt is = (
           (λ v x hv hx e.
               let f = fresh z.clients (get_or s.words (z.shards + 1) 0) r.place (last_of z.start r.published) k w.launched.last w.done w.rest ok.0 r.mode r.mode_is v hv in
-              ⊎_elim (λ (t : In x (versions_of r.published)). let a = (in_run z.start (versions_of r.published) x r.runs t).1 in let b = f.0 in absurd (omega arith))
+              ⊎_elim (λ (t : In x (standing z.base r.published)). let a = standing_below z.base z.start r.published x r.base_is r.runs t in let b = f.0 in absurd (omega arith))
               (λ (t : (i : ℕ) × In x (stored_in (r.place i))). f.1 t.0 x t.1 e)
               (r.sound j x lt (subst (In x) (sym is) hx)).1),
           rest_runs z.clients (get_or s.words (z.shards + 1) 0) r.place (last_of z.start r.published) k w.launched.last w.done w.rest ok.0 r.mode r.mode_is,
@@ -383,13 +384,13 @@ module _ {ShardTree NodeList : Type 0} (held_by : ShardTree → List Version) (n
             mode_is = subst (λ (x : ℕ). InMode z.clients x place (last_of z.start r.published) r.mode) (sym (w (z.shards + 1) (λ e. omega arith)))
                 (mode_put r.place c new z.clients (get_or s.words (z.shards + 1) 0) (last_of z.start r.published) r.mode is_open tt
                 (λ end us ok. let o = subst (InPart end us) now ok in (o.0, append_assoc done gained rest' ∙ o.1)) r.mode_is);
-            sound = λ i x lt' h. put_at r.lock j state (λ i d. ((In x (contents (r.lock i))) → (shard_of z.shards x ≡ i) × (In x (versions_of r.published) ⊎ ((k : ℕ) × In x (stored_in (place k))))) → In x (contents d) → (shard_of z.shards x ≡ i) × (In x (versions_of r.published) ⊎ ((k : ℕ) × In x (stored_in (place k))))) i
+            sound = λ i x lt' h. put_at r.lock j state (λ i d. ((In x (contents (r.lock i))) → (shard_of z.shards x ≡ i) × (In x (standing z.base r.published) ⊎ ((k : ℕ) × In x (stored_in (place k))))) → In x (contents d) → (shard_of z.shards x ≡ i) × (In x (standing z.base r.published) ⊎ ((k : ℕ) × In x (stored_in (place k))))) i
                 (λ e was in_t. ⊎_elim
                 (λ (f : In x gained). (here x f ∙ sym e, inr (c, comes x f)))
                 (λ (f : In x vs). was (subst (λ (d : ShardState). In x (contents d)) (sym (ap r.lock e ∙ is)) f))
                 (has_gained.2 x in_t))
                 (λ _ was. was)
-                (λ in_old. let o = r.sound i x lt' in_old in (o.0, ⊎_elim (λ (a : In x (versions_of r.published)). inl a) (λ (b : (k : ℕ) × In x (stored_in (r.place k))). inr (b.0, kept b.0 x b.1)) o.1)) h;
+                (λ in_old. let o = r.sound i x lt' in_old in (o.0, ⊎_elim (λ (a : In x (standing z.base r.published)). inl a) (λ (b : (k : ℕ) × In x (stored_in (r.place k))). inr (b.0, kept b.0 x b.1)) o.1)) h;
             complete = λ x h. stays (shard_of z.shards x) x (r.complete x h);
             stored = λ i x h. put_at r.place c new (λ i p. ((In x (stored_in (r.place i))) → In x (contents (lock (shard_of z.shards x)))) → In x (stored_in p) → In x (contents (lock (shard_of z.shards x)))) i
                 (λ e was in_p. ⊎_elim

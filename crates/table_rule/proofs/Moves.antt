@@ -12,7 +12,7 @@ use Rattle.table_rule.specs.declared.view.SeatState.{SeatState}
 use Rattle.table_rule.specs.declared.content.Content.{Content}
 use Rattle.table_rule.specs.declared.view.Lock.{Lock}
 use Rattle.table_rule.specs.declared.view.Stage.{Stage}
-use Rattle.table_rule.specs.Histories.{In, versions_of, Runs, last_of, shard_of, Begins, AreSome}
+use Rattle.table_rule.specs.Histories.{In, versions_of, standing, Runs, last_of, shard_of, Begins, AreSome}
 use Rattle.table_rule.specs.Rule.{Place, out, coming, filling, handed, busy, inserted, finished, ShardState, opened, held, Mode, contents, stored_in, InMode, KnowsLock, Knows, AllFit, InShard, InPlace, IsConsistent}
 use Rattle.table_rule.specs.Steps.{SeatNow}
 use Rattle.table_rule.specs.Events.{TableNow, table_now, progress_of, Stays, OnlyMember, now_of, IsNow, Comes, StepIs}
@@ -50,8 +50,8 @@ module _ {ShardTree NodeList : Type 0} (held_by : ShardTree → List Version) (n
     pub shards_are : (j : ℕ) → j < z.shards → InShard held_by nodes_of z.shards s.words s.homes j (r.lock j) → InShard held_by nodes_of z.shards ws hs j (lock j)
     pub rows : (i : ℕ) → 0 < i → i ≤ z.clients → InPlace held_by nodes_of z.shards s.words s.homes i (r.place i) → InPlace held_by nodes_of z.shards ws hs i (place i)
     pub mode_is : InMode z.clients (get_or ws (z.shards + 1) 0) place (last_of z.start published) mode
-    pub sound : (j : ℕ) (v : Version) → j < z.shards → In v (contents (lock j)) → (shard_of z.shards v ≡ j) × (In v (versions_of published) ⊎ ((i : ℕ) × In v (stored_in (place i))))
-    pub complete : (v : Version) → In v (versions_of published) → In v (contents (lock (shard_of z.shards v)))
+    pub sound : (j : ℕ) (v : Version) → j < z.shards → In v (contents (lock j)) → (shard_of z.shards v ≡ j) × (In v (standing z.base published) ⊎ ((i : ℕ) × In v (stored_in (place i))))
+    pub complete : (v : Version) → In v (standing z.base published) → In v (contents (lock (shard_of z.shards v)))
     pub stored : (i : ℕ) (v : Version) → In v (stored_in (place i)) → In v (contents (lock (shard_of z.shards v)))
     pub grows : Begins r.published published
     pub fit : AllFit z published mode place lock r.seat id v'
@@ -81,6 +81,7 @@ module _ {ShardTree NodeList : Type 0} (held_by : ShardTree → List Version) (n
         last_is = m.last_is;
         runs = m.runs;
         some_each = m.some_each;
+        base_is = r.base_is;
         shards_are = λ j lt. m.shards_are j lt (r.shards_are j lt);
         rows = λ i lo hi. m.rows i lo hi (r.rows i lo hi);
         mode_is = m.mode_is;
@@ -108,8 +109,8 @@ module _ {ShardTree NodeList : Type 0} (held_by : ShardTree → List Version) (n
     pub shards_are : (j : ℕ) → j < z.shards → InShard held_by nodes_of z.shards s.words s.homes j (r.lock j) → InShard held_by nodes_of z.shards ws hs j (lock j)
     pub rows : (i : ℕ) → 0 < i → i ≤ z.clients → InPlace held_by nodes_of z.shards s.words s.homes i (r.place i) → InPlace held_by nodes_of z.shards ws hs i (place i)
     pub mode_is : InMode z.clients (get_or ws (z.shards + 1) 0) place (last_of z.start published) mode
-    pub sound : (j : ℕ) (v : Version) → j < z.shards → In v (contents (lock j)) → (shard_of z.shards v ≡ j) × (In v (versions_of published) ⊎ ((i : ℕ) × In v (stored_in (place i))))
-    pub complete : (v : Version) → In v (versions_of published) → In v (contents (lock (shard_of z.shards v)))
+    pub sound : (j : ℕ) (v : Version) → j < z.shards → In v (contents (lock j)) → (shard_of z.shards v ≡ j) × (In v (standing z.base published) ⊎ ((i : ℕ) × In v (stored_in (place i))))
+    pub complete : (v : Version) → In v (standing z.base published) → In v (contents (lock (shard_of z.shards v)))
     pub stored : (i : ℕ) (v : Version) → In v (stored_in (place i)) → In v (contents (lock (shard_of z.shards v)))
     pub seen : Begins h'.seen published
     pub grows : Begins r.published published

@@ -1,5 +1,5 @@
 -- The table at the start, the seats that are made of the first one, and what is known at the end.
-use Rattle.std.proofs.Common.{◌≡◌, ◌≢◌, ℕ, zero, suc, ◌+◌, ◌<◌, ◌≤◌, ◌⊎◌, List, [], ◌∷◌, ◌++◌, length, get_or, set, refl, sym, ap, ◌∙◌, subst, inl, inr, ⊎_elim, arith, map}
+use Rattle.std.proofs.Common.{◌≡◌, ◌≢◌, ℕ, zero, suc, ◌+◌, ◌<◌, ◌≤◌, ◌⊎◌, List, [], ◌∷◌, ◌++◌, length, get_or, set, refl, sym, ap, ◌∙◌, subst, inl, inr, ⊎_elim, arith, map, append-nil}
 use mathlib.Core.Option.{none, some, some-injective, some-ne-none}
 use native.Mathlib.Decide.{ℕ_discrete}
 use lib.ListN.{get_elem?}
@@ -14,10 +14,11 @@ use Rattle.table_rule.specs.declared.content.Content.TheVariants.{Blank, Tree}
 use Rattle.table_rule.specs.declared.view.Lock.TheVariants.{Free}
 use Rattle.table_rule.specs.declared.view.Stage.{Stage}
 use Rattle.table_rule.specs.declared.view.Stage.TheVariants.{Idle, Resting}
-use Rattle.table_rule.specs.Histories.{In, last_of, Begins}
-use Rattle.table_rule.specs.Rule.{out, opened, still, Fits, AllFit, seat_state}
+use Rattle.table_rule.specs.Histories.{In, last_of, shard_of, Begins, IsBase}
+use Rattle.table_rule.specs.Rule.{out, ShardState, opened, still, Fits, AllFit, seat_state}
 use Rattle.table_rule.specs.Steps.{SeatNow}
 use Rattle.table_rule.proofs.Puts.{put, put_here, put_else}
+use Rattle.table_rule.proofs.Histories.{in_left}
 use Rattle.table_rule.proofs.Moves.{TableState, unmoved, allows}
 use Rattle.table_rule.specs.Events.{Stays, StepIs}
 use Rattle.table_rule.proofs.Locks.{Rule}
@@ -75,6 +76,7 @@ module _ {ShardTree NodeList : Type 0} (held_by : ShardTree → List Version) (n
       last_is = r.last_is;
       runs = r.runs;
       some_each = r.some_each;
+      base_is = r.base_is;
       shards_are = r.shards_are;
       rows = r.rows;
       mode_is = r.mode_is;
@@ -148,18 +150,23 @@ module _ {ShardTree NodeList : Type 0} (held_by : ShardTree → List Version) (n
   pub splits_first : (id c m : ℕ) (v : List SeatState) → 0 < c → v ≡ newcomers z c (suc m) → Splits (Rule held_by nodes_of z) id v (all_but_first v) (first_only v)
   splits_first id c m v lo e = subst (λ w. Splits (Rule held_by nodes_of z) id w (all_but_first w) (first_only w)) (sym e) (splits id c m lo)
 
-  new_fit : (c m : ℕ) → c + m ≤ suc z.clients → AllFit z [] still (λ _. out) (λ _. opened []) (λ _. 0) 0 (newcomers z c m)
-  new_fit c zero h = ((refl, omega arith, refl, ([], refl), tt, (refl, refl, refl)), tt)
-  new_fit c (suc m) h = ((refl, omega arith, refl, ([], refl), tt, tt), new_fit (suc c) m (omega arith))
+  new_fit : (lock : ℕ → ShardState) (c m : ℕ) → c + m ≤ suc z.clients → AllFit z [] still (λ _. out) lock (λ _. 0) 0 (newcomers z c m)
+  new_fit lock c zero h = ((refl, omega arith, refl, ([], refl), tt, (refl, refl, refl)), tt)
+  new_fit lock c (suc m) h = ((refl, omega arith, refl, ([], refl), tt, tt), new_fit lock (suc c) m (omega arith))
 
-  pub opens : (words : List ℕ) (slots : List (Content ShardTree NodeList)) → 0 < z.shards → length words ≡ z.shards + 2 + z.clients → length slots ≡ z.shards + 1 + z.clients → get_or words z.shards 0 ≡ z.start → ((i : ℕ) → i ≢ z.shards → get_or words i 0 ≡ 0)
-      → ((j : ℕ) → j < z.shards → (t : ShardTree) × (get_elem? (map some slots) j ≡ some (some (Tree t))) × (held_by t ≡ [])) → ((i : ℕ) → 0 < i → i ≤ z.clients → get_elem? (map some slots) (z.shards + i) ≡ some (some Blank))
+  -- shard j has the versions `vs j`, which are those of the base that are of it
+  abbrev pub Bears : (ℕ → List Version) → Type 0
+  Bears vs = ((j : ℕ) (v : Version) → j < z.shards → In v (vs j) → (shard_of z.shards v ≡ j) × In v z.base)
+      × ((v : Version) → In v z.base → In v (vs (shard_of z.shards v)))
+
+  pub opens : (words : List ℕ) (slots : List (Content ShardTree NodeList)) (vs : ℕ → List Version) → IsBase z.start z.base → Bears vs → 0 < z.shards → length words ≡ z.shards + 2 + z.clients → length slots ≡ z.shards + 1 + z.clients → get_or words z.shards 0 ≡ z.start → ((i : ℕ) → i ≢ z.shards → get_or words i 0 ≡ 0)
+      → ((j : ℕ) → j < z.shards → (t : ShardTree) × (get_elem? (map some slots) j ≡ some (some (Tree t))) × (held_by t ≡ vs j)) → ((i : ℕ) → 0 < i → i ≤ z.clients → get_elem? (map some slots) (z.shards + i) ≡ some (some Blank))
       → Rule held_by nodes_of z (opening words slots (newcomers z 1 z.clients))
-  opens words slots lo wide many at_last zeros trees blanks = record {
+  opens words slots vs base bears lo wide many at_last zeros trees blanks = record {
     published = [];
     mode = still;
     place = λ _. out;
-    lock = λ _. opened [];
+    lock = λ j. opened (vs j);
     seat = λ _. 0;
     wide = wide;
     many = length_some slots ∙ many;
@@ -167,11 +174,12 @@ module _ {ShardTree NodeList : Type 0} (held_by : ShardTree → List Version) (n
     last_is = at_last ∙ (omega arith);
     runs = tt;
     some_each = tt;
+    base_is = base;
     shards_are = λ j lt. (zeros j (λ e. omega arith), trees j lt);
     rows = λ i low hi. (zeros (z.shards + 1 + i) (λ e. omega arith), blanks i low hi);
     mode_is = (zeros (z.shards + 1) (λ e. omega arith), λ _. refl);
-    sound = λ j v lt h. absurd h;
-    complete = λ v h. absurd h;
+    sound = λ j v lt h. let o = bears.0 j v lt h in (o.0, inl (in_left v z.base [] o.1));
+    complete = λ v h. bears.1 v (subst (In v) (append-nil z.base) h);
     stored = λ i v h. absurd h;
     seats = first;
   }
@@ -180,8 +188,8 @@ module _ {ShardTree NodeList : Type 0} (held_by : ShardTree → List Version) (n
       length_some [] = refl
       length_some (x ∷ xs) = ap suc (length_some xs)
 
-      first : (j : ℕ) (v : List SeatState) → get_elem? (newcomers z 1 z.clients ∷ []) j ≡ some v → AllFit z [] still (λ _. out) (λ _. opened []) (λ _. 0) j v
-      first zero v e = subst (AllFit z [] still (λ _. out) (λ _. opened []) (λ _. 0) 0) (some-injective (newcomers z 1 z.clients) v e) (new_fit 1 z.clients (omega arith))
+      first : (j : ℕ) (v : List SeatState) → get_elem? (newcomers z 1 z.clients ∷ []) j ≡ some v → AllFit z [] still (λ _. out) (λ j. opened (vs j)) (λ _. 0) j v
+      first zero v e = subst (AllFit z [] still (λ _. out) (λ j. opened (vs j)) (λ _. 0) 0) (some-injective (newcomers z 1 z.clients) v e) (new_fit (λ j. opened (vs j)) 1 z.clients (omega arith))
       first (suc j) v e = absurd (some-ne-none v (sym e))
 
   fit_in : (s : TableState held_by nodes_of) (r : Rule held_by nodes_of z s) (id : ℕ) (h : SeatState) (v : List SeatState) → In h v → AllFit z r.published r.mode r.place r.lock r.seat id v → Fits z r.published r.mode r.place r.lock r.seat id h

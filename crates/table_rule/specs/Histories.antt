@@ -76,17 +76,30 @@ record_of v = record_writing v.key v.value
 abbrev pub map_of : List Version → Pairs
 map_of vs = after_records [] (map record_of vs)
 
--- the map after a history, and the value of a key there
-abbrev pub map_after : List (List MemberVersions) → Pairs
-map_after gs = map_of (versions_of gs)
+-- the versions of a map's pairs, each a value at the sequence n
+abbrev pub versions_at : ℕ → Pairs → List Version
+versions_at n pairs = map (λ p. record { key = p.0; value = Some p.1; sequence = n }) pairs
 
-abbrev pub value_in : List ℕ → List (List MemberVersions) → Option (List ℕ)
-value_in key gs = value_at (map_after gs) key
+-- all that stands after a history over a base
+abbrev pub standing : List Version → List (List MemberVersions) → List Version
+standing base gs = base ++ versions_of gs
+
+-- the map after a history over a base, and the value of a key there
+abbrev pub map_after : List Version → List (List MemberVersions) → Pairs
+map_after base gs = map_of (standing base gs)
+
+abbrev pub value_in : List Version → List ℕ → List (List MemberVersions) → Option (List ℕ)
+value_in base key gs = value_at (map_after base gs) key
 
 -- no sequence is below one before it
 abbrev pub AreRising : List Version → Type 0
 AreRising [] = Unit {0}
 AreRising (v ∷ vs) = ((w : Version) → In w vs → v.sequence ≤ w.sequence) × AreRising vs
+
+-- A table that is opened at the sequence `start` may have these in it.
+pub record IsBase (start : ℕ) (base : List Version) : Type 0 where
+  pub rising : AreRising base
+  pub below : (v : Version) → In v base → v.sequence ≤ start
 
 -- The order is one in which those of the versions may have come whose sequences are at most `at`.
 pub record IsOrderUpTo (at : ℕ) (vs order : List Version) : Type 0 where

@@ -1,3 +1,4 @@
+pub mod Bases
 pub mod Histories
 pub mod Batches
 pub mod Rule

@@ -15,7 +15,7 @@ use Rattle.table_rule.specs.declared.view.Lock.{Lock}
 use Rattle.table_rule.specs.declared.view.Lock.TheVariants.{Free, Held}
 use Rattle.table_rule.specs.declared.view.Stage.{Stage}
 use Rattle.table_rule.specs.declared.view.Stage.TheVariants.{Idle, Waiting, Holding, Stored, Publishing, Resting, Handing, Filling}
-use Rattle.table_rule.specs.Histories.{In, versions_in, versions_of, Runs, last_of, shard_of, Begins, Apart, Members, AreSome}
+use Rattle.table_rule.specs.Histories.{In, versions_in, versions_of, standing, Runs, last_of, shard_of, Begins, Apart, Members, AreSome, IsBase}
 
 -- where a client's part of the launched group is, with the group's last sequence
 pub data Place : Type 0 where
@@ -202,13 +202,14 @@ module _ {ShardTree NodeList : Type 0} (held_by : ShardTree → List Version)
     pub last_is : slice_index s.words z.shards ≡ last_of z.start published
     pub runs : Runs z.start (versions_of published)
     pub some_each : AreSome published
+    pub base_is : IsBase z.start z.base
     pub shards_are : (j : ℕ) → j < z.shards → InShard z.shards s.words s.homes j (lock j)
     pub rows : (i : ℕ) → 0 < i → i ≤ z.clients → InPlace z.shards s.words s.homes i (place i)
     pub mode_is : InMode z.clients (slice_index s.words (z.shards + 1)) place (last_of z.start published) mode
-    -- each version in a tree is published, or one of a part's that are in
+    -- each version in a tree is of the base, or published, or one of a part's that are in
     pub sound : (j : ℕ) (v : Version) → j < z.shards → In v (contents (lock j))
-        → (shard_of z.shards v ≡ j) × (In v (versions_of published) ⊎ ((i : ℕ) × In v (stored_in (place i))))
-    pub complete : (v : Version) → In v (versions_of published) → In v (contents (lock (shard_of z.shards v)))
+        → (shard_of z.shards v ≡ j) × (In v (standing z.base published) ⊎ ((i : ℕ) × In v (stored_in (place i))))
+    pub complete : (v : Version) → In v (standing z.base published) → In v (contents (lock (shard_of z.shards v)))
     pub stored : (i : ℕ) (v : Version) → In v (stored_in (place i)) → In v (contents (lock (shard_of z.shards v)))
     pub seats : (j : ℕ) (v : List SeatState) → get_elem? s.views j ≡ some v
         → AllFit z published mode place lock seat j v

@@ -14,7 +14,7 @@ use Rattle.table_rule.specs.declared.view.Lock.{Lock}
 use Rattle.table_rule.specs.declared.view.Lock.TheVariants.{Free, Held}
 use Rattle.table_rule.specs.declared.view.Stage.{Stage}
 use Rattle.table_rule.specs.declared.view.Stage.TheVariants.{Idle, Waiting, Holding, Stored, Publishing, Resting, Handing, Filling}
-use Rattle.table_rule.specs.Histories.{In, versions_in, versions_of, Runs, last_of, shard_of, Begins, Members, IsHistory}
+use Rattle.table_rule.specs.Histories.{In, versions_in, standing, Runs, last_of, shard_of, Begins, Members, IsHistory, IsBase}
 use Rattle.table_rule.specs.Rule.{seat_state, end_of}
 
 abbrev pub SeatNow : Type 0 → Type 0 → Type 0
@@ -57,11 +57,12 @@ stage_after_launch c u = if has_part c u.group then Waiting u else Idle
 abbrev pub part_of : ℕ → List Version → MemberVersions
 part_of m vs = record { member = m; versions = vs }
 
--- what a tree shows of a history: all its versions of that shard, and nothing else up to its end
-abbrev pub Shows : ℕ → ℕ → ℕ → List (List MemberVersions) → List Version → Type 0
-Shows k j start seen vs = ((v : Version) → In v vs → shard_of k v ≡ j)
-    × ((v : Version) → In v (versions_of seen) → shard_of k v ≡ j → In v vs)
-    × ((v : Version) → In v vs → v.sequence ≤ last_of start seen → In v (versions_of seen))
+-- what a tree shows of a history over the table's base: all versions of that shard, and nothing else up to its end
+abbrev pub Shows : Opening → ℕ → List (List MemberVersions) → List Version → Type 0
+Shows z j seen vs = ((v : Version) → In v vs → shard_of z.shards v ≡ j)
+    × ((v : Version) → In v (standing z.base seen) → shard_of z.shards v ≡ j → In v vs)
+    × ((v : Version) → In v vs → v.sequence ≤ last_of z.start seen → In v (standing z.base seen))
+    × IsBase z.start z.base
 
 -- the tree ws is the tree vs with v
 abbrev pub Adds : List Version → Version → List Version → Type 0
@@ -160,7 +161,7 @@ module _ {ShardTree NodeList : Type 0} where
         → IsAt c z seen Free stage m
         → (r ≡ 0 → (t : ShardTree) × IsAt c z seen (Held st.word (held_by t)) stage m'
         × (m'.1 ≡ (st.word, Tree t) ∷ m.1)
-        × Shows z.shards st.word z.start seen (held_by t) × IsFresh stage (held_by t))
+        × Shows z st.word seen (held_by t) × IsFresh stage (held_by t))
         × (r ≢ 0 → m' ≡ m)
 
   -- the unlocking store: the tree is as it was, or it has more, `new` of the member's part

@@ -45,6 +45,8 @@
 //! store of RUNNING the turn is joined to the seat of the client that launches, and split off again.
 #![tactic(auto)]
 
+mod base;
+mod base_law;
 mod content;
 mod core_events;
 mod law;
@@ -52,6 +54,8 @@ mod rule;
 mod steps;
 mod view;
 
+pub use base::Base;
+pub use base_law::maps_as_bases;
 pub use content::{Content, MemberVersions, Version};
 pub use core_events::table_and_core;
 pub use law::steps_and_events;

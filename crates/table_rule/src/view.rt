@@ -1,15 +1,17 @@
 //! What a seat knows of the table. Of the types here a program makes only `Opening`: the others are what contracts
 //! speak of.
 
+use crate::base::Base;
 use crate::content::{MemberVersions, Version};
 use std::collections::LinkedList;
 
-/// How many clients and shards a table was opened for, and the sequence that was published then.
-#[derive(Copy, Clone)]
+/// How many clients and shards a table was opened for, the sequence that was published then, and what its trees had.
+#[derive(Drop)]
 pub struct Opening {
     pub clients: u64,
     pub shards: u64,
     pub start: u64,
+    pub base: Base,
 }
 
 /// A group that was launched: what was published before, oldest first, its members with their versions, and its last

@@ -16,6 +16,8 @@ use Rattle.table_steps.specs.declared.seat.TableSeat.{TableSeat}
 use Rattle.table_rule.specs.Histories.{In}
 use Rattle.table_rule.proofs.Histories.{in_left, in_right}
 use Rattle.table_rule.proofs.Locks.{own}
+use Rattle.table_steps.specs.declared.sizes.Sizes.{Sizes}
+use Rattle.table_steps.specs.Sizes.{sizes_of}
 use Rattle.table_steps.specs.Ends.{AreJoined}
 use Rattle.table_rule.specs.Steps.{SeatNow, IsAt}
 
@@ -43,8 +45,8 @@ top_or d (x ∷ xs) = tree_or d x.1
 pub same_tree : {ShardTree NodeList : Type 0} (t u : ShardTree) (i j : ℕ) (l m m' : List (ℕ × Content ShardTree NodeList)) → l ≡ (i, Tree t) ∷ m → l ≡ (j, Tree u) ∷ m' → t ≡ u
 same_tree t u i j l m m' a b = ap (top_or t) (sym a ∙ b)
 
-pub shards_of : (y z : Opening) → y ≡ z → z.shards ≡ y.shards
-shards_of y z e = ap (λ (x : Opening). x.shards) (sym e)
+pub shards_of : (z : Opening) (s : Sizes) → sizes_of z ≡ s → s.shards ≡ z.shards
+shards_of z s e = ap (λ (x : Sizes). x.shards) (sym e)
 
 pub renamed : {ShardTree NodeList : Type 0} (c d : ℕ) (z : Opening) (seen : List (List MemberVersions)) (lock : Lock) (stage : Stage) (m : SeatNow ShardTree NodeList) → d ≡ c → IsAt c z seen lock stage m → IsAt d z seen lock stage m
 renamed c d z seen lock stage m e ok = ok ∙ (λ i. seat_state (sym e i) z seen lock stage ∷ [])

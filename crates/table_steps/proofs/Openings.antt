@@ -2,26 +2,23 @@
 use Rattle.std.proofs.Common.{◌≡◌, ◌≢◌, ℕ, zero, suc, ◌+◌, ◌-◌, ◌<◌, ◌⊎◌, List, [], ◌∷◌, ◌++◌, length, map, replicate, get_or, refl, sym, ap, ◌∙◌, subst, inl, inr, ⊎_elim, arith, length-append}
 use Rattle.std.specs.List.{range_with_len}
 use Rattle.table_steps.specs.declared.seat.TableSeat.{TableSeat}
-use Rattle.std.proofs.lemmas.List.{map-append, get_or_append_left, get_or-append_right, length-replicate}
+use Rattle.std.proofs.lemmas.List.{length-map, map-append, get_or_append_left, get_or-append_right, length-replicate}
 use Rattle.std.proofs.lemmas.Bool.{cases_order}
-use mathlib.Core.Option.{some}
+use mathlib.Core.Option.{Option, none, some}
 use lib.ListN.{get_elem?}
 use Rattle.atomic_table.specs.Table.{opening}
 use Rattle.table_rule.specs.declared.content.Content.{Content}
-use Rattle.table_rule.specs.declared.content.Content.TheVariants.{Blank}
+use Rattle.table_rule.specs.declared.content.Content.TheVariants.{Blank, Tree}
 use Rattle.table_rule.specs.declared.content.Version.{Version}
 use Rattle.table_rule.specs.declared.view.Opening.{Opening}
-use Rattle.table_rule.specs.Histories.{In}
+use native.Mathlib.Nat.{mod-lt}
+use Rattle.model_base.specs.Checksum.{crc32c}
+use Rattle.table_rule.specs.Histories.{In, shard_of, IsBase}
 use Rattle.table_rule.specs.Rule.{IsConsistent, newcomers}
-use Rattle.table_rule.proofs.Seats.{opens}
-use Rattle.table_steps.specs.Ends.{IsEmptyTree}
+use Rattle.table_rule.proofs.Seats.{Bears, opens}
+use Rattle.table_steps.specs.Ends.{BearBase}
 
 module _ {A : Type 0} where
-  found_left : (xs ys : List A) (j : ℕ) → j < length xs → (x : A) × In x xs × (get_elem? (map some (xs ++ ys)) j ≡ some (some x))
-  found_left [] ys j lt = absurd (omega arith)
-  found_left (x ∷ xs) ys zero lt = (x, inl refl, refl)
-  found_left (x ∷ xs) ys (suc j) lt = let t = found_left xs ys j (omega arith) in (t.0, inr t.1, t.2)
-
   found_same : (n i : ℕ) (b : A) → i < n → get_elem? (map some (replicate n b)) i ≡ some (some b)
   found_same zero i b lt = absurd (omega arith)
   found_same (suc n) zero b lt = refl
@@ -74,20 +71,46 @@ pub first_slots_length : {A : Type 0} (trees : List A) (k n : ℕ) (blank : A) �
 first_slots_length trees k n blank count = omega (arith, count, length-append trees (replicate (n + 1) blank), length-replicate (n + 1) blank)
 
 module _ {ShardTree NodeList : Type 0} (held_by : ShardTree → List Version) (nodes_of : NodeList → List Version) (z : Opening) where
-  -- a table of empty trees with nothing launched keeps the rule
-  pub opens_first : (ws : List ℕ) (slots trees : List (Content ShardTree NodeList)) → ws ≡ zeros z.shards ++ z.start ∷ zeros (z.clients + 1) → slots ≡ trees ++ replicate (z.clients + 1) Blank → 0 < z.shards → length trees ≡ z.shards → ((slot : Content ShardTree NodeList) → In slot trees → IsEmptyTree held_by slot)
+  -- what the tree of a shard has
+  abbrev in_tree : Option ShardTree → List Version
+  in_tree none = []
+  in_tree (some t) = held_by t
+
+  abbrev put_in : List ShardTree → List (Content ShardTree NodeList)
+  put_in trees = map (λ (t : ShardTree). Tree t) trees
+
+  tree_at : (trees : List ShardTree) (others : List (Content ShardTree NodeList)) (j : ℕ) → j < length trees → (t : ShardTree) × (get_elem? trees j ≡ some t) × (get_elem? (map some (put_in trees ++ others)) j ≡ some (some (Tree t)))
+  tree_at [] others j lt = absurd (omega arith)
+  tree_at (t ∷ trees) others zero lt = (t, refl, refl)
+  tree_at (t ∷ trees) others (suc j) lt = tree_at trees others j (omega arith)
+
+  bears : (trees : List ShardTree) → 0 < z.shards → length trees ≡ z.shards → BearBase held_by z.base trees → Bears held_by nodes_of z (λ j. in_tree (get_elem? trees j))
+  bears trees lo count bear = (
+    (λ j v lt h.
+        let t = tree_at trees [] j (omega arith) in
+        let o = (bear j t.0 v t.1).0 (subst (λ (x : Option ShardTree). In v (in_tree x)) t.1 h) in
+        (subst (λ (k : ℕ). shard_of k v ≡ j) count o.1, o.0)),
+    (λ v h.
+        let low : shard_of z.shards v < z.shards = mod-lt (crc32c v.key) lo in
+        let t = tree_at trees [] (shard_of z.shards v) (omega arith) in
+        subst (λ (x : Option ShardTree). In v (in_tree x)) (sym t.1) ((bear (shard_of z.shards v) t.0 v t.1).1 (h, ap (λ (k : ℕ). shard_of k v) count))),
+  )
+
+  -- a table of such trees with nothing launched keeps the rule
+  pub opens_first : (ws : List ℕ) (slots : List (Content ShardTree NodeList)) (trees : List ShardTree) → ws ≡ zeros z.shards ++ z.start ∷ zeros (z.clients + 1) → slots ≡ put_in trees ++ replicate (z.clients + 1) Blank → 0 < z.shards → length trees ≡ z.shards → IsBase z.start z.base → BearBase held_by z.base trees
       → IsConsistent held_by nodes_of z (opening ws slots (newcomers z 1 z.clients))
-  opens_first ws slots trees ws_are slots_are lo count empty =
-      opens held_by nodes_of z ws slots lo
+  opens_first ws slots trees ws_are slots_are lo count base bear =
+      let blanks : List (Content ShardTree NodeList) = replicate (z.clients + 1) Blank in
+      let many : length (put_in trees) ≡ z.shards = length-map trees (λ (t : ShardTree). Tree t) ∙ count in
+      opens held_by nodes_of z ws slots (λ j. in_tree (get_elem? trees j)) base (bears trees lo count bear) lo
       (ap length ws_are ∙ words_length z.shards z.start z.clients)
-      (ap length slots_are ∙ (let a = length-append trees (replicate (z.clients + 1) Blank) in let b : length (replicate {A = Content ShardTree NodeList} (z.clients + 1) Blank) ≡ z.clients + 1 = length-replicate (z.clients + 1) Blank in omega arith))
+      (ap length slots_are ∙ first_slots_length (put_in trees) z.shards z.clients Blank many)
       (ap (λ (l : List ℕ). get_or l z.shards 0) ws_are ∙ words_start z.shards z.start z.clients)
       (λ i ne. ap (λ (l : List ℕ). get_or l i 0) ws_are ∙ words_zero z.shards z.start z.clients i ne)
       (λ j lt.
-      let at = found_left trees (replicate (z.clients + 1) Blank) j (omega arith) in
-      let is = empty at.0 at.1 in
-      (is.0, ap (λ (l : List (Content ShardTree NodeList)). get_elem? (map some l) j) slots_are ∙ (at.2 ∙ ap (λ (x : Content ShardTree NodeList). some (some x)) is.1), is.2))
-      (λ i low hi. ap (λ (l : List (Content ShardTree NodeList)). get_elem? (map some l) (z.shards + i)) slots_are ∙ found_right trees (z.clients + 1) i (z.shards + i) Blank (omega arith) (omega arith))
+      let t = tree_at trees blanks j (omega arith) in
+      (t.0, ap (λ (l : List (Content ShardTree NodeList)). get_elem? (map some l) j) slots_are ∙ t.2, sym (ap in_tree t.1)))
+      (λ i low hi. ap (λ (l : List (Content ShardTree NodeList)). get_elem? (map some l) (z.shards + i)) slots_are ∙ found_right (put_in trees) (z.clients + 1) i (z.shards + i) Blank (omega arith) (omega arith))
 
 range_snoc : (a n : ℕ) → range_with_len a (suc n) ≡ range_with_len a n ++ (a + n) ∷ []
 range_snoc a zero = ap (λ (k : ℕ). k ∷ []) (let e : a ≡ a + 0 = omega arith in e)

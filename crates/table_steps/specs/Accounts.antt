@@ -21,7 +21,7 @@ use Rattle.table_steps.specs.declared.shared.SharedTable.{SharedTable}
 use Rattle.table_steps.specs.Ends.{IsTurnOf}
 
 abbrev pub first_state : List SeatState → SeatState
-first_state [] = seat_state 0 (record { clients = 0; shards = 0; start = 0 }) [] Free Idle
+first_state [] = seat_state 0 (record { clients = 0; shards = 0; start = 0; base = [] }) [] Free Idle
 first_state (h ∷ hs) = h
 
 -- the group that the turn has launched

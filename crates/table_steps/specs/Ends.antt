@@ -1,26 +1,28 @@
 -- The table at opening and at closing.
-use Rattle.std.specs.Prelude.{◌<◌, ◌≤◌, ◌≡◌, ℕ, List, [], map, None}
+use Rattle.std.specs.Prelude.{◌<◌, ◌≤◌, ◌≡◌, ◌↔◌, ℕ, List, [], length, map, None}
 use Rattle.std.specs.List.{range_with_len}
+use mathlib.Core.Option.{some}
+use lib.ListN.{get_elem?}
 use Rattle.atomic_table.specs.Seated.{TableId}
-use Rattle.table_rule.specs.declared.content.Content.{Content}
-use Rattle.table_rule.specs.declared.content.Content.TheVariants.{Tree}
 use Rattle.table_rule.specs.declared.content.Version.{Version}
 use Rattle.table_rule.specs.declared.content.MemberVersions.{MemberVersions}
 use Rattle.table_rule.specs.declared.view.Opening.{Opening}
 use Rattle.table_rule.specs.declared.view.SeatState.{SeatState}
 use Rattle.table_rule.specs.declared.view.Lock.TheVariants.{Free}
 use Rattle.table_rule.specs.declared.view.Stage.TheVariants.{Idle, Resting}
-use Rattle.table_rule.specs.Histories.{In, Begins, last_of}
+use Rattle.table_rule.specs.Histories.{In, Begins, last_of, shard_of}
 use Rattle.table_rule.specs.Rule.{seat_state}
 use Rattle.table_rule.specs.Steps.{IsAt}
 use Rattle.table_steps.specs.declared.shared.Client.{Client}
 use Rattle.table_steps.specs.declared.launching.Turn.{Turn}
 use Rattle.table_steps.specs.declared.seat.TableSeat.{TableSeat}
 
-module _ {ShardTree NodeList : Type 0} where
-  abbrev pub IsEmptyTree : (ShardTree → List Version) → Content ShardTree NodeList → Type 0
-  IsEmptyTree versions_of slot = (tree : ShardTree) × (slot ≡ Tree tree) × (versions_of tree ≡ [])
+-- each tree, one for a shard, has the versions of the base that are of its shard
+abbrev pub BearBase : {ShardTree : Type 0} → (ShardTree → List Version) → List Version → List ShardTree → Type 0
+BearBase versions_of base trees = (j : ℕ) (tree : _) (v : Version) → get_elem? trees j ≡ some tree
+    → In v (versions_of tree) ↔ (In v base × (shard_of (length trees) v ≡ j))
 
+module _ {ShardTree NodeList : Type 0} where
   -- the turn of this table, with no group launched, and all that is published
   abbrev pub IsTurnOf : TableId → Opening → List (List MemberVersions) → Turn ShardTree NodeList → Type 0
   IsTurnOf id z history turn = (turn.seat.table_id ≡ id) × (turn.seat.me.1 ≡ [])

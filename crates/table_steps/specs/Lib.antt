@@ -1,3 +1,4 @@
 pub mod Seen
+pub mod Sizes
 pub mod Ends
 pub mod Accounts

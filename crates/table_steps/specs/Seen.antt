@@ -14,4 +14,4 @@ module _ {ShardTree NodeList : Type 0} where
       → SeatNow ShardTree NodeList → SeatNow ShardTree NodeList
       → Type 0
   Locked c z shard seen stage vs m m' = IsAt c z seen (Held shard vs) stage m' × (m'.1 ≡ (shard, Blank) ∷ m.1)
-      × Shows z.shards shard z.start seen vs × IsFresh stage vs
+      × Shows z shard seen vs × IsFresh stage vs

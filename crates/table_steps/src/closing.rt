@@ -40,7 +40,7 @@ impl<ShardTree: VersionTree<NodeList::Node> + Drop, NodeList: VersionNodes + Dro
         clients.destroy_empty();
         self.table
             .shared
-            .load::<Close>(&mut turn.seat, self.opening.shards as usize);
+            .load::<Close>(&mut turn.seat, self.sizes.shards as usize);
     }
 
     /// Gives the table up, with all seats. What was published is one history, and each client has seen a beginning of

@@ -61,7 +61,7 @@ impl<ShardTree: VersionTree<NodeList::Node>, NodeList: VersionNodes> SharedTable
         shared.join_seat::<Both>(&mut who.seat, turn.seat);
         shared.store::<Launch<Group>>(
             &mut who.seat,
-            self.opening.shards as usize + 1,
+            self.sizes.shards as usize + 1,
             parts.len() as u64,
         );
         let seat = shared.split_seat::<AllButFirst>(&mut who.seat);
@@ -87,8 +87,8 @@ impl<ShardTree: VersionTree<NodeList::Node>, NodeList: VersionNodes> SharedTable
             (Handing g ps) turn.new.seat.me }
     {
         let shared = &self.table.shared;
-        let word = self.opening.shards as usize + 1 + member as usize;
-        let slot = self.opening.shards as usize + member as usize;
+        let word = self.sizes.shards as usize + 1 + member as usize;
+        let slot = self.sizes.shards as usize + member as usize;
         shared.load::<Empty>(&mut turn.seat, word);
         match shared.exchange(&mut turn.seat, slot, Content::Nodes(nodes, last)) {
             Content::Blank => {}
@@ -160,7 +160,7 @@ impl<ShardTree: VersionTree<NodeList::Node>, NodeList: VersionNodes> SharedTable
             let found = self
                 .table
                 .shared
-                .load::<Await>(&mut turn.seat, self.opening.shards as usize);
+                .load::<Await>(&mut turn.seat, self.sizes.shards as usize);
             if found == last {
                 return;
             }

@@ -10,6 +10,7 @@ mod opening;
 mod reading;
 mod seat;
 mod shared;
+mod sizes;
 
 pub use launching::Turn;
 pub use seat::TableSeat;

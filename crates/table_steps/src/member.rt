@@ -105,8 +105,8 @@ impl<ShardTree: VersionTree<NodeList::Node> + Drop, NodeList: VersionNodes + Dro
             (account self.new) }
     {
         let shared = &table.table.shared;
-        let word = table.opening.shards as usize + 1 + self.client.number as usize;
-        let slot = table.opening.shards as usize + self.client.number as usize;
+        let word = table.sizes.shards as usize + 1 + self.client.number as usize;
+        let slot = table.sizes.shards as usize + self.client.number as usize;
         let pauses = Pauses::new();
         // The seat is as it was: nothing has been handed out yet.
         for _ in rt.forever() {
@@ -134,7 +134,7 @@ impl<ShardTree: VersionTree<NodeList::Node> + Drop, NodeList: VersionNodes + Dro
         ensures stored { (u : Launched) (done : List Version) → (account self.old).stage ≡ Holding (work u done [])
             → Steps (account self.old) (Stored u) (account self.new) }
     {
-        let word = table.opening.shards as usize + 1 + self.client.number as usize;
+        let word = table.sizes.shards as usize + 1 + self.client.number as usize;
         table
             .table
             .shared
@@ -148,7 +148,7 @@ impl<ShardTree: VersionTree<NodeList::Node> + Drop, NodeList: VersionNodes + Dro
         ensures counted { (u : Launched) → (account self.old).stage ≡ Stored u
             → Counts (account self.old) u result (account self.new) }
     {
-        let running = table.opening.shards as usize + 1;
+        let running = table.sizes.shards as usize + 1;
         let unfinished = table
             .table
             .shared
@@ -167,7 +167,7 @@ impl<ShardTree: VersionTree<NodeList::Node> + Drop, NodeList: VersionNodes + Dro
         ensures published { (u : Launched) → (account self.old).stage ≡ Publishing u
             → Publishes (opening_of table.now).start (account self.old) u (account self.new) }
     {
-        let word = table.opening.shards as usize;
+        let word = table.sizes.shards as usize;
         table
             .table
             .shared

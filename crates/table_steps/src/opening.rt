@@ -1,49 +1,47 @@
 //! How a table is made, and a seat for the turn and for each client.
-ghost use Rattle.std.specs.Prelude.{◌≡◌, ◌<◌, ◌≤◌, ◌+◌, ◌^◌, [], ◌++◌, ◌∷◌, map, length, replicate, IfOk, OnOk};
+ghost use Rattle.std.specs.Prelude.{◌≡◌, ◌<◌, ◌+◌, ◌^◌, [], ◌++◌, ◌∷◌, map, length, replicate, IfOk, OnOk};
 ghost use Rattle.std.specs.List.{range_with_len};
-ghost use Rattle.table_rule.specs.declared.content.Content.{Content};
-ghost use Rattle.table_rule.specs.declared.content.Content.TheVariants.{Blank};
-ghost use Rattle.table_rule.specs.Histories.{In};
+ghost use Rattle.table_rule.specs.declared.content.Content.TheVariants.{Blank, Tree};
+ghost use Rattle.table_rule.specs.Histories.{IsBase};
 ghost use Rattle.table_rule.specs.Rule.{newcomers};
 ghost use Rattle.table_steps.specs.Accounts.{opening_of, IsTurnAtStart, AreSeatsAtStart};
-ghost use Rattle.table_steps.specs.Ends.{IsEmptyTree, IsTurnOf, IsSeatOf, AreSeatsOf};
+ghost use Rattle.table_steps.specs.Ends.{BearBase, IsTurnOf, AreSeatsOf};
 
 use crate::launching::Turn;
 use crate::seat::TableSeat;
 use crate::shared::{Client, SharedTable};
+use crate::sizes::Sizes;
 use atomic_table::{Seat, Table};
 use base_waiting::{Bell, Bells};
 use model_base::NoMemory;
 use std::alloc::Global;
-use table_calls::{Seats, VersionNode, VersionNodes, VersionTree};
-use table_rule::{Content, First, Opening, TableLaw, TableView, Versioned};
+use table_calls::{Seats, VersionNodes, VersionTree};
+use table_rule::{Base, Content, First, Opening, TableView};
 
 /// The words where no lock is taken and no group is launched.
-fn first_words(alloc: Global, opening: &Opening) -> Result<Vec<u64>, NoMemory>
-    requires { (opening.now.shards < 2 ^ 32) × (opening.now.clients < 2 ^ 32) }
-    ensures { IfOk result (λ words. words.items ≡ replicate opening.now.shards 0 ++ opening.now.start
-        ∷ replicate (opening.now.clients + 1) 0) }
+fn first_words(alloc: Global, sizes: Sizes) -> Result<Vec<u64>, NoMemory>
+    requires { (sizes.shards < 2 ^ 32) × (sizes.clients < 2 ^ 32) }
+    ensures { IfOk result (λ words. words.items ≡ replicate sizes.shards 0 ++ sizes.start
+        ∷ replicate (sizes.clients + 1) 0) }
 {
-    let mut words = vec![in alloc; 0u64; opening.shards as usize]?;
-    words.push(opening.start)?;
-    let unlaunched = vec![in alloc; 0u64; opening.clients as usize + 1]?;
+    let mut words = vec![in alloc; 0u64; sizes.shards as usize]?;
+    words.push(sizes.start)?;
+    let unlaunched = vec![in alloc; 0u64; sizes.clients as usize + 1]?;
     words.extend_from_slice(&unlaunched)?;
     Ok(words)
 }
 
-/// Empty trees.
-fn empty_trees<Node: VersionNode, ShardTree: VersionTree<Node> + Drop, NodeList: Drop>(
+/// Trees, each in a slot.
+fn tree_slots<ShardTree: Drop, NodeList: Drop>(
     alloc: Global,
-    count: u64,
+    trees: Vec<ShardTree>,
 ) -> Result<Vec<Content<ShardTree, NodeList>>, NoMemory>
-    ensures length { IfOk result (λ slots. length slots.items ≡ count) }
-    ensures empty { IfOk result (λ slots. (slot : Content ShardTree NodeList) → In slot slots.items
-        → IsEmptyTree ShardTree.versions slot) }
+    ensures { IfOk result (λ slots. slots.items ≡ map (λ tree. Tree tree) trees.items) }
 {
     let mut slots = Vec::new(alloc);
-    // All slots so far hold an empty tree.
-    for made in 0..count {
-        slots.push(Content::Tree(ShardTree::new()))?;
+    // The slots have the trees so far.
+    for tree in trees {
+        slots.push(Content::Tree(tree))?;
     }
     Ok(slots)
 }
@@ -81,7 +79,7 @@ impl<ShardTree: VersionTree<NodeList::Node> + Drop, NodeList: VersionNodes + Dro
     {
         let mut clients = Vec::new(alloc);
         // The clients 1 to `seated` have their seats, and `seat` is all others' and the turn's.
-        for seated in 0..self.opening.clients {
+        for seated in 0..self.sizes.clients {
             let own = self.table.shared.split_seat::<First>(&mut seat);
             clients.push(TableSeat {
                 client: Client {
@@ -89,10 +87,10 @@ impl<ShardTree: VersionTree<NodeList::Node> + Drop, NodeList: VersionNodes + Dro
                     seat: own,
                 },
                 turn: None,
-                last: self.opening.start,
+                last: self.sizes.start,
             })?;
         }
-        let last = self.opening.start;
+        let last = self.sizes.start;
         Ok(Seats {
             turn: Turn { seat, last },
             clients,
@@ -103,15 +101,17 @@ impl<ShardTree: VersionTree<NodeList::Node> + Drop, NodeList: VersionNodes + Dro
     pub fn shards(&self) -> u64
         ensures { result ≡ (opening_of self.now).shards }
     {
-        self.opening.shards
+        self.sizes.shards
     }
 
-    /// Makes a table of empty trees, with the published sequence `last`, and its seats.
+    /// Makes a table of trees, one for each shard, with the published sequence `last`, and its seats. The trees have
+    /// the base.
     pub fn open(
         alloc: Global,
         clients: u32,
-        shards: u32,
         last: u64,
+        trees: Vec<ShardTree>,
+        base: Base,
     ) -> Result<
         (
             SharedTable<ShardTree, NodeList>,
@@ -119,27 +119,34 @@ impl<ShardTree: VersionTree<NodeList::Node> + Drop, NodeList: VersionNodes + Dro
         ),
         NoMemory,
     >
-        requires { 0 < shards }
+        requires count { (0 < length trees.items) × (length trees.items < 2 ^ 32) }
+        requires over { IsBase last base × BearBase ShardTree.versions base trees.items }
         ensures table { IfOk result (λ opened. opening_of opened.0
-            ≡ record { clients = clients; shards = shards; start = last }) }
+            ≡ record { clients = clients; shards = length trees.items; start = last; base = base }) }
         ensures turn { IfOk result (λ opened. IsTurnAtStart opened.0 opened.1.turn) }
         ensures clients { IfOk result (λ opened. AreSeatsAtStart opened.0 clients opened.1.clients.items) }
     {
-        let opening = Opening {
+        let sizes = Sizes {
             clients: clients as u64,
-            shards: shards as u64,
+            shards: trees.len() as u64,
             start: last,
         };
         let handed = Bells::for_clients(alloc, clients)?;
-        let words = first_words(alloc, &opening)?;
-        let mut slots = empty_trees::<NodeList::Node, ShardTree, NodeList>(alloc, opening.shards)?;
-        add_blanks(&mut slots, opening.clients + 1)?;
+        let words = first_words(alloc, sizes)?;
+        let mut slots = tree_slots::<ShardTree, NodeList>(alloc, trees)?;
+        add_blanks(&mut slots, sizes.clients + 1)?;
+        let opening = Opening {
+            clients: sizes.clients,
+            shards: sizes.shards,
+            start: sizes.start,
+            base,
+        };
         let Ok((table, seat)) = Table::new(alloc, &words, slots, &opening) else {
             return Err(NoMemory);
         };
         let shared = SharedTable {
             table,
-            opening,
+            sizes,
             handed,
             published: Bell::new(),
         };

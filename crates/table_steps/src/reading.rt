@@ -3,7 +3,7 @@ ghost use Rattle.std.specs.Prelude.{◌≡◌, ◌<◌, ◌≤◌, List, IfOk};
 ghost use Rattle.model_base.specs.Map.{value_at, rows_within};
 ghost use Rattle.base_bytes.specs.Answers.{found_value};
 ghost use Rattle.table_rule.specs.declared.content.Version.{Version};
-ghost use Rattle.table_rule.specs.Histories.{IsHistory, IsOrderUpTo, last_of, versions_of, of_shard, map_of};
+ghost use Rattle.table_rule.specs.Histories.{IsHistory, IsOrderUpTo, last_of, standing, of_shard, map_of};
 ghost use Rattle.table_calls.specs.Account.{Learns};
 ghost use Rattle.table_steps.specs.Accounts.{account, opening_of, IsOurs};
 
@@ -48,7 +48,7 @@ impl<ShardTree: VersionTree<NodeList::Node> + Drop, NodeList: VersionNodes + Dro
         table
             .table
             .shared
-            .load::<Learn>(&mut self.client.seat, table.opening.shards as usize)
+            .load::<Learn>(&mut self.client.seat, table.sizes.shards as usize)
     }
     /// Waits until the client has seen what is published up to a sequence. It sleeps until a group is published.
     pub fn await_seen<R: Wait + rt::Clock>(
@@ -91,8 +91,8 @@ impl<ShardTree: VersionTree<NodeList::Node> + Drop, NodeList: VersionNodes + Dro
         ensures ours { IsOurs table.now self.new }
         ensures same { account self.new ≡ account self.old }
         ensures value { IfOk result (λ found. found_value found
-            ≡ value_at (map_of (of_shard (opening_of table.now).shards shard (versions_of (account self.old).seen)))
-            key.now) }
+            ≡ value_at (map_of (of_shard (opening_of table.now).shards shard
+            (standing (opening_of table.now).base (account self.old).seen))) key.now) }
     {
         let tree = table.lock(rt, &mut self.client, shard);
         let found = copied::<NodeList::Node, ShardTree>(alloc, &tree, key, at);
@@ -119,7 +119,8 @@ impl<ShardTree: VersionTree<NodeList::Node> + Drop, NodeList: VersionNodes + Dro
         ensures same { account self.new ≡ account self.old }
         ensures at { IfOk result (λ rows. rows.at ≡ at) }
         ensures rows { IfOk result (λ rows. rows.rows ≡ rows_within lo.now hi.now
-            (map_of (of_shard (opening_of table.now).shards shard (versions_of (account self.old).seen)))) }
+            (map_of (of_shard (opening_of table.now).shards shard
+            (standing (opening_of table.now).base (account self.old).seen)))) }
     {
         let tree = table.lock(rt, &mut self.client, shard);
         let rows = tree.range(alloc, lo, hi, at);

@@ -8,7 +8,9 @@ ghost use Rattle.table_rule.specs.declared.view.Lock.TheVariants.{Free, Held};
 ghost use Rattle.table_rule.specs.declared.view.Stage.{Stage};
 ghost use Rattle.table_rule.specs.Steps.{IsAt};
 ghost use Rattle.table_steps.specs.Seen.{Locked};
+ghost use Rattle.table_steps.specs.Sizes.{sizes_of};
 
+use crate::sizes::Sizes;
 use atomic_table::{Seat, Table};
 use base_waiting::{Bell, Bells};
 use crossbeam_utils::Backoff;
@@ -22,14 +24,14 @@ use table_rule::{Content, LockShard, Opening, TableLaw, TableView, UnlockShard, 
 #[derive(Drop)]
 pub struct SharedTable<ShardTree: Versioned, NodeList: Versioned> {
     pub(crate) table: Table<Content<ShardTree, NodeList>, TableView, Opening, TableLaw, Global>,
-    pub(crate) opening: Opening,
+    pub(crate) sizes: Sizes,
     /// On which a member sleeps until its nodes are handed out.
     pub(crate) handed: Bells,
     /// On which clients sleep until a group is published.
     pub(crate) published: Bell,
-    ghost sized: { (table.shared.table_id.words ≡ opening.shards + 2 + opening.clients)
-        × (table.shared.table_id.slots ≡ opening.shards + 1 + opening.clients) × (table.shared.key ≡ opening)
-        × (0 < opening.shards) × (opening.shards < 2 ^ 32) × (opening.clients < 2 ^ 32) },
+    ghost sized: { (table.shared.table_id.words ≡ sizes.shards + 2 + sizes.clients)
+        × (table.shared.table_id.slots ≡ sizes.shards + 1 + sizes.clients) × (sizes_of table.shared.key ≡ sizes)
+        × (0 < sizes.shards) × (sizes.shards < 2 ^ 32) × (sizes.clients < 2 ^ 32) },
 }
 
 /// A client's seat.

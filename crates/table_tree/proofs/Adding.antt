@@ -1,6 +1,6 @@
 -- A tree with one version more has it, and those that it had.
 use Rattle.std.proofs.Common.{◌≡◌, ◌≢◌, List, [], ◌∷◌, refl, sym, inl, inr}
-use Rattle.std.specs.Ordering.{nat_cmp, match_ordering}
+use Rattle.std.specs.Ordering.{nat_cmp, match_ordering, ordering_then}
 use Rattle.std.specs.declared.cmp.Ordering.{Ordering}
 use Rattle.std.specs.declared.cmp.Ordering.TheVariants.{Less, Equal, Greater}
 use Rattle.std.proofs.lemmas.Cmp.{ranked}
@@ -10,12 +10,21 @@ use Rattle.table_rule.specs.Histories.{In}
 use Rattle.table_rule.specs.Steps.{Adds}
 use Rattle.table_tree.specs.Versions.{version_order, IsNew, insert_version}
 use Rattle.table_tree.proofs.Inserting.{both_equal}
+use Rattle.table_tree.proofs.VersionOrder.{equal_keys}
 
--- a version whose sequence no other has is new
-pub apart_new : (v : Version) (l : List Version) → ((x : Version) → In x l → x.sequence ≢ v.sequence) → IsNew v l
+-- a version whose sequence no other of its key has is new
+pub apart_new : (v : Version) (l : List Version) → ((x : Version) → In x l → x.key ≡ v.key → x.sequence ≢ v.sequence) → IsNew v l
 apart_new v [] apart = tt
-apart_new v (w ∷ l) apart =
-    (λ e. apart w (inl refl) (ranked w.sequence v.sequence Equal (sym (both_equal (byte_order v.key w.key) (nat_cmp w.sequence v.sequence) e))), apart_new v l (λ x i. apart x (inr i)))
+apart_new v (w ∷ l) apart = (
+  λ e. apart w (inl refl) (sym (equal_keys v.key w.key (first_equal (byte_order v.key w.key) (nat_cmp w.sequence v.sequence) e)))
+      (ranked w.sequence v.sequence Equal (sym (both_equal (byte_order v.key w.key) (nat_cmp w.sequence v.sequence) e))),
+  apart_new v l (λ x i. apart x (inr i)),
+)
+  where
+    first_equal : (c d : Ordering) → ordering_then c d ≡ Equal → c ≡ Equal
+    first_equal Less d e = absurd (cc)
+    first_equal Equal d e = refl
+    first_equal Greater d e = absurd (cc)
 
 pub insert_adds : (v : Version) (l : List Version) → IsNew v l → Adds l v (insert_version l v)
 insert_adds v [] new = (inl refl, λ x i. absurd i, λ x i. elim i [ inl e ↦ inl (sym e) | inr j ↦ absurd j ])

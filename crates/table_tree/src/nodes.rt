@@ -1,6 +1,6 @@
 //! The nodes of a batch.
 
-ghost use Rattle.std.specs.Prelude.{◌≡◌, List, ◌∷◌, ◌++◌, ◌+◌, ◌<◌, ◌≤◌, ◌^◌, [], length, reverse, IfOk, MatchOption};
+ghost use Rattle.std.specs.Prelude.{◌≡◌, List, ◌∷◌, ◌++◌, ◌+◌, ◌<◌, ◌≤◌, ◌^◌, [], length, reverse, Some, IfOk, MatchOption};
 ghost use Rattle.std.specs.Option.{option_copied, option_map, option_to_list};
 ghost use Rattle.log_batch.specs.View.{record_of};
 ghost use Rattle.table_tree.specs.Nodes.{version_of};
@@ -175,6 +175,21 @@ impl Node {
                 next: Nodes::new(),
             },
         )?)
+    }
+
+    /// A node of a key with its value at a sequence.
+    pub fn of_value(
+        alloc: Global,
+        key: &[u8],
+        value: &[u8],
+        sequence: u64,
+    ) -> Result<Box<Node>, NoMemory>
+        ensures { IfOk result (λ node. version_of node.value
+            ≡ record { key = key.now; value = Some value.now; sequence = sequence }) }
+    {
+        let mut node = Node::new(alloc, key, Some(value))?;
+        node.sequence = sequence;
+        Ok(node)
     }
 
     /// The node of a record, if it counts. A single deletion is one like a deletion.

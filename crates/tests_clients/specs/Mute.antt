@@ -1,11 +1,12 @@
 -- What a mute write path was opened for.
-use Rattle.std.specs.Prelude.{ℕ}
+use Rattle.std.specs.Prelude.{ℕ, []}
 use Rattle.model_base.specs.Trace.{Settings}
 
 -- by so many clients, with batches up to this size
 abbrev pub settings_for : ℕ → ℕ → Settings
 settings_for clients batch_bytes = record {
   start = 0;
+  opening = [];
   clients = clients;
   group_bytes = 0;
   batch_bytes = batch_bytes;

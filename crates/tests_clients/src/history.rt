@@ -1,5 +1,6 @@
 //! Two clients' batches: their history, and the map at its end.
 
+use base_maps::ByteMap;
 use log_batch::Batch;
 use model_base::Flag;
 use run_batches::BatchList;
@@ -23,8 +24,8 @@ const COMMITS: [Commit; 4] = [
     ((2, 2), (5, 6), &[(b"b", Some(b"4")), (b"c", Some(b"5"))]),
 ];
 
-/// The keys that the history leaves, each before its value.
-const LEFT: [&[u8]; 4] = [b"b", b"4", b"c", b"5"];
+/// The keys that the history leaves of its own and of what stood before, each before its value.
+const LEFT: [&[u8]; 6] = [b"b", b"4", b"c", b"5", b"d", b"6"];
 
 fn batch_of(alloc: Global, sequence: u64, rows: &[Row]) -> Result<Batch, Fail> {
     let mut batch = Batch::new(alloc)?;
@@ -73,10 +74,18 @@ fn history_is_in_order_of_sequences(rt: HostRuntime) -> Result<(), Fail> {
     Ok(())
 }
 
+/// What stood before the history, which deletes `a`.
+fn before(alloc: Global) -> Result<ByteMap, Fail> {
+    let mut map = ByteMap::new(alloc);
+    map.insert(b"a".as_slice(), b"0".as_slice())?;
+    map.insert(b"d".as_slice(), b"6".as_slice())?;
+    Ok(map)
+}
+
 #[test]
 fn map_is_that_of_the_whole_history(rt: HostRuntime) -> Result<(), Fail> {
     let history = whole(rt.alloc())?;
-    let state = state_of(rt.alloc(), &history)?;
+    let state = state_of(before(rt.alloc())?, &history)?;
     let mut left = Vec::new(rt.alloc());
     // `left` has the keys and values so far, in byte order of the keys.
     for (key, value) in state.iter() {

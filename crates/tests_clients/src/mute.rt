@@ -32,14 +32,14 @@ impl Engine for Mute {
 
     type Log = NoLog;
 
-    ghost use Rattle.std.specs.Prelude.{⊤, None, map};
+    ghost use Rattle.std.specs.Prelude.{⊤, [], None, map};
     ghost use Rattle.model_accounts.specs.Accounts.{newcomer};
     ghost use Rattle.model_accounts.specs.Closing.{AreOurs, HasOneTrace};
     ghost use Rattle.tests_clients.specs.Mute.{settings_for};
 
     ghost settings = { λ e. settings_for e.clients e.batch_bytes };
 
-    ghost account = { λ c. newcomer 0 c.number };
+    ghost account = { λ c. newcomer 0 [] c.number };
 
     ghost belongs = { λ e c. ⊤ };
 
@@ -139,10 +139,10 @@ impl Engine for Mute {
     }
 
     fn close<R: Wait + rt::Clock>(self, rt: &R, clients: Clients<MuteClient, ()>) -> Closed<NoLog>
-        requires all { AreOurs (λ c. ⊤) (λ c. newcomer 0 c.number) self.clients clients.clients.items }
+        requires all { AreOurs (λ c. ⊤) (λ c. newcomer 0 [] c.number) self.clients clients.clients.items }
         requires room { ⊤ }
         ensures { HasOneTrace (settings_for self.clients self.batch_bytes) 0
-            (map (λ c. newcomer 0 c.number) clients.clients.items) result.last None (λ calls. ⊤) }
+            (map (λ c. newcomer 0 [] c.number) clients.clients.items) result.last None (λ calls. ⊤) }
     {
         let Clients {
             clients: _,

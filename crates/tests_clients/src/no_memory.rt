@@ -1,6 +1,6 @@
 //! Clients of a write path that finds no memory: what they are told, and that each is ended once.
 
-ghost use Rattle.std.specs.Prelude.{◌≡◌, ◌≤◌, ⊤, length, IfOk};
+ghost use Rattle.std.specs.Prelude.{◌≡◌, ◌≤◌, ⊤, [], length, IfOk};
 ghost use Rattle.model_base.specs.Batch.{size_of_batch};
 ghost use Rattle.model_accounts.specs.Accounts.{newcomer};
 ghost use Rattle.model_accounts.specs.Closing.{AreOurs};
@@ -49,8 +49,8 @@ const PLAIN: WriteOptions = WriteOptions {
 };
 
 fn two_clients(alloc: Global) -> Result<Vec<MuteClient>, NoMemory>
-    ensures ours { IfOk result (λ clients. AreOurs (λ c. ⊤) (λ c. newcomer 0 c.number) 2 clients.items) }
-    ensures new { IfOk result (λ clients. AreNew (λ c. newcomer 0 c.number) 0 clients.items) }
+    ensures ours { IfOk result (λ clients. AreOurs (λ c. ⊤) (λ c. newcomer 0 [] c.number) 2 clients.items) }
+    ensures new { IfOk result (λ clients. AreNew (λ c. newcomer 0 [] c.number) 0 [] clients.items) }
 {
     let clients = vec![in alloc; MuteClient { number: 1 }, MuteClient { number: 2 }]?;
     Ok(clients)

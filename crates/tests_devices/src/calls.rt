@@ -10,6 +10,9 @@ pub(crate) enum Call {
     Len,
     Read(u64),
     Append(&'static [u8]),
+    Rewind,
+    /// This asks for the length first, and fails where it is below that.
+    Cut(u64),
     Sync,
 }
 
@@ -23,6 +26,17 @@ pub(crate) fn made<D: Disk>(disk: &mut D, call: Call, buf: &mut [u8]) -> Result<
         Call::Read(at) => Ok(disk.read(at, buf)? as u64),
         Call::Append(piece) => {
             disk.append(piece)?;
+            Ok(0)
+        }
+        Call::Rewind => {
+            disk.rewind()?;
+            Ok(0)
+        }
+        Call::Cut(at) => {
+            if at > disk.len()? {
+                return Err(Failed);
+            }
+            disk.cut(at)?;
             Ok(0)
         }
         Call::Sync => {

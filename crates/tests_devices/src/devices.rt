@@ -1,6 +1,6 @@
 //! The devices in memory, and the clocks.
 
-use crate::calls::{Call, made};
+use crate::calls::{Call, Row, check_calls, made};
 use crate::checks::check;
 use base_devices::{
     Clock, Disk, Failed, MemDisk, MemSink, MemSource, RealClock, Sink, Source, SteppedClock,
@@ -78,6 +78,155 @@ fn disk_keeps_what_is_safe(rt: HostRuntime) -> Result<(), Fail> {
     let mut disk = MemDisk::new(rt.alloc(), 6, b"ab", &[3])?;
     check_disk(&rt, &mut disk);
     check(&rt, 1, &disk.content(), &b"abcdef".as_slice());
+    Ok(())
+}
+
+// A call, what it is to answer, and then how many bytes are safe, where the next append writes, how many calls have
+// failed, and the content.
+type Again = (Call, Result<u64, Failed>, u64, u64, u64, &'static [u8]);
+
+// Calls of a disk with the six safe bytes "abcdef" and room for eight. A cut is two calls, of which the first asks for
+// the length. The first call and the thirteenth fail as listed, and the seventh for lack of room.
+const AGAIN: [Again; 19] = [
+    (Call::Rewind, Err(Failed), 6, 6, 1, b"abcdef"),
+    (Call::Rewind, Ok(0), 6, 0, 1, b"abcdef"),
+    (Call::Append(b"xy"), Ok(0), 0, 2, 1, b"xycdef"),
+    (Call::Len, Ok(6), 0, 2, 1, b"xycdef"),
+    (Call::Sync, Ok(0), 6, 2, 1, b"xycdef"),
+    (Call::Append(b"z"), Ok(0), 2, 3, 1, b"xyzdef"),
+    (Call::Append(b"123456"), Err(Failed), 2, 3, 2, b"xyzdef"),
+    (Call::Append(b"12345"), Ok(0), 2, 8, 2, b"xyz12345"),
+    (Call::Rewind, Ok(0), 2, 0, 2, b"xyz12345"),
+    (Call::Append(b"ABCDEFGH"), Ok(0), 0, 8, 2, b"ABCDEFGH"),
+    (Call::Cut(8), Ok(0), 0, 8, 2, b"ABCDEFGH"),
+    (Call::Cut(6), Err(Failed), 0, 8, 3, b"ABCDEFGH"),
+    (Call::Sync, Ok(0), 8, 8, 3, b"ABCDEFGH"),
+    (Call::Cut(3), Ok(0), 3, 3, 3, b"ABC"),
+    (Call::Append(b"z"), Ok(0), 3, 4, 3, b"ABCz"),
+    (Call::Cut(0), Ok(0), 0, 0, 3, b""),
+    (Call::Append(b"wv"), Ok(0), 0, 2, 3, b"wv"),
+    (Call::Read(0), Ok(2), 0, 2, 3, b"wv"),
+    (Call::Sync, Ok(0), 2, 2, 3, b"wv"),
+];
+
+fn check_again(rt: &impl Abort, disk: &mut MemDisk) {
+    let mut buf = [0; 3];
+    for (row, (call, wanted, safe, place, faults, content)) in AGAIN.iter().enumerate() {
+        let answer = made(disk, *call, &mut buf);
+        let found = (answer, disk.synced(), disk.place(), disk.faults());
+        check(rt, row, &found, &(*wanted, *safe, *place, *faults));
+        check(rt, row, &disk.content(), content);
+    }
+    check(rt, 0, &buf, b"wv\0");
+}
+
+#[test]
+fn disk_is_written_again_and_cut(rt: HostRuntime) -> Result<(), Fail> {
+    check_again(&rt, &mut MemDisk::new(rt.alloc(), 8, b"abcdef", &[1, 13])?);
+    Ok(())
+}
+
+// Calls of all six kinds. They are numbered together, and the cut is the fifth and the sixth.
+const KINDS: [Call; 6] = [
+    Call::Rewind,
+    Call::Append(b"xy"),
+    Call::Len,
+    Call::Read(1),
+    Call::Cut(3),
+    Call::Sync,
+];
+
+// Which call fails, at which of the kinds, and then the content, how much of it is safe, and where the next append
+// writes.
+const FAILED: [(u64, usize, &[u8], u64, u64); 7] = [
+    (1, 0, b"abc", 3, 3),
+    (2, 1, b"abc", 3, 3),
+    (3, 2, b"xyc", 3, 3),
+    (4, 3, b"xyc", 3, 3),
+    (5, 4, b"xycd", 4, 2),
+    (6, 4, b"xycd", 4, 2),
+    (7, 5, b"xyc", 0, 3),
+];
+
+// Only that kind fails.
+fn check_kinds(rt: &impl Abort, disk: &mut MemDisk, failing: usize) {
+    for (row, call) in KINDS.iter().enumerate() {
+        let failed = made(disk, *call, &mut [0; 2]).is_err();
+        check(rt, row, &failed, &(row == failing));
+    }
+}
+
+#[test]
+fn disk_fails_at_each_kind_of_call(rt: HostRuntime) -> Result<(), Fail> {
+    for (row, (call, failing, content, safe, place)) in FAILED.iter().enumerate() {
+        let mut disk = MemDisk::new(rt.alloc(), 6, b"abcd", &[*call])?;
+        check_kinds(&rt, &mut disk, *failing);
+        check(&rt, row, &disk.content(), content);
+        let found = (disk.synced(), disk.place(), disk.faults());
+        check(&rt, row, &found, &(*safe, *place, 1));
+    }
+    Ok(())
+}
+
+const OVER: [Row; 2] = [(Call::Rewind, Ok(0)), (Call::Append(b"xy"), Ok(0))];
+
+const OVER_AND_SYNCED: [Row; 3] = [
+    (Call::Rewind, Ok(0)),
+    (Call::Append(b"xy"), Ok(0)),
+    (Call::Sync, Ok(0)),
+];
+
+const CUT: [Row; 2] = [(Call::Append(b"ef"), Ok(0)), (Call::Cut(5), Ok(0))];
+
+const CUT_AND_SYNCED: [Row; 3] = [
+    (Call::Append(b"ef"), Ok(0)),
+    (Call::Cut(5), Ok(0)),
+    (Call::Sync, Ok(0)),
+];
+
+const CUT_AND_ADDED: [Row; 2] = [(Call::Cut(2), Ok(0)), (Call::Append(b"z"), Ok(0))];
+
+// Calls of a disk whose bytes "abcd" are safe, and what a crash of each length leaves behind them: of the content, and
+// where it tears what wasn't safe. The first two bytes that the seed 2 draws are 0x8c and 0x21.
+const LEFT: [(&[Row], u64, &[u8], &[u8]); 10] = [
+    (&OVER, 0, b"", b""),
+    (&OVER, 1, b"x", b"\x8c"),
+    (&OVER, 2, b"xy", b"\x8c\x21"),
+    (&OVER, 4, b"xycd", b"\x8c\x21\xff\x72"),
+    (&OVER_AND_SYNCED, 4, b"xycd", b"xycd"),
+    (&CUT, 4, b"abcd", b"abcd"),
+    (&CUT, 5, b"abcde", b"abcd\x8c"),
+    (&CUT_AND_SYNCED, 5, b"abcde", b"abcde"),
+    (&CUT_AND_ADDED, 2, b"ab", b"ab"),
+    (&CUT_AND_ADDED, 3, b"abz", b"ab\x8c"),
+];
+
+fn left(
+    rt: &impl Abort,
+    alloc: Global,
+    calls: &[Row],
+    len: u64,
+    tears: bool,
+) -> Result<MemDisk, NoMemory> {
+    let mut disk = MemDisk::new(alloc, 6, b"abcd", &[])?;
+    check_calls(rt, &mut disk, calls, &mut []);
+    assert!(rt; disk.synced() <= len && len <= disk.content().len() as u64);
+    if tears {
+        Ok(disk.torn(len, 2))
+    } else {
+        Ok(disk.crashed(len))
+    }
+}
+
+#[test]
+fn crash_leaves_what_was_written_again_and_cut(rt: HostRuntime) -> Result<(), Fail> {
+    for (row, (calls, len, crashed, torn)) in LEFT.iter().enumerate() {
+        for (tears, wanted) in [(false, *crashed), (true, *torn)] {
+            let left = left(&rt, rt.alloc(), calls, *len, tears)?;
+            check(&rt, row, &left.content(), &wanted);
+            check(&rt, row, &(left.synced(), left.place()), &(*len, *len));
+        }
+    }
     Ok(())
 }
 

@@ -48,7 +48,11 @@ const FIRST: [Row; 7] = [
 ];
 
 // Those of a second one, while the first one has the file open for writing.
-const LOCKED: [Row; 2] = [(Call::Len, Ok(5)), (Call::Append(b"f"), Err(Failed))];
+const LOCKED: [Row; 3] = [
+    (Call::Len, Ok(5)),
+    (Call::Append(b"f"), Err(Failed)),
+    (Call::Cut(0), Err(Failed)),
+];
 
 // Those of the second one behind that.
 const SECOND: [Row; 6] = [
@@ -67,7 +71,7 @@ fn check_disks<D: Disk + Drop>(rt: &impl Abort, mut disk: D, mut again: D) {
     check_calls(rt, &mut again, &LOCKED, &mut buf);
     drop(disk);
     check_calls(rt, &mut again, &SECOND, &mut buf);
-    check(rt, 0, &(buf, again.faults()), &(*b"defd", 1));
+    check(rt, 0, &(buf, again.faults()), &(*b"defd", 2));
 }
 
 #[test]
@@ -76,6 +80,84 @@ fn file_is_a_disk(rt: HostRuntime) -> Result<(), Fail> {
     let disk = FileDisk::new(rt, path.clone()?);
     check_disks(&rt, disk, FileDisk::new(rt, path));
     check_taken(&rt, &rt, "log", b"abcdef")?;
+    Ok(())
+}
+
+// The calls of a disk whose file isn't there, and isn't made by them.
+const NO_FILE: [Row; 4] = [
+    (Call::Rewind, Ok(0)),
+    (Call::Cut(0), Ok(0)),
+    (Call::Len, Ok(0)),
+    (Call::Sync, Ok(0)),
+];
+
+// Those behind that: the file is written again from the start, in part, whole and farther, and cut to a part, to its
+// length and to nothing.
+const AGAIN: [Row; 22] = [
+    (Call::Append(b"abcdef"), Ok(0)),
+    (Call::Rewind, Ok(0)),
+    (Call::Append(b"xy"), Ok(0)),
+    (Call::Len, Ok(6)),
+    (Call::Sync, Ok(0)),
+    (Call::Read(0), Ok(4)),
+    (Call::Cut(4), Ok(0)),
+    (Call::Append(b"z"), Ok(0)),
+    (Call::Len, Ok(5)),
+    (Call::Cut(5), Ok(0)),
+    (Call::Rewind, Ok(0)),
+    (Call::Append(b"12345"), Ok(0)),
+    (Call::Len, Ok(5)),
+    (Call::Rewind, Ok(0)),
+    (Call::Append(b"wvutsr"), Ok(0)),
+    (Call::Len, Ok(6)),
+    (Call::Cut(0), Ok(0)),
+    (Call::Len, Ok(0)),
+    (Call::Append(b"ABCDE"), Ok(0)),
+    (Call::Rewind, Ok(0)),
+    (Call::Append(b"fg"), Ok(0)),
+    (Call::Sync, Ok(0)),
+];
+
+// Those of another disk of that file, which is opened at the end.
+const LATER: [Row; 5] = [
+    (Call::Len, Ok(5)),
+    (Call::Append(b"!"), Ok(0)),
+    (Call::Cut(6), Ok(0)),
+    (Call::Read(2), Ok(4)),
+    (Call::Read(6), Ok(0)),
+];
+
+#[test]
+fn file_is_written_again_and_cut(rt: HostRuntime) -> Result<(), Fail> {
+    let path = path_of(&rt, "again")?;
+    let mut buf = [0; 4];
+    let mut disk = FileDisk::new(rt, path.clone()?);
+    check_calls(&rt, &mut disk, &NO_FILE, &mut buf);
+    assert!(&rt; taken(&rt, "again").is_err());
+    check_calls(&rt, &mut disk, &AGAIN, &mut buf);
+    // No file is made longer by a cut.
+    check(&rt, 0, &(disk.cut(6), disk.faults()), &(Err(Failed), 1));
+    check(&rt, 1, &buf, b"xycd");
+    drop(disk);
+    check_calls(&rt, &mut FileDisk::new(rt, path), &LATER, &mut buf);
+    check(&rt, 2, &buf, b"CDE!");
+    check_taken(&rt, &rt, "again", b"fgCDE!")?;
+    Ok(())
+}
+
+// The calls of a disk in a folder that isn't there. A sync has nothing to do.
+const NOWHERE: [Row; 4] = [
+    (Call::Len, Err(Failed)),
+    (Call::Rewind, Err(Failed)),
+    (Call::Append(b"a"), Err(Failed)),
+    (Call::Sync, Ok(0)),
+];
+
+#[test]
+fn file_without_a_folder(rt: HostRuntime) -> Result<(), Fail> {
+    let mut disk = FileDisk::new(rt, path_of(&rt, "folder/log")?);
+    check_calls(&rt, &mut disk, &NOWHERE, &mut []);
+    check(&rt, 0, &(disk.cut(0), disk.faults()), &(Err(Failed), 4));
     Ok(())
 }
 

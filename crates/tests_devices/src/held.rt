@@ -1,5 +1,6 @@
 //! Appends that are held, and those that aren't.
 
+use crate::calls::{Call, Row, check_calls};
 use crate::checks::check;
 use base_devices::{Disk, Failed, MemDisk};
 use std::process::Abort;
@@ -126,5 +127,45 @@ fn nobody_is_needed_or_no_append_is_held(rt: HostRuntime) -> Result<(), Fail> {
         check(&rt, row, &seen, &(Err(Failed), *entered, 1));
         check(&rt, row, &inner.content(), &b"a".as_slice());
     }
+    Ok(())
+}
+
+#[test]
+fn an_append_over_old_bytes_waits_too(rt: HostRuntime) -> Result<(), Fail> {
+    let hold = AppendHold::new(1);
+    let inner = MemDisk::new(rt.alloc(), 4, b"wxyz", &[])?;
+    let mut disk = HeldDisk::new(inner, &hold, 1);
+    check(&rt, 0, &disk.rewind(), &Ok(()));
+    let held = append_held(&rt, &mut disk, &hold);
+    check(&rt, 1, &held, &(Ok(()), false, true));
+    let inner = disk.into_disk();
+    check(&rt, 2, &inner.content(), &b"bcyz".as_slice());
+    check(&rt, 3, &(inner.synced(), inner.place()), &(0, 2));
+    Ok(())
+}
+
+/// Calls of a disk that holds "abcd" at first. The seventh and the ninth fail, and each cut is two of them.
+const HANDED_ON: [Row; 9] = [
+    (Call::Rewind, Ok(0)),
+    (Call::Append(b"x"), Ok(0)),
+    (Call::Cut(2), Ok(0)),
+    (Call::Append(b"yz"), Ok(0)),
+    (Call::Len, Ok(4)),
+    (Call::Rewind, Err(Failed)),
+    (Call::Cut(3), Err(Failed)),
+    (Call::Sync, Ok(0)),
+    (Call::Append(b"w"), Ok(0)),
+];
+
+#[test]
+fn rewinds_and_cuts_are_handed_on(rt: HostRuntime) -> Result<(), Fail> {
+    let hold = AppendHold::new(0);
+    let inner = MemDisk::new(rt.alloc(), 5, b"abcd", &[7, 9])?;
+    let mut disk = HeldDisk::new(inner, &hold, 2);
+    check_calls(&rt, &mut disk, &HANDED_ON, &mut []);
+    check(&rt, 0, &disk.faults(), &2);
+    let inner = disk.into_disk();
+    check(&rt, 1, &inner.content(), &b"xbyzw".as_slice());
+    check(&rt, 2, &(inner.synced(), inner.place()), &(4, 5));
     Ok(())
 }

@@ -1,6 +1,6 @@
 //! A disk that holds one append back.
 
-ghost use Rattle.std.specs.Prelude.{◌≡◌, ◌≢◌, ◌+◌, ◌-◌, ◌^◌, ◌<◌, ◌≤◌, length, false, IfOk, IfSome};
+ghost use Rattle.std.specs.Prelude.{◌≡◌, ◌≢◌, ◌+◌, ◌-◌, ◌^◌, ◌<◌, ◌≤◌, length, false, IfOk, IfSome, OnOk};
 
 use crate::AppendHold;
 use base_devices::{Disk, Failed, MemDisk};
@@ -12,14 +12,16 @@ enum Turn {
     Ahead(u64),
     /// The held append was let through, or no append is held.
     Past,
-    /// The held append waited in vain. It tried to come so far; after the next sync this is 0.
-    Late(u64),
+    /// The held append waited in vain. At most so many bytes were safe then, and it tried to come so far; after the
+    /// next sync these are the greatest `u64` and 0.
+    Late(u64, u64),
 }
 
 /// A disk in memory, one of whose appends waits until an [`AppendHold`] is open. All else is handed on to the disk in
 /// memory, and so is that append then.
 ///
-/// An append that waits in vain fails and writes nothing. Then the disk tells nothing more of crashes before now.
+/// An append that waits in vain fails and writes nothing, but as with each that fails no byte from the place on is safe
+/// then. From then on the disk tells nothing more of crashes before now.
 #[derive(Drop)]
 pub struct HeldDisk<'h> {
     inner: MemDisk,
@@ -64,7 +66,7 @@ impl<'h> HeldDisk<'h> {
 }
 
 impl<'h> Disk for HeldDisk<'h> {
-    ghost use Rattle.base_devices.specs.Disk.{Appended, GrowsBy, Synced, ReadsAt, Told, TimePasses};
+    ghost use Rattle.base_devices.specs.Disk.{Appended, GrowsBy, Rewound, Cut, Synced, ReadsAt, Told, TimePasses};
     ghost use Rattle.base_devices.specs.Faults.{HasCause};
     ghost use Rattle.base_devices.specs.MemDisk.{has_no_room};
     ghost use Rattle.tests_held_disk.specs.HeldDisk.{inner_of, left_of, hold_need, FailsAsInner};
@@ -93,7 +95,7 @@ impl<'h> Disk for HeldDisk<'h> {
 
     fn faults(&self) -> u64 {
         match self.turn {
-            Turn::Late(_) => self.inner.faults().saturating_add(1),
+            Turn::Late(_, _) => self.inner.faults().saturating_add(1),
             Turn::Ahead(_) | Turn::Past => self.inner.faults(),
         }
     }
@@ -151,8 +153,8 @@ impl<'h> Disk for HeldDisk<'h> {
                 } else {
                     // The count can rise, or stands at the greatest `u64`.
                     let _faults = self.inner.faults();
-                    let end = self.inner.content().len() as u64 + piece.len() as u64;
-                    self.turn = Turn::Late(end);
+                    let place = self.inner.place();
+                    self.turn = Turn::Late(place, place + piece.len() as u64);
                     Err(Failed)
                 }
             }
@@ -160,8 +162,35 @@ impl<'h> Disk for HeldDisk<'h> {
                 self.turn = Turn::Ahead(others - 1);
                 self.inner.append(piece)
             }
-            Turn::Past | Turn::Late(_) => self.inner.append(piece),
+            Turn::Past | Turn::Late(_, _) => self.inner.append(piece),
         }
+    }
+
+    // It fails just as the disk in memory does.
+    fn rewind(&mut self) -> Result<(), Failed>
+        ensures rewound { Told (held_told self.old) (held_told self.new) (λ old new. Rewound old new result) }
+        ensures counted { OnOk result (held_added self.new ≡ 0) }
+        ensures time { TimePasses held_told held_moment held_from held_since self.old self.new }
+        ensures left { left_of self.new ≡ left_of self.old }
+        ensures need { hold_need self.new ≡ hold_need self.old }
+        ensures handed_on { FailsAsInner self.old self.new false result }
+        ensures cause { HasCause (held_faults self.old) (held_faults self.new) result }
+    {
+        self.inner.rewind()
+    }
+
+    // It fails just as the disk in memory does.
+    fn cut(&mut self, at: u64) -> Result<(), Failed>
+        requires there { IfSome (held_told self.old) (λ d. at ≤ length d.content) }
+        ensures cut { Told (held_told self.old) (held_told self.new) (λ old new. Cut old new at result) }
+        ensures counted { OnOk result (held_added self.new ≡ at) }
+        ensures time { TimePasses held_told held_moment held_from held_since self.old self.new }
+        ensures left { left_of self.new ≡ left_of self.old }
+        ensures need { hold_need self.new ≡ hold_need self.old }
+        ensures handed_on { FailsAsInner self.old self.new false result }
+        ensures cause { HasCause (held_faults self.old) (held_faults self.new) result }
+    {
+        self.inner.cut(at)
     }
 
     // It fails just as the disk in memory does.
@@ -175,8 +204,8 @@ impl<'h> Disk for HeldDisk<'h> {
         ensures cause { HasCause (held_faults self.old) (held_faults self.new) result }
     {
         self.inner.sync()?;
-        if let Turn::Late(_) = self.turn {
-            self.turn = Turn::Late(0);
+        if let Turn::Late(_, _) = self.turn {
+            self.turn = Turn::Late(u64::MAX, 0);
         }
         Ok(())
     }

@@ -10,6 +10,7 @@
 //! - `reading`: a log's records one after another
 //! - `batches`: batches made and read
 //! - `writing`: groups on a disk, its faults and its crashes
+//! - `reopening`: logs over old bytes, and logs behind what was recovered
 //! - `recovery`: what whole logs and those with another last record recover
 //! - `damage`: what logs recover that were cut or changed
 //! - `numbered_logs`: logs with a number, read and recovered
@@ -35,5 +36,7 @@ mod numbered_logs;
 mod reading;
 #[cfg(test)]
 mod recovery;
+#[cfg(test)]
+mod reopening;
 #[cfg(test)]
 mod writing;

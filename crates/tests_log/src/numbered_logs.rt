@@ -13,9 +13,9 @@ use std::alloc::{AllocError, Global};
 use std::process::Abort;
 use std::test::Fail;
 
-// The log with the number 7 of `put a 1` and `put b 2`, each in a record of its own. The checksums were computed by
-// another program.
-const LOG_7: [u8; 56] = [
+/// The log with the number 7 of `put a 1` and `put b 2`, each in a record of its own. The checksums were computed by
+/// another program.
+pub(crate) const LOG_7: [u8; 56] = [
     0x32, 0x33, 0x0f, 0x45, 0x11, 0x00, 0x05, // the header of the first
     0x07, 0x00, 0x00, 0x00, // number 7
     0x01, 0x00, 0x00, 0x00, 0x00, 0x00, 0x00, 0x00, // sequence 1
@@ -51,8 +51,8 @@ fn two_puts(alloc: Global, number: Option<u32>) -> Result<Vec<u8>, AllocError> {
     Ok(log)
 }
 
-// Log 8 with its first record, over log 7.
-fn written_over(alloc: Global) -> Result<Vec<u8>, AllocError> {
+/// Log 8 with its first record, over log 7.
+pub(crate) fn written_over(alloc: Global) -> Result<Vec<u8>, AllocError> {
     let mut log = Vec::from_slice(alloc, &FIRST_OF_8)?;
     log.extend_from_slice(&LOG_7[SECOND_AT..])?;
     Ok(log)
@@ -75,10 +75,11 @@ const TYPE_1: EndReason = EndReason::Broken(Damage::BadType(1));
 
 const TYPE_5: EndReason = EndReason::Broken(Damage::BadType(5));
 
-// With which number a log is read, if with one, and what it recovers then.
-type Row = (Option<u32>, Summary);
+/// With which number a log is read, if with one, and what it recovers then.
+pub(crate) type Row = (Option<u32>, Summary);
 
-const OF_LOG_7: [Row; 3] = [
+/// What log 7 recovers.
+pub(crate) const OF_LOG_7: [Row; 3] = [
     (Some(7), (2, 2, 56, 56, EndReason::Clean)),
     (Some(8), (0, 0, 0, 0, NUMBER_7)),
     (None, (0, 0, 0, 0, TYPE_5)),
@@ -89,13 +90,15 @@ const OF_PLAIN: [Row; 2] = [
     (Some(7), (0, 0, 0, 0, TYPE_1)),
 ];
 
-const OF_WRITTEN_OVER: [Row; 3] = [
+/// What they recover where log 8 has its first record, over log 7.
+pub(crate) const OF_WRITTEN_OVER: [Row; 3] = [
     (Some(8), (1, 1, 28, 28, NUMBER_7)),
     (Some(7), (0, 0, 0, 0, NUMBER_8)),
     (None, (0, 0, 0, 0, TYPE_5)),
 ];
 
-fn check_rows(rt: &impl Abort, alloc: Global, log: &[u8], rows: &[Row]) {
+/// Compares what a log recovers, with each number.
+pub(crate) fn check_rows(rt: &impl Abort, alloc: Global, log: &[u8], rows: &[Row]) {
     // All rows so far were as wanted.
     for (row, (number, wanted)) in rows.iter().enumerate() {
         let found = recovered_as(*number, alloc, log);

@@ -22,16 +22,16 @@ const GROUP: [u8; 29] = [
     0x01, 0x01, b'b', 0x01, b'2', // put b 2
 ];
 
-// A batch that puts this value at this key.
-fn put(alloc: Global, key: &[u8], value: &[u8]) -> Result<Batch, Fail> {
+/// A batch that puts this value at this key.
+pub(crate) fn put(alloc: Global, key: &[u8], value: &[u8]) -> Result<Batch, Fail> {
     let mut batch = Batch::new(alloc)?;
     batch.put(key, value)?;
     Ok(batch)
 }
 
-// A batch that puts so many zeros at a key. Its record has 16 bytes more, or 17 or 18 where these are at least 128 or
-// 16384.
-fn put_zeros(alloc: Global, len: usize) -> Result<Batch, Fail> {
+/// A batch that puts so many zeros at a key. Its record has 16 bytes more, or 17 or 18 where these are at least 128 or
+/// 16384.
+pub(crate) fn put_zeros(alloc: Global, len: usize) -> Result<Batch, Fail> {
     let value = vec![in alloc; 0u8; len]?;
     put(alloc, b"k", &value)
 }
@@ -52,8 +52,13 @@ fn opened(alloc: Global, capacity: usize, fails: &[u64]) -> Result<LogWriter<Mem
     Ok(LogWriter::open(alloc, disk).map_err(|(_, error)| error)?)
 }
 
-// Adds a batch as a group of its own.
-fn add(log: &mut LogWriter<MemDisk>, first: u64, batch: Batch, sync: bool) -> Result<(), Fault>
+/// Adds a batch as a group of its own.
+pub(crate) fn add(
+    log: &mut LogWriter<MemDisk>,
+    first: u64,
+    batch: Batch,
+    sync: bool,
+) -> Result<(), Fault>
     requires { first < 2 ^ 32 }
 {
     let _ = (batch.count(), batch.size());

@@ -3,15 +3,19 @@
 //! - `runs`: scripts of one client, what is refused, devices that fail, and generated scripts
 //! - `clients`: scripts of several clients
 //! - `failing`: each call of a device fails in turn, and what crashes leave
+//! - `numbers`: logs with a number, alone and over older ones
 //! - `overlap`: what clients do while another's append, or its group, is under way
 //! - `recovery`: what logs recover
+//! - `resumed`: logs that go on
 //! - `replay`: schedules of events
 
 mod clients;
 mod failing;
+mod numbers;
 mod overlap;
 mod recovery;
 mod replay;
+mod resumed;
 mod runs;
 
 use base_devices::{MemDisk, MemSink, MemSource, SteppedClock};
@@ -26,6 +30,10 @@ const SCRIPT: &[u8] = b"client 1\nput a 1\ncommit\nget a\n";
 
 const OUTCOME: &str =
     "client 1\nok 1 1\nval 1 1\nhistory 1\n1 1 1 1 log 0100000000000000010000000101610131\nstate 1 1\na 1\nlog 24\n";
+
+/// Its calls of the disk are a look at the length, or a rewind, two appends, a sync, and an append.
+const THREE_COMMITS: &[u8] =
+    b"client 1\nput a 1\ncommit\nclear\nput b 2\ncommit sync\nclear\nput c 3\ncommit\n";
 
 /// The log's bytes: the record's masked CRC-32C, length and kind, as the RocksDB wiki's "Write Ahead Log File Format"
 /// lays them out, and the batch. The checksums here and below were reckoned by another program.
@@ -49,8 +57,8 @@ const DISK_ROOM: usize = 1_048_576;
 /// The moment at which the clock stands.
 const START: u64 = 1000;
 
-/// Which call of a device fails, counted from 1. A disk's calls of all kinds are counted together. The first asks for its
-/// length.
+/// Which call of a device fails, counted from 1. A disk's calls of all kinds are counted together. The first asks for
+/// its length, or rewinds it.
 #[derive(Clone, Copy)]
 enum Fails {
     Nothing,
@@ -234,6 +242,16 @@ fn is_text(text: &str, wanted: &str) -> bool {
     let mut is_as_wanted = text.lines().count() == wanted.lines().count();
     for (line, wanted) in text.lines().zip(wanted.lines()) {
         is_as_wanted = is_as_wanted && is_line(line, wanted);
+    }
+    is_as_wanted
+}
+
+/// Whether a text is as wanted, line by line, but for the log's length.
+fn is_but_for_length(text: &str, wanted: &str) -> bool {
+    let mut is_as_wanted = text.lines().count() == wanted.lines().count();
+    for (line, wanted) in text.lines().zip(wanted.lines()) {
+        let are_lengths = line.starts_with("log ") && wanted.starts_with("log ");
+        is_as_wanted = is_as_wanted && (line == wanted || are_lengths);
     }
     is_as_wanted
 }

@@ -3,6 +3,7 @@
 mod at_once;
 mod keys;
 mod nodes;
+mod over_maps;
 mod rows;
 mod tables;
 mod tree;

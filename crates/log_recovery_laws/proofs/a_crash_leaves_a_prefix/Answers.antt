@@ -1,8 +1,6 @@
-use Rattle.std.proofs.Common.{◌≡◌, None, length, map, take, ap, arith, length-take}
-use Rattle.model_base.specs.Log.{text, plain_log}
+use Rattle.std.proofs.Common.{◌≡◌, length, map, take, ap, arith, length-take}
 use Rattle.model_base.specs.Recovery.{logged_bytes}
 use Rattle.log_laws.proofs.Placed.{length_map}
-use Rattle.log_laws.proofs.Written.{text_spells}
 use Rattle.log_laws.proofs.Crash.{reads_front}
 use Rattle.log_laws.proofs.Recovers.{recovers_front}
 use Rattle.log_recovery_laws.proofs.Recovering.{recovers_some}
@@ -11,14 +9,14 @@ use Rattle.log_recovery_laws.proofs.a_crash_leaves_a_prefix.Goals as goal
 
 pub returns : goal.returns
 returns c = record {
-  recovered = λ image records are none.
-      let some = recovers_some plain_log image are in
+  recovered = λ number image whole records are spells none.
+      let some = recovers_some number image are in
       let r = some.0 in
-      let front : map logged_bytes r.batches ≡ take (length r.batches) records = recovers_front plain_log image records r some.1 none in
+      let front : map logged_bytes r.batches ≡ take (length r.batches) records = recovers_front number image whole records r spells some.1 none in
       (r, some.1, record { many = length r.batches; some = omega (arith, ap length front, length_map logged_bytes r.batches, length-take (length r.batches) records); same = front; enough = tt });
-  read = λ image records are none.
-      let some = all_read_some None image are in
+  read = λ number image whole records are spells none.
+      let some = all_read_some number image are in
       let is = some.1 in
-      let front : some.0 ≡ take (length some.0) records = reads_front plain_log image (text plain_log records) is.kept some.0 records (text_spells plain_log records) is.within is.spelled none in
+      let front : some.0 ≡ take (length some.0) records = reads_front number image whole is.kept some.0 records spells is.within is.spelled none in
       (some.0, is, record { many = length some.0; some = omega (arith, ap length front, length-take (length some.0) records); same = front; enough = tt });
 }

@@ -8,6 +8,7 @@ ghost use Rattle.tests_engine.specs.Callers.{number_of, MayCall, IsCaller, AllMa
 use crate::script::{Step, StepAnswer};
 use base_bytes::{Found, Read};
 use base_devices::{MemDisk, SteppedClock};
+use base_maps::ByteMap;
 use engine_calls::{Clients, Closed, OpenGate, Receipt};
 use engine_groups::{ClosingRoom, EngineClient, GroupEngine};
 use engine_memory::open_engine;
@@ -29,8 +30,8 @@ pub(super) type Members = Clients<Member, ClosingRoom<MemDisk, MemoryTable, Step
 
 pub(super) type Notes = Mutex<Vec<StepAnswer>>;
 
-// Opens an engine with a table of so many shards, in one stage or two, over an empty disk with so much room, of whose
-// calls those of a list fail. The first looks at the disk's length. The clock stands at 1000.
+// Opens an engine with an empty table of so many shards, in one stage or two, over an empty disk with so much room, of
+// whose calls those of a list fail. The first looks at the disk's length. The clock stands at 1000.
 pub(super) fn opened(
     rt: &impl Abort,
     alloc: Global,
@@ -56,6 +57,8 @@ pub(super) fn opened(
         log,
         SteppedClock::new(1000),
         clients,
+        0,
+        &ByteMap::new(alloc),
         OpenGate,
         options,
         shards,

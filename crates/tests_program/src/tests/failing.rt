@@ -2,8 +2,8 @@
 
 use super::recovery::check_recovery;
 use super::{
-    Came, Fails, Given, OUTCOME, PATHS, PIPELINED_SHARDS, PLAIN, RECORD, SCRIPT, TWO_RECORDS,
-    WritePath, came_of, ended, is_line,
+    Came, Fails, Given, OUTCOME, PATHS, PIPELINED_SHARDS, PLAIN, RECORD, SCRIPT, THREE_COMMITS,
+    TWO_RECORDS, WritePath, came_of, ended, is_line,
 };
 use base_devices::{Disk, MemDisk};
 use std::alloc::Global;
@@ -12,10 +12,6 @@ use std::rt;
 use std::rt::HostRuntime;
 use std::sync::Wait;
 use std::thread::Threads;
-
-/// Its calls of the disk are a look at the length, two appends, a sync, and an append.
-const THREE_COMMITS: &[u8] =
-    b"client 1\nput a 1\ncommit\nclear\nput b 2\ncommit sync\nclear\nput c 3\ncommit\n";
 
 /// The checksums were reckoned by another program.
 const THREE_RECORDS: &[u8] =

@@ -69,7 +69,7 @@ fn prints_what_a_log_recovers(rt: HostRuntime) {
 }
 
 /// A log with the number 8, of one record, that was written over the first of two records of a log with the number 7.
-const WRITTEN_OVER: &[u8] =
+pub(super) const WRITTEN_OVER: &[u8] =
     b"\x13\x6d\x32\x7d\x11\x00\x05\x08\x00\x00\x00\x01\x00\x00\x00\x00\x00\x00\x00\x01\x00\x00\x00\x01\x01\x63\x01\x33\
     \xd4\x65\xc3\xae\x11\x00\x05\x07\x00\x00\x00\x02\x00\x00\x00\x00\x00\x00\x00\x01\x00\x00\x00\x01\x01\x62\x01\x32";
 
@@ -90,9 +90,18 @@ const BY_NUMBER: [(&str, &str); 4] = [
     ("recover", "groups 0\nstate 0 0\nend 0 badtype 5\n"),
 ];
 
+/// Recovers it by each number, and by none.
+pub(super) fn check_by_numbers<R: Threads + Wait + rt::Clock + Abort + Sync>(
+    rt: &R,
+    alloc: Global,
+    content: &[u8],
+) {
+    for (words, want) in BY_NUMBER {
+        check_recovery_by(rt, alloc, words, content, want);
+    }
+}
+
 #[test]
 fn reads_a_log_by_its_number(rt: HostRuntime) {
-    for (words, want) in BY_NUMBER {
-        check_recovery_by(&rt, rt.alloc(), words, WRITTEN_OVER, want);
-    }
+    check_by_numbers(&rt, rt.alloc(), WRITTEN_OVER);
 }

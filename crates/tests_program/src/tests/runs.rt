@@ -58,7 +58,7 @@ fn words_and_scripts_are_refused(rt: HostRuntime) {
     ended(&rt, alloc, given, 2, "script 0 long\n");
 }
 
-const OUTCOMES: [Row; 13] = [
+pub(super) const OUTCOMES: [Row; 13] = [
     ("run", b"# x\nclient 1\nput a 1\ncommit\nget a\n", OUTCOME),
     (
         "run",

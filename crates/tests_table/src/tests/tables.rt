@@ -27,16 +27,16 @@ pub(super) type MemTurn = Turn<Tree, Nodes>;
 
 // A group of one client, and what is there behind it.
 #[derive(Drop, Clone, Copy)]
-struct Round {
+pub(super) struct Round {
     // Keys, each with the value that it gets, or none where it is deleted.
-    writes: &'static [(&'static [u8], Option<&'static [u8]>)],
+    pub(super) writes: &'static [(&'static [u8], Option<&'static [u8]>)],
     // The keys that have a value then, with it, in byte order.
-    rows: &'static [(&'static [u8], &'static [u8])],
+    pub(super) rows: &'static [(&'static [u8], &'static [u8])],
 }
 
 // `a` gets two values and is deleted, `b` gets one, and then four keys get one at once. Of three shards, the last two
 // of these are of one, and the others of one each.
-const ROUNDS: [Round; 5] = [
+pub(super) const ROUNDS: [Round; 5] = [
     Round {
         writes: &[(b"a", Some(b"1"))],
         rows: &[(b"a", b"1")],
@@ -145,7 +145,7 @@ fn open_for_two(
 }
 
 // Gives the table up.
-fn close(
+pub(super) fn close(
     alloc: Global,
     table: MemoryTable,
     turn: MemTurn,
@@ -184,7 +184,7 @@ fn check_each<R: Wait + rt::Clock + Abort>(
 
 // The keys read together, those from `a` on and below `z`, and each alone, have what their rows say, as of this
 // sequence. `e` has no row.
-fn check<R: Wait + rt::Clock + Abort>(
+pub(super) fn check<R: Wait + rt::Clock + Abort>(
     rt: &R,
     alloc: Global,
     table: &MemoryTable,
@@ -214,25 +214,27 @@ fn check<R: Wait + rt::Clock + Abort>(
     );
 }
 
-// Client 1 launches the group of each round, and the other one publishes it, and reads after it.
-fn play<R: Wait + rt::Clock + Abort>(
+// Client 1 launches the group of each round behind the sequence `start`, and the other one publishes it, and reads
+// after it.
+pub(super) fn play<R: Wait + rt::Clock + Abort>(
     rt: &R,
     alloc: Global,
     table: &MemoryTable,
     leader: &mut MemSeat,
     member: &mut MemSeat,
     mut turn: MemTurn,
+    start: u64,
     rounds: &[Round],
 ) -> MemTurn
     requires clients { (opening_of table.now).clients ≡ 2 }
     requires leader { IsIdle table.now leader.old × ((account_of leader.old).number ≡ 1) }
     requires member { IsIdle table.now member.old }
-    requires turn { MayLaunch table.now turn × (last_of (opening_of table.now).start (history_of turn) ≡ 0) }
+    requires turn { MayLaunch table.now turn × (last_of (opening_of table.now).start (history_of turn) ≡ start) }
     ensures leader { IsIdle table.now leader.new }
     ensures member { IsIdle table.now member.new }
     ensures turn { MayLaunch table.now result }
 {
-    let mut last = 0u64;
+    let mut last = start;
     for i in 0..rounds.len() {
         let round = rounds[i];
         let (nodes, count) = nodes_behind(rt, alloc, last, round.writes);
@@ -250,7 +252,16 @@ fn try_over<R: Wait + rt::Clock + Abort>(rt: &R, alloc: Global, shards: u32) -> 
     let (table, turn, mut leader, mut member) = open_for_two(alloc, shards)?;
     assert!(rt; leader.number() == 1);
     assert_eq!(rt; Table::<Nodes, Parts>::locks(&table), u64::from(shards));
-    let turn = play(rt, alloc, &table, &mut leader, &mut member, turn, &ROUNDS);
+    let turn = play(
+        rt,
+        alloc,
+        &table,
+        &mut leader,
+        &mut member,
+        turn,
+        0,
+        &ROUNDS,
+    );
     close(alloc, table, turn, leader, member)
 }
 

@@ -4,6 +4,7 @@ use Rattle.log_reader.specs.declared.reader.Next.TheVariants as next
 use Rattle.log_recovery.specs.declared.recovery.Recovered.{Recovered}
 use Rattle.log_recovery.specs.Recovering.{HasRecovered}
 use Rattle.log_recovery.proofs.Telling.{reads, follows_on, kept_adds, kept_refuses, front_more, refused, ended}
+use Rattle.log_recovery.proofs.Numbered.{numbered_more}
 use Rattle.log_recovery.proofs.recovery.recover.Goals as goal
 
 pub loop-start-preserved : goal.loop-start-preserved
@@ -23,6 +24,7 @@ loop-start-preserved g c =
       going = now.stopped old.going;
       follows = follows_on before told log c.next.new.self old.disk.same old.follows now.follows;
       front = front_more number told c.loop-start.kept c.keep.new.self log.place c.in-Record.start c.in-Record.end c.next.new.self.in_hand bytes old.place c.record.ensures adds old.front says;
+      numbered = numbered_more c.loop-start.kept c.keep.new.self bytes c.in-Record.end adds old.numbered;
       worked = now.fault old.going ∙ old.worked;
       disk = more_read g.D.Disk _ _ _ old.disk now.disk;
     }

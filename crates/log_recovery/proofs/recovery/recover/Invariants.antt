@@ -2,6 +2,7 @@ use Rattle.std.proofs.Common.{◌≡◌, ◌-◌, ◌^◌, None, IfSome}
 use Rattle.log_reader.specs.OnlyReads.{OnlyReads}
 use Rattle.log_reader.specs.Reader.{Follows}
 use Rattle.log_recovery.specs.Keeping.{KeepsFront}
+use Rattle.log_recovery.specs.Recovering.{IsNumbered}
 use Rattle.log_recovery.proofs.recovery.recover.Given as goal
 
 -- the records in front of the place where the reader stands are kept
@@ -12,6 +13,7 @@ invariant-loop-start g l = record {
   going : l.log.stopped ≡ None;
   follows : IfSome (g.D.Disk.told l.fn.disk) (λ d. Follows d.content l.log);
   front : IfSome (g.D.Disk.told l.fn.disk) (λ d. KeepsFront l.fn.number d.content l.kept);
+  numbered : IsNumbered l.kept.map l.kept.last;
   worked : g.D.Disk.faults l.disk ≡ g.D.Disk.faults l.fn.disk;
   disk : OnlyReads g.D.Disk l.fn.disk l.disk;
 }

@@ -8,4 +8,5 @@ returns c = record {
   nothing_before = images.nothing_before;
   reached_before = images.reached_before;
   synced_at_the_end = images.synced_at_the_end;
+  synced_late_over_old_bytes = images.synced_late_over_old_bytes;
 }

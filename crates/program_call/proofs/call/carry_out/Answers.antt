@@ -5,12 +5,13 @@ use Rattle.program_call.proofs.Invocation.{of_run, of_generate, of_recover, of_r
 use Rattle.program_call.proofs.call.carry_out.Goals as goal
 
 pub returns-in-Run-clause-run : goal.returns-in-Run-clause-run
-returns-in-Run-clause-run g c = λ wanted asked.
+returns-in-Run-clause-run g c = λ wanted start asked.
     let given = c.in-Run in
     let does = c.run_script.ensures in
-    let named = of_run c.args.asked given.pipelined given.shards given.group_bytes given.batch_bytes given.last asked.0 asked.1 wanted given.is asked.2 in
-    let same = named ∙ sym c.setup_of-setup.ensures.options in
-    rw same (record {
+    let named = of_run c.args.asked given.pipelined given.shards given.group_bytes given.batch_bytes given.last given.number given.resume asked.0 asked.1 wanted asked.2 asked.3 given.is asked.4 in
+    let same = named.0 ∙ sym c.setup_of-setup.ensures.options in
+    let same_start = asked.5 ∙ named.1 ∙ sym c.log_start-start.ensures ∙ sym c.setup_of-setup.ensures.start in
+    rw (same, same_start) (record {
       other = does.other;
       script = does.script;
       other_script = does.other_script;
@@ -84,7 +85,7 @@ pub returns-in-Run-clause-replay : goal.returns-in-Run-clause-replay
 returns-in-Run-clause-replay g c = λ options asked. absurd (not_another is_run _ _ _ c.in-Run.is asked refl refl)
 
 pub returns-in-Generate-clause-run : goal.returns-in-Generate-clause-run
-returns-in-Generate-clause-run g c = λ options asked. absurd (not_another is_generate _ _ _ c.in-Generate.is asked.2 refl refl)
+returns-in-Generate-clause-run g c = λ options start asked. absurd (not_another is_generate _ _ _ c.in-Generate.is asked.4 refl refl)
 
 pub returns-in-Generate-clause-recover : goal.returns-in-Generate-clause-recover
 returns-in-Generate-clause-recover g c = λ number asked. absurd (not_another is_generate _ _ _ c.in-Generate.is asked refl refl)
@@ -93,7 +94,7 @@ pub returns-in-Generate-clause-replay : goal.returns-in-Generate-clause-replay
 returns-in-Generate-clause-replay g c = λ options asked. absurd (not_another is_generate _ _ _ c.in-Generate.is asked refl refl)
 
 pub returns-in-Recover-clause-run : goal.returns-in-Recover-clause-run
-returns-in-Recover-clause-run g c = λ options asked. absurd (not_another is_recover _ _ _ c.in-Recover.is asked.2 refl refl)
+returns-in-Recover-clause-run g c = λ options start asked. absurd (not_another is_recover _ _ _ c.in-Recover.is asked.4 refl refl)
 
 pub returns-in-Recover-clause-generate : goal.returns-in-Recover-clause-generate
 returns-in-Recover-clause-generate g c = λ seed clients batches asked. absurd (not_another is_recover _ _ _ c.in-Recover.is asked.2 refl refl)
@@ -102,7 +103,7 @@ pub returns-in-Recover-clause-replay : goal.returns-in-Recover-clause-replay
 returns-in-Recover-clause-replay g c = λ options asked. absurd (not_another is_recover _ _ _ c.in-Recover.is asked refl refl)
 
 pub returns-in-Replay-clause-run : goal.returns-in-Replay-clause-run
-returns-in-Replay-clause-run g c = λ options asked. absurd (not_another is_replay _ _ _ c.in-Replay.is asked.2 refl refl)
+returns-in-Replay-clause-run g c = λ options start asked. absurd (not_another is_replay _ _ _ c.in-Replay.is asked.4 refl refl)
 
 pub returns-in-Replay-clause-generate : goal.returns-in-Replay-clause-generate
 returns-in-Replay-clause-generate g c = λ seed clients batches asked. absurd (not_another is_replay _ _ _ c.in-Replay.is asked.2 refl refl)

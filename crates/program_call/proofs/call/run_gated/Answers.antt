@@ -8,8 +8,8 @@ pub returns-in-Ok-clause-nothing : goal.returns-in-Ok-clause-nothing
 returns-in-Ok-clause-nothing g c = λ asked. absurd (not_nothing _ _ c.in-Ok.ensures.ok asked)
 
 pub returns-in-Ok-clause-run : goal.returns-in-Ok-clause-run
-returns-in-Ok-clause-run g c = λ options asked.
-    c.carry_out.ensures.run options (asked.0, asked.1, is_asked _ _ _ c.in-Ok.ensures.ok asked.2)
+returns-in-Ok-clause-run g c = λ options start asked.
+    c.carry_out.ensures.run options start (asked.0, asked.1, asked.2, asked.3, is_asked _ _ _ c.in-Ok.ensures.ok asked.4, asked.5)
 
 pub returns-in-Ok-clause-generate : goal.returns-in-Ok-clause-generate
 returns-in-Ok-clause-generate g c = λ seed clients batches asked.
@@ -23,7 +23,7 @@ returns-in-Ok-clause-replay g c = λ options asked.
     c.carry_out.ensures.replay options (is_asked _ _ _ c.in-Ok.ensures.ok asked)
 
 pub returns-in-Err-Usage-clause-run : goal.returns-in-Err-Usage-clause-run
-returns-in-Err-Usage-clause-run g c = λ options asked. absurd (not_nothing _ _ asked.2 ((rw c.in-Err-Usage.field-0-is at c.in-Err-Usage.ensures.usage) refl))
+returns-in-Err-Usage-clause-run g c = λ options start asked. absurd (not_nothing _ _ asked.4 ((rw c.in-Err-Usage.field-0-is at c.in-Err-Usage.ensures.usage) refl))
 
 pub returns-in-Err-Usage-clause-generate : goal.returns-in-Err-Usage-clause-generate
 returns-in-Err-Usage-clause-generate g c = λ seed clients batches asked. absurd (not_nothing _ _ asked.2 ((rw c.in-Err-Usage.field-0-is at c.in-Err-Usage.ensures.usage) refl))
@@ -35,8 +35,8 @@ pub returns-in-Err-Usage-clause-replay : goal.returns-in-Err-Usage-clause-replay
 returns-in-Err-Usage-clause-replay g c = λ options asked. absurd (not_nothing _ _ asked ((rw c.in-Err-Usage.field-0-is at c.in-Err-Usage.ensures.usage) refl))
 
 pub returns-clause-run : goal.returns-clause-run
-returns-clause-run g c = λ options asked.
-    rw c.end_with-in-Err-NoMemory.ensures.disk (none_run g.S.Source g.D.Disk g.K.Sink c.args.source.now c.args.disk c.args.sink.now _ c.end_with-in-Err-NoMemory.ensures.status options)
+returns-clause-run g c = λ options start asked.
+    rw c.end_with-in-Err-NoMemory.ensures.disk (none_run g.S.Source g.D.Disk g.K.Sink c.args.source.now c.args.disk c.args.sink.now _ c.end_with-in-Err-NoMemory.ensures.status options start)
 
 pub returns-clause-generate : goal.returns-clause-generate
 returns-clause-generate g c = λ seed clients batches asked.

@@ -1,23 +1,35 @@
 -- The run's promises, of the script that the seed makes. It has as many clients as are asked for, and its outcome's
 -- summary is that of all legal outcomes.
-use Rattle.std.proofs.Common.{◌≡◌, ℕ, length, refl, sym, ap, subst, ◌∙◌, arith}
+use Rattle.std.proofs.Common.{◌≡◌, ℕ, [], length, refl, ap, subst, ◌∙◌, arith}
 use Rattle.std.proofs.lemmas.List.{length-map}
 use Rattle.std.proofs.lemmas.List.FromFn.{length-range_with_len}
 use Rattle.std.specs.List.{range_with_len}
 use Rattle.std.specs.Io.KnownBytes.{Appends}
 use Rattle.model_base.specs.Generator.{script_of_seed, batches_drawn, first_state}
+use Rattle.model_base.specs.Calls.{Outcome}
+use Rattle.model_base.specs.Script.{Script as Said}
 use Rattle.model_base.specs.Outcomes.{IsLegal}
 use Rattle.model_base.specs.Settings.{settings_of}
 use Rattle.run_scripts.specs.declared.script.Script.{Script}
 use Rattle.run_scripts.specs.Scripts.{commands_of}
+use Rattle.run_outcome.specs.Running.{Before, nothing}
+use Rattle.run_execution.specs.Ends.{options_behind}
 use Rattle.program_call.specs.Asking.{usual_options}
 use Rattle.program_call.specs.Outcomes.{IsGenerated}
-use Rattle.program_call.proofs.Runs.{runs_retold, completes}
+use Rattle.program_call.proofs.Runs.{runs_retold, completes, over_empty}
 use Rattle.program_call.proofs.generating.run_generated.Goals as goal
 
 has_clients : (script : Script) (seed clients batches : ℕ) → commands_of script ≡ script_of_seed seed clients batches → length script.clients.items ≡ clients
 has_clients script seed clients batches e =
     ap length e ∙ length-map (range_with_len 1 clients) (λ client. batches_drawn batches client (first_state seed client)) ∙ length-range_with_len 1 clients
+
+-- the outcome of this script, by a run that goes on from nothing
+from_nothing : (opened ended : ℕ) (script this : Said) (before : Before) (o : Outcome) → before ≡ nothing → script ≡ this
+    → IsLegal (settings_of (options_behind usual_options before) before.map (length script) opened) ended script o
+    → IsLegal (settings_of usual_options [] (length this) opened) ended this o
+from_nothing opened ended script this before o none same legal =
+    subst (λ b. IsLegal (settings_of (options_behind usual_options b) b.map (length this) opened) ended this o) none
+    (subst (λ s. IsLegal (settings_of (options_behind usual_options before) before.map (length s) opened) ended s o) same legal)
 
 pub run_and_tell-requires-clause-clients : goal.run_and_tell-requires-clause-clients
 run_and_tell-requires-clause-clients g c κs within =
@@ -30,7 +42,7 @@ returns-clause-runs g c =
 
 pub returns-clause-completes : goal.returns-clause-completes
 returns-clause-completes g c = λ sink_stood disk_stood.
-    completes _ _ _ _ _ _ _ _ c.run_and_tell.ensures.runs c.run_and_tell.ensures.status sink_stood disk_stood
+    over_empty _ _ _ (completes _ _ _ _ _ _ _ _ c.run_and_tell.ensures.runs c.run_and_tell.ensures.status sink_stood disk_stood)
 
 pub returns-clause-one_summary : goal.returns-clause-one_summary
 returns-clause-one_summary g c = λ zero.
@@ -43,7 +55,8 @@ returns-clause-one_summary g c = λ zero.
     let ended = g.D.Disk.faults c.run_and_tell.result.disk in
     let same : whole.ran.script ≡ script_of_seed seed clients batches = whole.ran.said ∙ c.in-Ok.ensures.ok in
     let run = whole.ran.is_outcome.run in
-    let legal = subst (λ s. IsLegal (settings_of usual_options (length s) opened) ended s o) same (record { trace = run.trace; attempts = run.attempts; legal = run.legal }) in
-    let one = c.summaries_are_one.ensures.one_summary seed clients batches ended (settings_of usual_options (length (script_of_seed seed clients batches)) opened) o
-    (omega arith) (omega arith) refl refl legal whole.no_fault whole.whole in
+    let legal = from_nothing opened ended whole.ran.script (script_of_seed seed clients batches) whole.ran.before o whole.ran.goes_on same
+    (record { trace = run.trace; attempts = run.attempts; legal = run.legal }) in
+    let one = c.summaries_are_one.ensures.one_summary seed clients batches ended (settings_of usual_options [] (length (script_of_seed seed clients batches)) opened) o
+    (omega arith) (omega arith) refl refl refl legal whole.no_fault whole.whole in
     subst (λ text. Appends (g.K.Sink.taken c.args.sink.now) (g.K.Sink.taken c.run_and_tell.new.sink) text) one whole.printed

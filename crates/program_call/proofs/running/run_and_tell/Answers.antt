@@ -1,7 +1,5 @@
 -- The run's end and what was told of it come to all that a run promises.
 use Rattle.run_scripts.specs.Scripts.{commands_of}
-use Rattle.log_writer.specs.Written.{IsWrittenFrom}
-use Rattle.model_runs.specs.Crashes.{IsImageSince}
 use Rattle.program_call.specs.Outcomes.{IsScript}
 use Rattle.program_call.proofs.Endings.{ended_so}
 use Rattle.program_call.proofs.Runs.{runs_script}
@@ -14,6 +12,6 @@ returns-clause-runs g c =
     let before = c.args.sink.now in
     let after = c.tell_end.new.sink in
     let script = commands_of c.args.script in
-    rw (c.end_with.ensures.status, c.end_with.ensures.disk) (runs_script _ _ (IsScript script) c.args.form c.args.setup.options was disk before after _
-    (ended_so c.args.setup.options script c.args.form (g.D.Disk.faults was) (g.D.Disk.faults disk) (IsImageSince g.D.Disk.moment g.D.Disk.from g.D.Disk.since was disk) (IsWrittenFrom g.D.Disk was disk) (g.K.Sink.faults before) (g.K.Sink.faults after)
-    (g.K.Sink.taken before) (g.K.Sink.taken after) (g.D.Disk.told was) (g.D.Disk.told disk) c.execute-disk.result.1 c.tell_end.result c.execute-disk.ensures.end c.tell_end.ensures))
+    let setup = c.args.setup in
+    rw (c.end_with.ensures.status, c.end_with.ensures.disk) (runs_script g.D.Disk g.K.Sink (IsScript script) c.args.form setup.options setup.start was disk before after _
+    (ended_so g.D.Disk g.K.Sink setup.options setup.start script c.args.form was disk before after c.execute-disk.result.1 c.tell_end.result c.execute-disk.ensures.end c.tell_end.ensures))

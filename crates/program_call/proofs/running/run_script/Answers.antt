@@ -1,5 +1,5 @@
 -- The run's promises, of what the source says; and where no script was read, what stands then.
-use Rattle.std.proofs.Common.{◌≡◌, ℕ, List, length, Option, Some, None, Ok, Err, IfSome, refl, sym, subst}
+use Rattle.std.proofs.Common.{◌≡◌, ◌⊎◌, ℕ, List, length, Option, Some, None, Ok, Err, IfSome, refl, sym, subst}
 use Rattle.base_devices.specs.Disk.{Disk}
 use Rattle.model_base.specs.Script.{Script, script_of, whole_grammar}
 use Rattle.run_scripts.specs.Scripts.{commands_of}
@@ -14,21 +14,21 @@ use Rattle.program_call.proofs.running.run_script.Goals as goal
 says_it : (left : Option (List ℕ)) (this s : Script) → IfSome left (λ text. script_of whole_grammar text ≡ Ok this) → IsScript this s → SaysScript left s
 says_it left this s said is = subst (λ x. SaysScript left x) (sym is) said
 
-under : (left : Option (List ℕ)) (told : Option Disk) (Q : Type 0) → IfSome told (λ d. length d.content ≡ 0 → Q)
-    → IfSome left (λ text. IfSome told (λ d. (script : Script) → script_of whole_grammar text ≡ Ok script → length d.content ≡ 0 → Q))
-under None told Q ends = tt
-under (Some text) None Q ends = tt
-under (Some text) (Some d) Q ends = λ script said. ends
+under : (left : Option (List ℕ)) (told : Option Disk) (A Q : Type 0) → IfSome told (λ d. (length d.content ≡ 0) ⊎ A → Q)
+    → IfSome left (λ text. IfSome told (λ d. (script : Script) → script_of whole_grammar text ≡ Ok script → (length d.content ≡ 0) ⊎ A → Q))
+under None told A Q ends = tt
+under (Some text) None A Q ends = tt
+under (Some text) (Some d) A Q ends = λ script said. ends
 
 pub returns-in-Ok-clause-runs : goal.returns-in-Ok-clause-runs
 returns-in-Ok-clause-runs g c =
     let left = g.S.Source.left c.args.source.now in
     let script = commands_of c.in-Ok.script in
-    runs_retold (observation_of g.D.Disk g.K.Sink (IsScript script) form.Whole c.args.setup.options c.args.disk c.run_and_tell.result.disk c.args.sink.now c.run_and_tell.new.sink) (SaysScript left) (λ s is. says_it left script s c.in-Ok.ensures.script.said is) _ _ _ _ _ _ _ c.run_and_tell.ensures.runs
+    runs_retold (observation_of g.D.Disk g.K.Sink (IsScript script) form.Whole c.args.setup.options c.args.setup.start c.args.disk c.run_and_tell.result.disk c.args.sink.now c.run_and_tell.new.sink) (SaysScript left) (λ s is. says_it left script s c.in-Ok.ensures.script.said is) _ _ _ _ _ _ _ c.run_and_tell.ensures.runs
 
 pub returns-in-Ok-clause-completes : goal.returns-in-Ok-clause-completes
 returns-in-Ok-clause-completes g c = λ source_stood sink_stood disk_stood.
-    under _ _ _ (completes _ _ _ _ _ _ _ _ c.run_and_tell.ensures.runs c.run_and_tell.ensures.status sink_stood disk_stood)
+    under _ _ _ _ (completes _ _ _ _ _ _ _ _ c.run_and_tell.ensures.runs c.run_and_tell.ensures.status sink_stood disk_stood)
 
 pub returns-in-Err-clause-source : goal.returns-in-Err-clause-source
 returns-in-Err-clause-source g c =
@@ -50,7 +50,7 @@ returns-in-Err-clause-script g c =
 
 pub returns-in-Err-clause-completes : goal.returns-in-Err-clause-completes
 returns-in-Err-clause-completes g c = λ source_stood sink_stood disk_stood.
-    unread_completes (g.S.Source.left c.args.source.now) (g.D.Disk.told c.args.disk) (g.S.Source.faults c.args.source.now) (g.S.Source.faults c.read_script.new.source)
+    unread_completes (g.S.Source.left c.args.source.now) (g.D.Disk.told c.args.disk) c.args.setup.start (g.S.Source.faults c.args.source.now) (g.S.Source.faults c.read_script.new.source)
     (g.K.Sink.faults c.args.sink.now) (g.K.Sink.faults c.tell_read_error.new.sink) c.end_with.result.status (g.K.Sink.taken c.args.sink.now) (g.K.Sink.taken c.tell_read_error.new.sink)
     c.tell_read_error.result c.end_with.ensures.status c.in-Err.why c.in-Err.ensures.error c.tell_read_error.ensures source_stood
 
@@ -60,6 +60,6 @@ returns-in-Err-clause-runs g c =
     let before = c.args.sink.now in
     let after = c.tell_read_error.new.sink in
     let says = SaysScript (g.S.Source.left c.args.source.now) in
-    rw (c.end_with.ensures.status, c.end_with.ensures.disk) (runs_script g.D.Disk g.K.Sink says form.Whole c.args.setup.options was was before after _
-    (unread (observation_of g.D.Disk g.K.Sink says form.Whole c.args.setup.options was was before after) (g.D.Disk.faults was) (g.D.Disk.faults was) (g.K.Sink.faults before) (g.K.Sink.faults after)
+    rw (c.end_with.ensures.status, c.end_with.ensures.disk) (runs_script g.D.Disk g.K.Sink says form.Whole c.args.setup.options c.args.setup.start was was before after _
+    (unread (observation_of g.D.Disk g.K.Sink says form.Whole c.args.setup.options c.args.setup.start was was before after) (g.D.Disk.faults was) (g.D.Disk.faults was) (g.K.Sink.faults before) (g.K.Sink.faults after)
     c.in-Err.why c.tell_read_error.result refl c.tell_read_error.ensures))

@@ -1,12 +1,4 @@
-use Rattle.std.proofs.Common.{◌∙◌, Some, ap, codes}
-use Rattle.clap.specs.Words.{Rule, rule_of}
-use Rattle.clap.specs.declared.builder.action.ArgAction.TheVariants.{SetTrue}
-use Rattle.clap.specs.declared.builder.arg.Arg.{Arg}
 use Rattle.program_words.proofs.definition.pipelined.Goals as goal
 
 pub returns : goal.returns
-returns c = record {
-  rule = ap rule_of c.action.ensures ∙ ap (λ (r : Rule). record r { action = Some SetTrue })
-      (ap rule_of c.long.ensures ∙ ap (λ (r : Rule). record r { long = Some (codes "pipelined") }) c.new.ensures.rule);
-  local = ap (λ (a : Arg). a.global) c.action.ensures ∙ ap (λ (a : Arg). a.global) c.long.ensures ∙ c.new.ensures.optional.1;
-}
+returns c = c.flag.ensures

@@ -13,8 +13,10 @@ pub returns : goal.returns
 returns c =
     let staged = with_argument _ _ _ _ _ c.in_ok-staged.ensures c.pipelined.ensures.local c.pipelined.ensures.rule (record { app = c.new.ensures.app; local = c.new.ensures.local }) in
     let with_table = c.in_ok-with_table.ensures.app ∙ ap (λ (a : App). with_rule (with_rule a table) shards) staged.app in
+    let with_limits = c.in_ok-with_limits.ensures.app ∙ ap (λ (a : App). with_rule (with_rule (with_rule a group_bytes) batch_bytes) last) with_table in
+    let numbered = with_argument _ _ _ _ _ c.in_ok-arg.ensures c.number.ensures.local c.number.ensures.rule (record { app = with_limits; local = c.in_ok-with_limits.ensures.local }) in
+    let resume = c.resume.ensures in
     record {
-      app = IfOk-weaker c.with_limits.result _ _
-          (λ command is. is ∙ ap (λ (a : App). with_rule (with_rule (with_rule a group_bytes) batch_bytes) last) with_table) c.with_limits.ensures.app;
-      local = c.with_limits.ensures.local;
+      app = IfOk-weaker c.arg-3.result _ _ (λ command adds. (with_argument _ _ _ _ _ adds resume.local resume.rule numbered).app) c.arg-3.ensures;
+      local = IfOk-weaker c.arg-3.result _ _ (λ command adds. (with_argument _ _ _ _ _ adds resume.local resume.rule numbered).local) c.arg-3.ensures;
     }

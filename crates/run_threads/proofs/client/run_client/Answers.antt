@@ -20,7 +20,7 @@ loop-command-init g c =
       gone = record {
         done = [];
         splits = all;
-        gone = rw (c.requires.new, c.requires.none, none.1) (gone_none settings number _ refl (c.calls_one_after_another.ensures.no_call settings settings.start number));
+        gone = rw (c.requires.new, c.requires.none, none.1) (gone_none settings number _ refl (c.calls_one_after_another.ensures.no_call settings settings.start settings.opening number));
       };
       accepted = rw (c.requires.new, none.0) tt;
       fits = rw (none.1, all) c.requires.fits;

@@ -1,4 +1,4 @@
-use Rattle.std.proofs.Common.{◌≡◌, ◌+◌, ◌-◌, ◌++◌, [], List, refl, ap, sym, ◌∙◌, subst, arith, inr}
+use Rattle.std.proofs.Common.{◌≡◌, ◌++◌, [], List, refl, ap, sym, ◌∙◌, subst, arith, inr}
 use Rattle.std.proofs.lemmas.List.{append-nil}
 use Rattle.model_base.specs.declared.write.Refusal.TheVariants.{Empty}
 use Rattle.model_base.specs.Calls as calls

@@ -1,5 +1,7 @@
-use Rattle.std.proofs.Common.{◌≡◌, ◌∙◌, ℕ, sym, map, List, arith}
+use Rattle.std.proofs.Common.{◌≡◌, ◌∙◌, ℕ, sym, ap, map, List, arith}
 use Rattle.std.proofs.lemmas.List.{length-map}
+use Rattle.model_base.specs.Map.{Pairs}
+use Rattle.model_base.specs.History.{map_over}
 use Rattle.model_base.specs.Calls.{Call}
 use Rattle.model_accounts.specs.ClientRuns.{HaveRun}
 use Rattle.model_accounts.specs.Closing.{AreOurs}
@@ -35,7 +37,8 @@ returns g c =
     let legal = λ (transcripts : List (List Call)) (log_len : ℕ) (run : HaveRun settings script transcripts accounts).
     c.closed_runs_are_legal.ensures.legal settings (E.faults log) script transcripts accounts trace closed.1 last log_len (E.fault log) (sym c.requires.script) run closed.2 in
     have_told settings (E.wrote engine) E.fault E.faults log trace closed.1 accounts last closed.2 script c.in-Ok.transcripts c.in-Ok.ensures.run legal closed.3
-    c.in-Ok-history_and_map.history c.in-Ok-history_and_map.state (c.in-Ok-history_and_map.ensures.history trace.start trace.entries make) (c.in-Ok-history_and_map.ensures.state trace.start trace.entries make)
+    c.in-Ok-history_and_map.history c.in-Ok-history_and_map.state (c.in-Ok-history_and_map.ensures.history trace.start trace.entries make)
+    (c.in-Ok-history_and_map.ensures.state trace.start trace.entries make ∙ ap (λ (m : Pairs). map_over m trace.entries) (c.requires.opening ∙ sym closed.2.is_trace.opening))
 
 -- all have run, and there was no memory to put it together
 pub returns-in_default-history_and_map : goal.returns-in_default-history_and_map
@@ -61,9 +64,9 @@ returns-in_default g c =
     let settings = E.settings engine in
     let clients = c.run_clients-ran.new.clients in
     let back : clients ≡ c.args.clients.clients = c.in_default.ensures.err in
-    let new = handed_back (AreNew E.account settings.start) c.args.clients.clients clients back c.requires.new in
+    let new = handed_back (AreNew E.account settings.start settings.opening) c.args.clients.clients clients back c.requires.new in
     let ours = handed_back (AreOurs (E.belongs engine) E.account settings.clients) c.args.clients.clients clients back c.requires.ours in
     let closed = c.close-log.ensures in
     let log = c.close-log.result.log in
     log_by_no_call settings (E.faults log) closed.0 closed.1 (map E.account clients.items) c.close-log.result.last (E.fault log) closed.2
-    settings.start (length-map clients.items E.account ∙ ours.number_of) (newcomers E.account settings.start clients.items new) (λ calls. E.wrote engine calls log) closed.3
+    settings.start settings.opening (length-map clients.items E.account ∙ ours.number_of) (newcomers E.account settings.start settings.opening clients.items new) (λ calls. E.wrote engine calls log) closed.3

@@ -13,4 +13,4 @@ pub returns-clause-ours : goal.returns-clause-ours
 returns-clause-ours c = rw c.in_ok-clients.ensures.items (record { number_of = refl; each = λ i x at. (tt, numbered i _ _ x at refl refl) })
 
 pub returns-clause-new : goal.returns-clause-new
-returns-clause-new c = rw c.in_ok-clients.ensures.items (record { each = λ i x at. ap (newcomer 0) (numbered i _ _ x at refl refl) })
+returns-clause-new c = rw c.in_ok-clients.ensures.items (record { each = λ i x at. ap (newcomer 0 []) (numbered i _ _ x at refl refl) })

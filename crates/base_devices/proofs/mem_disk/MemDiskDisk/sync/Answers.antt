@@ -5,4 +5,5 @@ pub returns-clause-time : goal.returns-clause-time
 returns-clause-time c =
     let disk = c.args.self.now in
     let len = c.len-len.result in
-    elapses_sync disk.content.items (record { synced = disk.synced; reach = disk.reach }) (record { synced = len; reach = len }) disk.forgot disk.past.items c.push.new.self.items c.in-Ok.ensures.items
+    elapses_sync disk.content.items disk.before.items (record { synced = disk.synced; reach = disk.reach; place = disk.place }) (record { synced = len; reach = len; place = disk.place })
+    disk.forgot disk.past.items c.push.new.self.items c.in-Ok.ensures.items disk.safe disk.placed disk.behind

@@ -1,5 +1,4 @@
-use Rattle.std.proofs.Common.{rules, ◌≤◌, ℕ, List, map, length, IfSome, refl, sym, ap, subst, arith}
-use Rattle.model_base.specs.Counts.{Rose}
+use Rattle.std.proofs.Common.{rules, ℕ, List, map, length, refl, sym, ap, subst, arith}
 use Rattle.log_writer.specs.Words.{fault_of, disk_of}
 use Rattle.log_writer.specs.Written.{Wrote}
 use Rattle.table_rule.specs.Histories.{In}
@@ -9,10 +8,11 @@ use Rattle.engine_controller.specs.Passes.{seen_by_note, IsHistoryOf, IsNoteOf}
 use Rattle.model_accounts.specs.Closing.{HasOneTrace, all_attempts}
 use Rattle.engine_rule.specs.Consistent.{AreAccountsOf, Standing}
 use Rattle.engine_rule.specs.Entries.{trace_of}
-use Rattle.engine_groups.specs.Clients.{account_in, opened_log, settings_of}
+use Rattle.engine_groups.specs.Clients.{map_at_opening, account_in, opened_log, settings_of}
 use Rattle.engine_parts.specs.Handled.{commit_of}
 use Rattle.engine_groups.proofs.engine.GroupEngine.close.Goals as goal
 use Rattle.engine_groups.proofs.Ending.{accounts_number, all_out, all_passes, all_there, are_calls, is_engine, parts, passes_number, seats_ready, written_by}
+use Rattle.engine_groups.proofs.Faults.{caused_since}
 use Rattle.engine_groups.proofs.Finally.{ends_at, ends_with, one_place}
 use Rattle.engine_parts.proofs.Serves.{stands_by}
 use Rattle.table_rule.specs.declared.content.MemberVersions.{MemberVersions}
@@ -90,8 +90,7 @@ returns g c =
     let seen = subst (λ (ss : List _). IsTableClosing start published (map meaning.account ss)) c.part_all.ensures.seats c.close.ensures in
     let ended = c.end_controller.ensures in let calls = ended.0 in
     let whole = subst (λ (ps : List _). IsHistoryOf ps calls) c.part_all.ensures.passes ended.1 in
-    let cause = (c.written_by_calls.ensures.cause set.disk stands.calls leadership.path.log.value (record { opened = opened_log e; has_opened = set.opened; wrote = stands.wrote })).rose in
-    let rose = subst (λ (n : ℕ). IfSome fault (λ count. Rose n count × (count ≤ g.Device.Disk.faults (disk_of leadership.path.log.value)))) (sym set.opened.no_fault) cause in
+    let rose = (caused_since (opened_log e) stands.calls leadership.path.log.value set.no_fault stands.wrote).rose in
     let number = accounts_number meaning e cs all in
     let own = parts meaning e cs all calls whole L.0 published merged seen in
     let standing : Standing = record {
@@ -105,8 +104,8 @@ returns g c =
     let theirs : AreAccountsOf settings standing calls accounts = record { all = number; each = own } in
     let closed = c.closings.ensures.closing settings (g.Device.Disk.faults (disk_of leadership.path.log.value)) standing calls accounts stands.consistent theirs whole.legal (are_calls meaning e cs all calls whole) ended.2 rose in
     let wrote = c.closings.ensures.log settings standing calls accounts stands.consistent theirs in subst (λ log. HasOneTrace settings (g.Device.Disk.faults (disk_of log)) accounts leadership.path.last (fault_of log) (λ made. Wrote (opened_log e) made log)) (sym c.into_inner.ensures) (
-      trace_of start commits calls,
+      trace_of start (map_at_opening meaning e.table) commits calls,
       closed.0,
       closed.1,
-      written_by (bound_of e.list) (λ made. Wrote (opened_log e) made leadership.path.log.value) stands.calls (trace_of start commits calls) (all_attempts accounts) fault stands.wrote wrote,
+      written_by (bound_of e.list) (λ made. Wrote (opened_log e) made leadership.path.log.value) stands.calls (trace_of start (map_at_opening meaning e.table) commits calls) (all_attempts accounts) fault stands.wrote wrote,
     )

@@ -148,7 +148,7 @@ returns-clause-fits g c =
     let gone = x.out.1 d from to (answers_told w.writer) (lead.leads d from to (answers_told w.writer) H.has_right) in
     let emptied : c.lead-turn.new.parts.parts ≡ [] = none_of (λ (part : MemberNodes). record { member = part.member; versions = part.nodes }) c.lead-turn.new.parts.parts lead.emptied.0 in
     left_client g.Versions.Table e r.0 r.1 r.2 own seen w c.args.leadership l _
-    refl refl x.client.1 (x.client.0 ∙ (lead.client.0 ∙ (c.await_pipelined_role.ensures.client.0 ∙ c.exit_pipelined.ensures.client.0))) x.out.0 (gone.0 ∙ (λ i. l.told_is i ++ (own.asked, l.p) ∷ [])) lead.ours.0 lead.ours.2 lead.seen.0 refl (
+    refl refl refl x.client.1 (x.client.0 ∙ (lead.client.0 ∙ (c.await_pipelined_role.ensures.client.0 ∙ c.exit_pipelined.ensures.client.0))) x.out.0 (gone.0 ∙ (λ i. l.told_is i ++ (own.asked, l.p) ∷ [])) lead.ours.0 lead.ours.2 lead.seen.0 refl (
       l.requests,
       ((let k = c.exit_pipelined.new.replies.list.ok.0 in let none = ap length c.exit_pipelined.ensures.replies.0 in omega (arith, k, none)), c.exit_pipelined.ensures.replies.0, subst (λ (k : ℕ). n ≤ k) (sym c.exit_pipelined.ensures.replies.1) l.replies_room),
       x.room,

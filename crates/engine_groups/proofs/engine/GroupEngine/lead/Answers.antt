@@ -97,6 +97,7 @@ leave-requires-clause-leaves g c =
       number_is = served.number;
       start_is = served.start;
       starts = S.start;
+      table_is = ap (λ t. t.value) served.table ∙ S.table;
       writer = belongs_as e.list c.group.new.writer w.writer served.writer belongs;
       client = ap client_of served.writer ∙ (c.group.ensures.client ∙ S.number);
       group = G.0;
@@ -148,6 +149,7 @@ returns-in_default-clause-answered g c own' seen' chosen =
       number_is = served.number;
       start_is = served.start;
       starts = S.start;
+      table_is = ap (λ t. t.value) served.table ∙ S.table;
       writer = belongs_as e.list c.group.new.writer w.writer served.writer belongs;
       client = ap client_of served.writer ∙ (c.group.ensures.client ∙ S.number);
       group = G.0;
@@ -179,6 +181,7 @@ returns-in_default-clause-answered g c own' seen' chosen =
       own = A.own ∙ (λ i. answers_told v.writer ++ ((fresh i).asked, c.leave.result) ∷ []);
       number = same.0 ∙ served.number;
       start_same = same.1 ∙ served.start;
+      table_same = same.4 ∙ served.table;
     }
 
 pub returns-in_default-clause-seen : goal.returns-in_default-clause-seen
@@ -216,6 +219,7 @@ hand_on-requires-clause-leaves g c =
       number_is = served.number;
       start_is = served.start;
       starts = S.start;
+      table_is = ap (λ t. t.value) served.table ∙ S.table;
       writer = belongs_as e.list c.group.new.writer w.writer served.writer belongs;
       client = ap client_of served.writer ∙ (c.group.ensures.client ∙ S.number);
       group = G.0;
@@ -306,12 +310,13 @@ leave-requires-in-Some-turn-clause-leaves g c =
     let may = staged.1 in
     let one = single g.Versions.Table about.table.value about.pipelined st.published leadership.turn c.in-Some-turn.turn hs.turn c.in-Some-turn.is in
     let P = c.publish_alone-turn.ensures in let turn = c.publish_alone-turn.result in
-    let leaves : IsToLeave g.Versions.Table e v.number v.start (answers_told v.writer) own L.1 (record { number = w.number; start = w.start; writer = w.writer; seat = c.publish_alone-turn.new.seat; pass = w.pass; lists = w.lists; layout = record { numberings = w.layout.numberings; batches = w.layout.batches; members = w.layout.members; parts = c.publish_alone-turn.new.parts } }) (record { path = leadership.path; turn = Some turn; clock = leadership.clock; asked = leadership.asked }) = record {
+    let leaves : IsToLeave g.Versions.Table e v.number v.start (answers_told v.writer) own L.1 (record { number = w.number; start = w.start; table = w.table; writer = w.writer; seat = c.publish_alone-turn.new.seat; pass = w.pass; lists = w.lists; layout = record { numberings = w.layout.numberings; batches = w.layout.batches; members = w.layout.members; parts = c.publish_alone-turn.new.parts } }) (record { path = leadership.path; turn = Some turn; clock = leadership.clock; asked = leadership.asked }) = record {
       seats = record { is_engine = E; seat = P.ours.0; ready = P.ours.2; seat_number = P.seen.0 ∙ served.seats.seat_number; pass = served.seats.pass; pass_number = served.seats.pass_number; number = served.seats.number };
       layout = record { no_numberings = served.layout.no_numberings; no_batches = served.layout.no_batches; clients_are = P.emptied.1 ∙ served.layout.clients_are; numberings = served.layout.numberings; batches = served.layout.batches; members = served.layout.members };
       number_is = served.number;
       start_is = served.start;
       starts = S.start;
+      table_is = ap (λ t. t.value) served.table ∙ S.table;
       writer = belongs_as e.list c.group.new.writer w.writer served.writer belongs;
       client = ap client_of served.writer ∙ (c.group.ensures.client ∙ S.number);
       group = G.0;
@@ -365,6 +370,7 @@ returns-in-None-clause-answered g c own' seen' chosen =
       number_is = served.number;
       start_is = served.start;
       starts = S.start;
+      table_is = ap (λ t. t.value) served.table ∙ S.table;
       writer = belongs_as e.list c.group.new.writer w.writer served.writer belongs;
       client = ap client_of served.writer ∙ (c.group.ensures.client ∙ S.number);
       group = G.0;
@@ -406,6 +412,7 @@ returns-in-None-clause-answered g c own' seen' chosen =
       own = A.own ∙ (λ i. answers_told v.writer ++ ((fresh i).asked, c.hand_on.result) ∷ []);
       number = same.0 ∙ served.number;
       start_same = same.1 ∙ served.start;
+      table_same = same.3 ∙ served.table;
     }
 
 pub returns-in-Some-turn-clause-answered : goal.returns-in-Some-turn-clause-answered
@@ -433,12 +440,13 @@ returns-in-Some-turn-clause-answered g c own' seen' chosen =
     let may = staged.1 in
     let one = single g.Versions.Table about.table.value about.pipelined st.published leadership.turn c.in-Some-turn.turn hs.turn c.in-Some-turn.is in
     let P = c.publish_alone-turn.ensures in let turn = c.publish_alone-turn.result in
-    let leaves : IsToLeave g.Versions.Table e v.number v.start (answers_told v.writer) own L.1 (record { number = w.number; start = w.start; writer = w.writer; seat = c.publish_alone-turn.new.seat; pass = w.pass; lists = w.lists; layout = record { numberings = w.layout.numberings; batches = w.layout.batches; members = w.layout.members; parts = c.publish_alone-turn.new.parts } }) (record { path = leadership.path; turn = Some turn; clock = leadership.clock; asked = leadership.asked }) = record {
+    let leaves : IsToLeave g.Versions.Table e v.number v.start (answers_told v.writer) own L.1 (record { number = w.number; start = w.start; table = w.table; writer = w.writer; seat = c.publish_alone-turn.new.seat; pass = w.pass; lists = w.lists; layout = record { numberings = w.layout.numberings; batches = w.layout.batches; members = w.layout.members; parts = c.publish_alone-turn.new.parts } }) (record { path = leadership.path; turn = Some turn; clock = leadership.clock; asked = leadership.asked }) = record {
       seats = record { is_engine = E; seat = P.ours.0; ready = P.ours.2; seat_number = P.seen.0 ∙ served.seats.seat_number; pass = served.seats.pass; pass_number = served.seats.pass_number; number = served.seats.number };
       layout = record { no_numberings = served.layout.no_numberings; no_batches = served.layout.no_batches; clients_are = P.emptied.1 ∙ served.layout.clients_are; numberings = served.layout.numberings; batches = served.layout.batches; members = served.layout.members };
       number_is = served.number;
       start_is = served.start;
       starts = S.start;
+      table_is = ap (λ t. t.value) served.table ∙ S.table;
       writer = belongs_as e.list c.group.new.writer w.writer served.writer belongs;
       client = ap client_of served.writer ∙ (c.group.ensures.client ∙ S.number);
       group = G.0;
@@ -470,4 +478,5 @@ returns-in-Some-turn-clause-answered g c own' seen' chosen =
       own = A.own ∙ (λ i. answers_told v.writer ++ ((fresh i).asked, c.leave-in-Some-turn.result) ∷ []);
       number = same.0 ∙ served.number;
       start_same = same.1 ∙ served.start;
+      table_same = same.4 ∙ served.table;
     }

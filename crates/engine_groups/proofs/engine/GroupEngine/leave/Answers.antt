@@ -15,7 +15,7 @@ returns-clause-fits g c =
     let x = c.exit.ensures in
     let out = x.out.2 (bound_of e.list) own l.group l.left seen l.gs l.p l.has l.heads_are l.pays_are in
     left_client g.Versions.Table e number start mine own seen w c.args.leadership l _
-    refl refl x.out.0 x.client x.out.1 (out.0 ∙ (λ i. l.told_is i ++ (own.asked, l.p) ∷ [])) l.seats.seat l.seats.ready refl refl (
+    refl refl refl x.out.0 x.client x.out.1 (out.0 ∙ (λ i. l.told_is i ++ (own.asked, l.p) ∷ [])) l.seats.seat l.seats.ready refl refl (
       l.requests,
       ((let k = c.exit.new.replies.list.ok.0 in let none = ap length x.room.1 in omega (arith, k, none)), x.room.1, subst (λ (k : ℕ). n ≤ k) (sym x.replies_room) l.replies_room),
       x.room.0,

@@ -1,8 +1,7 @@
 use Rattle.std.proofs.Common.{rules, ◌≡◌, ◌≤◌, ◌<◌, ◌+◌, List, [], Option, Some, None, ◌⊎◌, vec_capacity, refl, sym, ap, ◌∙◌, subst, arith}
 use Rattle.model_base.specs.declared.limits.TheConstants.{MAX_CLIENTS}
 use Rattle.model_base.specs.History.{max_sequence}
-use Rattle.log_writer.specs.Words.{disk_of}
-use Rattle.log_writer.specs.Opening.{HasOpened}
+use Rattle.log_writer.specs.Words.{disk_of, fault_of}
 use Rattle.line_writers.specs.Rooms.{AllReady}
 use Rattle.line_writers.specs.Seats.{clients_of}
 use Rattle.model_accounts.specs.Accounts.{newcomer}
@@ -13,6 +12,7 @@ use Rattle.engine_groups.specs.Law.{ServesIs, TurnIs}
 use Rattle.table_rule.specs.declared.content.MemberVersions.{MemberVersions}
 use Rattle.engine_parts.specs.Layout.{AreRoomy}
 use Rattle.engine_groups.specs.AtStart.{AreSeatsAtStart}
+use Rattle.engine_groups.specs.Clients.{map_at_opening}
 use Rattle.engine_groups.proofs.First.{back_first, kept_first, place_first, stands_first, turn_first}
 use Rattle.engine_groups.proofs.Seating.{seats_count, newcomer_at, are_ours, passes_at_start}
 use Rattle.engine_groups.proofs.engine.GroupEngine.open_with.Goals as goal
@@ -46,7 +46,7 @@ pub open-requires-clause-log : goal.open-requires-clause-log
 open-requires-clause-log g c =
     let last = c.args.options.last in let about = c.start_with-start.result.about in let made = c.start_with-start.ensures in
     let first = c.groups_stay_consistent.ensures.first last about.clients about.group_bytes in let note = c.first_note.ensures.note in
-    let fresh = stands_first our_log as_is tt c.args.log.value last about.clients about.group_bytes [] (seen_by_note c.first_note.result) first tt refl c.requires.log.1.fault note.1 in
+    let fresh = stands_first our_log as_is tt c.args.log.value last about.clients about.group_bytes [] (seen_by_note c.first_note.result) first tt refl c.requires.log note.1 in
     let t = turn_first g.Versions.Table c.args.table c.args.seats.turn c.requires.turn.0 c.requires.turn.1 c.part_turn-with_log.result.0 c.part_turn-with_log.result.1 c.args.pipelined c.part_turn-with_log.ensures.single c.part_turn-with_log.ensures.piped in
     let opened = subst (λ z. LogStandsFor z last about.clients about.group_bytes (seen_by_note c.first_note.result) c.args.log.value [] last []) (sym (made.engine.2 ∙ c.deref.ensures)) fresh in
     let staged = subst (λ b. TurnIs g.Versions.Table c.args.table b [] c.part_turn-with_log.result.0) (sym made.numbers.3) t.0 in (
@@ -85,8 +85,7 @@ seat_all-clients-requires-clause-engine g c =
         low = subst (λ k. k ≤ max_sequence) options.0 options.1;
         few = (let small : (g.Versions.Table.opening c.args.table).clients < 255 = omega (arith, few) in subst (λ k. k < 255) (sym count) small);
         batch_bytes = options.2;
-        disk = c.requires.log.0;
-        opened = subst (HasOpened c.requires.log.0) (sym (ap (λ a. a.opened.value) about ∙ (made.engine.2 ∙ c.deref.ensures))) c.requires.log.1;
+        no_fault = ap (λ a. fault_of a.opened.value) about ∙ (ap fault_of (made.engine.2 ∙ c.deref.ensures) ∙ c.requires.log);
       },
       options.0,
     )
@@ -159,6 +158,7 @@ returns-in-Ok-clause-engine g c =
       opened,
       (λ i. record {
         start = sym options.0 i;
+        opening = map_at_opening g.Versions.Table c.args.table;
         clients = count i;
         group_bytes = (ok.5 ∙ made.list.3) i;
         batch_bytes = c.args.options.batch_bytes;
@@ -175,4 +175,4 @@ pub returns-in-Ok-clause-new : goal.returns-in-Ok-clause-new
 returns-in-Ok-clause-new g c i client at =
     let made = c.seat_all-clients.ensures.clients in
     let place : 1 + i ≡ i + 1 = omega arith in
-    (newcomer_at g.Versions.Table _ 1 i c.seat_all-clients.result.clients.items client made.0 at).new ∙ (λ j. newcomer (sym c.requires.options.0 j) (place j))
+    (newcomer_at g.Versions.Table _ 1 i c.seat_all-clients.result.clients.items client made.0 at).new ∙ (λ j. newcomer (sym c.requires.options.0 j) (map_at_opening g.Versions.Table c.args.table) (place j))

@@ -4,7 +4,7 @@ use Rattle.line_rule.specs.Rule.{hold}
 use Rattle.line_writers.specs.Seats.{answers_told, told_in_first, clients_of}
 use Rattle.engine_rule.specs.Asked.{HasAsked}
 use Rattle.engine_rule.specs.Entries.{account_of}
-use Rattle.engine_groups.specs.Clients.{own_commits}
+use Rattle.engine_groups.specs.Clients.{own_commits, map_at_opening}
 use Rattle.engine_groups.proofs.engine.GroupEngine.seat_one.Goals as goal
 
 pub returns : goal.returns
@@ -22,6 +22,7 @@ returns g c =
           ready = r.seat.1;
           seat_number = r.seat.3;
           start = r.engine.1;
+          table = c.of.ensures;
           pass = r.pass.own;
           pass_number = r.pass.client;
           can_lead = record { lists = r.room.0; layout = r.room.1 };
@@ -29,5 +30,5 @@ returns g c =
         out = (ap (λ m. m.0) at ∙ (λ i. hold (sym r.writer.0 i) Idle (sym none i) ∷ []), ap (λ m. m.1) at);
         has_asked = subst (HasAsked n (own_commits n (answers_told w))) (sym r.pass.unseen) tt;
       };
-      new = (λ i. account_of (r.engine.1 i) n (own_commits n (none i)) (r.seat.2 i) (r.pass.unseen i));
+      new = (λ i. account_of (r.engine.1 i) (map_at_opening g.Versions.Table (c.of.ensures i)) n (own_commits n (none i)) (r.seat.2 i) (r.pass.unseen i));
     }

@@ -32,6 +32,7 @@ lead-requires-clause-seated g c =
       ready = c.await_own_role.ensures.seat.1;
       seat_number = c.await_own_role.ensures.seat.2 ∙ S.seat_number;
       start = S.start;
+      table = S.table;
       pass = S.pass;
       pass_number = S.pass_number;
       can_lead = record { lists = S.can_lead.lists; layout = S.can_lead.layout };
@@ -92,6 +93,7 @@ returns-in-Done-clause-fits g c =
         ready = c.await_own_role.ensures.seat.1;
         seat_number = c.await_own_role.ensures.seat.2 ∙ S.seat_number;
         start = S.start;
+        table = S.table;
         pass = S.pass;
         pass_number = S.pass_number;
         can_lead = record { lists = S.can_lead.lists; layout = S.can_lead.layout };
@@ -120,6 +122,7 @@ returns-in-Done-clause-answered g c =
       own = ap (λ (k : ℕ). of k B.2.0) (sym client2) ∙ (B.2.2 ∙ (λ i. told1 i ++ (c.args.request, c.in-Done.reply) ∷ []));
       number = refl;
       start_same = refl;
+      table_same = refl;
     }
 
 pub returns-in-LogLeader-clause-answered : goal.returns-in-LogLeader-clause-answered
@@ -135,4 +138,4 @@ returns-in-LogLeader-clause-answered g c =
     let told2 : answers_told w3 ≡ answers_told w1 = told_still w3 w2 still ∙ ap told_in_first B.2.0 in
     let A = c.lead.ensures.answered B.0 B.1 (subst (λ (mine : List (Request × Answer)). IsChosen B.0 B.1 mine w3) (sym told2) (chosen_still w3 w2 still B.0 B.1 (answers_told w1) B.2)) in
     let both : answers_told w3 ++ (B.0.asked, c.lead.result) ∷ [] ≡ answers_told w0 ++ (c.args.request, c.lead.result) ∷ [] = (λ i. (told2 ∙ told1) i ++ (B.3 i, c.lead.result) ∷ []) in
-    record { told_now = A.told_now ∙ both; handled = A.handled; are_handled = A.are_handled; own = A.own ∙ both; number = A.number; start_same = A.start_same }
+    record { told_now = A.told_now ∙ both; handled = A.handled; are_handled = A.are_handled; own = A.own ∙ both; number = A.number; start_same = A.start_same; table_same = A.table_same }

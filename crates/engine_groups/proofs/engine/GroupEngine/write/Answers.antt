@@ -12,7 +12,7 @@ use Rattle.engine_calls.specs.declared.answers.Refused.{Refused}
 use Rattle.model_accounts.specs.Accounts.{Account, Refuses}
 use Rattle.engine_rule.specs.Entries.{account_of, SeesMore}
 use Rattle.engine_rule.proofs.Own.{refused_looked}
-use Rattle.engine_groups.specs.Clients.{account_in, opened_log, own_commits, settings_of}
+use Rattle.engine_groups.specs.Clients.{map_at_opening, account_in, opened_log, own_commits, settings_of}
 use Rattle.engine_parts.specs.Handled.{AreHandled, ShowsDelay}
 use Rattle.engine_groups.proofs.Answered.{Concludes, above_seen, begins_on, begins_self, concludes, impatient_if, newest, none_is, note_of, refuses_late, sees_on}
 use Rattle.engine_groups.proofs.ClientMoves.{no_delays, pass_moved, same_tokens, seat_moved}
@@ -38,8 +38,8 @@ returns-then-stopping-clause-err g c =
     let ends = subst (λ (k : ℕ). EndsWith k (seen_by v.pass) look (Some (look_of c.look-look.result)) (seen_by c.look-look.new.pass)) S.pass_number L.asked in
     let impatient = impatient_if settings.batch_bytes records how (subst (λ (b : Bool). early_refusal settings.batch_bytes b records how ≡ None) held passed) in
     let seen = (g.Versions.Table.account v.seat).seen in
-    let refused = refused_looked v.start v.number (own_commits v.number (answers_told v.writer)) records how seen seen (seen_by v.pass) (seen_by c.look-look.new.pass) (look_of c.look-look.result) (begins_self seen) ends impatient (inl some) in
-    subst (λ (r : Refused). Refuses settings (account_in g.Versions.Table v) records how r.why (account_of v.start v.number (own_commits v.number (answers_told v.writer)) seen (seen_by c.look-look.new.pass))) (sym c.refused_by.ensures)
+    let refused = refused_looked v.start (map_at_opening g.Versions.Table v.table.value) v.number (own_commits v.number (answers_told v.writer)) records how seen seen (seen_by v.pass) (seen_by c.look-look.new.pass) (look_of c.look-look.result) (begins_self seen) ends impatient (inl some) in
+    subst (λ (r : Refused). Refuses settings (account_in g.Versions.Table v) records how r.why (account_of v.start (map_at_opening g.Versions.Table v.table.value) v.number (own_commits v.number (answers_told v.writer)) seen (seen_by c.look-look.new.pass))) (sym c.refused_by.ensures)
     (refuses_late settings (account_in g.Versions.Table v) records how _ _ passed (inr refused))
 
 pub submit-answer-requires-clause-client : goal.submit-answer-requires-clause-client
@@ -72,9 +72,10 @@ returns g c =
     let more = sees_on v.number (seen_by v.pass) (seen_by w1.pass) (seen_by w2.pass) first second in
     let kept = subst (λ (n : ℕ). AreHandled e.controller (opened_log e) n A.handled) (sym S.start) A.are_handled in
     let reached = subst (λ (n : ℕ). IfOk p.answer (λ (r : Receipt). r.group_last ≤ last_of n now)) (sym S.start) E.published in
-    let done = concludes e.controller (opened_log e) v.start v.number settings _ p (answers_told v.writer) A.handled kept A.own before now sees (seen_by v.pass) (seen_by w2.pass) more N.note.1 E.noted passed above p.answer refl reached in
+    let done = concludes e.controller (opened_log e) v.start (map_at_opening g.Versions.Table v.table.value) v.number settings _ p (answers_told v.writer) A.handled kept A.own before now sees (seen_by v.pass) (seen_by w2.pass) more N.note.1 E.noted passed above p.answer refl reached in
     let st : v.start ≡ w2.start = sym (E.same.1 ∙ A.start_same) in
+    let tb : v.table ≡ w2.table = sym (E.same.3 ∙ A.table_same) in
     let nu : v.number ≡ w2.number = sym (E.same.0 ∙ A.number) in
     let told2 = sym A.told_now ∙ ap answers_told (sym E.same.2) in
-    let all = subst (λ (z : Account). Concludes (opened_log e) settings (account_in g.Versions.Table v) c.args.batch how p.answer z) (λ i. account_of (st i) (nu i) (own_commits (nu i) (told2 i)) now (seen_by w2.pass)) done in
+    let all = subst (λ (z : Account). Concludes (opened_log e) settings (account_in g.Versions.Table v) c.args.batch how p.answer z) (λ i. account_of (st i) (map_at_opening g.Versions.Table (tb i).value) (nu i) (own_commits (nu i) (told2 i)) now (seen_by w2.pass)) done in
     record { belongs = E.fits; ok = all.accepted; back = all.back; synced = all.synced; err = all.refused; unchanged = all.unchanged }

@@ -8,4 +8,4 @@ pub returns-clause-at : goal.returns-clause-at
 returns-clause-at g c = c.last-at.ensures.value ∙ ap (λ (a : Account). last_of (opening_of c.args.self.now).start a.seen) (sym c.value.ensures.same)
 
 pub returns-clause-value : goal.returns-clause-value
-returns-clause-value g c = c.in_ok-value.ensures.value ∙ ap (λ (a : Account). value_in c.args.key.now a.seen) (sym c.value.ensures.same)
+returns-clause-value g c = c.in_ok-value.ensures.value ∙ ap (λ (a : Account). value_in (opening_of c.args.self.now).base c.args.key.now a.seen) (sym c.value.ensures.same)

@@ -8,4 +8,4 @@ use Rattle.table_memory.proofs.memory_table.MemoryTable.gather.Given as goal
 -- the rows of the first shards
 abbrev pub invariant-loop-shard : goal.invariant-loop-shard
 invariant-loop-shard g l = IsOurs l.self l.seat × (account_of l.seat ≡ account_of l.fn.seat)
-    × IsPermutation (filter (λ p. nat_lt (shard_of_key (opening_of l.self).shards p.0) l.shard) (rows_within l.lo l.hi (map_after (account_of l.fn.seat).seen))) l.rows.items
+    × IsPermutation (filter (λ p. nat_lt (shard_of_key (opening_of l.self).shards p.0) l.shard) (rows_within l.lo l.hi (map_after (opening_of l.self).base (account_of l.fn.seat).seen))) l.rows.items

@@ -14,10 +14,10 @@ value-requires-clause-at g c = let v = c.loop-i.invariant in c.requires.at ∙ a
 pub loop-i-preserved : goal.loop-i-preserved
 loop-i-preserved g c =
     let v = c.loop-i.invariant in
-    let of_key : List ℕ → Option (List ℕ) = λ key. value_in key (account_of c.args.seat.now).seen in
+    let of_key : List ℕ → Option (List ℕ) = λ key. value_in (opening_of c.args.self.now).base key (account_of c.args.seat.now).seen in
     let found = c.in_ok-found.ensures.value in
     let key_is : c.as_slice.result.now ≡ get_or c.args.keys.now c.loop-i.i c.index-keys-i.result = c.as_slice.ensures ∙ c.index-keys-i.is in
-    let read = found ∙ ap (λ (a : Account). value_in c.as_slice.result.now a.seen) v.1 in (
+    let read = found ∙ ap (λ (a : Account). value_in (opening_of c.args.self.now).base c.as_slice.result.now a.seen) v.1 in (
       c.value.ensures.ours,
       c.value.ensures.same ∙ v.1,
       c.in_ok-push.ensures.ok ∙ ((λ i. v.2 i ++ (read ∙ ap of_key key_is) i ∷ []) ∙ sym (map_more of_key c.args.keys.now c.loop-i.i c.index-keys-i.result c.loop-i-test.true)),
@@ -26,4 +26,4 @@ loop-i-preserved g c =
 pub returns-clause-values : goal.returns-clause-values
 returns-clause-values g c =
     let v = c.loop-i.invariant in let stop = c.loop-i-test.false in
-    v.2 ∙ ap (map (λ (key : List ℕ). value_in key (account_of c.args.seat.now).seen)) (take_all c.loop-i.i c.args.keys.now (omega arith))
+    v.2 ∙ ap (map (λ (key : List ℕ). value_in (opening_of c.args.self.now).base key (account_of c.args.seat.now).seen)) (take_all c.loop-i.i c.args.keys.now (omega arith))

@@ -6,7 +6,7 @@ use Rattle.table_rule.specs.declared.content.MemberVersions.{MemberVersions}
 use Rattle.table_rule.specs.declared.content.Version.{Version}
 use Rattle.table_rule.specs.declared.view.Opening.{Opening}
 use Rattle.table_rule.specs.declared.view.Lock.TheVariants.{Free}
-use Rattle.table_rule.specs.Histories.{IsOrderUpTo, versions_of, of_shard}
+use Rattle.table_rule.specs.Histories.{IsOrderUpTo, standing, of_shard}
 use Rattle.table_rule.specs.Rule.{seat_state}
 use Rattle.table_rule.proofs.Answers.{seen_order}
 use Rattle.table_steps.specs.Accounts.{first_state, Carries}
@@ -46,7 +46,7 @@ returns-clause-rows g c =
     let same : seen ≡ o.3.0 = ap (λ l. (first_state l).seen) o.3.2 in
     let at = o.3.2 ∙ ap (λ (y : List (List MemberVersions)). seat_state k z y Free o.3.1 ∷ []) (sym same) in
     let l = c.lock-tree.ensures.locked seen o.3.1 at in
-    let order : List Version = of_shard z.shards c.args.shard (versions_of seen) in
+    let order : List Version = of_shard z.shards c.args.shard (standing z.base seen) in
     IfOk-weaker c.range-rows.result _ _
-    (λ found h. h order (subst (λ (n : ℕ). IsOrderUpTo n vs order) (sym c.requires.at) (seen_order z.shards c.args.shard z.start seen vs c.requires.history.0 l.2)))
+    (λ found h. h order (subst (λ (n : ℕ). IsOrderUpTo n vs order) (sym c.requires.at) (seen_order z c.args.shard seen vs c.requires.history.0 l.2)))
     c.range-rows.ensures.rows

@@ -1,5 +1,6 @@
 use Rattle.std.proofs.Common.{◌≡◌, ℕ, ◌+◌, [], ◌∷◌, refl, ap, ◌∙◌, arith}
 use Rattle.atomic_table.specs.Seated.{TableId}
+use Rattle.table_steps.specs.declared.sizes.Sizes.{Sizes}
 use Rattle.table_rule.specs.declared.view.Opening.{Opening}
 use Rattle.table_rule.specs.declared.view.Stage.{Stage}
 use Rattle.table_rule.specs.declared.view.Stage.TheVariants.{Idle, Stored, Publishing}
@@ -14,13 +15,13 @@ use Rattle.table_steps.proofs.seat.TableSeat.finish.Goals as goal
 pub overflow_add-running : goal.overflow_add-running
 overflow_add-running g c =
     let z : Opening = c.args.table.now.table.shared.key in let id : TableId = c.args.table.now.table.shared.table_id in let k : ℕ = c.args.self.now.client.number in let o = c.requires.ours.0 in let m = c.args.self.now.client.seat.me in
-    let q = c.args.table.now.sized in let e = shards_of z c.args.table.now.opening q.2 in let cl : z.clients ≡ c.args.table.now.opening.clients = ap (λ (s : Opening). s.clients) q.2 in
+    let q = c.args.table.now.sized in let e = shards_of z c.args.table.now.sizes q.2 in let cl : z.clients ≡ c.args.table.now.sizes.clients = ap (λ (s : Sizes). s.clients) q.2 in
     omega arith
 
 pub fetch_sub-unfinished-requires : goal.fetch_sub-unfinished-requires
 fetch_sub-unfinished-requires g c =
     let z : Opening = c.args.table.now.table.shared.key in let id : TableId = c.args.table.now.table.shared.table_id in let k : ℕ = c.args.self.now.client.number in let o = c.requires.ours.0 in let m = c.args.self.now.client.seat.me in
-    let q = c.args.table.now.sized in let e = shards_of z c.args.table.now.opening q.2 in let cl : z.clients ≡ c.args.table.now.opening.clients = ap (λ (s : Opening). s.clients) q.2 in
+    let q = c.args.table.now.sized in let e = shards_of z c.args.table.now.sizes q.2 in let cl : z.clients ≡ c.args.table.now.sizes.clients = ap (λ (s : Sizes). s.clients) q.2 in
     let n = c.requires.stored in
     (o.0, omega arith, counts g.ShardTree.Versioned.versions g.NodeList.Versioned.versions z _ _ m k _ o.3.0 n.0 (ap (λ (s : ℕ). s + 1) e) (staged k z o.3.0 o.3.1 (Stored n.0) m o.3.2 n.1))
 

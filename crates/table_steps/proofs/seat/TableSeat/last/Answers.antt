@@ -11,7 +11,7 @@ use Rattle.table_steps.proofs.seat.TableSeat.last.Goals as goal
 pub load-requires : goal.load-requires
 load-requires g c =
     let z : Opening = c.args.table.now.table.shared.key in let id : TableId = c.args.table.now.table.shared.table_id in let k : ℕ = c.args.self.now.client.number in let o = c.requires.0 in let m = c.args.self.now.client.seat.me in
-    let q = c.args.table.now.sized in let e = shards_of z c.args.table.now.opening q.2 in
+    let q = c.args.table.now.sized in let e = shards_of z c.args.table.now.sizes q.2 in
     let client = client_stage (z.shards + k) c.args.self.now.last m.1 o.3.1 o.3.3 in
     (o.0, omega arith, learns g.ShardTree.Versioned.versions g.NodeList.Versioned.versions z _ _ m k _ o.3.0 o.3.1 e client o.3.2)
 

@@ -10,7 +10,7 @@ use Rattle.table_steps.proofs.seat.TableSeat.publish.Goals as goal
 pub store-requires : goal.store-requires
 store-requires g c =
     let z : Opening = c.args.table.now.table.shared.key in let id : TableId = c.args.table.now.table.shared.table_id in let k : ℕ = c.args.self.now.client.number in let o = c.requires.ours.0 in let m = c.args.self.now.client.seat.me in
-    let q = c.args.table.now.sized in let e = shards_of z c.args.table.now.opening q.2 in
+    let q = c.args.table.now.sized in let e = shards_of z c.args.table.now.sizes q.2 in
     let n = c.requires.last_one in
     let at = staged k z o.3.0 o.3.1 (Publishing n.0) m o.3.2 n.1 in
     let held = carried (z.shards + k) c.args.self.now.last m.1 o.3.1 (Publishing n.0) (stage_of k z o.3.0 o.3.1 _ m o.3.2 n.1) o.3.3 in

@@ -1,6 +1,7 @@
 use Rattle.std.proofs.Common.{◌≡◌, ℕ, ◌+◌, [], refl, ap, ◌∙◌, arith}
 use Rattle.atomic_table.specs.Table.{rest}
 use Rattle.atomic_table.specs.Seated.{TableId}
+use Rattle.table_steps.specs.declared.sizes.Sizes.{Sizes}
 use Rattle.table_rule.specs.declared.view.Opening.{Opening}
 use Rattle.table_rule.specs.declared.view.Stage.TheVariants.{Holding, Stored}
 use Rattle.table_rule.specs.Steps.{work}
@@ -12,13 +13,13 @@ use Rattle.table_steps.proofs.seat.TableSeat.settle.Goals as goal
 pub overflow_add-word : goal.overflow_add-word
 overflow_add-word g c =
     let z : Opening = c.args.table.now.table.shared.key in let id : TableId = c.args.table.now.table.shared.table_id in let k : ℕ = c.args.self.now.client.number in let o = c.requires.ours.0 in let m = c.args.self.now.client.seat.me in
-    let q = c.args.table.now.sized in let e = shards_of z c.args.table.now.opening q.2 in let cl : z.clients ≡ c.args.table.now.opening.clients = ap (λ (s : Opening). s.clients) q.2 in
+    let q = c.args.table.now.sized in let e = shards_of z c.args.table.now.sizes q.2 in let cl : z.clients ≡ c.args.table.now.sizes.clients = ap (λ (s : Sizes). s.clients) q.2 in
     let high = o.2 in omega (arith, high)
 
 pub store-requires : goal.store-requires
 store-requires g c =
     let z : Opening = c.args.table.now.table.shared.key in let id : TableId = c.args.table.now.table.shared.table_id in let k : ℕ = c.args.self.now.client.number in let o = c.requires.ours.0 in let m = c.args.self.now.client.seat.me in
-    let q = c.args.table.now.sized in let e = shards_of z c.args.table.now.opening q.2 in let cl : z.clients ≡ c.args.table.now.opening.clients = ap (λ (s : Opening). s.clients) q.2 in
+    let q = c.args.table.now.sized in let e = shards_of z c.args.table.now.sizes q.2 in let cl : z.clients ≡ c.args.table.now.sizes.clients = ap (λ (s : Sizes). s.clients) q.2 in
     let n = c.requires.added in
     let at = staged k z o.3.0 o.3.1 (Holding (work n.0 n.1 [])) m o.3.2 n.2 in
     let held = carried (z.shards + k) c.args.self.now.last m.1 o.3.1 (Holding (work n.0 n.1 [])) (stage_of k z o.3.0 o.3.1 _ m o.3.2 n.2) o.3.3 in

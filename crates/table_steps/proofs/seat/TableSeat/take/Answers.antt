@@ -2,6 +2,7 @@ use Rattle.std.proofs.Common.{◌≡◌, ℕ, ◌+◌, [], ◌∷◌, Option, sy
 use Rattle.atomic_table.specs.Table.{rest}
 use Rattle.atomic_table.specs.Seated.{TableId}
 use Rattle.table_rule.specs.declared.content.Content.TheVariants.{Blank, Nodes}
+use Rattle.table_steps.specs.declared.sizes.Sizes.{Sizes}
 use Rattle.table_rule.specs.declared.view.Opening.{Opening}
 use Rattle.table_rule.specs.declared.view.Lock.TheVariants.{Free}
 use Rattle.table_rule.specs.declared.view.Stage.TheVariants.{Holding}
@@ -18,26 +19,26 @@ use Rattle.table_steps.proofs.seat.TableSeat.take.Goals as goal
 pub overflow_add-word : goal.overflow_add-word
 overflow_add-word g c =
     let z : Opening = c.args.table.now.table.shared.key in let id : TableId = c.args.table.now.table.shared.table_id in let k : ℕ = c.args.self.now.client.number in let o = c.requires.ours.0 in let m = c.args.self.now.client.seat.me in
-    let q = c.args.table.now.sized in let e = shards_of z c.args.table.now.opening q.2 in let cl : z.clients ≡ c.args.table.now.opening.clients = ap (λ (s : Opening). s.clients) q.2 in
+    let q = c.args.table.now.sized in let e = shards_of z c.args.table.now.sizes q.2 in let cl : z.clients ≡ c.args.table.now.sizes.clients = ap (λ (s : Sizes). s.clients) q.2 in
     let high = o.2 in omega (arith, high)
 
 pub overflow_add-slot : goal.overflow_add-slot
 overflow_add-slot g c =
     let z : Opening = c.args.table.now.table.shared.key in let id : TableId = c.args.table.now.table.shared.table_id in let k : ℕ = c.args.self.now.client.number in let o = c.requires.ours.0 in let m = c.args.self.now.client.seat.me in
-    let q = c.args.table.now.sized in let e = shards_of z c.args.table.now.opening q.2 in let cl : z.clients ≡ c.args.table.now.opening.clients = ap (λ (s : Opening). s.clients) q.2 in
+    let q = c.args.table.now.sized in let e = shards_of z c.args.table.now.sizes q.2 in let cl : z.clients ≡ c.args.table.now.sizes.clients = ap (λ (s : Sizes). s.clients) q.2 in
     let high = o.2 in omega (arith, high)
 
 pub load-found-requires : goal.load-found-requires
 load-found-requires g c =
     let z : Opening = c.args.table.now.table.shared.key in let id : TableId = c.args.table.now.table.shared.table_id in let k : ℕ = c.args.self.now.client.number in let o = c.requires.ours.0 in let m = c.args.self.now.client.seat.me in
-    let q = c.args.table.now.sized in let e = shards_of z c.args.table.now.opening q.2 in let cl : z.clients ≡ c.args.table.now.opening.clients = ap (λ (s : Opening). s.clients) q.2 in
+    let q = c.args.table.now.sized in let e = shards_of z c.args.table.now.sizes q.2 in let cl : z.clients ≡ c.args.table.now.sizes.clients = ap (λ (s : Sizes). s.clients) q.2 in
     let may = subst MayTake (ap (λ l. (first_state l).stage) o.3.2) c.requires.free in let v = c.loop.invariant in let high = o.2 in
     (v.table ∙ o.0, omega (arith, high), takes_nodes g.ShardTree.Versioned.versions g.NodeList.Versioned.versions z _ _ c.loop.self.client.seat.me k _ o.3.0 o.3.1 (λ i. e i + 1 + k) o.1 may (ap (λ m. m.0) v.seat ∙ o.3.2))
 
 pub exchange-requires : goal.exchange-requires
 exchange-requires g c =
     let z : Opening = c.args.table.now.table.shared.key in let id : TableId = c.args.table.now.table.shared.table_id in let k : ℕ = c.args.self.now.client.number in let o = c.requires.ours.0 in let m = c.args.self.now.client.seat.me in
-    let q = c.args.table.now.sized in let e = shards_of z c.args.table.now.opening q.2 in
+    let q = c.args.table.now.sized in let e = shards_of z c.args.table.now.sizes q.2 in
     let may = subst MayTake (ap (λ l. (first_state l).stage) o.3.2) c.requires.free in let v = c.loop.invariant in
     let t = (c.load-found.ensures.2 k z o.3.0 o.3.1 (ap (λ m. m.0) v.seat ∙ o.3.2) may).0 c.if-found-eq1.true in
     (c.load-found.ensures.0 ∙ v.table ∙ o.0, (Nodes t.0 t.1.last, fronted c.load-found.new.seat.me.1 _ (Nodes t.0 t.1.last) _ (t.3 ∙ (λ i. (sym e i + k, Nodes t.0 t.1.last) ∷ c.loop.self.client.seat.me.1))))
@@ -45,10 +46,10 @@ exchange-requires g c =
 pub returns-in-Nodes-clause-ours : goal.returns-in-Nodes-clause-ours
 returns-in-Nodes-clause-ours g c =
     let z : Opening = c.args.table.now.table.shared.key in let id : TableId = c.args.table.now.table.shared.table_id in let k : ℕ = c.args.self.now.client.number in let o = c.requires.ours.0 in let m = c.args.self.now.client.seat.me in
-    let q = c.args.table.now.sized in let e = shards_of z c.args.table.now.opening q.2 in
+    let q = c.args.table.now.sized in let e = shards_of z c.args.table.now.sizes q.2 in
     let may = subst MayTake (ap (λ l. (first_state l).stage) o.3.2) c.requires.free in let v = c.loop.invariant in
     let t = (c.load-found.ensures.2 k z o.3.0 o.3.1 (ap (λ m. m.0) v.seat ∙ o.3.2) may).0 c.if-found-eq1.true in
-    let slot : ℕ = c.args.table.now.opening.shards + k in let held = c.load-found.new.seat.me.1 in
+    let slot : ℕ = c.args.table.now.sizes.shards + k in let held = c.load-found.new.seat.me.1 in
     let same = same_nodes t.0 c.in-Nodes.nodes t.1.last c.in-Nodes.last (z.shards + k) slot held _ _ t.3 (c.exchange.ensures.2 ∙ ap (λ y. (slot, y) ∷ rest held) c.in-Nodes.is) in
     let at = ap (λ m. m.0) c.exchange.ensures.3 ∙ t.2 ∙ ap (λ (y : g.row.NodeList.Denot). seat_state k z o.3.0 Free (Holding (work t.1 [] (g.NodeList.Versioned.versions y))) ∷ []) same.0 in
     let nil : m.1 ≡ [] = empty (z.shards + k) c.args.self.now.last m.1 o.3.1 may o.3.3 in
@@ -58,10 +59,10 @@ returns-in-Nodes-clause-ours g c =
 pub returns-in-Nodes-clause-taken : goal.returns-in-Nodes-clause-taken
 returns-in-Nodes-clause-taken g c =
     let z : Opening = c.args.table.now.table.shared.key in let id : TableId = c.args.table.now.table.shared.table_id in let k : ℕ = c.args.self.now.client.number in let o = c.requires.ours.0 in let m = c.args.self.now.client.seat.me in
-    let q = c.args.table.now.sized in let e = shards_of z c.args.table.now.opening q.2 in
+    let q = c.args.table.now.sized in let e = shards_of z c.args.table.now.sizes q.2 in
     let may = subst MayTake (ap (λ l. (first_state l).stage) o.3.2) c.requires.free in let v = c.loop.invariant in
     let t = (c.load-found.ensures.2 k z o.3.0 o.3.1 (ap (λ m. m.0) v.seat ∙ o.3.2) may).0 c.if-found-eq1.true in
-    let slot : ℕ = c.args.table.now.opening.shards + k in let held = c.load-found.new.seat.me.1 in
+    let slot : ℕ = c.args.table.now.sizes.shards + k in let held = c.load-found.new.seat.me.1 in
     let same = same_nodes t.0 c.in-Nodes.nodes t.1.last c.in-Nodes.last (z.shards + k) slot held _ _ t.3 (c.exchange.ensures.2 ∙ ap (λ y. (slot, y) ∷ rest held) c.in-Nodes.is) in
     let at = ap (λ m. m.0) c.exchange.ensures.3 ∙ t.2 ∙ ap (λ (y : g.row.NodeList.Denot). seat_state k z o.3.0 Free (Holding (work t.1 [] (g.NodeList.Versioned.versions y))) ∷ []) same.0 in
     let part = subst (λ (y : g.row.NodeList.Denot). IsPartOf z k o.3.0 t.1 (g.NodeList.Versioned.versions y)) same.0 t.4 in

@@ -15,13 +15,13 @@ pub loop-node-init : goal.loop-node-init
 loop-node-init g c = ([], sym c.requires.nodes, adds_none (g.ShardTree.Versioned.versions c.lock-tree.result))
 
 pub insert-requires : goal.insert-requires
-insert-requires g c =
+insert-requires g c x has same =
     let o = c.requires.next in let v : Version = g.NodeList.Node.VersionNode.version c.in-Some.node in let left : List Version = g.NodeList.Versioned.versions c.pop.new.self in
     let fresh = (c.lock-tree.ensures.locked o.0 (Holding (work o.1 o.2 (g.Plan.VersionPlan.versions ++ o.3))) o.4).3 in
     let i = c.loop-node.invariant in
     let is : g.Plan.VersionPlan.versions ≡ i.0 ++ v ∷ left = i.1 ∙ ap (λ (l : List Version). i.0 ++ l) c.in-Some.ensures in
     let there : In v (g.Plan.VersionPlan.versions ++ o.3) = subst (λ (l : List Version). In v (l ++ o.3)) (sym is) (in_left v (i.0 ++ v ∷ left) o.3 (in_right v i.0 (v ∷ left) (inl refl))) in
-    stays_fresh (g.ShardTree.Versioned.versions c.lock-tree.result) i.0 v left o.3 (g.ShardTree.Versioned.versions c.loop-node.tree) fresh.1.0 i.2 (subst (λ (l : List Version). Runs fresh.1.0 (l ++ o.3)) is fresh.1.1) (λ x. fresh.0 v x there)
+    stays_fresh (g.ShardTree.Versioned.versions c.lock-tree.result) i.0 v left o.3 (g.ShardTree.Versioned.versions c.loop-node.tree) fresh.1.0 i.2 (subst (λ (l : List Version). Runs fresh.1.0 (l ++ o.3)) is fresh.1.1) (λ y. fresh.0 v y there) x has
 
 pub loop-node-preserved : goal.loop-node-preserved
 loop-node-preserved g c =

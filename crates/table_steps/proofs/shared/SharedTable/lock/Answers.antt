@@ -9,7 +9,7 @@ use Rattle.table_steps.proofs.shared.SharedTable.lock.Goals as goal
 
 pub compare_exchange-found-requires : goal.compare_exchange-found-requires
 compare_exchange-found-requires g c =
-    let q = c.args.self.now.sized in let o = c.requires.free in let z : Opening = c.args.self.now.table.shared.key in let e = shards_of z c.args.self.now.opening q.2 in let lt = c.requires.seat.1 in let i = c.loop.invariant in (
+    let q = c.args.self.now.sized in let o = c.requires.free in let z : Opening = c.args.self.now.table.shared.key in let e = shards_of z c.args.self.now.sizes q.2 in let lt = c.requires.seat.1 in let i = c.loop.invariant in (
       i.3 ∙ c.requires.seat.0,
       omega arith,
       locks g.ShardTree.Versioned.versions g.NodeList.Versioned.versions z _ _ c.loop.who.seat.me c.args.who.now.number c.args.shard o.0 o.1 lt (ap (λ m. m.0) i.4 ∙ o.2),

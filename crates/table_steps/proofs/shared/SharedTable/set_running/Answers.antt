@@ -18,7 +18,7 @@ join_seat-requires g c =
 
 pub store-requires : goal.store-requires
 store-requires g c =
-    let q = c.args.self.now.sized in let z : Opening = c.args.self.now.table.shared.key in let e = shards_of z c.args.self.now.opening q.2 in let o = c.requires.next in let s = c.requires.seat in let k : ℕ = c.args.who.now.number in
+    let q = c.args.self.now.sized in let z : Opening = c.args.self.now.table.shared.key in let e = shards_of z c.args.self.now.sizes q.2 in let o = c.requires.next in let s = c.requires.seat in let k : ℕ = c.args.who.now.number in
     let both : IsWithTurn k z o.0 Idle o.1 Resting c.join_seat.new.seat.me = ap (λ m. m.0) c.join_seat.ensures.2 ∙ (λ i. o.2 i ++ o.3 i) in
     (c.join_seat.ensures.0 ∙ s.0, omega arith, launches g.ShardTree.Versioned.versions g.NodeList.Versioned.versions z _ _ c.join_seat.new.seat.me k _ _ o.0 o.1 g.Group.GroupPlan.group (ap (λ (k : ℕ). k + 1) e) (c.len.ensures ∙ ap length c.requires.group) s.3 both o.4.0 o.4.1 o.4.2)
 

@@ -14,7 +14,7 @@ may_play : (table : MemoryTable) (x : Player) (seat : Seat) (turn : Option Turn)
 may_play table x seat turn is idle start =
     (subst (IsIdle table) (sym is.0) idle, subst (λ (t : Option Turn). IfSome t (λ (u : Turn). IsTurnAtStart table u)) (sym is.1) start)
 
-for_four : (table : MemoryTable) (shards : ℕ) → opening_of table ≡ record { clients = 4; shards = shards; start = 7 } → IsForFour table
+for_four : (table : MemoryTable) (shards : ℕ) → opening_of table ≡ record { clients = 4; shards = shards; start = 7; base = [] } → IsForFour table
 for_four table shards is = (ap (λ (o : Opening). o.clients) is, ap (λ (o : Opening). o.start) is)
 
 pub taken-requires : goal.taken-requires

@@ -1,0 +1,47 @@
+-- When the fault of a log came.
+use Rattle.std.proofs.Common.{◌≡◌, ℕ, ◌≤◌, List, Option, None, Some, IfSome, MatchOption, refl, sym, ◌∙◌, subst, arith}
+use Rattle.base_devices.specs.declared.disk.Disk.{Ghosts}
+use Rattle.model_base.specs.Counts.{Rose}
+use Rattle.log_writer.specs.declared.writer.LogWriter.{LogWriter}
+use Rattle.log_writer.specs.Words.{disk_of, fault_of}
+use Rattle.log_writer.specs.Puts.{Puts}
+use Rattle.log_writer.specs.Adding.{GroupCall, answer_of, text_at_end, Grows, Stops, Adds}
+use Rattle.log_writer.specs.Written.{Wrote, no_call, one_more, HasCauseSince}
+
+module _ {D : Type 0} {ghosts : Ghosts D} (disk : D) where
+  -- the disk's count rose to the fault since then, if there is one
+  abbrev RoseTo : LogWriter D ghosts → Option ℕ → Type 0
+  RoseTo now fault = IfSome fault (λ count. Rose (ghosts.faults disk) count × (count ≤ ghosts.faults (disk_of now)))
+
+  caused_call : (c : GroupCall) (now new : LogWriter D ghosts) → HasCauseSince disk now → Adds c now new → HasCauseSince disk new
+  caused_call c now new since adds = by_fault (fault_of now) refl adds.dead
+    where
+      by_answer : (f : Option ℕ) → fault_of now ≡ None → Puts ghosts (disk_of now) (disk_of new) (text_at_end c now) c.sync (answer_of f)
+          → MatchOption f (Grows (text_at_end c now) now new) (Stops now new) → HasCauseSince disk new
+      by_answer None is_none put grows = record {
+        later = omega (arith, since.later, (put.cause).later);
+        rose = subst (RoseTo new) (sym grows.fault) tt;
+        no_fault = λ none. (put.cause).worked ∙ since.no_fault is_none;
+      }
+      by_answer (Some count) is_none put stops = record {
+        later = omega (arith, since.later, (put.cause).later);
+        rose = subst (RoseTo new) (sym stops.fault) (omega (arith, since.later, (put.cause).failed, stops.count_is), omega (arith, stops.count_is));
+        no_fault = λ none. let wrong : ◌≡◌ {A = Option ℕ} None (Some count) = sym none ∙ stops.fault in absurd (cc);
+      }
+
+      by_fault : (f : Option ℕ) → fault_of now ≡ f → IfSome f (λ count. (c.failed ≡ Some count) × (new ≡ now)) → HasCauseSince disk new
+      by_fault None is_none kept = by_answer c.failed is_none (adds.put is_none) (adds.kept is_none)
+      by_fault (Some count) is_some kept = subst (λ (log : LogWriter D ghosts). HasCauseSince disk log) (sym kept.1) since
+
+  caused_calls : (old : LogWriter D ghosts) (calls : List GroupCall) (new : LogWriter D ghosts) → HasCauseSince disk old → Wrote old calls new → HasCauseSince disk new
+  caused_calls old calls new first no_call = first
+  caused_calls old calls new first (one_more {calls = before} {now = now} c wrote adds) = caused_call c now new (caused_calls old before now first wrote) adds
+
+-- Where a log had no fault, one that it has since calls wrote it came in one of these.
+pub caused_since : {D : Type 0} {ghosts : Ghosts D} (old : LogWriter D ghosts) (calls : List GroupCall) (new : LogWriter D ghosts) → fault_of old ≡ None → Wrote old calls new → HasCauseSince (disk_of old) new
+caused_since old calls new alive wrote =
+    caused_calls (disk_of old) old calls new (record {
+      later = omega arith;
+      rose = subst (RoseTo (disk_of old) old) (sym alive) tt;
+      no_fault = λ none. refl;
+    }) wrote

@@ -1,0 +1,165 @@
+-- How the log of a run was opened, or why it was not.
+use Rattle.std.proofs.Common.{◌≡◌, ◌⊎◌, inl, inr, ⊎_elim, ℕ, ◌≤◌, List, [], length, take, map, IfSome, Option, Some, None, refl, ap, sym, ◌∙◌, subst, arith}
+use Rattle.std.specs.Prelude.{⊤}
+use Rattle.base_devices.specs.Disk.{Disk, Told, all_safe, rewound}
+use Rattle.base_devices.specs.declared.disk.Disk.{Ghosts}
+use Rattle.model_base.specs.Log.{Beginning, new_log, SpellsWhole}
+use Rattle.model_base.specs.Recovery.{Recovered, IsRecovered, logged_bytes}
+use Rattle.log_laws.specs.Prefixes.{RecoversPrefix}
+use Rattle.log_laws.proofs.Synced.{spells_one}
+use Rattle.log_recovery_laws.specs.Images.{MeetsNoOther}
+use Rattle.log_writer.specs.declared.errors.OpenError.{OpenError}
+use Rattle.log_writer.specs.declared.errors.OpenError.TheVariants.{Fault, NotEmpty, NoMemory}
+use Rattle.log_writer.specs.declared.writer.LogWriter.{LogWriter}
+use Rattle.log_writer.specs.Words.{disk_of, fault_of}
+use Rattle.log_writer.specs.Opening.{HasOpened, HasReused, HasResumed, HasBegun, IsCauseOver, IsOpenError, IsReuseError}
+use Rattle.log_writer.proofs.Putting.{told_so}
+use Rattle.run_outcome.specs.declared.log_start.LogStart.{LogStart}
+use Rattle.run_outcome.specs.declared.log_start.LogStart.TheVariants.{New, Over, Behind}
+use Rattle.run_outcome.specs.Running.{Before, nothing, number_in, RecoversTo, GoesOnFrom, beginning_of, begun_on, RecoversKept, IfGoesOn, IsOpened, IsAsFound, GoesOn}
+use Rattle.run_execution.specs.Ends.{HasOpenedAs, IsOpenedFor, IsRefused, end_of}
+use Rattle.run_execution.proofs.SafeLogs.{KeepsBatches, keeps_none}
+
+-- what holds of any content holds of what a disk tells
+if_any : (told : Option Disk) (P : Disk → Type 0) → ((d : Disk) → P d) → IfSome told P
+if_any None P all = tt
+if_any (Some d) P all = all d
+
+if_so : (told : Option Disk) (P Q : Disk → Type 0) → ((d : Disk) → P d → Q d) → IfSome told P → IfSome told Q
+if_so None P Q to p = tt
+if_so (Some d) P Q to p = to d p
+
+-- a disk that tells the same has the same content
+same_content : (a now : Option Disk) → now ≡ a → Told a now (λ x y. y.content ≡ x.content)
+same_content a now same = subst (λ (t : Option Disk). Told a t (λ x y. y.content ≡ x.content)) (sym same) (of_itself a)
+  where
+    of_itself : (t : Option Disk) → Told t t (λ x y. y.content ≡ x.content)
+    of_itself None = tt
+    of_itself (Some x) = refl
+
+-- the content of a disk of which these bytes are kept, and made safe
+kept_safe : (a now : Option Disk) (kept : List ℕ) → Told a now (λ x y. y ≡ all_safe (take (length kept) x.content)) → IfSome a (λ d. take (length kept) d.content ≡ kept) → Told a now (λ x y. y ≡ all_safe kept)
+kept_safe None None kept told same = tt
+kept_safe None (Some y) kept told same = told
+kept_safe (Some x) None kept told same = told
+kept_safe (Some x) (Some y) kept told same = told ∙ ap all_safe same
+
+-- What a run goes on from
+
+-- batches whose runs rise, up to its last sequence
+pub keeps_as : (start : LogStart) (before : Before) (told : Option Disk) (from : ℕ) → GoesOnFrom start told before → before.last ≤ from → IfSome told (λ d. KeepsBatches (beginning_of start before) from)
+keeps_as New before told from goes below = if_any told _ (λ d. subst (λ (b : Before). KeepsBatches (beginning_of New b) from) (sym goes) (keeps_none (number_in New) from))
+keeps_as (Over number) before told from goes below = if_any told _ (λ d. subst (λ (b : Before). KeepsBatches (beginning_of (Over number) b) from) (sym goes) (keeps_none (number_in (Over number)) from))
+keeps_as (Behind number) before told from goes below = if_so told (λ d. RecoversTo number d.content before) _ of_recovered goes
+  where
+    of_recovered : (d : Disk) → RecoversTo number d.content before → KeepsBatches (beginning_of (Behind number) before) from
+    of_recovered d to =
+        let r : Recovered = to.recovered in
+        let keeps = (to.is).keeps in
+        let last = to.last in
+        record {
+          records = map logged_bytes r.batches;
+          spelled = subst (λ (l : List ℕ). SpellsWhole number l (map logged_bytes r.batches)) (sym to.kept) keeps.spelled;
+          are = record { batches = r.batches; same = refl; each = keeps.are_batches; rising = keeps.in_order; below = omega (arith, last, below) };
+        }
+
+-- the law of an image of the file
+abbrev pub ImageLaw : Type 0
+ImageLaw = (number : Option ℕ) (image file : List ℕ) (r : Recovered) → IsRecovered number file r → MeetsNoOther number image file → RecoversPrefix number (map logged_bytes r.batches) image (λ n. ⊤)
+
+-- an image recovers a prefix of what is kept
+pub recovers_as : ImageLaw → (start : LogStart) (before : Before) (told : Option Disk) (images : List ℕ → Type 0) → GoesOnFrom start told before → IfSome told (λ d. IfGoesOn start (RecoversKept start before d.content images))
+recovers_as law New before told images goes = if_any told _ (λ d. tt)
+recovers_as law (Over number) before told images goes = if_any told _ (λ d. tt)
+recovers_as law (Behind number) before told images goes = if_so told (λ d. RecoversTo number d.content before) _ of_recovered goes
+  where
+    of_recovered : (d : Disk) → RecoversTo number d.content before → RecoversKept (Behind number) before d.content images
+    of_recovered d to image left meets kept spells =
+        let r : Recovered = to.recovered in
+        let spelled = subst (λ (l : List ℕ). SpellsWhole number l (map logged_bytes r.batches)) (sym to.kept) ((to.is).keeps).spelled in
+        subst (λ (l : List (List ℕ)). RecoversPrefix number l image (λ n. ⊤)) (spells_one number before.kept (map logged_bytes r.batches) kept spelled spells) (law number image d.content r to.is meets)
+
+module _ {D : Type 0} {ghosts : Ghosts D} where
+  -- A log that was opened so
+
+  pub begins_as : ((disk : D) (log : LogWriter D ghosts) → HasOpened disk log → HasBegun new_log disk log) → ((disk : D) (n : ℕ) (log : LogWriter D ghosts) → HasReused disk n log → HasBegun (record { number = Some n; kept = [] }) disk log)
+      → ((disk : D) (b : Beginning) (log : LogWriter D ghosts) → HasResumed disk (length b.kept) b.number log → IfSome (ghosts.told disk) (λ d. take (length b.kept) d.content ≡ b.kept) → HasBegun b disk log)
+      → (start : LogStart) (before : Before) (disk : D) (log : LogWriter D ghosts) → GoesOnFrom start (ghosts.told disk) before → HasOpenedAs start before disk log → HasBegun (beginning_of start before) disk log
+  begins_as opened reused resumed New before disk log goes has_opened = subst (λ (b : Before). HasBegun (beginning_of New b) disk log) (sym goes) (opened disk log has_opened)
+  begins_as opened reused resumed (Over n) before disk log goes has_opened = subst (λ (b : Before). HasBegun (beginning_of (Over n) b) disk log) (sym goes) (reused disk n log has_opened)
+  begins_as opened reused resumed (Behind number) before disk log goes has_opened = resumed disk (record { number = number; kept = before.kept }) log has_opened.0 has_opened.1
+
+  -- over what stands on the disk, or behind what is kept of it
+  pub content_as : (start : LogStart) (before : Before) (disk : D) (log : LogWriter D ghosts) → HasOpenedAs start before disk log → Told (ghosts.told disk) (ghosts.told (disk_of log)) (λ x y. y.content ≡ begun_on start before x.content)
+  content_as New before disk log has_opened = same_content (ghosts.told disk) (ghosts.told (disk_of log)) (has_opened.looked_at).same
+  content_as (Over n) before disk log has_opened = told_so (ghosts.told disk) (ghosts.told (disk_of log)) has_opened.told (λ x y e. ap (λ (d : Disk). d.content) e)
+  content_as (Behind number) before disk log has_opened =
+      told_so (ghosts.told disk) (ghosts.told (disk_of log)) (kept_safe (ghosts.told disk) (ghosts.told (disk_of log)) before.kept (has_opened.0).told has_opened.1) (λ x y e. ap (λ (d : Disk). d.content) e)
+
+  -- which is nothing where it is new
+  pub empty_as : (start : LogStart) (before : Before) (disk : D) (log : LogWriter D ghosts) → HasOpenedAs start before disk log → start ≡ New → IfSome (ghosts.told disk) (λ d. d.content ≡ [])
+  empty_as New before disk log has_opened new = has_opened.empty
+  empty_as (Over n) before disk log has_opened new = absurd (cc new)
+  empty_as (Behind number) before disk log has_opened new = absurd (cc new)
+
+  -- the disk is as it was found, and without a fault
+  pub found_as : (start : LogStart) (before : Before) (disk : D) (log : LogWriter D ghosts) → GoesOnFrom start (ghosts.told disk) before → HasOpenedAs start before disk log → IsAsFound start (ghosts.told disk) (ghosts.told (disk_of log))
+  found_as New before disk log goes has_opened = inl (has_opened.looked_at).same
+  found_as (Over n) before disk log goes has_opened = inr (before, goes, has_opened.told)
+  found_as (Behind number) before disk log goes has_opened =
+      inr (before, goes, told_so (ghosts.told disk) (ghosts.told (disk_of log)) (kept_safe (ghosts.told disk) (ghosts.told (disk_of log)) before.kept (has_opened.0).told has_opened.1) (λ x y e. inr e))
+
+  pub no_fault_as : (start : LogStart) (before : Before) (disk : D) (log : LogWriter D ghosts) → HasOpenedAs start before disk log → ghosts.faults (disk_of log) ≡ ghosts.faults disk
+  no_fault_as New before disk log has_opened = has_opened.no_fault
+  no_fault_as (Over n) before disk log has_opened = has_opened.no_fault
+  no_fault_as (Behind number) before disk log has_opened = (has_opened.0).no_fault
+
+  pub alive_as : (start : LogStart) (before : Before) (disk : D) (log : LogWriter D ghosts) → HasOpenedAs start before disk log → fault_of log ≡ None
+  alive_as New before disk log has_opened = has_opened.fault
+  alive_as (Over n) before disk log has_opened = has_opened.fault
+  alive_as (Behind number) before disk log has_opened = (has_opened.0).fault
+
+  -- and its time has gone on
+  pub time_as : (start : LogStart) (before : Before) (disk : D) (log : LogWriter D ghosts) → HasOpenedAs start before disk log → GoesOn ghosts.moment ghosts.from disk (disk_of log)
+  time_as New before disk log has_opened = let time = (has_opened.looked_at).time in record { later = time.later; forgets = time.forgets }
+  time_as (Over n) before disk log has_opened = let crash = has_opened.crash in record { later = crash.later; forgets = crash.forgets }
+  time_as (Behind number) before disk log has_opened = let crash = (has_opened.0).crash in record { later = crash.later; forgets = crash.forgets }
+
+  -- The log was opened for a run that goes on from nothing.
+  pub opened_new : (disk : D) (log : LogWriter D ghosts) → HasOpened disk log → IsOpenedFor ghosts New disk (record { log = log; map = []; last = 0 })
+  opened_new disk log has_opened = record { before = nothing; goes_on = refl; is_opened = has_opened; map = refl; last = refl; none = λ e. refl }
+
+  pub opened_over : (n : ℕ) (disk : D) (log : LogWriter D ghosts) → HasReused disk n log → IsOpenedFor ghosts (Over n) disk (record { log = log; map = []; last = 0 })
+  opened_over n disk log has_reused = record { before = nothing; goes_on = refl; is_opened = has_reused; map = refl; last = refl; none = λ e. refl }
+
+-- Where it was not opened
+
+-- the disk tells what it told, or it is as it would be
+pub as_found : (start : LogStart) (before : Before) (a now : Option Disk) (R : Disk → Disk → Type 0) → GoesOnFrom start a before → ((x y : Disk) → R x y → IsOpened start before x y) → Told a now (λ x y. (y ≡ x) ⊎ R x y) → IsAsFound start a now
+as_found start before None None R goes to told = inl refl
+as_found start before None (Some y) R goes to told = absurd told
+as_found start before (Some x) None R goes to told = absurd told
+as_found start before (Some x) (Some y) R goes to told = ⊎_elim (λ same. inl (ap (λ (d : Disk). Some d) same)) (λ r. inr (before, goes, to x y r)) told
+
+module _ {D : Type 0} (ghosts : Ghosts D) (disk now : D) where
+  pub refused_new : (why : OpenError) → IsOpenError ghosts disk now why → IsRefused ghosts New disk now (end_of why)
+  refused_new (Fault count) error = let cause = error.cause in let now_is = cause.1 in (inl (error.looked_at).same, (cause.0, omega (arith, now_is)))
+  refused_new (NotEmpty len) error = (let cause = error.cause in (refl, (error.looked_at).same, cause.0, cause.1))
+  refused_new NoMemory error = inl (error.looked_at).same
+
+  pub refused_over : (n : ℕ) (why : OpenError) → IsReuseError ghosts disk now why → IsRefused ghosts (Over n) disk now (end_of why)
+  refused_over n why error = by_cause why error.cause
+    where
+      found : IsAsFound (Over n) (ghosts.told disk) (ghosts.told now)
+      found = as_found (Over n) nothing (ghosts.told disk) (ghosts.told now) (λ x y. y ≡ rewound x) refl (λ x y e. e) error.told
+
+      by_cause : (why : OpenError) → IsCauseOver ghosts disk now why → IsRefused ghosts (Over n) disk now (end_of why)
+      by_cause (Fault count) cause = let now_is = cause.1 in (found, (cause.0, omega (arith, now_is)))
+      by_cause (NotEmpty len) cause = absurd cause
+      by_cause NoMemory cause = found
+
+  pub time_new : (why : OpenError) → IsOpenError ghosts disk now why → GoesOn ghosts.moment ghosts.from disk now
+  time_new why error = let time = (error.looked_at).time in record { later = time.later; forgets = time.forgets }
+
+  pub time_over : (why : OpenError) → IsReuseError ghosts disk now why → GoesOn ghosts.moment ghosts.from disk now
+  time_over why error = let crash = error.crash in record { later = crash.later; forgets = crash.forgets }

@@ -1,0 +1,113 @@
+-- A log that goes on behind what is recovered of it.
+use Rattle.std.proofs.Common.{◌≡◌, ◌⊎◌, inl, ℕ, ◌≤◌, List, length, take, map, replicate, IfSome, Option, Some, None, ap, sym, ◌∙◌, subst, arith, length-take}
+use Rattle.std.proofs.lemmas.List.{length-replicate}
+use Rattle.base_devices.specs.Disk.{Disk, IsImage, Told, TimePasses, all_safe, cut_at}
+use Rattle.base_devices.specs.declared.disk.Disk.{Ghosts}
+use Rattle.model_base.specs.Counts.{Rose}
+use Rattle.model_base.specs.Log.{SpellsWhole}
+use Rattle.model_base.specs.Recovery.{logged_bytes}
+use Rattle.log_recovery.specs.declared.recovery.Recovered.{Recovered}
+use Rattle.log_recovery.specs.Recovering.{HasRecovered}
+use Rattle.log_writer.specs.declared.errors.OpenError.{OpenError}
+use Rattle.log_writer.specs.declared.errors.OpenError.TheVariants.{Fault, NotEmpty, NoMemory}
+use Rattle.log_writer.specs.declared.writer.LogWriter.{LogWriter}
+use Rattle.log_writer.specs.Words.{disk_of}
+use Rattle.log_writer.specs.Opening.{MayBeLeftOf, SpellsInFront, HasResumed, IsCauseOver, IsResumeError}
+use Rattle.log_writer.proofs.Putting.{leaves_more, leaves_time}
+use Rattle.log_writer.proofs.Beginning.{left_of_self}
+use Rattle.run_outcome.specs.declared.log_start.LogStart.TheVariants.{Behind}
+use Rattle.run_outcome.specs.Running.{Before, GoesOnFrom, IsAsFound, GoesOn}
+use Rattle.run_execution.specs.Ends.{HasOpenedAs, IsRefused, end_of}
+use Rattle.run_execution.proofs.Openings.{as_found}
+
+-- What is recovered, and the bytes that are kept. Where the disk doesn't tell them they are as many.
+
+pub kept_of : Option Disk → ℕ → List ℕ
+kept_of None n = replicate n 0
+kept_of (Some d) n = take n d.content
+
+abbrev pub before_of : Option Disk → Recovered → Before
+before_of told shown = record { map = shown.map; last = shown.last; kept = kept_of told shown.kept }
+
+module _ (number : Option ℕ) (shown : Recovered) where
+  abbrev pub IsRecoveredOf : Option Disk → Type 0
+  IsRecoveredOf told = IfSome told (λ d. HasRecovered number d.content shown)
+
+  -- a run goes on from it
+  pub goes_behind : (told : Option Disk) → IsRecoveredOf told → GoesOnFrom (Behind number) told (before_of told shown)
+  unfolding kept_of
+  goes_behind None has = tt
+  goes_behind (Some d) has = let shows = has.shows in record {
+    recovered = has.recovered;
+    is = has.is;
+    map = shows.map_is;
+    last = shows.last;
+    kept = ap (λ (n : ℕ). take n d.content) shows.kept;
+  }
+
+  within : (d : Disk) → HasRecovered number d.content shown → shown.kept ≤ length d.content
+  within d has = let kept = (has.shows).kept in let keeps = (has.is).keeps in omega (arith, kept, keeps.within)
+
+  kept_len : (told : Option Disk) → IsRecoveredOf told → length (kept_of told shown.kept) ≡ shown.kept
+  unfolding kept_of
+  kept_len None has = length-replicate shown.kept 0
+  kept_len (Some d) has = omega (arith, length-take shown.kept d.content, within d has)
+
+  kept_there : (told : Option Disk) → IsRecoveredOf told → IfSome told (λ d. take (length (kept_of told shown.kept)) d.content ≡ kept_of told shown.kept)
+  unfolding kept_of
+  kept_there None has = tt
+  kept_there (Some d) has = ap (λ (n : ℕ). take n d.content) (kept_len (Some d) has)
+
+  -- the file has it in front
+  pub spells_behind : (told now : Option Disk) → now ≡ told → IsRecoveredOf told → IfSome now (λ d. SpellsInFront number shown.kept d.content)
+  spells_behind told now same has = subst (λ (t : Option Disk). IfSome t (λ d. SpellsInFront number shown.kept d.content)) (sym same) (of_told told has)
+    where
+      of_told : (t : Option Disk) → IsRecoveredOf t → IfSome t (λ d. SpellsInFront number shown.kept d.content)
+      of_told None has = tt
+      of_told (Some d) has =
+          let keeps = (has.is).keeps in
+          let records : List (List ℕ) = map logged_bytes (has.recovered).batches in
+          record { within = within d has; records = records; spelled = subst (λ (n : ℕ). SpellsWhole number (take n d.content) records) (sym (has.shows).kept) keeps.spelled }
+
+  module _ {D : Type 0} (ghosts : Ghosts D) (disk read : D) (same : ghosts.told read ≡ ghosts.told disk) (time : TimePasses ghosts.told ghosts.moment ghosts.from ghosts.since disk read) (no_fault : ghosts.faults read ≡ ghosts.faults disk) (has : IsRecoveredOf (ghosts.told disk)) where
+    -- What goes on behind a disk that was read goes on behind it as it was before.
+    read_first : (log : LogWriter D ghosts) → ((image : List ℕ) → ghosts.from disk ≤ ghosts.moment disk → ghosts.since disk (ghosts.moment disk) image → IfSome (ghosts.told disk) (λ d. IsImage d image))
+        → HasResumed read shown.kept number log → HasResumed disk shown.kept number log
+    read_first log only resumed =
+        let kept : ℕ = shown.kept in
+        let left : List ℕ → Type 0 = MayBeLeftOf (ghosts.told disk) kept in
+        record {
+          told = subst (λ (t : Option Disk). Told t (ghosts.told (disk_of log)) (λ x y. y ≡ all_safe (take kept x.content))) same resumed.told;
+          number_is = resumed.number_is;
+          len = resumed.len;
+          fault = resumed.fault;
+          no_fault = resumed.no_fault ∙ no_fault;
+          crash = leaves_more ghosts.moment ghosts.from ghosts.since left (MayBeLeftOf (ghosts.told read) kept) disk read (disk_of log)
+              (leaves_time ghosts disk read left only time (left_of_self (ghosts.told disk) kept) (λ image is. left_of_self (ghosts.told disk) kept image (subst (λ (t : Option Disk). IfSome t (λ d. IsImage d image)) same is)))
+              resumed.crash (λ image may. subst (λ (t : Option Disk). MayBeLeftOf t kept image) same may);
+        }
+
+    pub opened_behind : (log : LogWriter D ghosts) → ((image : List ℕ) → ghosts.from disk ≤ ghosts.moment disk → ghosts.since disk (ghosts.moment disk) image → IfSome (ghosts.told disk) (λ d. IsImage d image))
+        → HasResumed read shown.kept number log → HasOpenedAs (Behind number) (before_of (ghosts.told disk) shown) disk log
+    opened_behind log only resumed =
+        (subst (λ (n : ℕ). HasResumed disk n number log) (sym (kept_len (ghosts.told disk) has)) (read_first log only resumed), kept_there (ghosts.told disk) has)
+
+    -- and why not
+    module _ (now : D) where
+      pub refused_behind : (why : OpenError) → IsResumeError ghosts read now shown.kept why → IsRefused ghosts (Behind number) disk now (end_of why)
+      refused_behind why error = by_cause why error.cause
+        where
+          found : IsAsFound (Behind number) (ghosts.told disk) (ghosts.told now)
+          found = as_found (Behind number) (before_of (ghosts.told disk) shown) (ghosts.told disk) (ghosts.told now) (λ x y. y ≡ cut_at shown.kept x) (goes_behind (ghosts.told disk) has)
+              (λ x y e. inl (e ∙ ap (λ (n : ℕ). cut_at n x) (sym (kept_len (ghosts.told disk) has))))
+              (subst (λ (t : Option Disk). Told t (ghosts.told now) (λ x y. (y ≡ x) ⊎ (y ≡ cut_at shown.kept x))) same error.told)
+
+          by_cause : (why : OpenError) → IsCauseOver ghosts read now why → IsRefused ghosts (Behind number) disk now (end_of why)
+          by_cause (Fault count) cause = let now_is = cause.1 in (found, (subst (λ (n : ℕ). Rose n count) no_fault cause.0, omega (arith, now_is)))
+          by_cause (NotEmpty len) cause = absurd cause
+          by_cause NoMemory cause = found
+
+      pub time_behind : (why : OpenError) → IsResumeError ghosts read now shown.kept why → GoesOn ghosts.moment ghosts.from disk now
+      time_behind why error =
+          let crash = error.crash in
+          record { later = omega (arith, time.later, crash.later); forgets = omega (arith, time.forgets, crash.forgets) }

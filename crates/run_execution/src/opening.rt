@@ -1,0 +1,88 @@
+//! How the log of a run is opened, and what the run goes on from.
+
+ghost use Rattle.std.specs.Prelude.{◌≡◌, ◌≤◌, [], IfOk, IfErr};
+ghost use Rattle.model_base.specs.History.{max_sequence};
+ghost use Rattle.run_outcome.specs.declared.log_start.LogStart.TheVariants.{Behind};
+ghost use Rattle.run_outcome.specs.Running.{GoesOn};
+ghost use Rattle.run_execution.specs.Ends.{IsOpenedFor, IsRefused};
+
+use crate::end::RunEnd;
+use base_devices::Disk;
+use base_maps::ByteMap;
+use log_recovery::{RecoverError, Recovered, recover};
+use log_writer::LogWriter;
+use run_outcome::LogStart;
+use std::alloc::Global;
+
+/// A log that was opened, and what a run over it goes on from: a map, and its last sequence.
+pub(crate) struct Opened<D: Disk> {
+    pub(crate) log: LogWriter<D>,
+    pub(crate) map: ByteMap,
+    pub(crate) last: u64,
+}
+
+/// Opens the log of a run. One that goes on is recovered first, and cut behind what is kept.
+pub(crate) fn open_log<D: Disk>(
+    alloc: Global,
+    disk: D,
+    start: LogStart,
+) -> Result<Opened<D>, (D, RunEnd)>
+    ensures ok { IfOk result (λ opened. IsOpenedFor ⟦<D as Disk>⟧ start disk opened) }
+    ensures last { IfOk result (λ opened. opened.last ≤ max_sequence) }
+    ensures err { IfErr result (λ e. IsRefused ⟦<D as Disk>⟧ start disk e.0 e.1) }
+    ensures later { IfErr result (λ e. D.faults disk ≤ D.faults e.0) }
+    ensures time { IfErr result (λ e. GoesOn D.moment D.from disk e.0) }
+{
+    match start {
+        LogStart::New => match LogWriter::open(alloc, disk) {
+            Ok(log) => Ok(anew(alloc, log)),
+            Err((disk, why)) => Err((disk, RunEnd::from(why))),
+        },
+        LogStart::Over { number } => match LogWriter::reuse(alloc, disk, number) {
+            Ok(log) => Ok(anew(alloc, log)),
+            Err((disk, why)) => Err((disk, RunEnd::from(why))),
+        },
+        LogStart::Behind { number } => open_behind(alloc, disk, number),
+    }
+}
+
+/// A log that keeps nothing. This takes no memory.
+fn anew<D: Disk>(alloc: Global, log: LogWriter<D>) -> Opened<D>
+    ensures { result ≡ record { log = log; map = []; last = 0 } }
+{
+    Opened {
+        log,
+        map: ByteMap::new(alloc),
+        last: 0,
+    }
+}
+
+/// Recovers the log, and opens it behind what is kept.
+fn open_behind<D: Disk>(
+    alloc: Global,
+    mut disk: D,
+    number: Option<u32>,
+) -> Result<Opened<D>, (D, RunEnd)>
+    ensures ok { IfOk result (λ opened. IsOpenedFor ⟦<D as Disk>⟧ (Behind number) disk opened) }
+    ensures last { IfOk result (λ opened. opened.last ≤ max_sequence) }
+    ensures err { IfErr result (λ e. IsRefused ⟦<D as Disk>⟧ (Behind number) disk e.0 e.1) }
+    ensures later { IfErr result (λ e. D.faults disk ≤ D.faults e.0) }
+    ensures time { IfErr result (λ e. GoesOn D.moment D.from disk e.0) }
+{
+    let recovered = match recover(alloc, &mut disk, number) {
+        Ok(recovered) => recovered,
+        Err(RecoverError::Fault { count }) => return Err((disk, RunEnd::DiskFault { count })),
+        Err(RecoverError::NoMemory) => return Err((disk, RunEnd::NoMemory)),
+    };
+    let Recovered {
+        groups: _,
+        map,
+        last,
+        kept,
+        end: _,
+    } = recovered;
+    match LogWriter::resume(alloc, disk, kept, number) {
+        Ok(log) => Ok(Opened { log, map, last }),
+        Err((disk, why)) => Err((disk, RunEnd::from(why))),
+    }
+}
