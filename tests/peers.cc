@@ -11,6 +11,11 @@
 // before its database goes on to another log. The copy has the log's own name.
 //
 //     peers recycled PATH COPIES
+//
+// Or opens a database for reading alone, in the recovery mode `point`, `tail` or `absolute`, and says `yes` where it opens and
+// `no` where not.
+//
+//     peers opens PATH MODE
 
 #include <rocksdb/db.h>
 #include <rocksdb/transaction_log.h>
@@ -99,7 +104,27 @@ static bool write_over(rocksdb::DB& db, const std::filesystem::path& path, const
     return true;
 }
 
+// As the program names them.
+static rocksdb::WALRecoveryMode mode_of(const std::string& word) {
+    if (word == "tail") return rocksdb::WALRecoveryMode::kTolerateCorruptedTailRecords;
+    if (word == "absolute") return rocksdb::WALRecoveryMode::kAbsoluteConsistency;
+    return rocksdb::WALRecoveryMode::kPointInTimeRecovery;
+}
+
+static int tell_whether_opens(const std::string& path, const std::string& mode) {
+    rocksdb::Options options;
+    options.wal_recovery_mode = mode_of(mode);
+    rocksdb::DB* opened = nullptr;
+    auto status = rocksdb::DB::OpenForReadOnly(options, path, &opened);
+    std::cout << (status.ok() ? "yes" : "no") << "\n";
+    // Any other refusal says nothing of the log.
+    if (!status.ok() && !status.IsCorruption()) std::cerr << status.ToString() << "\n";
+    delete opened;
+    return status.ok() || status.IsCorruption() ? 0 : 1;
+}
+
 int main(int count, char** words) {
+    if (count == 4 && words[1] == std::string("opens")) return tell_whether_opens(words[2], words[3]);
     rocksdb::Options options;
     options.create_if_missing = true;
     bool recycles = count == 4 && words[1] == std::string("recycled");

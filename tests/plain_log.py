@@ -202,6 +202,22 @@ def recovery_of(log, number=None):
     return "".join(line + "\n" for line in lines), why.split(" ")[0]
 
 
+def is_cut_off(log, at, why, number=None):
+    """Whether the log's last write was cut off where reading ends, and nothing but zeros stands behind that."""
+    size = header_len(number)
+    if why == "badlength":
+        length = size + number_of(log[at + 4 : at + 6])
+        return at + size <= len(log) < at + length and length <= BLOCK - at % BLOCK
+    return why in ("shortheader", "unfinished") or why == "zeros" and not any(log[at:])
+
+
+def accepts(mode, log, at, why, number=None):
+    """Whether a mode accepts that the recovery of a log ends at this offset, for a reason that begins with this word."""
+    if mode == "point" or why in ("clean", "oldlog"):
+        return True
+    return mode == "tail" and is_cut_off(log, at, why, number)
+
+
 # The writer.
 
 

@@ -6,3 +6,5 @@ pub mod Keeping
 pub mod Recovers
 pub mod Telling
 pub mod Numbered
+pub mod Zeros
+pub mod CutOff

@@ -1,12 +1,14 @@
 -- What recovering a log comes to.
-use Rattle.std.specs.Prelude.{◌≡◌, ℕ, ◌≤◌, List, [], map, Option}
+use Rattle.std.specs.Prelude.{◌≡◌, ◌≢◌, ℕ, ◌≤◌, List, [], map, Option}
 use Rattle.base_devices.specs.Faults.{Rose}
 use Rattle.model_base.specs.History.{max_sequence}
 use Rattle.model_base.specs.Map.{Pairs}
 use Rattle.model_base.specs.Recovery as recovery
+use Rattle.log_recovery.specs.declared.modes.Mode.{Mode}
+use Rattle.log_recovery.specs.declared.modes.Mode.TheVariants.{Point}
 use Rattle.log_recovery.specs.declared.recovery.Recovered.{Recovered}
 use Rattle.log_recovery.specs.declared.recovery.RecoverError.{RecoverError}
-use Rattle.log_recovery.specs.declared.recovery.RecoverError.TheVariants.{Fault, NoMemory}
+use Rattle.log_recovery.specs.declared.recovery.RecoverError.TheVariants.{Fault, NoMemory, Damage}
 use Rattle.log_recovery.specs.Keeping.{note_of}
 
 -- what a caller sees of what is recovered: a note of each group, the map, the last sequence, what is kept, and why no
@@ -31,7 +33,9 @@ pub record IsNumbered (map : Pairs) (last : ℕ) : Type 0 where
   pub within : last ≤ max_sequence
   pub none : last ≡ 0 → map ≡ []
 
--- why a log was not recovered: the disk's count rose in the call, or there was no memory and no fault
-abbrev pub IsRecoverError : ℕ → ℕ → RecoverError → Type 0
-IsRecoverError before now (Fault count) = Rose before count × (count ≤ now)
-IsRecoverError before now NoMemory = now ≡ before
+-- why a log was not recovered: the disk's count rose in the call, or there was no memory and no fault, or neither is so
+-- and the mode, which isn't the one that accepts any end, doesn't accept this one
+abbrev pub IsRecoverError : Mode → ℕ → ℕ → RecoverError → Type 0
+IsRecoverError mode before now (Fault count) = Rose before count × (count ≤ now)
+IsRecoverError mode before now NoMemory = now ≡ before
+IsRecoverError mode before now (Damage at why) = (now ≡ before) × (mode ≢ Point)

@@ -6,10 +6,15 @@
 //!
 //! A log may have a number, and is recovered with it. It ends where a fragment stands that another log left in the
 //! file.
+//!
+//! A mode may accept fewer ends than point-in-time recovery, which accepts any. Then no log is taken for whole that
+//! lost more than the mode lets it lose, and what is recovered is the same.
 #![tactic(auto)]
 
 mod kept;
+mod modes;
 mod recovery;
 
 pub use kept::GroupNote;
-pub use recovery::{End, RecoverError, Recovered, recover};
+pub use modes::Mode;
+pub use recovery::{End, RecoverError, Recovered, recover, recover_mode};

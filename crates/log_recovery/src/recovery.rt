@@ -2,9 +2,12 @@
 
 ghost use Rattle.std.specs.Prelude.{◌≡◌, ◌≤◌, IfOk, IfErr, IfSome, OnOk};
 ghost use Rattle.log_reader.specs.OnlyReads.{OnlyReads};
+ghost use Rattle.log_recovery.specs.declared.modes.Mode.TheVariants.{Point};
+ghost use Rattle.log_recovery.specs.Modes.{Accepts, TellsDamage};
 ghost use Rattle.log_recovery.specs.Recovering.{HasRecovered, IsNumbered, IsRecoverError};
 
 use crate::kept::{GroupNote, Kept};
+use crate::modes::{Mode, accepts};
 use base_devices::Disk;
 use base_maps::ByteMap;
 use log_reader::{LogReader, Next};
@@ -29,12 +32,14 @@ pub struct Recovered {
     pub end: End,
 }
 
-/// Why a log was not recovered. Damage is no error.
+/// Why a log was not recovered.
 #[derive(Clone, Copy, Debug, PartialEq, Eq)]
 pub enum RecoverError {
     /// The disk failed, for the how many-th time.
     Fault { count: u64 },
     NoMemory,
+    /// Recovery ends at this offset for this reason, which the mode doesn't accept.
+    Damage { at: u64, why: EndReason },
 }
 
 impl From<NoMemory> for RecoverError {
@@ -54,7 +59,7 @@ impl From<NoMemory> for RecoverError {
 /// fault and not an empty log. No read that failed is tried again.
 ///
 /// It is `Fault` where a read failed, and `NoMemory` where there was no memory for a block, a record, a note, a key or
-/// a value.
+/// a value. It accepts any end, as [`Mode::Point`] does, and is never `Damage`.
 pub fn recover<D: Disk>(
     alloc: Global,
     disk: &mut D,
@@ -63,7 +68,7 @@ pub fn recover<D: Disk>(
     ensures recovered { IfSome (D.told disk.old) (λ d. IfOk result (HasRecovered number d.content)) }
     ensures numbered { IfOk result (λ r. IsNumbered r.map r.last) }
     ensures worked { OnOk result (D.faults disk.new ≡ D.faults disk.old) }
-    ensures error { IfErr result (IsRecoverError (D.faults disk.old) (D.faults disk.new)) }
+    ensures error { IfErr result (IsRecoverError Point (D.faults disk.old) (D.faults disk.new)) }
     ensures disk { OnlyReads ⟦<D as Disk>⟧ disk.old disk.new }
 {
     let mut log = LogReader::open(alloc, number)?;
@@ -80,6 +85,34 @@ pub fn recover<D: Disk>(
             Next::Fault { count } => return Err(RecoverError::Fault { count }),
             Next::NoMemory => return Err(RecoverError::NoMemory),
         }
+    }
+}
+
+/// Recovers the log as `recover` does, and accepts only an end that the mode accepts. Any other is `Damage`, with the
+/// place where recovery ends and its reason.
+///
+/// The disk is read a little further where the mode asks for it: what stands behind the place, up to the file's end.
+pub fn recover_mode<D: Disk>(
+    alloc: Global,
+    disk: &mut D,
+    number: Option<u32>,
+    mode: Mode,
+) -> Result<Recovered, RecoverError>
+    ensures recovered { IfSome (D.told disk.old) (λ d. IfOk result (HasRecovered number d.content)) }
+    ensures accepted { IfSome (D.told disk.old) (λ d. IfOk result
+        (λ r. Accepts number mode d.content r.end.at r.end.why)) }
+    ensures damage { IfSome (D.told disk.old) (λ d. IfErr result (TellsDamage number mode d.content)) }
+    ensures numbered { IfOk result (λ r. IsNumbered r.map r.last) }
+    ensures worked { OnOk result (D.faults disk.new ≡ D.faults disk.old) }
+    ensures error { IfErr result (IsRecoverError mode (D.faults disk.old) (D.faults disk.new)) }
+    ensures disk { OnlyReads ⟦<D as Disk>⟧ disk.old disk.new }
+{
+    let recovered = recover(alloc, disk, number)?;
+    let End { at, why } = recovered.end;
+    match accepts(disk, number, mode, recovered.end) {
+        Ok(true) => Ok(recovered),
+        Ok(false) => Err(RecoverError::Damage { at, why }),
+        Err(count) => Err(RecoverError::Fault { count }),
     }
 }
 

@@ -10,14 +10,16 @@ use Rattle.model_base.specs.History.{IsHistory}
 use Rattle.model_base.specs.Map.{Pairs}
 use Rattle.model_base.specs.Script.{Script}
 use Rattle.run_outcome.specs.declared.outcome.Outcome.{Outcome}
+use Rattle.model_base.specs.declared.log.EndReason.{EndReason}
 use Rattle.model_base.specs.declared.options.Options.{Options}
+use Rattle.log_recovery.specs.declared.modes.Mode.{Mode}
 use Rattle.run_outcome.specs.declared.log_start.LogStart.{LogStart}
 use Rattle.run_outcome.specs.declared.log_start.LogStart.TheVariants.{New}
 use Rattle.run_outcome.specs.Running.{Execution, Before, GoesOnFrom, IsRunOf, HasRun, LeavesSafeLog, IsAsFound, IsReached}
 use Rattle.run_execution.specs.declared.end.RunEnd.{RunEnd}
 use Rattle.run_execution.specs.declared.end.RunEnd.TheVariants as end
-use Rattle.run_execution.specs.Ends.{HasOutcome, EndsOn, execution_on}
-use Rattle.program_text.specs.Refusals.{not_empty, disk_fault}
+use Rattle.run_execution.specs.Ends.{HasOutcome, EndsOn, IsAccepted, IsDamaged, Ran, execution_on}
+use Rattle.program_text.specs.Refusals.{damage, not_empty, disk_fault}
 use Rattle.program_call.specs.declared.reading.ReadError.{ReadError}
 use Rattle.program_call.specs.declared.reading.ReadError.TheVariants as read
 use Rattle.program_call.specs.declared.report.Form.{Form}
@@ -25,7 +27,7 @@ use Rattle.program_call.specs.declared.report.Status.{Status}
 use Rattle.program_call.specs.declared.report.Status.TheVariants as status
 use Rattle.program_call.specs.Texts.{SaysTo}
 use Rattle.program_call.specs.Reports.{Refuses, EndsSo, TellsEnd, TellsReadError, text_of, code}
-use Rattle.program_call.specs.Outcomes.{Observation, observation_of, IsScript, RanScript, RanWhole, DiskFailed, RanToSinkFault, RanOutOfMemory}
+use Rattle.program_call.specs.Outcomes.{Observation, observation_of, IsScript, RanScript, RanWhole, DiskFailed, RanToSinkFault, RanOutOfMemory, MetDamage}
 use Rattle.program_call.proofs.Memory.{all_whole, short_of}
 
 abbrev either : Bool → Type 0 → Type 0 → Type 0
@@ -37,6 +39,7 @@ module _ (seen : Observation) (failed fails kf kfs : ℕ) where
   pub record AtWhole : Type 0 where
     pub whole : RanWhole seen
     pub empty : seen.start ≡ New → IfSome seen.opened (λ d. d.content ≡ [])
+    pub accepted : IsAccepted seen.start seen.mode seen.opened
     pub disk : fails ≡ failed
     pub sink : kfs ≡ kf
 
@@ -47,6 +50,7 @@ module _ (seen : Observation) (failed fails kf kfs : ℕ) where
   pub record AtSinkFault : Type 0 where
     pub front : RanToSinkFault seen
     pub empty : seen.start ≡ New → IfSome seen.opened (λ d. d.content ≡ [])
+    pub accepted : IsAccepted seen.start seen.mode seen.opened
     pub rose : Rose kf kfs
 
   pub record AtNotEmpty : Type 0 where
@@ -59,7 +63,7 @@ module _ (seen : Observation) (failed fails kf kfs : ℕ) where
 
   -- of a status that no run has nothing is said
   abbrev pub AtStatus : ℕ → Type 0
-  AtStatus n = either (eqb n 0) AtWhole (either (eqb n 3) AtFault (either (eqb n 5) AtSinkFault (either (eqb n 6) (RanOutOfMemory seen) (either (eqb n 7) AtNotEmpty ⊤))))
+  AtStatus n = either (eqb n 0) AtWhole (either (eqb n 3) AtFault (either (eqb n 5) AtSinkFault (either (eqb n 6) (RanOutOfMemory seen) (either (eqb n 7) AtNotEmpty (either (eqb n 8) (MetDamage seen kf kfs) ⊤)))))
 
   -- nothing was run or printed for lack of memory
   pub nothing : (given : Status) → given ≡ status.Memory → IsAsFound seen.start seen.opened seen.ended → seen.after ≡ seen.before → AtStatus (code given)
@@ -76,9 +80,9 @@ module _ (seen : Observation) (failed fails kf kfs : ℕ) where
   unread read.NoMemory given same tells = nothing given tells.0 (inl same) tells.1
 
 -- A script was to be run: `here` is what the devices tell.
-module _ {D K : Type 0} (disk : disk.Ghosts D) (sink : sink.Ghosts K) (options : Options) (start : LogStart) (script : Script) (form : Form) (opened ended : D) (before after : K) where
+module _ {D K : Type 0} (disk : disk.Ghosts D) (sink : sink.Ghosts K) (options : Options) (start : LogStart) (mode : Mode) (script : Script) (form : Form) (opened ended : D) (before after : K) where
   abbrev here : Observation
-  here = observation_of disk sink (IsScript script) form options start opened ended before after
+  here = observation_of disk sink (IsScript script) form options start mode opened ended before after
 
   abbrev execution : Before → Execution
   execution from = execution_on disk options start from script opened ended
@@ -125,6 +129,12 @@ module _ {D K : Type 0} (disk : disk.Ghosts D) (sink : sink.Ghosts K) (options :
       subst (λ s. At (code s)) (sym said.0) there
   has_bytes len given plain same some is (inr none) = nothing here failed fails kf kfs given none.0 (inl same) none.1
 
+  is_damaged : (at : ℕ) (why : EndReason) (given : Status) → IsDamaged start mode old at why → new ≡ old → Refuses sold snew kf kfs (damage at why) status.Damage given → At (code given)
+  is_damaged at why given damaged same (inl said) =
+      let there : MetDamage here kf kfs = record { at = at; why = why; damaged = damaged; untouched = same; refused = said.1 } in
+      subst (λ s. At (code s)) (sym said.0) there
+  is_damaged at why given damaged same (inr none) = nothing here failed fails kf kfs given none.0 (inl same) none.1
+
   found_empty : (from : Before) (was is : Option Disk) (o : calls.Outcome) (run : IsRunOf (execution from) o) → Told was is (LeavesSafeLog (execution from) o run) → start ≡ New → IfSome was (λ d. d.content ≡ [])
   found_empty from None is o run log plain = tt
   found_empty from (Some d) (Some e) o run log plain = log.found_empty plain
@@ -144,8 +154,8 @@ module _ {D K : Type 0} (disk : disk.Ghosts D) (sink : sink.Ghosts K) (options :
     refusals = λ alive. ran.refusals (sym ran.shows.fault ∙ alive);
   }
 
-  ran_so : (from : Before) → GoesOnFrom start old from → (shown : Outcome Pairs) (ran : HasRun (execution from) old new shown) (given : Status) → EndsSo sold snew kf kfs shown (text_of form ran.outcome) given → At (code given)
-  ran_so from goes_on shown ran status.Done so = record {
+  ran_so : (from : Before) → GoesOnFrom start old from → IsAccepted start mode old → (shown : Outcome Pairs) (ran : HasRun (execution from) old new shown) (given : Status) → EndsSo sold snew kf kfs shown (text_of form ran.outcome) given → At (code given)
+  ran_so from goes_on accepted shown ran status.Done so = record {
     whole = record {
       outcome = ran.outcome;
       ran = ran_script from goes_on shown ran;
@@ -154,29 +164,31 @@ module _ {D K : Type 0} (disk : disk.Ghosts D) (sink : sink.Ghosts K) (options :
       whole = all_whole shown.transcripts.items ran.outcome.transcripts ran.shows.transcripts so.2;
     };
     empty = found_empty from old new ran.outcome ran.run ran.log;
+    accepted = accepted;
     disk = ran.counted so.1;
     sink = so.3;
   }
-  ran_so from goes_on shown ran status.Disk so =
+  ran_so from goes_on accepted shown ran status.Disk so =
       let fault : IsSome ran.outcome.fault = subst IsSome (sym ran.shows.fault) so.1 in
       record {
         told = inr (record { outcome = ran.outcome; ran = ran_script from goes_on shown ran; printed = so.0; fault = fault });
         rose = rose_so ran.outcome.fault fault ran.run.legal.fault;
       }
-  ran_so from goes_on shown ran status.Sink so = record {
+  ran_so from goes_on accepted shown ran status.Sink so = record {
     front = record { outcome = ran.outcome; ran = ran_script from goes_on shown ran; printed = (so.1, so.2) };
     empty = found_empty from old new ran.outcome ran.run ran.log;
+    accepted = accepted;
     rose = so.0;
   }
-  ran_so from goes_on shown ran status.Memory (inl none) = inr (inl (record { outcome = ran.outcome; ran = ran_script from goes_on shown ran; silent = none }))
-  ran_so from goes_on shown ran status.Memory (inr so) = inr (inr (record {
+  ran_so from goes_on accepted shown ran status.Memory (inl none) = inr (inl (record { outcome = ran.outcome; ran = ran_script from goes_on shown ran; silent = none }))
+  ran_so from goes_on accepted shown ran status.Memory (inr so) = inr (inr (record {
     outcome = ran.outcome;
     ran = ran_script from goes_on shown ran;
     printed = so.0;
     no_fault = ran.shows.fault ∙ so.1;
     short = short_of shown ran.outcome ran.shows so.2;
   }))
-  ran_so from goes_on shown ran other so = absurd so
+  ran_so from goes_on accepted shown ran other so = absurd so
 
   no_outcome : (from : Before) → GoesOnFrom start old from → (ran : HasOutcome (execution from) old new) → RanScript here ran.outcome
   no_outcome from goes_on ran = record {
@@ -188,15 +200,16 @@ module _ {D K : Type 0} (disk : disk.Ghosts D) (sink : sink.Ghosts K) (options :
     refusals = ran.refusals;
   }
 
-  pub ended_so : (e : RunEnd) (given : Status) → EndsOn disk options start script opened ended e → TellsEnd form sold snew kf kfs e given → At (code given)
-  ended_so (end.DiskFault count) given ends tells = disk_refused count given ends.0 ends.1 tells
-  ended_so (end.NotEmpty len) given ends tells = has_bytes len given ends.0 ends.1 ends.2 ends.3 tells
-  ended_so end.NoMemory given ends tells = nothing here failed fails kf kfs given tells.0 ends tells.1
-  ended_so end.NoOutcome given (from, goes_on, has) tells =
+  pub ended_so : (e : RunEnd) (given : Status) → EndsOn disk options start mode script opened ended e → (Ran e → IsAccepted start mode old) → TellsEnd form sold snew kf kfs e given → At (code given)
+  ended_so (end.DiskFault count) given ends accepted tells = disk_refused count given ends.0 ends.1 tells
+  ended_so (end.NotEmpty len) given ends accepted tells = has_bytes len given ends.0 ends.1 ends.2 ends.3 tells
+  ended_so (end.Damage at why) given ends accepted tells = is_damaged at why given ends.0 ends.1 tells
+  ended_so end.NoMemory given ends accepted tells = nothing here failed fails kf kfs given tells.0 ends tells.1
+  ended_so end.NoOutcome given (from, goes_on, has) accepted tells =
       let ran : RanScript here has.outcome = no_outcome from goes_on has in
       subst (λ s. At (code s)) (sym tells.0) (inr (inl (record { outcome = has.outcome; ran = ran; silent = tells.1 })))
-  ended_so (end.Ran shown) given (from, goes_on, ran) tells =
+  ended_so (end.Ran shown) given (from, goes_on, ran) accepted tells =
       let legal = ran.run.legal in
       let begun = ran.run.trace.start in
       let history : IsHistory begun ran.outcome.history = subst (λ entries. IsHistory begun entries) (sym legal.history) legal.is_trace.entries in
-      ran_so from goes_on shown ran given (tells ran.outcome begun history ran.shows)
+      ran_so from goes_on (accepted tt) shown ran given (tells ran.outcome begun history ran.shows)

@@ -6,6 +6,8 @@ use Rattle.base_devices.specs.declared.disk.Disk as disk
 use Rattle.base_devices.specs.declared.sink.Sink as sink
 use Rattle.model_base.specs.Script.{Script}
 use Rattle.model_base.specs.declared.options.Options.{Options}
+use Rattle.log_recovery.specs.declared.modes.Mode.{Mode}
+use Rattle.log_recovery.specs.declared.modes.Mode.TheVariants.{Point}
 use Rattle.replay_core.specs.declared.state.CoreOptions.{CoreOptions}
 use Rattle.run_outcome.specs.declared.log_start.LogStart.{LogStart}
 use Rattle.run_outcome.specs.declared.log_start.LogStart.TheVariants.{New}
@@ -26,25 +28,26 @@ tells_disk : (s t : Option (List ℕ)) (d : Option Disk) (P : List ℕ → List 
 tells_disk (Some x) (Some y) (Some e) P all = all x y e
 tells_disk s t d P all = tt
 
-no_device : (n : ℕ) → n ≡ 6 → (n ≡ 0) ⊎ (n ≡ 3) ⊎ (n ≡ 5) ⊎ (n ≡ 7) → ⊥
+no_device : (n : ℕ) → n ≡ 6 → (n ≡ 0) ⊎ (n ≡ 3) ⊎ (n ≡ 5) ⊎ (n ≡ 7) ⊎ (n ≡ 8) → ⊥
 no_device n six (inl e) = omega (arith, six, e)
 no_device n six (inr (inl e)) = omega (arith, six, e)
 no_device n six (inr (inr (inl e))) = omega (arith, six, e)
-no_device n six (inr (inr (inr e))) = omega (arith, six, e)
+no_device n six (inr (inr (inr (inl e)))) = omega (arith, six, e)
+no_device n six (inr (inr (inr (inr e)))) = omega (arith, six, e)
 
 no_text : (n : ℕ) → n ≡ 6 → (n ≡ 0) ⊎ (n ≡ 5) → ⊥
 no_text n six (inl e) = omega (arith, six, e)
 no_text n six (inr e) = omega (arith, six, e)
 
 module _ {S D K : Type 0} (source : source.Ghosts S) (disk : disk.Ghosts D) (sink : sink.Ghosts K) (had : S) (opened : D) (before : K) (n : ℕ) (six : n ≡ 6) where
-  runs_none : (says : Script → Type 0) (form : Form) (options : Options) (start : LogStart) → RunsScript disk sink (observation_of disk sink says form options start opened opened before before) opened opened before before n
-  runs_none says form options start =
-      let At : ℕ → Type 0 = λ m. AtStatus (observation_of disk sink says form options start opened opened before before) (disk.faults opened) (disk.faults opened) (sink.faults before) (sink.faults before) m in
+  runs_none : (says : Script → Type 0) (form : Form) (options : Options) (start : LogStart) (mode : Mode) → RunsScript disk sink (observation_of disk sink says form options start mode opened opened before before) opened opened before before n
+  runs_none says form options start mode =
+      let At : ℕ → Type 0 = λ m. AtStatus (observation_of disk sink says form options start mode opened opened before before) (disk.faults opened) (disk.faults opened) (sink.faults before) (sink.faults before) m in
       let none : At 6 = inl (record { untouched = inl refl; silent = refl }) in
-      runs_script disk sink says form options start opened opened before before n (subst At (sym six) none)
+      runs_script disk sink says form options start mode opened opened before before n (subst At (sym six) none)
 
-  pub none_run : (options : Options) (start : LogStart) → AnswersRun source disk sink had had opened opened before before options start n
-  none_run options start = record {
+  pub none_run : (options : Options) (start : LogStart) (mode : Mode) → AnswersRun source disk sink had had opened opened before before options start mode n
+  none_run options start mode = record {
     other = (omega (arith, six), λ e. omega (arith, six, e));
     script = λ e. absurd (omega (arith, six, e));
     other_script = λ e. absurd (e six);
@@ -52,32 +55,33 @@ module _ {S D K : Type 0} (source : source.Ghosts S) (disk : disk.Ghosts D) (sin
     source_stood = λ e. absurd (omega (arith, six, e));
     read_to_end = λ e. absurd (no_device n six e);
     disk_untouched = λ e. refl;
-    runs = runs_none (SaysScript (source.left had)) form.Whole options start;
-    completes = λ a b c. if_some _ (source.left had) (λ text. if_some _ (disk.told opened) (λ d script said fit. inr six));
+    runs = runs_none (SaysScript (source.left had)) form.Whole options start mode;
+    completes = λ a b c no_damage. if_some _ (source.left had) (λ text. if_some _ (disk.told opened) (λ d script said fit. inr six));
   }
 
   pub none_generated : (seed clients batches : ℕ) → AnswersGenerate source disk sink had had opened opened before before seed clients batches n
   none_generated seed clients batches = record {
     one = inr (inr (inr (inl six)));
     source_untouched = refl;
-    runs = runs_none (IsGenerated seed clients batches) form.Summary usual_options New;
+    runs = runs_none (IsGenerated seed clients batches) form.Summary usual_options New Point;
     completes = λ a b. if_some _ (disk.told opened) (λ d none. inr six);
     one_summary = λ e. absurd (omega (arith, six, e));
   }
 
-  pub none_recovered : (number : Option ℕ) → AnswersRecover source disk sink had had opened opened before before number n
-  none_recovered number = record {
-    one = inr (inr (inr six));
+  pub none_recovered : (number : Option ℕ) (mode : Mode) → AnswersRecover source disk sink had had opened opened before before number mode n
+  none_recovered number mode = record {
+    one = inr (inr (inr (inl six)));
     source_untouched = refl;
     as_before = refl;
     no_fault = λ e. absurd (omega (arith, six, e));
     disk_failed = λ e. absurd (omega (arith, six, e));
     sink_failed = λ e. absurd (omega (arith, six, e));
-    recovered = tells_disk (sink.taken before) (sink.taken before) (disk.told opened) (λ x y d. n ≡ 0 → Recovers number x y d.content) (λ x y d e. absurd (omega (arith, six, e)));
-    recovered_prefix = tells_disk (sink.taken before) (sink.taken before) (disk.told opened) (λ x y d. n ≡ 5 → RecoversFront number x y d.content) (λ x y d e. absurd (omega (arith, six, e)));
+    recovered = tells_disk (sink.taken before) (sink.taken before) (disk.told opened) (λ x y d. n ≡ 0 → Recovers number mode x y d.content) (λ x y d e. absurd (omega (arith, six, e)));
+    recovered_prefix = tells_disk (sink.taken before) (sink.taken before) (disk.told opened) (λ x y d. n ≡ 5 → RecoversFront number mode x y d.content) (λ x y d e. absurd (omega (arith, six, e)));
     refused = λ e. absurd (omega (arith, six, e));
+    damaged = λ e. absurd (omega (arith, six, e));
     silent = λ e. refl;
-    completes = λ a b. inr six;
+    completes = λ a b no_damage. inr six;
   }
 
   pub none_replayed : (options : CoreOptions) → AnswersReplay source disk sink had had opened opened before before options n

@@ -6,12 +6,14 @@ use Rattle.base_devices.specs.Disk.{Disk}
 use Rattle.model_base.specs.Calls as calls
 use Rattle.model_base.specs.Script.{Script}
 use Rattle.model_base.specs.declared.options.Options.{Options}
+use Rattle.log_recovery.specs.declared.modes.Mode.{Mode}
 use Rattle.run_outcome.specs.declared.log_start.LogStart.{LogStart}
 use Rattle.run_outcome.specs.declared.log_start.LogStart.TheVariants.{New}
 use Rattle.program_call.specs.declared.report.Form.{Form}
 use Rattle.program_call.specs.Texts.{Stood}
-use Rattle.program_call.specs.Outcomes.{Observation, observation_of, RanScript, RanWhole, DiskFailed, RanOutOfMemory}
-use Rattle.program_call.specs.Answers.{RunsScript}
+use Rattle.program_call.specs.Outcomes.{Observation, observation_of, RanScript, RanWhole, DiskFailed, RanOutOfMemory, MetDamage}
+use Rattle.program_call.specs.Answers.{MeetsNoDamage, RunsScript}
+use Rattle.run_execution.specs.Ends.{IsAccepted}
 use Rattle.program_call.proofs.Endings.{AtStatus, AtWhole, AtFault, AtSinkFault, AtNotEmpty}
 
 not_some : (xs : List ℕ) → xs ≡ [] → 0 < length xs → ⊥
@@ -38,12 +40,19 @@ module _ {D K : Type 0} (disk : disk.Ghosts D) (sink : sink.Ghosts K) (seen : Ob
   at_not_empty : (n : ℕ) → At n → n ≡ 7 → AtNotEmpty seen (disk.faults opened) (disk.faults ended) (sink.faults before) (sink.faults after)
   at_not_empty n at is = subst At is at
 
+  at_damage : (n : ℕ) → At n → n ≡ 8 → MetDamage seen (sink.faults before) (sink.faults after)
+  at_damage n at is = subst At is at
+
+  at_accepted : (n : ℕ) → At n → (n ≡ 0) ⊎ (n ≡ 5) → IsAccepted seen.start seen.mode seen.opened
+  at_accepted n at (inl is) = (at_whole n at is).accepted
+  at_accepted n at (inr is) = (at_sink_fault n at is).accepted
+
 -- at a status that comes with so much
-pub runs_script : {D K : Type 0} (disk : disk.Ghosts D) (sink : sink.Ghosts K) (says : Script → Type 0) (form : Form) (options : Options) (start : LogStart) (opened ended : D) (before after : K) (n : ℕ)
-    → AtStatus (observation_of disk sink says form options start opened ended before after) (disk.faults opened) (disk.faults ended) (sink.faults before) (sink.faults after) n
-    → RunsScript disk sink (observation_of disk sink says form options start opened ended before after) opened ended before after n
-runs_script disk sink says form options start opened ended before after n at =
-    let seen : Observation = observation_of disk sink says form options start opened ended before after in
+pub runs_script : {D K : Type 0} (disk : disk.Ghosts D) (sink : sink.Ghosts K) (says : Script → Type 0) (form : Form) (options : Options) (start : LogStart) (mode : Mode) (opened ended : D) (before after : K) (n : ℕ)
+    → AtStatus (observation_of disk sink says form options start mode opened ended before after) (disk.faults opened) (disk.faults ended) (sink.faults before) (sink.faults after) n
+    → RunsScript disk sink (observation_of disk sink says form options start mode opened ended before after) opened ended before after n
+runs_script disk sink says form options start mode opened ended before after n at =
+    let seen : Observation = observation_of disk sink says form options start mode opened ended before after in
     record {
       no_fault = λ e. let whole = at_whole disk sink seen opened ended before after n at e in (whole.disk, whole.sink);
       disk_failed = λ e. (at_fault disk sink seen opened ended before after n at e).rose;
@@ -51,6 +60,8 @@ runs_script disk sink says form options start opened ended before after n at =
       not_empty = λ e. let told = at_not_empty disk sink seen opened ended before after n at e in (told.plain, told.len, told.some, told.of_disk, told.says);
       as_before = λ e. (at_not_empty disk sink seen opened ended before after n at e).as_before;
       empty = λ plain. empty_so (disk.told opened) n (λ e. (at_whole disk sink seen opened ended before after n at e).empty plain) (λ e. (at_sink_fault disk sink seen opened ended before after n at e).empty plain);
+      damaged = λ e. at_damage disk sink seen opened ended before after n at e;
+      accepted = λ e. at_accepted disk sink seen opened ended before after n at e;
       ran = λ e. (at_whole disk sink seen opened ended before after n at e).whole;
       ran_to_fault = λ e. (at_fault disk sink seen opened ended before after n at e).told;
       ran_to_sink_fault = λ e. (at_sink_fault disk sink seen opened ended before after n at e).front;
@@ -63,22 +74,23 @@ not_refused start found len plain some is (inl none) = omega (arith, some, is, n
 not_refused start found len plain some is (inr other) = other plain
 
 -- where no device fails a run over such a log ends well, lack of memory aside
-completes_so : (told : Option Disk) (start : LogStart) (n : ℕ) (Says : ℕ → Type 0) → (n ≡ 0) ⊎ (n ≡ 3) ⊎ (n ≡ 5) ⊎ (n ≡ 6) ⊎ (n ≡ 7) → (n ≡ 3 → ⊥) → (n ≡ 5 → ⊥)
+completes_so : (told : Option Disk) (start : LogStart) (n : ℕ) (Says : ℕ → Type 0) → (n ≡ 0) ⊎ (n ≡ 3) ⊎ (n ≡ 5) ⊎ (n ≡ 6) ⊎ (n ≡ 7) ⊎ (n ≡ 8) → (n ≡ 3 → ⊥) → (n ≡ 5 → ⊥) → (n ≡ 8 → ⊥)
     → (n ≡ 7 → (start ≡ New) × (len : ℕ) × (0 < len) × IfSome told (λ d. length d.content ≡ len) × Says len)
     → IfSome told (λ d. (length d.content ≡ 0) ⊎ (start ≢ New) → (n ≡ 0) ⊎ (n ≡ 6))
-completes_so None start n Says one not_3 not_5 at_7 = tt
-completes_so (Some d) start n Says (inl e) not_3 not_5 at_7 = λ fit. inl e
-completes_so (Some d) start n Says (inr (inl e)) not_3 not_5 at_7 = λ fit. absurd (not_3 e)
-completes_so (Some d) start n Says (inr (inr (inl e))) not_3 not_5 at_7 = λ fit. absurd (not_5 e)
-completes_so (Some d) start n Says (inr (inr (inr (inl e)))) not_3 not_5 at_7 = λ fit. inr e
-completes_so (Some d) start n Says (inr (inr (inr (inr e)))) not_3 not_5 at_7 =
+completes_so None start n Says one not_3 not_5 not_8 at_7 = tt
+completes_so (Some d) start n Says (inl e) not_3 not_5 not_8 at_7 = λ fit. inl e
+completes_so (Some d) start n Says (inr (inl e)) not_3 not_5 not_8 at_7 = λ fit. absurd (not_3 e)
+completes_so (Some d) start n Says (inr (inr (inl e))) not_3 not_5 not_8 at_7 = λ fit. absurd (not_5 e)
+completes_so (Some d) start n Says (inr (inr (inr (inl e)))) not_3 not_5 not_8 at_7 = λ fit. inr e
+completes_so (Some d) start n Says (inr (inr (inr (inr (inr e))))) not_3 not_5 not_8 at_7 = λ fit. absurd (not_8 e)
+completes_so (Some d) start n Says (inr (inr (inr (inr (inl e))))) not_3 not_5 not_8 at_7 =
     λ fit. absurd (let seven = at_7 e in not_refused start (length d.content) seven.1 seven.0 seven.2 seven.3 fit)
 
 pub completes : {D K : Type 0} (disk : disk.Ghosts D) (sink : sink.Ghosts K) (seen : Observation) (opened ended : D) (before after : K) (n : ℕ) → RunsScript disk sink seen opened ended before after n
-    → (n ≡ 0) ⊎ (n ≡ 3) ⊎ (n ≡ 5) ⊎ (n ≡ 6) ⊎ (n ≡ 7) → Stood (sink.faults before) (sink.faults after) → Stood (disk.faults opened) (disk.faults ended)
+    → (n ≡ 0) ⊎ (n ≡ 3) ⊎ (n ≡ 5) ⊎ (n ≡ 6) ⊎ (n ≡ 7) ⊎ (n ≡ 8) → Stood (sink.faults before) (sink.faults after) → Stood (disk.faults opened) (disk.faults ended) → MeetsNoDamage seen.start seen.mode seen.opened
     → IfSome (disk.told opened) (λ d. (length d.content ≡ 0) ⊎ (seen.start ≢ New) → (n ≡ 0) ⊎ (n ≡ 6))
-completes disk sink seen opened ended before after n runs one sink_stood disk_stood =
-    completes_so (disk.told opened) seen.start n _ one (λ e. disk_stood (runs.disk_failed e)) (λ e. sink_stood (runs.sink_failed e)) runs.not_empty
+completes disk sink seen opened ended before after n runs one sink_stood disk_stood no_damage =
+    completes_so (disk.told opened) seen.start n _ one (λ e. disk_stood (runs.disk_failed e)) (λ e. sink_stood (runs.sink_failed e)) (λ e. let met = runs.damaged e in no_damage met.at met.why met.damaged) runs.not_empty
 
 -- and so one over an empty log
 pub over_empty : (told : Option Disk) (A B : Type 0) → IfSome told (λ d. (length d.content ≡ 0) ⊎ A → B) → IfSome told (λ d. length d.content ≡ 0 → B)
@@ -88,7 +100,7 @@ over_empty (Some d) A B ends = λ none. ends (inl none)
 -- What says more of a script says it of the one that was run.
 module _ (seen : Observation) (says : Script → Type 0) (tells : (s : Script) → seen.says s → says s) where
   abbrev retold : Observation
-  retold = record { says = says; form = seen.form; start = seen.start; before = seen.before; after = seen.after; opened = seen.opened; ended = seen.ended; execution = seen.execution }
+  retold = record { says = says; form = seen.form; start = seen.start; mode = seen.mode; before = seen.before; after = seen.after; opened = seen.opened; ended = seen.ended; execution = seen.execution }
 
   ran_script : (o : calls.Outcome) → RanScript seen o → RanScript retold o
   ran_script o ran = record {
@@ -128,6 +140,8 @@ module _ (seen : Observation) (says : Script → Type 0) (tells : (s : Script) �
     not_empty = runs.not_empty;
     as_before = runs.as_before;
     empty = runs.empty;
+    damaged = λ e. let met = runs.damaged e in record { at = met.at; why = met.why; damaged = met.damaged; untouched = met.untouched; refused = met.refused };
+    accepted = runs.accepted;
     ran = λ e. ran_whole (runs.ran e);
     ran_to_fault = λ e. disk_failed _ _ _ _ (runs.ran_to_fault e);
     ran_to_sink_fault = λ e. let r = runs.ran_to_sink_fault e in record { outcome = r.outcome; ran = ran_script r.outcome r.ran; printed = r.printed };

@@ -9,19 +9,28 @@ use Rattle.model_base.specs.Script.{Script, Fault, script_of, whole_grammar}
 use Rattle.model_base.specs.Generator.{script_of_seed}
 use Rattle.model_core.specs.Schedule.{Schedule, schedule_of}
 use Rattle.run_scripts.specs.ReplayLanguage.{replay_grammar, event_words}
+use Rattle.base_devices.specs.Disk.{Disk}
+use Rattle.model_base.specs.declared.log.EndReason.{EndReason}
 use Rattle.model_base.specs.declared.options.Options.{Options}
+use Rattle.log_recovery.specs.declared.modes.Mode.{Mode}
+use Rattle.log_recovery.specs.declared.modes.Mode.TheVariants.{Point}
 use Rattle.replay_core.specs.declared.state.CoreOptions.{CoreOptions}
-use Rattle.program_text.specs.Refusals.{usage, script_fault, source_fault, disk_fault, not_empty}
+use Rattle.program_text.specs.Refusals.{damage, usage, script_fault, source_fault, disk_fault, not_empty}
 use Rattle.run_outcome.specs.declared.log_start.LogStart.{LogStart}
-use Rattle.run_outcome.specs.declared.log_start.LogStart.TheVariants.{New}
+use Rattle.run_outcome.specs.declared.log_start.LogStart.TheVariants.{New, Behind}
 use Rattle.run_outcome.specs.Running.{IsReached}
 use Rattle.run_laws.specs.Summaries.{summary_of}
+use Rattle.run_execution.specs.Ends.{IsAccepted, IsDamaged}
 use Rattle.program_call.specs.declared.report.Form.TheVariants as form
 use Rattle.program_call.specs.Asking.{usual_options}
-use Rattle.program_call.specs.Outcomes.{Observation, observation_of, SaysScript, IsGenerated, RanWhole, DiskFailed, RanToSinkFault, RanOutOfMemory}
+use Rattle.program_call.specs.Outcomes.{Observation, observation_of, SaysScript, IsGenerated, RanWhole, DiskFailed, RanToSinkFault, RanOutOfMemory, MetDamage}
 use Rattle.program_call.specs.Recovers.{TellsDisk, Recovers, RecoversFront}
 use Rattle.program_call.specs.Replays.{Replays, ReplaysFront}
 use Rattle.program_call.specs.Texts.{Stood, SaysTo}
+
+-- the log doesn't go on, or its recovery ends where the mode accepts it
+abbrev pub MeetsNoDamage : LogStart → Mode → Option Disk → Type 0
+MeetsNoDamage start mode told = (at : ℕ) (why : EndReason) → IsDamaged start mode told at why → ⊥
 
 -- A script was run over the log of a disk, or would have been.
 module _ {D K : Type 0} (disk : disk.Ghosts D) (sink : sink.Ghosts K) (seen : Observation) (opened ended : D)
@@ -39,6 +48,10 @@ module _ {D K : Type 0} (disk : disk.Ghosts D) (sink : sink.Ghosts K) (seen : Ob
     pub as_before : status ≡ 7 → disk.told ended ≡ disk.told opened
     pub empty : seen.start ≡ New
         → IfSome (disk.told opened) (λ d. 0 < length d.content → (status ≢ 0) × (status ≢ 5))
+    -- 8: The log was to go on, and the mode doesn't accept where its recovery ends. It stays as it was. At 0 and 5 the
+    -- mode accepted that.
+    pub damaged : status ≡ 8 → MetDamage seen (sink.faults before) (sink.faults after)
+    pub accepted : (status ≡ 0) ⊎ (status ≡ 5) → IsAccepted seen.start seen.mode seen.opened
     -- However the clients' threads interleave, every reply in the output is that of a plain map at its point of one
     -- printed history of whole batches, in which each client's acknowledged batches stand once, in its order, each
     -- under its own run of sequences; and a crash at any moment of the run leaves a log that recovers a prefix of the
@@ -74,9 +87,9 @@ module _ {S D K : Type 0} (source : source.Ghosts S) (disk : disk.Ghosts D) (sin
     pub source_untouched : has ≡ had
     pub disk_untouched : ended ≡ opened
 
-  -- `run`, over a log that is opened so
-  pub record AnswersRun (options : Options) (start : LogStart) (status : ℕ) : Type 0 where
-    pub other : (status < 8) × (status ≢ 1)
+  -- `run`, over a log that is opened so, by this mode where it goes on
+  pub record AnswersRun (options : Options) (start : LogStart) (mode : Mode) (status : ℕ) : Type 0 where
+    pub other : (status < 9) × (status ≢ 1)
     -- 2: the text isn't a script, and its first fault is told
     pub script : status ≡ 2 → (f : Fault)
         × IfSome (source.left had) (λ text. script_of whole_grammar text ≡ Err f) × Says (script_fault f)
@@ -86,17 +99,17 @@ module _ {S D K : Type 0} (source : source.Ghosts S) (disk : disk.Ghosts D) (sin
     pub source_failed : status ≡ 4 → SourceFailed
     pub source_stood : status ≡ 0 → source.faults has ≡ source.faults had
     -- where the script was run, or would have been, the source was read to its end
-    pub read_to_end : (status ≡ 0) ⊎ (status ≡ 3) ⊎ (status ≡ 5) ⊎ (status ≡ 7)
+    pub read_to_end : (status ≡ 0) ⊎ (status ≡ 3) ⊎ (status ≡ 5) ⊎ (status ≡ 7) ⊎ (status ≡ 8)
         → IfSome (source.left has) (λ left. left ≡ [])
     -- a refusal of the text never comes to the disk
     pub disk_untouched : (status ≡ 2) ⊎ (status ≡ 4) → ended ≡ opened
     pub runs : RunsScript disk sink
-        (observation_of disk sink (SaysScript (source.left had)) form.Whole options start opened ended
+        (observation_of disk sink (SaysScript (source.left had)) form.Whole options start mode opened ended
         before after) opened ended before after status
-    -- where no device fails, a script over an empty log ends well, and so does one whose log is written over or goes
-    -- on, lack of memory aside
+    -- where no device fails and no damage is met, a script over an empty log ends well, and so does one whose log is
+    -- written over or goes on, lack of memory aside
     pub completes : Stood (source.faults had) (source.faults has) → Stood (sink.faults before) (sink.faults after)
-        → Stood (disk.faults opened) (disk.faults ended)
+        → Stood (disk.faults opened) (disk.faults ended) → MeetsNoDamage start mode (disk.told opened)
         → IfSome (source.left had) (λ text. IfSome (disk.told opened) (λ d. (script : Script)
         → script_of whole_grammar text ≡ Ok script → (length d.content ≡ 0) ⊎ (start ≢ New)
         → (status ≡ 0) ⊎ (status ≡ 6)))
@@ -106,7 +119,7 @@ module _ {S D K : Type 0} (source : source.Ghosts S) (disk : disk.Ghosts D) (sin
     pub one : (status ≡ 0) ⊎ (status ≡ 3) ⊎ (status ≡ 5) ⊎ (status ≡ 6) ⊎ (status ≡ 7)
     pub source_untouched : has ≡ had
     pub runs : RunsScript disk sink
-        (observation_of disk sink (IsGenerated seed clients batches) form.Summary usual_options New
+        (observation_of disk sink (IsGenerated seed clients batches) form.Summary usual_options New Point
         opened ended before after) opened ended before after status
     -- where no device fails a run over an empty log ends well, lack of memory aside
     pub completes : Stood (sink.faults before) (sink.faults after) → Stood (disk.faults opened) (disk.faults ended)
@@ -115,25 +128,28 @@ module _ {S D K : Type 0} (source : source.Ghosts S) (disk : disk.Ghosts D) (sin
     pub one_summary : status ≡ 0
         → Appends (sink.taken before) (sink.taken after) (summary_of (script_of_seed seed clients batches))
 
-  -- `recover`: what the log recovers, read with this number or with none, is printed, whatever its bytes are, and
-  -- nothing else is touched
-  pub record AnswersRecover (number : Option ℕ) (status : ℕ) : Type 0 where
-    pub one : (status ≡ 0) ⊎ (status ≡ 3) ⊎ (status ≡ 5) ⊎ (status ≡ 6)
+  -- `recover`: what the log recovers, read with this number or with none, is printed, whatever its bytes are, where the
+  -- mode accepts its end, and nothing else is touched
+  pub record AnswersRecover (number : Option ℕ) (mode : Mode) (status : ℕ) : Type 0 where
+    pub one : (status ≡ 0) ⊎ (status ≡ 3) ⊎ (status ≡ 5) ⊎ (status ≡ 6) ⊎ (status ≡ 8)
     pub source_untouched : has ≡ had
     pub as_before : disk.told ended ≡ disk.told opened
     pub no_fault : status ≡ 0 → (disk.faults ended ≡ disk.faults opened) × (sink.faults after ≡ sink.faults before)
     pub disk_failed : status ≡ 3 → Rose (disk.faults opened) (disk.faults ended)
     pub sink_failed : status ≡ 5 → Rose (sink.faults before) (sink.faults after)
     pub recovered : TellsDisk (sink.taken before) (sink.taken after) (disk.told opened)
-        (λ x y d. status ≡ 0 → Recovers number x y d.content)
+        (λ x y d. status ≡ 0 → Recovers number mode x y d.content)
     pub recovered_prefix : TellsDisk (sink.taken before) (sink.taken after) (disk.told opened)
-        (λ x y d. status ≡ 5 → RecoversFront number x y d.content)
+        (λ x y d. status ≡ 5 → RecoversFront number mode x y d.content)
     pub refused : status ≡ 3 → (count : ℕ) × IsReached (disk.faults opened) count (disk.faults ended)
         × Says (disk_fault count)
+    -- 8: the mode doesn't accept where the log's recovery ends, and that was said
+    pub damaged : status ≡ 8 → (at : ℕ) × (why : EndReason)
+        × IsDamaged (Behind number) mode (disk.told opened) at why × Says (damage at why)
     pub silent : status ≡ 6 → sink.taken after ≡ sink.taken before
-    -- where no device fails it ends well, lack of memory aside
+    -- where no device fails and no damage is met it ends well, lack of memory aside
     pub completes : Stood (sink.faults before) (sink.faults after) → Stood (disk.faults opened) (disk.faults ended)
-        → (status ≡ 0) ⊎ (status ≡ 6)
+        → MeetsNoDamage (Behind number) mode (disk.told opened) → (status ≡ 0) ⊎ (status ≡ 6)
 
   -- `replay`: what a schedule comes to on the core is printed, and the disk isn't looked at
   pub record AnswersReplay (options : CoreOptions) (status : ℕ) : Type 0 where

@@ -6,6 +6,7 @@ use Rattle.program_words.specs.declared.invocation.Invocation.{Invocation}
 use Rattle.program_words.specs.declared.invocation.Invocation.TheVariants.{Run, Generate, Recover, Replay}
 use Rattle.program_words.specs.Meaning.{invocation_of}
 use Rattle.model_base.specs.declared.options.Options.{Options}
+use Rattle.log_recovery.specs.declared.modes.Mode.{Mode}
 use Rattle.replay_core.specs.declared.state.CoreOptions.{CoreOptions}
 use Rattle.run_outcome.specs.declared.log_start.LogStart.{LogStart}
 use Rattle.run_outcome.specs.declared.log_start.LogStart.TheVariants.{New, Over, Behind}
@@ -21,11 +22,12 @@ start_of number true = Behind number
 start_of (Some number) false = Over number
 start_of None false = New
 
--- to run a script over a log that is opened so, in one stage or two, over a table of some shards, or of none
-abbrev pub AskToRun : List (String Global) → Options → LogStart → Type 0
-AskToRun words options start = (pipelined : Bool) × (shards : Option ℕ) × (number : Option ℕ) × (resume : Bool)
+-- to run a script over a log that is opened so, by this mode where it goes on, in one stage or two, over a table of
+-- some shards, or of none
+abbrev pub AskToRun : List (String Global) → Options → LogStart → Mode → Type 0
+AskToRun words options start mode = (pipelined : Bool) × (shards : Option ℕ) × (number : Option ℕ) × (resume : Bool)
     × (invocation_of words
-    ≡ Some (Run pipelined shards options.group_bytes options.batch_bytes options.last number resume))
+    ≡ Some (Run pipelined shards options.group_bytes options.batch_bytes options.last number resume mode))
     × (start ≡ start_of number resume)
 
 -- to run the script that a seed makes, for so many clients with so many batches each, over such a table
@@ -37,9 +39,9 @@ AskToGenerate words seed clients batches = (pipelined : Bool) × (shards : Optio
 abbrev pub usual_options : Options
 usual_options = record { last = 0; group_bytes = 1048576; batch_bytes = MAX_SIZE }
 
--- to say what the log recovers, read as one with this number, or with none
-abbrev pub AskToRecover : List (String Global) → Option ℕ → Type 0
-AskToRecover words number = invocation_of words ≡ Some (Recover number)
+-- to say what the log recovers by this mode, read as one with this number, or with none
+abbrev pub AskToRecover : List (String Global) → Option ℕ → Mode → Type 0
+AskToRecover words number mode = invocation_of words ≡ Some (Recover number mode)
 
 -- to run a schedule on the core
 abbrev pub AskToReplay : List (String Global) → CoreOptions → Type 0
@@ -47,9 +49,9 @@ AskToReplay words options =
     invocation_of words ≡ Some (Replay options.pipelined options.group_bytes options.batch_bytes options.last)
 
 -- The same of an invocation that was read: to run a script
-abbrev pub IsToRun : Invocation → Options → LogStart → Type 0
-IsToRun asked options start = (pipelined : Bool) × (shards : Option ℕ) × (number : Option ℕ) × (resume : Bool)
-    × (asked ≡ Run pipelined shards options.group_bytes options.batch_bytes options.last number resume)
+abbrev pub IsToRun : Invocation → Options → LogStart → Mode → Type 0
+IsToRun asked options start mode = (pipelined : Bool) × (shards : Option ℕ) × (number : Option ℕ) × (resume : Bool)
+    × (asked ≡ Run pipelined shards options.group_bytes options.batch_bytes options.last number resume mode)
     × (start ≡ start_of number resume)
 
 -- to run the script of a seed

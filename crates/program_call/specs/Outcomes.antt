@@ -11,12 +11,14 @@ use Rattle.model_base.specs.Calls as calls
 use Rattle.model_base.specs.Script.{Script, script_of, whole_grammar}
 use Rattle.model_base.specs.Generator.{script_of_seed}
 use Rattle.model_base.specs.Runs.{NoneWithoutMemory}
+use Rattle.model_base.specs.declared.log.EndReason.{EndReason}
 use Rattle.model_base.specs.declared.options.Options.{Options}
+use Rattle.log_recovery.specs.declared.modes.Mode.{Mode}
 use Rattle.run_outcome.specs.declared.log_start.LogStart.{LogStart}
 use Rattle.run_outcome.specs.Running.{Execution, Before, GoesOnFrom, IsRunOf, LeavesSafeLog, IsAsFound, IsReached}
 use Rattle.model_runs.specs.Refusals.{AreRefusedForThemselves}
-use Rattle.run_execution.specs.Ends.{execution_on}
-use Rattle.program_text.specs.Refusals.{disk_fault}
+use Rattle.run_execution.specs.Ends.{IsDamaged, execution_on}
+use Rattle.program_text.specs.Refusals.{damage, disk_fault}
 use Rattle.program_call.specs.declared.report.Form.{Form}
 use Rattle.program_call.specs.Reports.{text_of}
 use Rattle.program_call.specs.Texts.{SaysTo, TakesPrefix}
@@ -33,12 +35,14 @@ pub record IsOutcome (execution : Execution) (opened ended : Option Disk) (o : c
 abbrev pub RefusesForThemselves : calls.Outcome → Type 0
 RefusesForThemselves o = o.fault ≡ None → AllByRecursion AreRefusedForThemselves o.transcripts
 
--- Which script was to be run, how an outcome is printed, how the log was to be opened, what the devices tell of the
--- call, where they do, and how a script is run there that goes on from something
+-- Which script was to be run, how an outcome is printed, how the log was to be opened, and which ends its recovery was
+-- to accept, what the devices tell of the call, where they do, and how a script is run there that goes on from
+-- something
 pub record Observation : Type 1 where
   pub says : Script → Type 0
   pub form : Form
   pub start : LogStart
+  pub mode : Mode
   -- what the sink had taken before the call, and after it
   pub before : Option (List ℕ)
   pub after : Option (List ℕ)
@@ -48,11 +52,12 @@ pub record Observation : Type 1 where
   pub execution : Script → Before → Execution
 
 abbrev pub observation_of : {D K : Type 0} → disk.Ghosts D → sink.Ghosts K → (Script → Type 0) → Form → Options
-    → LogStart → D → D → K → K → Observation
-observation_of disk sink says form options start opened ended before after = record {
+    → LogStart → Mode → D → D → K → K → Observation
+observation_of disk sink says form options start mode opened ended before after = record {
   says = says;
   form = form;
   start = start;
+  mode = mode;
   before = sink.taken before;
   after = sink.taken after;
   opened = disk.told opened;
@@ -125,6 +130,14 @@ module _ (seen : Observation) where
     pub outcome : calls.Outcome
     pub ran : RanScript outcome
     pub printed : TakesPrefix seen.before seen.after (text_of seen.form outcome)
+
+  -- status 8: the log was to go on, and the mode doesn't accept where its recovery ends
+  pub record MetDamage (sink_failed sink_fails : ℕ) : Type 0 where
+    pub at : ℕ
+    pub why : EndReason
+    pub damaged : IsDamaged seen.start seen.mode seen.opened at why
+    pub untouched : seen.ended ≡ seen.opened
+    pub refused : SaysTo seen.before seen.after (damage at why) sink_failed sink_fails
 
   -- status 6: nothing was run or printed, and the disk is as it was found
   pub record RanNothing : Type 0 where

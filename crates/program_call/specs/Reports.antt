@@ -28,7 +28,7 @@ use Rattle.model_base.specs.Recovery as recovery
 use Rattle.log_recovery.specs.Recovering.{ShowsRecovered}
 use Rattle.run_outcome.specs.Shows.{ShowsOutcome, ran_short}
 use Rattle.program_call.specs.Texts.{SaysTo}
-use Rattle.program_text.specs.Refusals.{script_fault, source_fault, disk_fault, not_empty}
+use Rattle.program_text.specs.Refusals.{damage, script_fault, source_fault, disk_fault, not_empty}
 
 -- the refusal's text was printed, or there was no memory for it and nothing was
 abbrev pub Refuses : Option (List ℕ) → Option (List ℕ) → ℕ → ℕ → List ℕ → Status → Status → Type 0
@@ -72,6 +72,8 @@ TellsEnd form old new failed fails (end.DiskFault count) given =
     Refuses old new failed fails (disk_fault count) status.Disk given
 TellsEnd form old new failed fails (end.NotEmpty len) given =
     Refuses old new failed fails (not_empty len) status.NotEmpty given
+TellsEnd form old new failed fails (end.Damage at why) given =
+    Refuses old new failed fails (damage at why) status.Damage given
 TellsEnd form old new failed fails end.NoMemory given = (given ≡ status.Memory) × (new ≡ old)
 TellsEnd form old new failed fails end.NoOutcome given = (given ≡ status.Memory) × (new ≡ old)
 TellsEnd form old new failed fails (end.Ran shown) given = TellsOutcome form old new failed fails shown given
@@ -94,6 +96,8 @@ abbrev pub TellsRecoverError : Option (List ℕ) → Option (List ℕ) → ℕ �
 TellsRecoverError old new failed fails (none.Fault count) given =
     Refuses old new failed fails (disk_fault count) status.Disk given
 TellsRecoverError old new failed fails none.NoMemory given = (given ≡ status.Memory) × (new ≡ old)
+TellsRecoverError old new failed fails (none.Damage at why) given =
+    Refuses old new failed fails (damage at why) status.Damage given
 
 abbrev pub TellsRecovery : Option (List ℕ) → Option (List ℕ) → ℕ → ℕ → Result Recovered RecoverError → Status → Type 0
 TellsRecovery old new failed fails (Ok shown) given = ShownEndsSo old new failed fails shown given
@@ -128,3 +132,4 @@ code status.Source = 4
 code status.Sink = 5
 code status.Memory = 6
 code status.NotEmpty = 7
+code status.Damage = 8

@@ -3,6 +3,7 @@
 ghost use Rattle.std.specs.Prelude.{◌≡◌, ◌≢◌, ◌<◌, ◌≤◌, ◌^◌, ℕ, Option, IfSome, MatchOption};
 ghost use Rattle.model_base.specs.declared.options.Options.{Options as RunOptions};
 ghost use Rattle.replay_core.specs.declared.state.CoreOptions.{CoreOptions as ReplayOptions};
+ghost use Rattle.log_recovery.specs.declared.modes.Mode.{Mode as Accepting};
 ghost use Rattle.program_words.specs.Limits.{KeepsLimits};
 ghost use Rattle.run_outcome.specs.declared.log_start.LogStart.{LogStart as Start};
 ghost use Rattle.program_call.specs.Answers.{AnswersNothing, AnswersRun, AnswersGenerate, AnswersRecover, AnswersReplay};
@@ -16,6 +17,7 @@ use crate::report::{Status, refuse};
 use crate::running::{run_script, shards_or_one};
 use base_devices::{Clock, Disk, Sink, Source};
 use engine_calls::{Gate, OpenGate};
+use log_recovery::Mode;
 use model_base::Options;
 use program_text::usage;
 use program_words::{Invocation, WordsError, read_words};
@@ -35,22 +37,25 @@ use std::thread::Threads;
 /// on, and its fragments have that number in their headers. The number must be one that no log on this disk had, for a
 /// reader tells what is old by its number alone. With `--resume` the log goes on, with `--number` as one that has this
 /// number: what it recovers is what the clients find there, and stands in the printed state; what recovery doesn't keep
-/// is cut off, and the new batches come behind what it keeps, in the log and in their sequences. A commit is refused
-/// for itself where its batch is empty or larger than `--batch-bytes`, where it is to be synced without the log, where
-/// its client holds a stop token, and where no sequences are left for it; and where it has `noslow` and writes are held
-/// up. Else only a fault of the log refuses it. `gen SEED CLIENTS BATCHES` runs the script that a seed makes so too,
-/// with the usual limits and over an empty log, and prints a summary of its outcome; it doesn't look at the source.
-/// `recover` prints what the log recovers, and changes nothing; with `--number` it reads the log as one whose fragments
-/// have that number, as those that `run` writes so, and those of RocksDB that are written over older ones. `replay`
-/// reads a script of 1 to 16 clients and a schedule of events after it, runs the schedule on the write path's core, and
-/// prints what the clients were told, the history and the published state; it doesn't look at the disk. The disk comes
-/// back on every path.
+/// is cut off, and the new batches come behind what it keeps, in the log and in their sequences. With `--mode` it goes
+/// on only where the mode accepts the end of this recovery; without `--resume` nothing is recovered, and the mode has
+/// no effect. A commit is refused for itself where its batch is empty or larger than `--batch-bytes`, where it is to be
+/// synced without the log, where its client holds a stop token, and where no sequences are left for it; and where it
+/// has `noslow` and writes are held up. Else only a fault of the log refuses it. `gen SEED CLIENTS BATCHES` runs the
+/// script that a seed makes so too, with the usual limits and over an empty log, and prints a summary of its outcome;
+/// it doesn't look at the source. `recover` prints what the log recovers, and changes nothing; with `--number` it reads
+/// the log as one whose fragments have that number, as those that `run` writes so, and those of RocksDB that are
+/// written over older ones; with `--mode` it refuses an end that the mode doesn't accept. `replay` reads a script of 1
+/// to 16 clients and a schedule of events after it, runs the schedule on the write path's core, and prints what the
+/// clients were told, the history and the published state; it doesn't look at the disk. The disk comes back on every
+/// path.
 ///
 /// | Option | Commands | Range | Without it | Meaning |
 /// |---|---|---|---|---|
 /// | `--batch-bytes` | `run`, `replay` | 12 to 16777216 | 16777216 | the most bytes of a batch |
 /// | `--group-bytes` | `run`, `replay` | 1 to 16777216 | 1048576 | the most bytes of a write group |
 /// | `--last` | `run`, `replay` | 0 to 2^56 - 1 | 0 | the sequence before the first batch, or the recovered last one |
+/// | `--mode` | `run`, `recover` | `point`, `tail`, `absolute` | `point` | which ends the log's recovery accepts |
 /// | `--number` | `run`, `recover` | 1 to 4294967295 | none | the number that the log's headers have |
 /// | `--pipelined` | `run`, `gen`, `replay` | no value | a single stage | the log is handed on before a group is inserted |
 /// | `--resume` | `run` | no value | the log begins anew | the log goes on behind what it recovers |
@@ -74,19 +79,19 @@ pub fn run<
     sink: &mut K,
     clock: C,
 ) -> Ended<D>
-    ensures status { result.status < 8 }
+    ensures status { result.status < 9 }
     ensures words { result.status ≡ 1 → AskNothing words.now }
     ensures nothing { AskNothing words.now → AnswersNothing ⟦<S as Source>⟧ ⟦<D as Disk>⟧ ⟦<K as Sink>⟧
         source.old source.new disk result.disk sink.old sink.new result.status }
-    ensures run { (options : RunOptions) (start : Start) → AskToRun words.now options start
+    ensures run { (options : RunOptions) (start : Start) (mode : Accepting) → AskToRun words.now options start mode
         → AnswersRun ⟦<S as Source>⟧ ⟦<D as Disk>⟧ ⟦<K as Sink>⟧
-        source.old source.new disk result.disk sink.old sink.new options start result.status }
+        source.old source.new disk result.disk sink.old sink.new options start mode result.status }
     ensures generate { (seed clients batches : ℕ) → AskToGenerate words.now seed clients batches
         → AnswersGenerate ⟦<S as Source>⟧ ⟦<D as Disk>⟧ ⟦<K as Sink>⟧
         source.old source.new disk result.disk sink.old sink.new seed clients batches result.status }
-    ensures recover { (number : Option ℕ) → AskToRecover words.now number
+    ensures recover { (number : Option ℕ) (mode : Accepting) → AskToRecover words.now number mode
         → AnswersRecover ⟦<S as Source>⟧ ⟦<D as Disk>⟧ ⟦<K as Sink>⟧
-        source.old source.new disk result.disk sink.old sink.new number result.status }
+        source.old source.new disk result.disk sink.old sink.new number mode result.status }
     ensures replay { (options : ReplayOptions) → AskToReplay words.now options
         → AnswersReplay ⟦<S as Source>⟧ ⟦<D as Disk>⟧ ⟦<K as Sink>⟧
         source.old source.new disk result.disk sink.old sink.new options result.status }
@@ -112,19 +117,19 @@ pub fn run_gated<
     clock: C,
     gate: &G,
 ) -> Ended<D>
-    ensures status { result.status < 8 }
+    ensures status { result.status < 9 }
     ensures words { result.status ≡ 1 → AskNothing words.now }
     ensures nothing { AskNothing words.now → AnswersNothing ⟦<S as Source>⟧ ⟦<D as Disk>⟧ ⟦<K as Sink>⟧
         source.old source.new disk result.disk sink.old sink.new result.status }
-    ensures run { (options : RunOptions) (start : Start) → AskToRun words.now options start
+    ensures run { (options : RunOptions) (start : Start) (mode : Accepting) → AskToRun words.now options start mode
         → AnswersRun ⟦<S as Source>⟧ ⟦<D as Disk>⟧ ⟦<K as Sink>⟧
-        source.old source.new disk result.disk sink.old sink.new options start result.status }
+        source.old source.new disk result.disk sink.old sink.new options start mode result.status }
     ensures generate { (seed clients batches : ℕ) → AskToGenerate words.now seed clients batches
         → AnswersGenerate ⟦<S as Source>⟧ ⟦<D as Disk>⟧ ⟦<K as Sink>⟧
         source.old source.new disk result.disk sink.old sink.new seed clients batches result.status }
-    ensures recover { (number : Option ℕ) → AskToRecover words.now number
+    ensures recover { (number : Option ℕ) (mode : Accepting) → AskToRecover words.now number mode
         → AnswersRecover ⟦<S as Source>⟧ ⟦<D as Disk>⟧ ⟦<K as Sink>⟧
-        source.old source.new disk result.disk sink.old sink.new number result.status }
+        source.old source.new disk result.disk sink.old sink.new number mode result.status }
     ensures replay { (options : ReplayOptions) → AskToReplay words.now options
         → AnswersReplay ⟦<S as Source>⟧ ⟦<D as Disk>⟧ ⟦<K as Sink>⟧
         source.old source.new disk result.disk sink.old sink.new options result.status }
@@ -157,16 +162,16 @@ fn carry_out<
     clock: C,
 ) -> Ended<D>
     requires { KeepsLimits asked }
-    ensures other { (result.status < 8) × (result.status ≢ 1) }
-    ensures run { (options : RunOptions) (start : Start) → IsToRun asked options start
+    ensures other { (result.status < 9) × (result.status ≢ 1) }
+    ensures run { (options : RunOptions) (start : Start) (mode : Accepting) → IsToRun asked options start mode
         → AnswersRun ⟦<S as Source>⟧ ⟦<D as Disk>⟧ ⟦<K as Sink>⟧
-        source.old source.new disk result.disk sink.old sink.new options start result.status }
+        source.old source.new disk result.disk sink.old sink.new options start mode result.status }
     ensures generate { (seed clients batches : ℕ) → IsToGenerate asked seed clients batches
         → AnswersGenerate ⟦<S as Source>⟧ ⟦<D as Disk>⟧ ⟦<K as Sink>⟧
         source.old source.new disk result.disk sink.old sink.new seed clients batches result.status }
-    ensures recover { (number : Option ℕ) → asked ≡ Invocation.Recover number
+    ensures recover { (number : Option ℕ) (mode : Accepting) → asked ≡ Invocation.Recover number mode
         → AnswersRecover ⟦<S as Source>⟧ ⟦<D as Disk>⟧ ⟦<K as Sink>⟧
-        source.old source.new disk result.disk sink.old sink.new number result.status }
+        source.old source.new disk result.disk sink.old sink.new number mode result.status }
     ensures replay { (options : ReplayOptions) → IsToReplay asked options
         → AnswersReplay ⟦<S as Source>⟧ ⟦<D as Disk>⟧ ⟦<K as Sink>⟧
         source.old source.new disk result.disk sink.old sink.new options result.status }
@@ -180,9 +185,18 @@ fn carry_out<
             last,
             number,
             resume,
+            mode,
         } => {
             let start = log_start(number, resume);
-            let setup = setup_of(pipelined, shards, group_bytes, batch_bytes, last, start);
+            let setup = setup_of(
+                pipelined,
+                shards,
+                group_bytes,
+                batch_bytes,
+                last,
+                start,
+                mode,
+            );
             run_script(host, setup, source, disk, sink, clock)
         }
         Invocation::Generate {
@@ -197,8 +211,8 @@ fn carry_out<
                 host, seed, clients, batches, shards, pipelined, disk, sink, clock,
             )
         }
-        Invocation::Recover { number } => {
-            recover_log(host.alloc, log_number(number), disk, sink)
+        Invocation::Recover { number, mode } => {
+            recover_log(host.alloc, log_number(number), mode, disk, sink)
         }
         Invocation::Replay {
             pipelined,
@@ -251,9 +265,11 @@ fn setup_of(
     batch_bytes: u64,
     last: u64,
     start: LogStart,
+    mode: Mode,
 ) -> Setup
     requires { IfSome shards (λ n. (1 ≤ n) × (n ≤ 64)) }
     ensures start { result.start ≡ start }
+    ensures mode { result.mode ≡ mode }
     ensures stages { result.pipelined ≡ pipelined }
     ensures shards { MatchOption shards (result.shards ≡ 1) (λ n. result.shards ≡ n) }
     ensures some { 0 < result.shards }
@@ -267,6 +283,7 @@ fn setup_of(
     Setup {
         options,
         start,
+        mode,
         shards: shards_or_one(shards),
         pipelined,
     }

@@ -19,6 +19,7 @@ pub struct Ended<D> {
     /// | 5 | the sink failed | a prefix of the outcome |
     /// | 6 | there was no memory | nothing, or the outcome where clients alone lacked it |
     /// | 7 | the log isn't empty, and is neither to be written over nor to go on | `log not empty LEN` |
+    /// | 8 | the mode doesn't accept where the log's recovery ends | `damage AT REASON` |
     pub status: u8,
     pub disk: D,
 }

@@ -9,6 +9,7 @@ ghost use Rattle.program_call.specs.Asking.{usual_options};
 ghost use Rattle.program_call.specs.Outcomes.{observation_of, IsGenerated};
 ghost use Rattle.program_call.specs.Texts.{Stood};
 ghost use Rattle.run_outcome.specs.declared.log_start.LogStart.TheVariants.{New};
+ghost use Rattle.log_recovery.specs.declared.modes.Mode.TheVariants.{Point};
 ghost use Rattle.program_call.specs.declared.report.Form.TheVariants as form;
 
 use crate::ended::{Ended, end_with};
@@ -16,6 +17,7 @@ use crate::report::{Form, Status};
 use crate::running::run_and_tell;
 use base_devices::{Clock, Disk, Sink};
 use engine_calls::Gate;
+use log_recovery::Mode;
 use model_base::{MAX_CLIENTS, MAX_SIZE, Options};
 use run_execution::{Host, Setup};
 use run_generator::generate;
@@ -56,7 +58,7 @@ pub fn run_generated<
     ensures status { (result.status ≡ 0) ⊎ (result.status ≡ 3) ⊎ (result.status ≡ 5) ⊎ (result.status ≡ 6)
         ⊎ (result.status ≡ 7) }
     ensures runs { RunsScript ⟦<D as Disk>⟧ ⟦<K as Sink>⟧ (observation_of ⟦<D as Disk>⟧ ⟦<K as Sink>⟧
-        (IsGenerated seed clients batches) form.Summary usual_options New disk result.disk sink.old sink.new)
+        (IsGenerated seed clients batches) form.Summary usual_options New Point disk result.disk sink.old sink.new)
         disk result.disk sink.old sink.new result.status }
     ensures completes { Stood (K.faults sink.old) (K.faults sink.new)
         → Stood (D.faults disk) (D.faults result.disk)
@@ -71,6 +73,8 @@ pub fn run_generated<
     let setup = Setup {
         options: USUAL_OPTIONS,
         start: LogStart::New,
+        // No log goes on.
+        mode: Mode::Point,
         shards,
         pipelined,
     };

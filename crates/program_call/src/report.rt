@@ -15,8 +15,8 @@ use base_maps::ByteMap;
 use log_recovery::{RecoverError, Recovered};
 use model_base::NoMemory;
 use program_text::{
-    disk_fault, log_not_empty, outcome_text, recovered_text, replayed_text, script_fault,
-    source_fault, summary_text,
+    disk_fault, log_damage, log_not_empty, outcome_text, recovered_text, replayed_text,
+    script_fault, source_fault, summary_text,
 };
 use replay_schedules::Replayed;
 use run_execution::RunEnd;
@@ -35,6 +35,7 @@ pub enum Status {
     Sink,
     Memory,
     NotEmpty,
+    Damage,
 }
 
 /// How an outcome is printed: whole, or summed up.
@@ -90,6 +91,9 @@ pub fn tell_end<K: Sink>(alloc: Global, sink: &mut K, form: Form, end: &RunEnd) 
     match end {
         RunEnd::DiskFault { count } => refuse_with(sink, disk_fault(alloc, *count), Status::Disk),
         RunEnd::NotEmpty { len } => refuse_with(sink, log_not_empty(alloc, *len), Status::NotEmpty),
+        RunEnd::Damage { at, why } => {
+            refuse_with(sink, log_damage(alloc, *at, *why), Status::Damage)
+        }
         RunEnd::NoMemory | RunEnd::NoOutcome => Status::Memory,
         RunEnd::Ran(outcome) => tell_outcome(alloc, sink, form, outcome),
     }
@@ -164,6 +168,9 @@ fn tell_recover_error<K: Sink>(alloc: Global, sink: &mut K, why: RecoverError) -
     match why {
         RecoverError::Fault { count } => refuse_with(sink, disk_fault(alloc, count), Status::Disk),
         RecoverError::NoMemory => Status::Memory,
+        RecoverError::Damage { at, why } => {
+            refuse_with(sink, log_damage(alloc, at, why), Status::Damage)
+        }
     }
 }
 

@@ -8,7 +8,7 @@ ghost use Rattle.run_scripts.specs.Scripts.{commands_of, FitsBatches};
 ghost use Rattle.program_text.specs.Refusals.{script_fault, source_fault};
 ghost use Rattle.run_outcome.specs.Running.{IsReached};
 ghost use Rattle.run_outcome.specs.declared.log_start.LogStart.TheVariants.{New};
-ghost use Rattle.program_call.specs.Answers.{RunsScript};
+ghost use Rattle.program_call.specs.Answers.{MeetsNoDamage, RunsScript};
 ghost use Rattle.program_call.specs.Outcomes.{observation_of, IsScript, SaysScript};
 ghost use Rattle.program_call.specs.Texts.{Stood, SaysTo};
 ghost use Rattle.program_call.specs.declared.report.Form.TheVariants as form;
@@ -36,7 +36,7 @@ pub fn run_script<
 >(host: &Host<'_, R, G>, setup: Setup, source: &mut S, disk: D, sink: &mut K, clock: C) -> Ended<D>
     requires options { (setup.options.last ≤ max_sequence) × (setup.options.batch_bytes ≤ MAX_SIZE) }
     requires shards { 0 < setup.shards }
-    ensures other { (result.status < 8) × (result.status ≢ 1) }
+    ensures other { (result.status < 9) × (result.status ≢ 1) }
     ensures script { result.status ≡ 2 → (f : Fault)
         × IfSome (S.left source.old) (λ text. script_of whole_grammar text ≡ Err f)
         × SaysTo (K.taken sink.old) (K.taken sink.new) (script_fault f) (K.faults sink.old) (K.faults sink.new) }
@@ -49,12 +49,13 @@ pub fn run_script<
     ensures source_stood { result.status ≡ 0 → S.faults source.new ≡ S.faults source.old }
     ensures disk_untouched { (result.status ≡ 2) ⊎ (result.status ≡ 4) → result.disk ≡ disk }
     ensures read_to_end { (result.status ≡ 0) ⊎ (result.status ≡ 3) ⊎ (result.status ≡ 5) ⊎ (result.status ≡ 7)
-        → IfSome (S.left source.new) (λ left. left ≡ []) }
+        ⊎ (result.status ≡ 8) → IfSome (S.left source.new) (λ left. left ≡ []) }
     ensures runs { RunsScript ⟦<D as Disk>⟧ ⟦<K as Sink>⟧ (observation_of ⟦<D as Disk>⟧ ⟦<K as Sink>⟧
-        (SaysScript (S.left source.old)) form.Whole setup.options setup.start disk result.disk sink.old sink.new)
-        disk result.disk sink.old sink.new result.status }
+        (SaysScript (S.left source.old)) form.Whole setup.options setup.start setup.mode disk result.disk
+        sink.old sink.new) disk result.disk sink.old sink.new result.status }
     ensures completes { Stood (S.faults source.old) (S.faults source.new)
         → Stood (K.faults sink.old) (K.faults sink.new) → Stood (D.faults disk) (D.faults result.disk)
+        → MeetsNoDamage setup.start setup.mode (D.told disk)
         → IfSome (S.left source.old) (λ text. IfSome (D.told disk) (λ d. (script : Said)
         → script_of whole_grammar text ≡ Ok script → (length d.content ≡ 0) ⊎ (setup.start ≢ New)
         → (result.status ≡ 0) ⊎ (result.status ≡ 6))) }
@@ -98,9 +99,9 @@ pub fn run_and_tell<
     requires options { (setup.options.last ≤ max_sequence) × (setup.options.batch_bytes ≤ MAX_SIZE) }
     requires shards { 0 < setup.shards }
     ensures status { (result.status ≡ 0) ⊎ (result.status ≡ 3) ⊎ (result.status ≡ 5) ⊎ (result.status ≡ 6)
-        ⊎ (result.status ≡ 7) }
+        ⊎ (result.status ≡ 7) ⊎ (result.status ≡ 8) }
     ensures runs { RunsScript ⟦<D as Disk>⟧ ⟦<K as Sink>⟧ (observation_of ⟦<D as Disk>⟧ ⟦<K as Sink>⟧
-        (IsScript (commands_of script)) form setup.options setup.start disk result.disk sink.old sink.new)
+        (IsScript (commands_of script)) form setup.options setup.start setup.mode disk result.disk sink.old sink.new)
         disk result.disk sink.old sink.new result.status }
 {
     let (disk, end) = execute(host, disk, clock, &script, setup);

@@ -1,6 +1,7 @@
 -- The texts of refusals: one line each.
 use Rattle.std.specs.Prelude.{ℕ, List, [], ◌∷◌, codes, decimal}
-use Rattle.model_base.specs.Text.{line}
+use Rattle.model_base.specs.declared.log.EndReason.{EndReason}
+use Rattle.model_base.specs.Text.{end_words, line}
 use Rattle.model_base.specs.Script.{Fault, fault_word}
 
 abbrev pub usage : List ℕ
@@ -17,3 +18,7 @@ disk_fault count = line (codes "disk" ∷ codes "fault" ∷ decimal count ∷ []
 
 abbrev pub not_empty : ℕ → List ℕ
 not_empty len = line (codes "log" ∷ codes "not" ∷ codes "empty" ∷ decimal len ∷ [])
+
+-- recovery ends at this place for this reason, which isn't accepted
+abbrev pub damage : ℕ → EndReason → List ℕ
+damage at why = line (codes "damage" ∷ decimal at ∷ end_words why)

@@ -1,5 +1,5 @@
-//! What a call prints: the outcome of a run or its summary, what a log recovers, what a schedule came to, or why the call
-//! was refused.
+//! What a call prints: the outcome of a run or its summary, what a log recovers, what a schedule came to, or why the
+//! call was refused.
 #![tactic(auto)]
 
 mod lines;
@@ -12,7 +12,7 @@ mod states;
 mod summary;
 mod texts;
 
-pub use recovered::recovered_text;
+pub use recovered::{log_damage, recovered_text};
 pub use replayed::replayed_text;
 pub use summary::summary_text;
 pub use texts::{disk_fault, log_not_empty, outcome_text, script_fault, source_fault, usage};

@@ -5,6 +5,7 @@ ghost use Rattle.model_base.specs.Recovery as recovery;
 ghost use Rattle.model_base.specs.Text as model;
 ghost use Rattle.model_base.specs.Text.{line, damage_words, end_words};
 ghost use Rattle.log_recovery.specs.Recovering.{ShowsRecovered};
+ghost use Rattle.program_text.specs.Refusals as texts;
 ghost use Rattle.program_text.specs.ShownText.{group_line, groups_lines, end_line};
 
 use crate::lines::{put_line, put_number, put_numbers};
@@ -55,6 +56,18 @@ fn put_end(text: &mut Bytes, at: u64, why: EndReason) -> Result<(), NoMemory>
     put_numbers(text, &[at])?;
     text.append(b" ")?;
     put_reason(text, why)
+}
+
+/// Recovery ends at this place for this reason, which isn't accepted.
+pub fn log_damage(alloc: Global, at: u64, why: EndReason) -> Result<Bytes, NoMemory>
+    ensures { IfOk result (λ t. t ≡ texts.damage at why) }
+{
+    let mut text = Bytes::new(alloc);
+    text.append(b"damage")?;
+    put_numbers(&mut text, &[at])?;
+    text.append(b" ")?;
+    put_reason(&mut text, why)?;
+    Ok(text)
 }
 
 fn put_reason(text: &mut Bytes, why: EndReason) -> Result<(), NoMemory>

@@ -6,15 +6,16 @@ use Rattle.model_base.specs.declared.limits.TheConstants.{MAX_SIZE}
 use Rattle.clap.specs.Words.{Row, Shape, Text}
 use Rattle.clap.specs.Faults.{check_fault, walk_fault}
 use Rattle.clap.specs.Walk.{Walk, finished, nothing_held, walk, walk_from, with_default}
+use Rattle.log_recovery.specs.declared.modes.Mode.{Mode}
 use Rattle.program_words.specs.Definition.{recover, replay, run}
 use Rattle.program_words.specs.Lawful as lawful
-use Rattle.program_words.specs.Lawful.{Given, Known, command_asked, generate_asked, lawful_in, number_or, options_of, recover_options, recover_with, replay_options, replay_with, run_options, run_with, shards_given, value_of}
-use Rattle.program_words.specs.Meaning.{invocation_by, invocation_in, flag_in, number_in, recover_by, replay_by, run_by, shards_in}
+use Rattle.program_words.specs.Lawful.{Given, Known, command_asked, generate_asked, lawful_in, mode_given, number_or, options_of, recover_options, recover_with, replay_options, replay_with, run_options, run_with, shards_given, value_of}
+use Rattle.program_words.specs.Meaning.{invocation_by, invocation_in, flag_in, mode_in, number_in, recover_by, replay_by, run_by, shards_in}
 use Rattle.program_words.specs.declared.invocation.Invocation.{Invocation}
 use Rattle.program_words.specs.declared.invocation.Invocation.TheVariants.{Run, Recover, Replay}
 use Rattle.program_words.proofs.Defaults.{HasNoDefault}
-use Rattle.program_words.proofs.Four.{four, mapped_of, six}
-use Rattle.program_words.proofs.GivenValues.{flag_found, number_found, optional_found, shards_found}
+use Rattle.program_words.proofs.Four.{four, mapped_of, seven}
+use Rattle.program_words.proofs.GivenValues.{flag_found, mode_found, number_found, optional_found, shards_found}
 use Rattle.program_words.proofs.LeafOptions.{Fits, given_shown, nothing_given, options_pass, rows_given}
 use Rattle.program_words.proofs.LeafWalks.{HasOption, between, leaf, recover_has, replay_has, run_has}
 use Rattle.program_words.proofs.Levels.{DefaultPasses, IsCommand, command_asks, is_recover, is_replay, is_run, level_passes, no_words_fail}
@@ -48,29 +49,30 @@ options_ask name word s known is takes words given asked e says =
 -- ---- `run`
 
 run_takes : TakesOptions (leaf run.top) run_options
-run_takes = record { options = run_has; once = refl; defaults = (refl, (refl, (refl, (refl, (refl, (refl, (refl, (refl, tt)))))))); checks = λ rows. refl }
+run_takes = record { options = run_has; once = refl; defaults = (refl, (refl, (refl, (refl, (refl, (refl, (refl, (refl, (refl, tt))))))))); checks = λ rows. refl }
 
 run_has_no_number : HasNoDefault (leaf run.top).rules (codes "number")
-run_has_no_number = (inl refl, (inl refl, (inl refl, (inl refl, (inl refl, (inl refl, (inr refl, (inl refl, tt))))))))
+run_has_no_number = (inl refl, (inl refl, (inl refl, (inl refl, (inl refl, (inl refl, (inr refl, (inl refl, (inl refl, tt)))))))))
 
 run_says : (given : Given) → Each (Fits run_options) given → run_by (fold with_default (rows_given given) (leaf run.top).rules) ≡ Some (run_with given)
 run_says given fits =
     let c = (leaf run.top).rules in
     let rows = rows_given given in
     let end = fold with_default rows c in
-    let make = λ (p : Bool) (k : Option ℕ) (g : ℕ) (b : ℕ) (l : ℕ) (r : Bool). Run p k g b l (number_in (codes "number") end) r in
-    six make (flag_in (codes "pipelined") end) (shards_in end) (number_in (codes "group-bytes") end) (number_in (codes "batch-bytes") end) (number_in (codes "last") end)
-    (flag_in (codes "resume") end)
+    let make = λ (p : Bool) (k : Option ℕ) (g : ℕ) (b : ℕ) (l : ℕ) (r : Bool) (m : Mode). Run p k g b l (number_in (codes "number") end) r m in
+    seven make (flag_in (codes "pipelined") end) (shards_in end) (number_in (codes "group-bytes") end) (number_in (codes "batch-bytes") end) (number_in (codes "last") end)
+    (flag_in (codes "resume") end) (mode_in end)
     (is_some (value_of (codes "pipelined") given)) (shards_given given) (number_or 1048576 lawful.group_bytes given) (number_or MAX_SIZE lawful.batch_bytes given) (number_or 0 lawful.last given)
-    (is_some (value_of (codes "resume") given))
+    (is_some (value_of (codes "resume") given)) (mode_given given)
     (flag_found run_options c (codes "pipelined") refl refl given fits rows (given_shown (codes "pipelined") given))
     (shards_found run_options c refl refl refl refl given fits rows (given_shown (codes "table") given) (given_shown (codes "shards") given))
     (number_found run_options c (codes "group-bytes") 1 MAX_SIZE 1048576 (codes "1048576") refl refl refl given fits rows (given_shown (codes "group-bytes") given))
     (number_found run_options c (codes "batch-bytes") 12 MAX_SIZE MAX_SIZE (codes "16777216") refl refl refl given fits rows (given_shown (codes "batch-bytes") given))
     (number_found run_options c (codes "last") 0 72057594037927935 0 (codes "0") refl refl refl given fits rows (given_shown (codes "last") given))
     (flag_found run_options c (codes "resume") refl refl given fits rows (given_shown (codes "resume") given))
+    (mode_found run_options c refl refl given fits rows (given_shown (codes "mode") given))
     ∙ ap (λ (n : Option ℕ). Some (Run (is_some (value_of (codes "pipelined") given)) (shards_given given) (number_or 1048576 lawful.group_bytes given)
-    (number_or MAX_SIZE lawful.batch_bytes given) (number_or 0 lawful.last given) n (is_some (value_of (codes "resume") given))))
+    (number_or MAX_SIZE lawful.batch_bytes given) (number_or 0 lawful.last given) n (is_some (value_of (codes "resume") given)) (mode_given given)))
     (optional_found run_options c (codes "number") 1 4294967295 refl run_has_no_number given fits rows (given_shown (codes "number") given))
 
 run_asks : (name : Text) (words : List Text) (given : Given) → options_of run_options words ≡ Some given → invocation_in (name ∷ codes "run" ∷ words) ≡ Some (run_with given)
@@ -79,15 +81,19 @@ run_asks name words given e = options_ask name (codes "run") (leaf run.top) run_
 -- ---- `recover`
 
 recover_takes : TakesOptions (leaf recover.top) recover_options
-recover_takes = record { options = recover_has; once = refl; defaults = (refl, tt); checks = λ rows. refl }
+recover_takes = record { options = recover_has; once = refl; defaults = (refl, (refl, tt)); checks = λ rows. refl }
 
-recover_says : (given : Given) → Each (Fits recover_options) given → recover_by (fold with_default (rows_given given) (leaf recover.top).rules) ≡ recover_with given
+recover_says : (given : Given) → Each (Fits recover_options) given → recover_by (fold with_default (rows_given given) (leaf recover.top).rules) ≡ Some (recover_with given)
 recover_says given fits =
-    ap (λ (n : Option ℕ). Recover n) (optional_found recover_options (leaf recover.top).rules (codes "number") 1 4294967295 refl (inr refl, tt) given fits (rows_given given) (given_shown (codes "number") given))
+    let c = (leaf recover.top).rules in
+    let rows = rows_given given in
+    let end = fold with_default rows c in
+    ap (option_map (λ (m : Mode). Recover (number_in (codes "number") end) m)) (mode_found recover_options c refl refl given fits rows (given_shown (codes "mode") given))
+    ∙ ap (λ (n : Option ℕ). Some (Recover n (mode_given given))) (optional_found recover_options c (codes "number") 1 4294967295 refl (inr refl, (inl refl, tt)) given fits rows (given_shown (codes "number") given))
 
 recover_asks : (name : Text) (words : List Text) (given : Given) → options_of recover_options words ≡ Some given → invocation_in (name ∷ codes "recover" ∷ words) ≡ Some (recover_with given)
 recover_asks name words given e =
-    options_ask name (codes "recover") (leaf recover.top) recover_options is_recover recover_takes words given (recover_with given) e (λ fits. ap Some (recover_says given fits))
+    options_ask name (codes "recover") (leaf recover.top) recover_options is_recover recover_takes words given (recover_with given) e (recover_says given)
 
 -- ---- `replay`
 

@@ -1,4 +1,4 @@
--- Four values, five and six, that are all there.
+-- Four values, and five to seven, that are all there.
 use Rattle.std.proofs.Common.{◌≡◌, Option, Some, None, refl}
 use Rattle.std.specs.Prelude.{option_and_then, option_map}
 
@@ -50,3 +50,15 @@ module _ {A B C D E F Z : Type 0} (f : A → B → C → D → E → F → Z) wh
   pub six_of : (oa : Option A) (ob : Option B) (oc : Option C) (od : Option D) (oe : Option E) (of : Option F) (z : Z) → all_six oa ob oc od oe of ≡ Some z
       → (a : A) × (oa ≡ Some a) × (all_five (f a) ob oc od oe of ≡ Some z)
   six_of oa ob oc od oe of z is = some_of (λ (a : A). all_five (f a) ob oc od oe of) oa z is
+
+module _ {A B C D E F G Z : Type 0} (f : A → B → C → D → E → F → G → Z) where
+  abbrev pub all_seven : Option A → Option B → Option C → Option D → Option E → Option F → Option G → Option Z
+  all_seven oa ob oc od oe of og = option_and_then (λ a. all_six (f a) ob oc od oe of og) oa
+
+  pub seven : (oa : Option A) (ob : Option B) (oc : Option C) (od : Option D) (oe : Option E) (of : Option F) (og : Option G) (a : A) (b : B) (c : C) (d : D) (e : E) (g : F) (h : G)
+      → oa ≡ Some a → ob ≡ Some b → oc ≡ Some c → od ≡ Some d → oe ≡ Some e → of ≡ Some g → og ≡ Some h → all_seven oa ob oc od oe of og ≡ Some (f a b c d e g h)
+  seven oa ob oc od oe of og a b c d e g h is_a is_b is_c is_d is_e is_g is_h = rw (is_a, is_b, is_c, is_d, is_e, is_g, is_h) refl
+
+  pub seven_of : (oa : Option A) (ob : Option B) (oc : Option C) (od : Option D) (oe : Option E) (of : Option F) (og : Option G) (z : Z) → all_seven oa ob oc od oe of og ≡ Some z
+      → (a : A) × (oa ≡ Some a) × (all_six (f a) ob oc od oe of og ≡ Some z)
+  seven_of oa ob oc od oe of og z is = some_of (λ (a : A). all_six (f a) ob oc od oe of og) oa z is

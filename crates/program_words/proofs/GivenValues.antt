@@ -8,10 +8,12 @@ use Rattle.clap.specs.Simple.{filled}
 use Rattle.clap.specs.Walk.{arg_by_id, row_text, with_default}
 use Rattle.clap.specs.declared.parser.matches.ValueSource.{ValueSource}
 use Rattle.clap.specs.declared.parser.matches.ValueSource.TheVariants.{CommandLine, DefaultValue}
-use Rattle.program_words.specs.Definition.{flag, number_option, shards, table}
+use Rattle.log_recovery.specs.declared.modes.Mode.{Mode}
+use Rattle.log_recovery.specs.declared.modes.Mode.TheVariants.{Point, Tail, Absolute}
+use Rattle.program_words.specs.Definition.{flag, mode, number_option, shards, table}
 use Rattle.program_words.specs.Lawful as lawful
-use Rattle.program_words.specs.Lawful.{Given, Known, Word, number_given, number_or, shards_given, value_of, within, word_of}
-use Rattle.program_words.specs.Meaning.{bool_of, flag_in, number_in, shards_in, shards_of, whole_number}
+use Rattle.program_words.specs.Lawful.{Given, Known, Word, mode_given, number_given, number_or, shards_given, value_of, within, word_of}
+use Rattle.program_words.specs.Meaning.{bool_of, flag_in, mode_in, mode_of, number_in, shards_in, shards_of, whole_number}
 use Rattle.program_words.proofs.Defaults.{HasDefault, HasNoDefault, default_found_in, none_found_in, stays}
 use Rattle.program_words.proofs.LeafOptions.{Fits, Shows}
 use Rattle.program_words.proofs.Lists.{Each, either, none_passes}
@@ -134,3 +136,29 @@ shards_found known c found_table found_shards by_table by_shards given fits rows
     (row_found c (codes "table") (codes "one") has given rows of_table).1
     ∙ ap (shards_of kind) (number_found known c (codes "shards") 1 64 16 (codes "16") found_shards by_shards refl given fits rows of_shards)
     ∙ kind_said (number_or 16 lawful.shards given) (value_of (codes "table") given) (λ v e. value_fits known (codes "table") lawful.table found_table given fits v e)
+
+-- ---- the mode
+
+-- the mode of a lawful name
+abbrev mode_named : Text → Mode
+mode_named name = cond (bytes_eq name (codes "tail")) Tail (cond (bytes_eq name (codes "absolute")) Absolute Point)
+
+mode_said : (given : Option Text) → ((v : Text) → given ≡ Some v → (lawful.mode).takes v ≡ true) → mode_of (unwrap_or given (codes "point")) ≡ Some (mode_named (unwrap_or given (codes "point")))
+mode_said None fits = refl
+mode_said (Some v) fits = go (either (bytes_eq v (codes "point") || bytes_eq v (codes "tail")) (bytes_eq v (codes "absolute")) (fits v refl))
+  where
+    first : (bytes_eq v (codes "point") ≡ true) ⊎ (bytes_eq v (codes "tail") ≡ true) → mode_of v ≡ Some (mode_named v)
+    first (inl point) = subst (λ (k : Text). mode_of k ≡ Some (mode_named k)) (sym ((bytes_eq-Decides v (codes "point")).0 point)) refl
+    first (inr tail) = subst (λ (k : Text). mode_of k ≡ Some (mode_named k)) (sym ((bytes_eq-Decides v (codes "tail")).0 tail)) refl
+
+    go : ((bytes_eq v (codes "point") || bytes_eq v (codes "tail")) ≡ true) ⊎ (bytes_eq v (codes "absolute") ≡ true) → mode_of v ≡ Some (mode_named v)
+    go (inl one) = first (either (bytes_eq v (codes "point")) (bytes_eq v (codes "tail")) one)
+    go (inr absolute) = subst (λ (k : Text). mode_of k ≡ Some (mode_named k)) (sym ((bytes_eq-Decides v (codes "absolute")).0 absolute)) refl
+
+pub mode_found : (known : List Known) (c : List Rule) → find (λ (x : Known). bytes_eq (word_of x) (word_of lawful.mode)) known ≡ Some lawful.mode
+    → arg_by_id c (codes "mode") ≡ Some (filled mode) → (given : Given) → Each (Fits known) given → (rows : List Row) → Shows given rows (codes "mode")
+    → mode_in (fold with_default rows c) ≡ Some (mode_given given)
+mode_found known c found by_mode given fits rows of_mode =
+    let has : HasDefault c (codes "mode") (codes "point") = record { rule = filled mode; found = by_mode; reads = refl; defaults = refl } in
+    ap (λ (r : Option Row). option_and_then mode_of (option_and_then (λ (x : Row). slice_get x.values 0) r)) (row_found c (codes "mode") (codes "point") has given rows of_mode).1
+    ∙ mode_said (value_of (codes "mode") given) (λ v e. value_fits known (codes "mode") lawful.mode found given fits v e)

@@ -11,12 +11,12 @@ use Rattle.clap.specs.Simple.{built_leaf, inherited, marked_built, with_leaf_not
 use Rattle.clap.specs.Takes.{value_passes}
 use Rattle.clap.specs.Walk.{Held, Outcome, Step, Walk, Waiting, after_flag, after_step, arg_by_id, arg_by_long, flag_met, has_row, idle, long_met, next, option, option_met, option_word, plain_word, settled_rows, subcommand_or_other, takes_values, used, used_by_id, walked, word_met}
 use Rattle.clap.specs.declared.parser.matches.ValueSource.TheVariants.{CommandLine}
-use Rattle.program_words.specs.Definition.{batch_bytes, generate, group_bytes, last, number, pipelined, recover, replay, resume, run, shards, table, writepath}
+use Rattle.program_words.specs.Definition.{batch_bytes, generate, group_bytes, last, mode, number, pipelined, recover, replay, resume, run, shards, table, writepath}
 use Rattle.program_words.specs.Lawful as lawful
 use Rattle.program_words.specs.Lawful.{Known, generate_options, recover_options, replay_options, run_options, word_of}
 use Rattle.program_words.proofs.Lists.{Each, cond_false, cond_true}
 use Rattle.program_words.proofs.NumberTexts.{IsPlain}
-use Rattle.program_words.proofs.Options.{HasValue, IsFlag, IsValued, awaiting, flag_flag, number_valued, optional_valued, table_valued}
+use Rattle.program_words.proofs.Options.{HasValue, IsFlag, IsValued, awaiting, flag_flag, mode_valued, number_valued, optional_valued, table_valued}
 use Rattle.program_words.proofs.Rows.{first_use, value_row}
 
 -- a command as clap builds it
@@ -99,6 +99,9 @@ run_number = record { no_escape = refl; long = refl; by_long = refl; by_id = ref
 run_resume : Finds (leaf run.top) lawful.resume (filled resume)
 run_resume = record { no_escape = refl; long = refl; by_long = refl; by_id = refl; once = refl }
 
+run_mode : Finds (leaf run.top) lawful.mode (filled mode)
+run_mode = record { no_escape = refl; long = refl; by_long = refl; by_id = refl; once = refl }
+
 pub run_has : Each (HasOption (leaf run.top)) run_options
 run_has = (
   (filled pipelined, run_pipelined, inr pipelined_flag),
@@ -110,7 +113,7 @@ run_has = (
         (filled group_bytes, run_group, inl group_valued),
         (
           (filled batch_bytes, run_batch, inl batch_valued),
-          ((filled last, run_last, inl last_valued), ((filled number, run_number, inl log_valued), ((filled resume, run_resume, inr resume_flag), tt))),
+          ((filled last, run_last, inl last_valued), ((filled number, run_number, inl log_valued), ((filled resume, run_resume, inr resume_flag), ((filled mode, run_mode, inl mode_valued), tt)))),
         ),
       ),
     ),
@@ -120,8 +123,11 @@ run_has = (
 recover_number : Finds (leaf recover.top) lawful.number (filled number)
 recover_number = record { no_escape = refl; long = refl; by_long = refl; by_id = refl; once = refl }
 
+recover_mode : Finds (leaf recover.top) lawful.mode (filled mode)
+recover_mode = record { no_escape = refl; long = refl; by_long = refl; by_id = refl; once = refl }
+
 pub recover_has : Each (HasOption (leaf recover.top)) recover_options
-recover_has = ((filled number, recover_number, inl log_valued), tt)
+recover_has = ((filled number, recover_number, inl log_valued), ((filled mode, recover_mode, inl mode_valued), tt))
 
 replay_pipelined : Finds (leaf replay.top) lawful.pipelined (filled pipelined)
 replay_pipelined = record { no_escape = refl; long = refl; by_long = refl; by_id = refl; once = refl }

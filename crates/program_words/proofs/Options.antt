@@ -1,5 +1,5 @@
 -- The options, each by itself: what clap makes of it, whichever command has it.
-use Rattle.std.proofs.Common.{◌≡◌, ◌⊎◌, inl, inr, ℕ, true, false, List, [], ◌∷◌, Some, refl, sym, subst, codes}
+use Rattle.std.proofs.Common.{◌≡◌, ◌⊎◌, ◌||◌, inl, inr, ℕ, true, false, List, [], ◌∷◌, Some, refl, sym, subst, codes}
 use Rattle.std.proofs.lemmas.Slice.Eq.{bytes_eq-Decides}
 use Rattle.std.specs.Prelude.{bytes_eq}
 use Rattle.clap.specs.Words.{Row, Rule, Text}
@@ -10,7 +10,7 @@ use Rattle.clap.specs.Takes.{value_passes}
 use Rattle.clap.specs.Walk.{Held, idle, option_word, takes_values, used, with_values, without}
 use Rattle.clap.specs.declared.builder.value_parser.Reading.TheVariants.{AsWritten}
 use Rattle.clap.specs.declared.parser.matches.ValueSource.TheVariants.{CommandLine}
-use Rattle.program_words.specs.Definition.{flag, number_option, number_word, optional_number, table}
+use Rattle.program_words.specs.Definition.{flag, mode, number_option, number_word, optional_number, table}
 use Rattle.program_words.specs.Lawful as lawful
 use Rattle.program_words.specs.Lawful.{Known}
 use Rattle.program_words.proofs.Lists.{either}
@@ -89,6 +89,30 @@ table_valued = record {
   taken = λ rows value. refl;
   has_value = record { use_is = λ rows value. refl; fault_is = λ rows value. refl };
   passes = table_passes;
+}
+
+mode_passes : (value : Text) → (lawful.mode).takes value ≡ true → IsPlain value × (value_passes (filled mode) value ≡ true)
+mode_passes value e = go (either (bytes_eq value (codes "point") || bytes_eq value (codes "tail")) (bytes_eq value (codes "absolute")) e)
+  where
+    Passes : Text → Type 0
+    Passes v = IsPlain v × (value_passes (filled mode) v ≡ true)
+
+    first : (bytes_eq value (codes "point") ≡ true) ⊎ (bytes_eq value (codes "tail") ≡ true) → Passes value
+    first (inl point) = subst Passes (sym ((bytes_eq-Decides _ _).0 point)) (record { not_escape = refl; not_long = refl; not_short = refl }, refl)
+    first (inr tail) = subst Passes (sym ((bytes_eq-Decides _ _).0 tail)) (record { not_escape = refl; not_long = refl; not_short = refl }, refl)
+
+    go : ((bytes_eq value (codes "point") || bytes_eq value (codes "tail")) ≡ true) ⊎ (bytes_eq value (codes "absolute") ≡ true) → Passes value
+    go (inl one) = first (either (bytes_eq value (codes "point")) (bytes_eq value (codes "tail")) one)
+    go (inr absolute) = subst Passes (sym ((bytes_eq-Decides _ _).0 absolute)) (record { not_escape = refl; not_long = refl; not_short = refl }, refl)
+
+pub mode_valued : IsValued lawful.mode (filled mode)
+mode_valued = record {
+  no_flag = refl;
+  id_is = refl;
+  takes_value = refl;
+  taken = λ rows value. refl;
+  has_value = record { use_is = λ rows value. refl; fault_is = λ rows value. refl };
+  passes = mode_passes;
 }
 
 pub flag_flag : (name : Text) → IsFlag (lawful.flag name) (filled (flag name))

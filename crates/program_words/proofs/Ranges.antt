@@ -19,12 +19,13 @@ use Rattle.clap.specs.declared.builder.value_parser.Reading.TheVariants.{AsWritt
 use Rattle.clap.specs.declared.parser.matches.ValueSource.TheVariants.{DefaultValue}
 use Rattle.clap.proofs.OnLiterals.{clap_on_literals}
 use Rattle.clap.proofs.WalkLemmas.{both}
+use Rattle.log_recovery.specs.declared.modes.Mode.{Mode}
 use Rattle.program_words.specs.Definition.{batch_bytes, batches, clients, generate, group_bytes, last, number, recover, replay, run, seed, shards, writepath}
 use Rattle.program_words.specs.Limits.{KeepsLimits, KeepsNumber, KeepsShards}
-use Rattle.program_words.specs.Meaning.{invocation_by, invocation_in, flag_in, is_taken, number_in, recover_by, shards_in, shards_of, whole_number}
+use Rattle.program_words.specs.Meaning.{invocation_by, invocation_in, flag_in, is_taken, mode_in, number_in, shards_in, shards_of, whole_number}
 use Rattle.program_words.specs.declared.invocation.Invocation.{Invocation}
-use Rattle.program_words.specs.declared.invocation.Invocation.TheVariants.{Run, Replay, Generate}
-use Rattle.program_words.proofs.Four.{five_of, four_of, six_of, some_of}
+use Rattle.program_words.specs.declared.invocation.Invocation.TheVariants.{Run, Recover, Replay, Generate}
+use Rattle.program_words.proofs.Four.{five_of, four_of, mapped_of, seven_of, six_of, some_of}
 use Rattle.program_words.proofs.LeafWalks.{leaf}
 use Rattle.program_words.proofs.Lists.{Each, find_holds}
 use Rattle.program_words.proofs.Options.{placed}
@@ -122,7 +123,7 @@ level_rows s has words none =
 run_sound : HasSound (leaf run.top)
 unfolding clap_on_literals
 run_sound = record {
-  all = (record { is_set = record { itself = refl; sets = inr refl }; defaults = refl }, (record { is_set = record { itself = refl; sets = inl refl }; defaults = refl }, (record { is_set = record { itself = refl; sets = inl refl }; defaults = refl }, (record { is_set = record { itself = refl; sets = inl refl }; defaults = refl }, (record { is_set = record { itself = refl; sets = inl refl }; defaults = refl }, (record { is_set = record { itself = refl; sets = inl refl }; defaults = refl }, (record { is_set = record { itself = refl; sets = inl refl }; defaults = refl }, (record { is_set = record { itself = refl; sets = inr refl }; defaults = refl }, tt))))))));
+  all = (record { is_set = record { itself = refl; sets = inr refl }; defaults = refl }, (record { is_set = record { itself = refl; sets = inl refl }; defaults = refl }, (record { is_set = record { itself = refl; sets = inl refl }; defaults = refl }, (record { is_set = record { itself = refl; sets = inl refl }; defaults = refl }, (record { is_set = record { itself = refl; sets = inl refl }; defaults = refl }, (record { is_set = record { itself = refl; sets = inl refl }; defaults = refl }, (record { is_set = record { itself = refl; sets = inl refl }; defaults = refl }, (record { is_set = record { itself = refl; sets = inr refl }; defaults = refl }, (record { is_set = record { itself = refl; sets = inl refl }; defaults = refl }, tt)))))))));
   by_short = λ x. refl;
   once = refl;
 }
@@ -130,7 +131,7 @@ run_sound = record {
 recover_sound : HasSound (leaf recover.top)
 unfolding clap_on_literals
 recover_sound = record {
-  all = (record { is_set = record { itself = refl; sets = inl refl }; defaults = refl }, tt);
+  all = (record { is_set = record { itself = refl; sets = inl refl }; defaults = refl }, (record { is_set = record { itself = refl; sets = inl refl }; defaults = refl }, tt));
   by_short = λ x. refl;
   once = refl;
 }
@@ -192,20 +193,21 @@ run_keeps words asked none is =
     let rows = rows_after c [] words in
     let pass = level_rows (leaf run.top) run_sound words none in
     let given = number_in (codes "number") rows in
-    let make = λ (p : Bool) (k : Option ℕ) (g : ℕ) (b : ℕ) (l : ℕ) (r : Bool). Run p k g b l given r in
-    let first = six_of make (flag_in (codes "pipelined") rows) (shards_in rows) (number_in (codes "group-bytes") rows) (number_in (codes "batch-bytes") rows) (number_in (codes "last") rows)
-    (flag_in (codes "resume") rows) asked is in
-    let second = five_of (make first.0) (shards_in rows) (number_in (codes "group-bytes") rows) (number_in (codes "batch-bytes") rows) (number_in (codes "last") rows)
-    (flag_in (codes "resume") rows) asked first.2 in
-    let has = four_of (make first.0 second.0) (number_in (codes "group-bytes") rows) (number_in (codes "batch-bytes") rows) (number_in (codes "last") rows)
-    (flag_in (codes "resume") rows) asked second.2 in
+    let make = λ (p : Bool) (k : Option ℕ) (g : ℕ) (b : ℕ) (l : ℕ) (r : Bool) (m : Mode). Run p k g b l given r m in
+    let first = seven_of make (flag_in (codes "pipelined") rows) (shards_in rows) (number_in (codes "group-bytes") rows) (number_in (codes "batch-bytes") rows) (number_in (codes "last") rows)
+    (flag_in (codes "resume") rows) (mode_in rows) asked is in
+    let second = six_of (make first.0) (shards_in rows) (number_in (codes "group-bytes") rows) (number_in (codes "batch-bytes") rows) (number_in (codes "last") rows)
+    (flag_in (codes "resume") rows) (mode_in rows) asked first.2 in
+    let third = five_of (make first.0 second.0) (number_in (codes "group-bytes") rows) (number_in (codes "batch-bytes") rows) (number_in (codes "last") rows)
+    (flag_in (codes "resume") rows) (mode_in rows) asked second.2 in
+    let has = four_of (make first.0 second.0 third.0) (number_in (codes "batch-bytes") rows) (number_in (codes "last") rows) (flag_in (codes "resume") rows) (mode_in rows) asked third.2 in
     let in_k = shards_in_range c (record { rule = filled shards; found = refl; reads = refl; tests = λ text. refl }) rows pass second.0 second.1 in
-    let in_g = number_in_range c (codes "group-bytes") 1 MAX_SIZE (record { rule = filled group_bytes; found = refl; reads = refl; tests = λ text. refl }) rows pass has.0 has.4 in
-    let in_b = number_in_range c (codes "batch-bytes") 12 MAX_SIZE (record { rule = filled batch_bytes; found = refl; reads = refl; tests = λ text. refl }) rows pass has.1 has.5 in
-    let in_l = number_in_range c (codes "last") 0 72057594037927935 (record { rule = filled last; found = refl; reads = refl; tests = λ text. refl }) rows pass has.2 has.6 in
-    let below : has.2 < 2 ^ 56 = omega (arith, in_l.1) in
+    let in_g = number_in_range c (codes "group-bytes") 1 MAX_SIZE (record { rule = filled group_bytes; found = refl; reads = refl; tests = λ text. refl }) rows pass third.0 third.1 in
+    let in_b = number_in_range c (codes "batch-bytes") 12 MAX_SIZE (record { rule = filled batch_bytes; found = refl; reads = refl; tests = λ text. refl }) rows pass has.0 has.4 in
+    let in_l = number_in_range c (codes "last") 0 72057594037927935 (record { rule = filled last; found = refl; reads = refl; tests = λ text. refl }) rows pass has.1 has.5 in
+    let below : has.1 < 2 ^ 56 = omega (arith, in_l.1) in
     let takes : TakesNumbers c (codes "number") 1 4294967295 = record { rule = filled number; found = refl; reads = refl; tests = λ text. refl } in
-    subst KeepsLimits {x = Run first.0 second.0 has.0 has.1 has.2 given has.3} has.8 (in_k, in_g.0, in_g.1, in_b.0, in_b.1, below, log_number_in_range c takes rows pass)
+    subst KeepsLimits {x = Run first.0 second.0 third.0 has.0 has.1 given has.2 has.3} has.8 (in_k, in_g.0, in_g.1, in_b.0, in_b.1, below, log_number_in_range c takes rows pass)
 
 recover_keeps : LevelKeeps (leaf recover.top)
 recover_keeps words asked none is =
@@ -213,9 +215,9 @@ recover_keeps words asked none is =
     let rows = rows_after c [] words in
     let pass = level_rows (leaf recover.top) recover_sound words none in
     let takes : TakesNumbers c (codes "number") 1 4294967295 = record { rule = filled number; found = refl; reads = refl; tests = λ text. refl } in
-    let told : Some (recover_by rows) ≡ Some asked = is in
-    let same : recover_by rows ≡ asked = cc in
-    subst KeepsLimits same (log_number_in_range c takes rows pass)
+    let given = number_in (codes "number") rows in
+    let has = mapped_of (λ (m : Mode). Recover given m) (mode_in rows) asked is in
+    subst KeepsLimits {x = Recover given has.0} has.2 (log_number_in_range c takes rows pass)
 
 replay_keeps : LevelKeeps (leaf replay.top)
 replay_keeps words asked none is =

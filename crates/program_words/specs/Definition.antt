@@ -54,6 +54,10 @@ number = optional_number (codes "number") 1 4294967295
 abbrev pub resume : Rule
 resume = flag (codes "resume")
 
+-- which ends of the log its recovery accepts. The matches may have any word for it
+abbrev pub mode : Rule
+mode = record (new_rule (codes "mode")) { long = Some (codes "mode"); defaults = codes "point" ∷ [] }
+
 -- what the numbers of a script are drawn from, how many clients it has, and how many batches each commits
 abbrev pub seed : Rule
 seed = number_word (codes "SEED") 0 2147483647
@@ -67,11 +71,11 @@ batches = number_word (codes "BATCHES") 1 100000
 -- the commands, with their options
 
 abbrev pub run : App
-run = with_rule (with_rule (with_rule (with_rule (with_rule (with_rule (with_rule (with_rule (new_app (codes "run"))
-    pipelined) table) shards) group_bytes) batch_bytes) last) number) resume
+run = with_rule (with_rule (with_rule (with_rule (with_rule (with_rule (with_rule (with_rule (with_rule
+    (new_app (codes "run")) pipelined) table) shards) group_bytes) batch_bytes) last) number) resume) mode
 
 abbrev pub recover : App
-recover = with_rule (new_app (codes "recover")) number
+recover = with_rule (with_rule (new_app (codes "recover")) number) mode
 
 abbrev pub replay : App
 replay = with_rule (with_rule (with_rule (with_rule (new_app (codes "replay")) pipelined) group_bytes) batch_bytes) last

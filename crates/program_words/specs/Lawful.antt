@@ -4,6 +4,8 @@ use Rattle.std.specs.Prelude.{ℕ, ◌-◌, ◌^◌, ◌++◌, ◌&&◌, ◌||�
 use Rattle.std.specs.declared.alloc.Global.{Global}
 use Rattle.model_base.specs.declared.limits.TheConstants.{MAX_CLIENTS, MAX_SIZE}
 use Rattle.model_base.specs.Script.{number_of}
+use Rattle.log_recovery.specs.declared.modes.Mode.{Mode}
+use Rattle.log_recovery.specs.declared.modes.Mode.TheVariants.{Point, Tail, Absolute}
 use Rattle.program_words.specs.declared.invocation.Invocation.{Invocation}
 use Rattle.program_words.specs.declared.invocation.Invocation.TheVariants.{Run, Recover, Replay, Generate}
 
@@ -62,13 +64,21 @@ number = number_option (codes "number") 1 (2 ^ 32 - 1)
 abbrev pub resume : Known
 resume = flag (codes "resume")
 
+-- which ends of the log its recovery accepts
+abbrev pub mode : Known
+mode = record {
+  name = codes "mode";
+  is_flag = false;
+  takes = λ value. bytes_eq value (codes "point") || bytes_eq value (codes "tail") || bytes_eq value (codes "absolute");
+}
+
 -- what each command takes
 
 abbrev pub run_options : List Known
-run_options = pipelined ∷ table ∷ shards ∷ group_bytes ∷ batch_bytes ∷ last ∷ number ∷ resume ∷ []
+run_options = pipelined ∷ table ∷ shards ∷ group_bytes ∷ batch_bytes ∷ last ∷ number ∷ resume ∷ mode ∷ []
 
 abbrev pub recover_options : List Known
-recover_options = number ∷ []
+recover_options = number ∷ mode ∷ []
 
 abbrev pub replay_options : List Known
 replay_options = pipelined ∷ group_bytes ∷ batch_bytes ∷ last ∷ []
@@ -126,13 +136,19 @@ shards_given given =
     if bytes_eq (unwrap_or (value_of table.name given) (codes "one")) (codes "shards")
     then Some (number_or 16 shards given) else None
 
+-- the mode, which is `point` unless another one is given
+abbrev pub mode_given : Given → Mode
+mode_given given =
+    let name = unwrap_or (value_of mode.name given) (codes "point") in
+    if bytes_eq name (codes "tail") then Tail else if bytes_eq name (codes "absolute") then Absolute else Point
+
 abbrev pub run_with : Given → Invocation
 run_with given = Run (is_some (value_of pipelined.name given)) (shards_given given)
     (number_or 1048576 group_bytes given) (number_or MAX_SIZE batch_bytes given) (number_or 0 last given)
-    (number_given number given) (is_some (value_of resume.name given))
+    (number_given number given) (is_some (value_of resume.name given)) (mode_given given)
 
 abbrev pub recover_with : Given → Invocation
-recover_with given = Recover (number_given number given)
+recover_with given = Recover (number_given number given) (mode_given given)
 
 abbrev pub replay_with : Given → Invocation
 replay_with given = Replay (is_some (value_of pipelined.name given)) (number_or 1048576 group_bytes given)

@@ -6,6 +6,8 @@ use Rattle.clap.specs.Words.{Kinds, Row, Text, fault_of, first_of, one_of, subco
 use Rattle.clap.specs.ValueTests.{is_numeral}
 use Rattle.clap.specs.declared.error.kind.ErrorKind.{ErrorKind}
 use Rattle.clap.specs.declared.error.kind.ErrorKind.TheVariants.{OutOfMemory}
+use Rattle.log_recovery.specs.declared.modes.Mode.{Mode}
+use Rattle.log_recovery.specs.declared.modes.Mode.TheVariants.{Point, Tail, Absolute}
 use Rattle.program_words.specs.Definition.{writepath}
 use Rattle.program_words.specs.declared.invocation.Invocation.{Invocation}
 use Rattle.program_words.specs.declared.invocation.Invocation.TheVariants.{Run, Recover, Replay, Generate}
@@ -45,20 +47,29 @@ abbrev pub shards_in : List Row → Option (Option ℕ)
 shards_in rows =
     option_and_then (λ kind. shards_of kind (number_in (codes "shards") rows)) (first_of (codes "table") rows)
 
+-- the mode of this name
+abbrev pub mode_of : Text → Option Mode
+mode_of name = if bytes_eq name (codes "point") then Some Point
+    else if bytes_eq name (codes "tail") then Some Tail
+    else if bytes_eq name (codes "absolute") then Some Absolute else None
+
+abbrev pub mode_in : List Row → Option Mode
+mode_in rows = option_and_then mode_of (first_of (codes "mode") rows)
+
 -- what `run` asks for, by its matches
 abbrev pub run_by : List Row → Option Invocation
 run_by rows =
     let number = number_in (codes "number") rows in
     option_and_then (λ pipelined. option_and_then (λ shards. option_and_then (λ group_bytes. option_and_then
-    (λ batch_bytes. option_and_then (λ last. option_map
-    (λ resume. Run pipelined shards group_bytes batch_bytes last number resume)
-    (flag_in (codes "resume") rows)) (number_in (codes "last") rows))
+    (λ batch_bytes. option_and_then (λ last. option_and_then (λ resume. option_map
+    (λ mode. Run pipelined shards group_bytes batch_bytes last number resume mode)
+    (mode_in rows)) (flag_in (codes "resume") rows)) (number_in (codes "last") rows))
     (number_in (codes "batch-bytes") rows)) (number_in (codes "group-bytes") rows))
     (shards_in rows)) (flag_in (codes "pipelined") rows)
 
 -- and `recover`
-abbrev pub recover_by : List Row → Invocation
-recover_by rows = Recover (number_in (codes "number") rows)
+abbrev pub recover_by : List Row → Option Invocation
+recover_by rows = option_map (λ mode. Recover (number_in (codes "number") rows) mode) (mode_in rows)
 
 -- and `replay`
 abbrev pub replay_by : List Row → Option Invocation
@@ -80,7 +91,7 @@ generate_by rows =
 abbrev pub invocation_by : Text → List Row → Option Invocation
 invocation_by name rows =
     if bytes_eq name (codes "run") then run_by rows
-    else if bytes_eq name (codes "recover") then Some (recover_by rows)
+    else if bytes_eq name (codes "recover") then recover_by rows
     else if bytes_eq name (codes "replay") then replay_by rows
     else if bytes_eq name (codes "gen") then generate_by rows
     else None

@@ -47,14 +47,17 @@ fn run<'a>(alloc: Global) -> Result<Command<'a>, AllocError>
     let staged = Command::new(alloc, "run").arg(pipelined(alloc))?;
     with_limits(with_table(staged, alloc)?, alloc)?
         .arg(number(alloc))?
-        .arg(resume(alloc))
+        .arg(resume(alloc))?
+        .arg(mode(alloc))
 }
 
 fn recover<'a>(alloc: Global) -> Result<Command<'a>, AllocError>
     ensures app { IfOk result (λ command. app_of command ≡ clap_words.recover) }
     ensures local { IfOk result (λ command. (out-Command command).has_globals ≡ false) }
 {
-    Command::new(alloc, "recover").arg(number(alloc))
+    Command::new(alloc, "recover")
+        .arg(number(alloc))?
+        .arg(mode(alloc))
 }
 
 fn replay<'a>(alloc: Global) -> Result<Command<'a>, AllocError>
@@ -160,6 +163,15 @@ fn resume<'a>(alloc: Global) -> Arg<'a>
     ensures local { result.global ≡ false }
 {
     flag(alloc, "resume")
+}
+
+/// Which ends of the log its recovery accepts: any, to the `point` where it ends; that of a log whose `tail` was cut
+/// off; or that of a whole log alone, which is `absolute`. The matches may have any word for it.
+fn mode<'a>(alloc: Global) -> Arg<'a>
+    ensures rule { rule_of result ≡ clap_words.mode }
+    ensures local { result.global ≡ false }
+{
+    Arg::new(alloc, "mode").long("mode").default_value("point")
 }
 
 /// A flag `--name`, which takes no value.

@@ -10,6 +10,7 @@ ghost use Rattle.program_words.specs.Meaning.{invocation_of, refusal_of};
 use crate::definition;
 use clap::ArgMatches;
 use clap::error::ErrorKind;
+use log_recovery::Mode;
 use std::alloc::{AllocError, Global};
 use thiserror::Error;
 
@@ -33,11 +34,15 @@ pub enum Invocation {
         /// Whether the log goes on behind what it recovers; else it is written over where it has a number, and has to
         /// be empty where it has none.
         resume: bool,
+        /// Which ends of the log its recovery accepts, where the log goes on.
+        mode: Mode,
     },
     /// To say what the log recovers.
     Recover {
         /// The number of the log; none where it has none.
         number: Option<u64>,
+        /// Which ends of the log its recovery accepts.
+        mode: Mode,
     },
     /// To run a schedule on the core.
     Replay {
@@ -111,7 +116,7 @@ fn invocation_by(command: &str, options: &ArgMatches) -> Option<Invocation>
 {
     match command {
         "run" => run_by(options),
-        "recover" => Some(recover_by(options)),
+        "recover" => recover_by(options),
         "replay" => replay_by(options),
         "gen" => generate_by(options),
         _ => None,
@@ -129,15 +134,17 @@ fn run_by(options: &ArgMatches) -> Option<Invocation>
         last: number_in("last", options)?,
         number: number_in("number", options),
         resume: flag_in("resume", options)?,
+        mode: mode_in(options)?,
     })
 }
 
-fn recover_by(options: &ArgMatches) -> Invocation
+fn recover_by(options: &ArgMatches) -> Option<Invocation>
     ensures { result ≡ meaning.recover_by (rows_of (found_of options.now)) }
 {
-    Invocation::Recover {
+    Some(Invocation::Recover {
         number: number_in("number", options),
-    }
+        mode: mode_in(options)?,
+    })
 }
 
 fn replay_by(options: &ArgMatches) -> Option<Invocation>
@@ -177,6 +184,25 @@ fn shards_of(kind: &str, shards: Option<u64>) -> Option<Option<u64>>
     match kind {
         "one" => Some(None),
         "shards" => Some(Some(shards?)),
+        _ => None,
+    }
+}
+
+/// Which ends of the log its recovery accepts, by the matches.
+fn mode_in(options: &ArgMatches) -> Option<Mode>
+    ensures { result ≡ meaning.mode_in (rows_of (found_of options.now)) }
+{
+    mode_of(text_in("mode", options)?)
+}
+
+/// The mode of this name.
+fn mode_of(name: &str) -> Option<Mode>
+    ensures { result ≡ meaning.mode_of name.now }
+{
+    match name {
+        "point" => Some(Mode::Point),
+        "tail" => Some(Mode::Tail),
+        "absolute" => Some(Mode::Absolute),
         _ => None,
     }
 }

@@ -2,6 +2,7 @@
 
 ghost use Rattle.std.specs.Prelude.{◌≡◌, List, [], ◌∷◌, Some, None, true, false, String, codes};
 ghost use Rattle.std.specs.declared.alloc.Global.{Global};
+ghost use Rattle.log_recovery.specs.declared.modes.Mode.TheVariants.{Point, Tail, Absolute};
 ghost use Rattle.program_words.specs.declared.invocation.Invocation.{Invocation};
 ghost use Rattle.program_words.specs.declared.invocation.Invocation.TheVariants.{Run, Recover, Replay, Generate};
 ghost use Rattle.program_words.specs.Lawful.{lawful_in, lawful_of};
@@ -17,25 +18,32 @@ pub fn lawful_words()
 pub fn words_that_are_lawful()
     ensures run { lawful_in (codes "writepath" ∷ codes "run" ∷ codes "--last" ∷ codes "5" ∷ codes "--shards"
         ∷ codes "64" ∷ codes "--batch-bytes" ∷ codes "12" ∷ codes "--table" ∷ codes "shards"
-        ∷ codes "--pipelined" ∷ codes "--group-bytes" ∷ codes "1" ∷ []) ≡ Some (Run true (Some 64) 1 12 5 None false) }
+        ∷ codes "--pipelined" ∷ codes "--group-bytes" ∷ codes "1" ∷ [])
+        ≡ Some (Run true (Some 64) 1 12 5 None false Point) }
     ensures run_by_number { lawful_in (codes "writepath" ∷ codes "run" ∷ codes "--number" ∷ codes "7" ∷ [])
-        ≡ Some (Run false None 1048576 16777216 0 (Some 7) false) }
+        ≡ Some (Run false None 1048576 16777216 0 (Some 7) false Point) }
     ensures number_before_others { lawful_in (codes "writepath" ∷ codes "run" ∷ codes "--number" ∷ codes "4294967295"
         ∷ codes "--last" ∷ codes "5" ∷ codes "--pipelined" ∷ [])
-        ≡ Some (Run true None 1048576 16777216 5 (Some 4294967295) false) }
+        ≡ Some (Run true None 1048576 16777216 5 (Some 4294967295) false Point) }
     ensures number_behind_others { lawful_in (codes "writepath" ∷ codes "run" ∷ codes "--pipelined" ∷ codes "--last"
         ∷ codes "5" ∷ codes "--number" ∷ codes "4294967295" ∷ [])
-        ≡ Some (Run true None 1048576 16777216 5 (Some 4294967295) false) }
+        ≡ Some (Run true None 1048576 16777216 5 (Some 4294967295) false Point) }
     ensures going_on { lawful_in (codes "writepath" ∷ codes "run" ∷ codes "--resume" ∷ [])
-        ≡ Some (Run false None 1048576 16777216 0 None true) }
+        ≡ Some (Run false None 1048576 16777216 0 None true Point) }
     ensures going_on_by_number { lawful_in (codes "writepath" ∷ codes "run" ∷ codes "--resume" ∷ codes "--number"
-        ∷ codes "7" ∷ []) ≡ Some (Run false None 1048576 16777216 0 (Some 7) true) }
+        ∷ codes "7" ∷ []) ≡ Some (Run false None 1048576 16777216 0 (Some 7) true Point) }
     ensures going_on_behind_others { lawful_in (codes "writepath" ∷ codes "run" ∷ codes "--number" ∷ codes "7"
         ∷ codes "--last" ∷ codes "5" ∷ codes "--resume" ∷ [])
-        ≡ Some (Run false None 1048576 16777216 5 (Some 7) true) }
-    ensures recover { lawful_in (codes "writepath" ∷ codes "recover" ∷ []) ≡ Some (Recover None) }
+        ≡ Some (Run false None 1048576 16777216 5 (Some 7) true Point) }
+    ensures recover { lawful_in (codes "writepath" ∷ codes "recover" ∷ []) ≡ Some (Recover None Point) }
     ensures recover_by_number { lawful_in (codes "writepath" ∷ codes "recover" ∷ codes "--number"
-        ∷ codes "4294967295" ∷ []) ≡ Some (Recover (Some 4294967295)) }
+        ∷ codes "4294967295" ∷ []) ≡ Some (Recover (Some 4294967295) Point) }
+    ensures recover_by_mode { lawful_in (codes "writepath" ∷ codes "recover" ∷ codes "--mode" ∷ codes "tail"
+        ∷ codes "--number" ∷ codes "7" ∷ []) ≡ Some (Recover (Some 7) Tail) }
+    ensures recover_by_name { lawful_in (codes "writepath" ∷ codes "recover" ∷ codes "--mode" ∷ codes "point" ∷ [])
+        ≡ Some (Recover None Point) }
+    ensures going_on_by_mode { lawful_in (codes "writepath" ∷ codes "run" ∷ codes "--mode" ∷ codes "absolute"
+        ∷ codes "--resume" ∷ []) ≡ Some (Run false None 1048576 16777216 0 None true Absolute) }
     ensures replay { lawful_in (codes "writepath" ∷ codes "replay" ∷ codes "--last" ∷ codes "5" ∷ codes "--pipelined"
         ∷ []) ≡ Some (Replay true 1048576 16777216 5) }
     ensures generate { lawful_in (codes "writepath" ∷ codes "gen" ∷ codes "--table" ∷ codes "shards" ∷ codes "7"
@@ -45,35 +53,41 @@ pub fn words_that_are_lawful()
 /// Words that ask for something, in lawful form and in another that is read too.
 pub fn words_that_ask()
     ensures run { invocation_in (codes "writepath" ∷ codes "run" ∷ [])
-        ≡ Some (Run false None 1048576 16777216 0 None false) }
+        ≡ Some (Run false None 1048576 16777216 0 None false Point) }
     ensures run_with_groups { invocation_in (codes "writepath" ∷ codes "run" ∷ codes "--group-bytes" ∷ codes "1" ∷ [])
-        ≡ Some (Run false None 1 16777216 0 None false) }
+        ≡ Some (Run false None 1 16777216 0 None false Point) }
     ensures run_in_shards { invocation_in (codes "writepath" ∷ codes "run" ∷ codes "--table" ∷ codes "shards" ∷ [])
-        ≡ Some (Run false (Some 16) 1048576 16777216 0 None false) }
+        ≡ Some (Run false (Some 16) 1048576 16777216 0 None false Point) }
     ensures run_in_one { invocation_in (codes "writepath" ∷ codes "run" ∷ codes "--shards" ∷ codes "7" ∷ [])
-        ≡ Some (Run false None 1048576 16777216 0 None false) }
+        ≡ Some (Run false None 1048576 16777216 0 None false Point) }
     ensures run_in_most_shards { invocation_in (codes "writepath" ∷ codes "run" ∷ codes "--table" ∷ codes "shards"
         ∷ codes "--shards" ∷ codes "64" ∷ codes "--last" ∷ codes "3" ∷ [])
-        ≡ Some (Run false (Some 64) 1048576 16777216 3 None false) }
+        ≡ Some (Run false (Some 64) 1048576 16777216 3 None false Point) }
     ensures run_in_two_stages { invocation_in (codes "writepath" ∷ codes "run" ∷ codes "--pipelined" ∷ [])
-        ≡ Some (Run true None 1048576 16777216 0 None false) }
+        ≡ Some (Run true None 1048576 16777216 0 None false Point) }
     ensures run_by_number { invocation_in (codes "writepath" ∷ codes "run" ∷ codes "--number" ∷ codes "7" ∷ [])
-        ≡ Some (Run false None 1048576 16777216 0 (Some 7) false) }
+        ≡ Some (Run false None 1048576 16777216 0 (Some 7) false Point) }
     ensures run_by_most { invocation_in (codes "writepath" ∷ codes "run" ∷ codes "--last" ∷ codes "3"
         ∷ codes "--number=4294967295" ∷ codes "--pipelined" ∷ [])
-        ≡ Some (Run true None 1048576 16777216 3 (Some 4294967295) false) }
+        ≡ Some (Run true None 1048576 16777216 3 (Some 4294967295) false Point) }
     ensures going_on { invocation_in (codes "writepath" ∷ codes "run" ∷ codes "--resume" ∷ [])
-        ≡ Some (Run false None 1048576 16777216 0 None true) }
+        ≡ Some (Run false None 1048576 16777216 0 None true Point) }
     ensures going_on_by_number { invocation_in (codes "writepath" ∷ codes "run" ∷ codes "--resume" ∷ codes "--number=7"
-        ∷ []) ≡ Some (Run false None 1048576 16777216 0 (Some 7) true) }
+        ∷ []) ≡ Some (Run false None 1048576 16777216 0 (Some 7) true Point) }
     ensures going_on_behind_others { invocation_in (codes "writepath" ∷ codes "run" ∷ codes "--number" ∷ codes "7"
         ∷ codes "--pipelined" ∷ codes "--resume" ∷ [])
-        ≡ Some (Run true None 1048576 16777216 0 (Some 7) true) }
-    ensures recover { invocation_in (codes "writepath" ∷ codes "recover" ∷ []) ≡ Some (Recover None) }
+        ≡ Some (Run true None 1048576 16777216 0 (Some 7) true Point) }
+    ensures recover { invocation_in (codes "writepath" ∷ codes "recover" ∷ []) ≡ Some (Recover None Point) }
     ensures recover_by_number { invocation_in (codes "writepath" ∷ codes "recover" ∷ codes "--number" ∷ codes "7" ∷ [])
-        ≡ Some (Recover (Some 7)) }
+        ≡ Some (Recover (Some 7) Point) }
     ensures recover_by_most { invocation_in (codes "writepath" ∷ codes "recover" ∷ codes "--number=4294967295" ∷ [])
-        ≡ Some (Recover (Some 4294967295)) }
+        ≡ Some (Recover (Some 4294967295) Point) }
+    ensures recover_by_mode { invocation_in (codes "writepath" ∷ codes "recover" ∷ codes "--mode" ∷ codes "absolute"
+        ∷ []) ≡ Some (Recover None Absolute) }
+    ensures going_on_by_mode { invocation_in (codes "writepath" ∷ codes "run" ∷ codes "--resume" ∷ codes "--mode=tail"
+        ∷ []) ≡ Some (Run false None 1048576 16777216 0 None true Tail) }
+    ensures mode_alone { invocation_in (codes "writepath" ∷ codes "run" ∷ codes "--mode" ∷ codes "absolute" ∷ [])
+        ≡ Some (Run false None 1048576 16777216 0 None false Absolute) }
     ensures replay { invocation_in (codes "writepath" ∷ codes "replay" ∷ codes "--last" ∷ codes "7"
         ∷ codes "--group-bytes"
         ∷ codes "1" ∷ []) ≡ Some (Replay false 1 16777216 7) }
@@ -81,9 +95,9 @@ pub fn words_that_ask()
         ∷ codes "--pipelined"
         ∷ []) ≡ Some (Replay true 1048576 16777216 7) }
     ensures with_equals_sign { invocation_in (codes "writepath" ∷ codes "run" ∷ codes "--last=4" ∷ [])
-        ≡ Some (Run false None 1048576 16777216 4 None false) }
+        ≡ Some (Run false None 1048576 16777216 4 None false Point) }
     ensures with_leading_zero { invocation_in (codes "writepath" ∷ codes "run" ∷ codes "--last" ∷ codes "04" ∷ [])
-        ≡ Some (Run false None 1048576 16777216 4 None false) }
+        ≡ Some (Run false None 1048576 16777216 4 None false Point) }
     ensures generate { invocation_in (codes "writepath" ∷ codes "gen" ∷ codes "7" ∷ codes "16" ∷ codes "100000" ∷ [])
         ≡ Some (Generate false None 7 16 100000) }
     ensures generate_in_shards { invocation_in (codes "writepath" ∷ codes "gen" ∷ codes "--table" ∷ codes "shards"
@@ -146,6 +160,17 @@ pub fn words_that_do_not_ask()
     ensures resume_of_generate { invocation_in (codes "writepath" ∷ codes "gen" ∷ codes "--resume" ∷ codes "7"
         ∷ codes "2" ∷ codes "3" ∷ []) ≡ None }
     ensures resume_of_replay { invocation_in (codes "writepath" ∷ codes "replay" ∷ codes "--resume" ∷ []) ≡ None }
+    ensures unknown_mode { invocation_in (codes "writepath" ∷ codes "recover" ∷ codes "--mode" ∷ codes "any" ∷ [])
+        ≡ None }
+    ensures unknown_mode_of_run { invocation_in (codes "writepath" ∷ codes "run" ∷ codes "--mode" ∷ codes "Tail" ∷ [])
+        ≡ None }
+    ensures mode_without_value { invocation_in (codes "writepath" ∷ codes "recover" ∷ codes "--mode" ∷ []) ≡ None }
+    ensures mode_twice { invocation_in (codes "writepath" ∷ codes "recover" ∷ codes "--mode" ∷ codes "tail"
+        ∷ codes "--mode" ∷ codes "tail" ∷ []) ≡ None }
+    ensures mode_of_replay { invocation_in (codes "writepath" ∷ codes "replay" ∷ codes "--mode" ∷ codes "point" ∷ [])
+        ≡ None }
+    ensures mode_of_generate { invocation_in (codes "writepath" ∷ codes "gen" ∷ codes "--mode" ∷ codes "point"
+        ∷ codes "7" ∷ codes "2" ∷ codes "3" ∷ []) ≡ None }
     ensures unknown_table { invocation_in (codes "writepath" ∷ codes "run" ∷ codes "--table" ∷ codes "tree" ∷ [])
         ≡ None }
     ensures table_twice { invocation_in (codes "writepath" ∷ codes "run" ∷ codes "--table" ∷ codes "one"

@@ -17,6 +17,7 @@ use Rattle.log_writer.proofs.Putting.{told_so}
 use Rattle.run_outcome.specs.declared.log_start.LogStart.{LogStart}
 use Rattle.run_outcome.specs.declared.log_start.LogStart.TheVariants.{New, Over, Behind}
 use Rattle.run_outcome.specs.Running.{Before, nothing, number_in, RecoversTo, GoesOnFrom, beginning_of, begun_on, RecoversKept, IfGoesOn, IsOpened, IsAsFound, GoesOn}
+use Rattle.log_recovery.specs.declared.modes.Mode.{Mode}
 use Rattle.run_execution.specs.Ends.{HasOpenedAs, IsOpenedFor, IsRefused, end_of}
 use Rattle.run_execution.proofs.SafeLogs.{KeepsBatches, keeps_none}
 
@@ -142,18 +143,18 @@ as_found start before (Some x) None R goes to told = absurd told
 as_found start before (Some x) (Some y) R goes to told = ⊎_elim (λ same. inl (ap (λ (d : Disk). Some d) same)) (λ r. inr (before, goes, to x y r)) told
 
 module _ {D : Type 0} (ghosts : Ghosts D) (disk now : D) where
-  pub refused_new : (why : OpenError) → IsOpenError ghosts disk now why → IsRefused ghosts New disk now (end_of why)
-  refused_new (Fault count) error = let cause = error.cause in let now_is = cause.1 in (inl (error.looked_at).same, (cause.0, omega (arith, now_is)))
-  refused_new (NotEmpty len) error = (let cause = error.cause in (refl, (error.looked_at).same, cause.0, cause.1))
-  refused_new NoMemory error = inl (error.looked_at).same
+  pub refused_new : (mode : Mode) (why : OpenError) → IsOpenError ghosts disk now why → IsRefused ghosts New mode disk now (end_of why)
+  refused_new mode (Fault count) error = let cause = error.cause in let now_is = cause.1 in (inl (error.looked_at).same, (cause.0, omega (arith, now_is)))
+  refused_new mode (NotEmpty len) error = (let cause = error.cause in (refl, (error.looked_at).same, cause.0, cause.1))
+  refused_new mode NoMemory error = inl (error.looked_at).same
 
-  pub refused_over : (n : ℕ) (why : OpenError) → IsReuseError ghosts disk now why → IsRefused ghosts (Over n) disk now (end_of why)
-  refused_over n why error = by_cause why error.cause
+  pub refused_over : (n : ℕ) (mode : Mode) (why : OpenError) → IsReuseError ghosts disk now why → IsRefused ghosts (Over n) mode disk now (end_of why)
+  refused_over n mode why error = by_cause why error.cause
     where
       found : IsAsFound (Over n) (ghosts.told disk) (ghosts.told now)
       found = as_found (Over n) nothing (ghosts.told disk) (ghosts.told now) (λ x y. y ≡ rewound x) refl (λ x y e. e) error.told
 
-      by_cause : (why : OpenError) → IsCauseOver ghosts disk now why → IsRefused ghosts (Over n) disk now (end_of why)
+      by_cause : (why : OpenError) → IsCauseOver ghosts disk now why → IsRefused ghosts (Over n) mode disk now (end_of why)
       by_cause (Fault count) cause = let now_is = cause.1 in (found, (cause.0, omega (arith, now_is)))
       by_cause (NotEmpty len) cause = absurd cause
       by_cause NoMemory cause = found

@@ -6,7 +6,9 @@ use Rattle.base_devices.specs.declared.disk.Disk.{Ghosts}
 use Rattle.model_base.specs.Counts.{Rose}
 use Rattle.model_base.specs.Log.{SpellsWhole}
 use Rattle.model_base.specs.Recovery.{logged_bytes}
+use Rattle.log_recovery.specs.declared.modes.Mode.{Mode}
 use Rattle.log_recovery.specs.declared.recovery.Recovered.{Recovered}
+use Rattle.log_recovery.specs.Modes.{Accepts}
 use Rattle.log_recovery.specs.Recovering.{HasRecovered}
 use Rattle.log_writer.specs.declared.errors.OpenError.{OpenError}
 use Rattle.log_writer.specs.declared.errors.OpenError.TheVariants.{Fault, NotEmpty, NoMemory}
@@ -17,7 +19,7 @@ use Rattle.log_writer.proofs.Putting.{leaves_more, leaves_time}
 use Rattle.log_writer.proofs.Beginning.{left_of_self}
 use Rattle.run_outcome.specs.declared.log_start.LogStart.TheVariants.{Behind}
 use Rattle.run_outcome.specs.Running.{Before, GoesOnFrom, IsAsFound, GoesOn}
-use Rattle.run_execution.specs.Ends.{HasOpenedAs, IsRefused, end_of}
+use Rattle.run_execution.specs.Ends.{HasAcceptedEnd, HasOpenedAs, IsRefused, end_of}
 use Rattle.run_execution.proofs.Openings.{as_found}
 
 -- What is recovered, and the bytes that are kept. Where the disk doesn't tell them they are as many.
@@ -94,15 +96,15 @@ module _ (number : Option ℕ) (shown : Recovered) where
 
     -- and why not
     module _ (now : D) where
-      pub refused_behind : (why : OpenError) → IsResumeError ghosts read now shown.kept why → IsRefused ghosts (Behind number) disk now (end_of why)
-      refused_behind why error = by_cause why error.cause
+      pub refused_behind : (mode : Mode) (why : OpenError) → IsResumeError ghosts read now shown.kept why → IsRefused ghosts (Behind number) mode disk now (end_of why)
+      refused_behind mode why error = by_cause why error.cause
         where
           found : IsAsFound (Behind number) (ghosts.told disk) (ghosts.told now)
           found = as_found (Behind number) (before_of (ghosts.told disk) shown) (ghosts.told disk) (ghosts.told now) (λ x y. y ≡ cut_at shown.kept x) (goes_behind (ghosts.told disk) has)
               (λ x y e. inl (e ∙ ap (λ (n : ℕ). cut_at n x) (sym (kept_len (ghosts.told disk) has))))
               (subst (λ (t : Option Disk). Told t (ghosts.told now) (λ x y. (y ≡ x) ⊎ (y ≡ cut_at shown.kept x))) same error.told)
 
-          by_cause : (why : OpenError) → IsCauseOver ghosts read now why → IsRefused ghosts (Behind number) disk now (end_of why)
+          by_cause : (why : OpenError) → IsCauseOver ghosts read now why → IsRefused ghosts (Behind number) mode disk now (end_of why)
           by_cause (Fault count) cause = let now_is = cause.1 in (found, (subst (λ (n : ℕ). Rose n count) no_fault cause.0, omega (arith, now_is)))
           by_cause (NotEmpty len) cause = absurd cause
           by_cause NoMemory cause = found
@@ -111,3 +113,15 @@ module _ (number : Option ℕ) (shown : Recovered) where
       time_behind why error =
           let crash = error.crash in
           record { later = omega (arith, time.later, crash.later); forgets = omega (arith, time.forgets, crash.forgets) }
+
+-- the end of what is recovered is one that the mode accepts
+pub accepted_end : (number : Option ℕ) (mode : Mode) (told : Option Disk) (shown : Recovered) → IfSome told (λ d. HasRecovered number d.content shown)
+    → IfSome told (λ d. Accepts number mode d.content shown.end.at shown.end.why) → IfSome told (λ d. HasAcceptedEnd number mode d.content)
+accepted_end number mode None shown has accepts = tt
+accepted_end number mode (Some d) shown has accepts =
+    let shows = has.shows in
+    record {
+      recovered = has.recovered;
+      is = has.is;
+      accepts = subst (λ (at : ℕ). Accepts number mode d.content at (has.recovered).why) shows.at (subst (Accepts number mode d.content shown.end.at) shows.why accepts);
+    }

@@ -27,6 +27,7 @@ use Rattle.run_threads.specs.declared.run.ClientsEnd.{ClientsEnd}
 use Rattle.run_threads.specs.declared.run.ClientsEnd.TheVariants.{NotRun, Untold, Told}
 use Rattle.run_threads.specs.Runs.{HaveRun, ComesTo, log_of, outcome_with}
 use Rattle.run_execution.specs.declared.opening.Opened.{Opened}
+use Rattle.log_recovery.specs.declared.modes.Mode.{Mode}
 use Rattle.run_execution.specs.Ends.{HasOutcome, HasOpenedAs, IsOpenedFor, options_behind, execution_on, EndsOn, end_of_run}
 use Rattle.run_execution.proofs.LegalRuns.{small_entries, refused_for_themselves}
 use Rattle.run_execution.proofs.Openings.{ImageLaw, keeps_as, recovers_as, content_as, empty_as, found_as, no_fault_as}
@@ -143,11 +144,11 @@ module _ {D : Type 0} {ghosts : Ghosts D} where
             }
 
     -- how the run ends, by what it came to
-    pub is_end : (ran : ClientsEnd (LogWriter D ghosts)) → ComesTo settings script (Wrote opened) fault_of (λ l. ghosts.faults (disk_of l)) ran
-        → EndsOn ghosts options start script disk (disk_of (log_of ran)) (end_of_run ran)
-    is_end (NotRun log) wrote = subst (λ (l : LogWriter D ghosts). IsAsFound start (ghosts.told disk) (ghosts.told (disk_of l))) (sym (not_written opened [] log wrote refl)) (found_as start before disk opened goes has_opened)
-    is_end (Untold log last) ran = (before, goes, has_outcome log last ran)
-    is_end (Told log last transcripts history state) told = (before, goes, has_run log last transcripts history state told.0 told.1)
+    pub is_end : (mode : Mode) (ran : ClientsEnd (LogWriter D ghosts)) → ComesTo settings script (Wrote opened) fault_of (λ l. ghosts.faults (disk_of l)) ran
+        → EndsOn ghosts options start mode script disk (disk_of (log_of ran)) (end_of_run ran)
+    is_end mode (NotRun log) wrote = subst (λ (l : LogWriter D ghosts). IsAsFound start (ghosts.told disk) (ghosts.told (disk_of l))) (sym (not_written opened [] log wrote refl)) (found_as start before disk opened goes has_opened)
+    is_end mode (Untold log last) ran = (before, goes, has_outcome log last ran)
+    is_end mode (Told log last transcripts history state) told = (before, goes, has_run log last transcripts history state told.0 told.1)
 
   -- what no call wrote, or these calls
   abbrev WentOn : LogWriter D ghosts → LogWriter D ghosts → Type 0

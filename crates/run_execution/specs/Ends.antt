@@ -1,17 +1,22 @@
 -- How a run ends, and what stands then.
-use Rattle.std.specs.Prelude.{◌≡◌, ◌<◌, ℕ, max, List, [], length, take, Option, None, IfSome}
+use Rattle.std.specs.Prelude.{◌≡◌, ◌≢◌, ◌<◌, ℕ, max, List, [], length, take, Option, None, IfSome, ⊤}
 use Rattle.std.specs.List.{AllByRecursion}
 use Rattle.base_devices.specs.Disk.{Disk, Told}
 use Rattle.base_devices.specs.declared.disk.Disk.{Ghosts}
 use Rattle.model_base.specs.Settings.{settings_of}
 use Rattle.model_base.specs.Calls as calls
 use Rattle.model_base.specs.Map.{Pairs}
+use Rattle.model_base.specs.declared.log.EndReason.{EndReason}
 use Rattle.model_base.specs.declared.options.Options.{Options}
+use Rattle.model_base.specs.Recovery.{Recovered, IsRecovered}
 use Rattle.model_runs.specs.Crashes.{IsImageSince}
 use Rattle.model_runs.specs.Refusals.{AreRefusedForThemselves}
 use Rattle.run_outcome.specs.declared.log_start.LogStart.{LogStart}
 use Rattle.run_outcome.specs.declared.log_start.LogStart.TheVariants.{New, Over, Behind}
 use Rattle.run_outcome.specs.Running.{Execution, Before, GoesOnFrom, beginning_of, IsRunOf, LeavesSafeLog, HasRun, IsAsFound, IsReached}
+use Rattle.log_recovery.specs.declared.modes.Mode.{Mode}
+use Rattle.log_recovery.specs.declared.modes.Mode.TheVariants.{Point}
+use Rattle.log_recovery.specs.Modes.{Accepts, IsDamage}
 use Rattle.log_writer.specs.declared.errors.OpenError.{OpenError}
 use Rattle.log_writer.specs.declared.errors.OpenError.TheVariants as why
 use Rattle.log_writer.specs.declared.writer.LogWriter.{LogWriter}
@@ -92,13 +97,44 @@ pub record IsOpenedFor {D : Type 0} (ghosts : Ghosts D) (start : LogStart) (disk
   -- a last sequence of 0 has no keys
   pub none : before.last ≡ 0 → before.map ≡ []
 
-module _ {D : Type 0} (ghosts : Ghosts D) (start : LogStart) (old new : D) where
+-- the file recovers to an end that the mode accepts
+pub record HasAcceptedEnd (number : Option ℕ) (mode : Mode) (file : List ℕ) : Type 0 where
+  pub recovered : Recovered
+  pub is : IsRecovered number file recovered
+  pub accepts : Accepts number mode file recovered.at recovered.why
+
+-- where the log goes on, the mode accepts the end of its recovery
+abbrev pub IsAccepted : LogStart → Mode → Option Disk → Type 0
+IsAccepted New mode told = ⊤
+IsAccepted (Over number) mode told = ⊤
+IsAccepted (Behind number) mode told = IfSome told (λ d. HasAcceptedEnd number mode d.content)
+
+-- The log goes on, and the mode, which isn't the one that accepts any end, doesn't accept that its recovery ends there
+-- for this reason.
+abbrev pub IsDamaged : LogStart → Mode → Option Disk → ℕ → EndReason → Type 0
+IsDamaged New mode told at why = ⊥
+IsDamaged (Over number) mode told at why = ⊥
+IsDamaged (Behind number) mode told at why =
+    (mode ≢ Point) × IfSome told (λ d. IsDamage number mode d.content at why)
+
+-- the clients of a script ran, whether there was memory for the outcome or not
+abbrev pub Ran : RunEnd → Type 0
+Ran (end.DiskFault count) = ⊥
+Ran (end.NotEmpty len) = ⊥
+Ran (end.Damage at why) = ⊥
+Ran end.NoMemory = ⊥
+Ran end.NoOutcome = ⊤
+Ran (end.Ran shown) = ⊤
+
+module _ {D : Type 0} (ghosts : Ghosts D) (start : LogStart) (mode : Mode) (old new : D) where
   -- The log was not opened, or no client ran, and this is told. The disk is as it was found.
   abbrev pub IsRefused : RunEnd → Type 0
   IsRefused (end.DiskFault count) = IsAsFound start (ghosts.told old) (ghosts.told new)
       × IsReached (ghosts.faults old) count (ghosts.faults new)
   IsRefused (end.NotEmpty len) = (start ≡ New) × (ghosts.told new ≡ ghosts.told old) × (0 < len)
       × IfSome (ghosts.told old) (λ d. length d.content ≡ len)
+  IsRefused (end.Damage at why) = IsDamaged start mode (ghosts.told old) at why
+      × (ghosts.told new ≡ ghosts.told old) × (ghosts.faults new ≡ ghosts.faults old)
   IsRefused end.NoMemory = IsAsFound start (ghosts.told old) (ghosts.told new)
   IsRefused end.NoOutcome = ⊥
   IsRefused (end.Ran shown) = ⊥
@@ -113,9 +149,11 @@ module _ {D : Type 0} (ghosts : Ghosts D) (start : LogStart) (old new : D) where
     abbrev pub Ends : RunEnd → Type 0
     Ends (end.DiskFault count) = IsRefused (end.DiskFault count)
     Ends (end.NotEmpty len) = IsRefused (end.NotEmpty len)
+    Ends (end.Damage at why) = IsRefused (end.Damage at why)
     Ends end.NoMemory = IsRefused end.NoMemory
     Ends end.NoOutcome = Went (λ execution. HasOutcome execution (ghosts.told old) (ghosts.told new))
     Ends (end.Ran shown) = Went (λ execution. HasRun execution (ghosts.told old) (ghosts.told new) shown)
 
-abbrev pub EndsOn : {D : Type 0} → Ghosts D → Options → LogStart → List (List calls.Command) → D → D → RunEnd → Type 0
-EndsOn ghosts options start script old new end = Ends ghosts start old new options script end
+abbrev pub EndsOn : {D : Type 0} → Ghosts D → Options → LogStart → Mode → List (List calls.Command) → D → D → RunEnd
+    → Type 0
+EndsOn ghosts options start mode script old new end = Ends ghosts start mode old new options script end

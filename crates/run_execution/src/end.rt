@@ -8,6 +8,7 @@ ghost use Rattle.run_execution.specs.Ends.{end_of_run};
 use base_devices::Disk;
 use base_maps::ByteMap;
 use log_writer::{LogWriter, OpenError};
+use model_base::EndReason;
 use run_outcome::Outcome;
 use run_threads::ClientsEnd;
 
@@ -18,6 +19,8 @@ pub enum RunEnd {
     DiskFault { count: u64 },
     /// The log holds so many bytes already.
     NotEmpty { len: u64 },
+    /// The log was to go on, and the mode doesn't accept that its recovery ends at this offset for this reason.
+    Damage { at: u64, why: EndReason },
     /// Nothing was run, since there was no memory for it.
     NoMemory,
     /// All was run, and there was no memory for its outcome.

@@ -4,6 +4,7 @@ ghost use Rattle.std.specs.Prelude.{◌≤◌, ℕ, List, length};
 ghost use Rattle.model_base.specs.Calls.{Command};
 ghost use Rattle.model_base.specs.Map.{Pairs};
 ghost use Rattle.model_base.specs.declared.options.Options.{Options as RunOptions};
+ghost use Rattle.log_recovery.specs.declared.modes.Mode.{Mode};
 ghost use Rattle.log_writer.specs.declared.writer.LogWriter.{LogWriter as Log};
 ghost use Rattle.log_writer.specs.Words.{disk_of};
 ghost use Rattle.run_outcome.specs.declared.log_start.LogStart.{LogStart};
@@ -20,11 +21,12 @@ use model_base::{MAX_CLIENTS, MAX_SIZE};
 /// A log was opened on a disk, and all clients of a script have run over it, or none has.
 pub fn runs_leave_safe_logs<D: Disk>()
     // Then the run ends as it should, and the log is left as it should be.
-    ensures ends { (disk : D) (opened : Log D ⟦<D as Disk>⟧) (options : RunOptions) (start : LogStart) (before : Before)
-        (script : List (List Command)) (ran : Ended (Log D ⟦<D as Disk>⟧)) → GoesOnFrom start (D.told disk) before
-        → HasOpenedAs start before disk opened → length script ≤ MAX_CLIENTS → options.batch_bytes ≤ MAX_SIZE
+    ensures ends { (disk : D) (opened : Log D ⟦<D as Disk>⟧) (options : RunOptions) (start : LogStart) (mode : Mode)
+        (before : Before) (script : List (List Command)) (ran : Ended (Log D ⟦<D as Disk>⟧))
+        → GoesOnFrom start (D.told disk) before → HasOpenedAs start before disk opened
+        → length script ≤ MAX_CLIENTS → options.batch_bytes ≤ MAX_SIZE
         → HasRunOver opened (options_behind options before) before.map (D.faults disk) script ran
-        → EndsOn ⟦<D as Disk>⟧ options start script disk (disk_of (log_of ran)) (end_of_run ran) }
+        → EndsOn ⟦<D as Disk>⟧ options start mode script disk (disk_of (log_of ran)) (end_of_run ran) }
     // The disk's time has gone on, and its count of faults hasn't fallen.
     ensures time { (opened : Log D ⟦<D as Disk>⟧) (options : RunOptions) (map : Pairs) (script : List (List Command))
         (counted : ℕ) (ran : Ended (Log D ⟦<D as Disk>⟧)) → HasRunOver opened options map counted script ran

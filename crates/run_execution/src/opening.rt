@@ -4,12 +4,12 @@ ghost use Rattle.std.specs.Prelude.{◌≡◌, ◌≤◌, [], IfOk, IfErr};
 ghost use Rattle.model_base.specs.History.{max_sequence};
 ghost use Rattle.run_outcome.specs.declared.log_start.LogStart.TheVariants.{Behind};
 ghost use Rattle.run_outcome.specs.Running.{GoesOn};
-ghost use Rattle.run_execution.specs.Ends.{IsOpenedFor, IsRefused};
+ghost use Rattle.run_execution.specs.Ends.{IsAccepted, IsOpenedFor, IsRefused};
 
 use crate::end::RunEnd;
 use base_devices::Disk;
 use base_maps::ByteMap;
-use log_recovery::{RecoverError, Recovered, recover};
+use log_recovery::{Mode, RecoverError, Recovered, recover_mode};
 use log_writer::LogWriter;
 use run_outcome::LogStart;
 use std::alloc::Global;
@@ -21,15 +21,17 @@ pub(crate) struct Opened<D: Disk> {
     pub(crate) last: u64,
 }
 
-/// Opens the log of a run. One that goes on is recovered first, and cut behind what is kept.
+/// Opens the log of a run. One that goes on is recovered first, by the mode, and cut behind what is kept.
 pub(crate) fn open_log<D: Disk>(
     alloc: Global,
     disk: D,
     start: LogStart,
+    mode: Mode,
 ) -> Result<Opened<D>, (D, RunEnd)>
     ensures ok { IfOk result (λ opened. IsOpenedFor ⟦<D as Disk>⟧ start disk opened) }
+    ensures accepted { IfOk result (λ _. IsAccepted start mode (D.told disk)) }
     ensures last { IfOk result (λ opened. opened.last ≤ max_sequence) }
-    ensures err { IfErr result (λ e. IsRefused ⟦<D as Disk>⟧ start disk e.0 e.1) }
+    ensures err { IfErr result (λ e. IsRefused ⟦<D as Disk>⟧ start mode disk e.0 e.1) }
     ensures later { IfErr result (λ e. D.faults disk ≤ D.faults e.0) }
     ensures time { IfErr result (λ e. GoesOn D.moment D.from disk e.0) }
 {
@@ -42,7 +44,7 @@ pub(crate) fn open_log<D: Disk>(
             Ok(log) => Ok(anew(alloc, log)),
             Err((disk, why)) => Err((disk, RunEnd::from(why))),
         },
-        LogStart::Behind { number } => open_behind(alloc, disk, number),
+        LogStart::Behind { number } => open_behind(alloc, disk, number, mode),
     }
 }
 
@@ -62,17 +64,20 @@ fn open_behind<D: Disk>(
     alloc: Global,
     mut disk: D,
     number: Option<u32>,
+    mode: Mode,
 ) -> Result<Opened<D>, (D, RunEnd)>
     ensures ok { IfOk result (λ opened. IsOpenedFor ⟦<D as Disk>⟧ (Behind number) disk opened) }
+    ensures accepted { IfOk result (λ _. IsAccepted (Behind number) mode (D.told disk)) }
     ensures last { IfOk result (λ opened. opened.last ≤ max_sequence) }
-    ensures err { IfErr result (λ e. IsRefused ⟦<D as Disk>⟧ (Behind number) disk e.0 e.1) }
+    ensures err { IfErr result (λ e. IsRefused ⟦<D as Disk>⟧ (Behind number) mode disk e.0 e.1) }
     ensures later { IfErr result (λ e. D.faults disk ≤ D.faults e.0) }
     ensures time { IfErr result (λ e. GoesOn D.moment D.from disk e.0) }
 {
-    let recovered = match recover(alloc, &mut disk, number) {
+    let recovered = match recover_mode(alloc, &mut disk, number, mode) {
         Ok(recovered) => recovered,
         Err(RecoverError::Fault { count }) => return Err((disk, RunEnd::DiskFault { count })),
         Err(RecoverError::NoMemory) => return Err((disk, RunEnd::NoMemory)),
+        Err(RecoverError::Damage { at, why }) => return Err((disk, RunEnd::Damage { at, why })),
     };
     let Recovered {
         groups: _,

@@ -5,7 +5,7 @@ ghost use Rattle.model_base.specs.History.{max_sequence};
 ghost use Rattle.run_scripts.specs.Scripts.{commands_of, FitsBatches};
 ghost use Rattle.log_writer.specs.Words.{disk_of};
 ghost use Rattle.run_outcome.specs.Running.{GoesOn};
-ghost use Rattle.run_execution.specs.Ends.{EndsOn, IsOpenedFor};
+ghost use Rattle.run_execution.specs.Ends.{EndsOn, IsAccepted, IsOpenedFor, Ran};
 
 use crate::end::{RunEnd, end_run};
 use crate::laws::runs_leave_safe_logs;
@@ -34,11 +34,13 @@ pub fn execute<
     requires fits { FitsBatches script.now }
     requires options { (setup.options.last ≤ max_sequence) × (setup.options.batch_bytes ≤ MAX_SIZE) }
     requires shards { 0 < setup.shards }
-    ensures end { EndsOn ⟦<D as Disk>⟧ setup.options setup.start (commands_of script.now) disk result.0 result.1 }
+    ensures end { EndsOn ⟦<D as Disk>⟧ setup.options setup.start setup.mode (commands_of script.now) disk result.0
+        result.1 }
+    ensures accepted { Ran result.1 → IsAccepted setup.start setup.mode (D.told disk) }
     ensures later { D.faults disk ≤ D.faults result.0 }
     ensures time { GoesOn D.moment D.from disk result.0 }
 {
-    match open_log(host.alloc, disk, setup.start) {
+    match open_log(host.alloc, disk, setup.start, setup.mode) {
         Ok(opened) => {
             let shared = SharedGate { gate: host.gate };
             run_over(host, opened, clock, shared, script, setup)
@@ -69,7 +71,7 @@ fn run_over<
     requires last { opened.last ≤ max_sequence }
     requires opened { (disk : D) × IsOpenedFor ⟦<D as Disk>⟧ setup.start disk opened }
     ensures end { (disk : D) → IsOpenedFor ⟦<D as Disk>⟧ setup.start disk opened
-        → EndsOn ⟦<D as Disk>⟧ setup.options setup.start (commands_of script.now) disk result.0 result.1 }
+        → EndsOn ⟦<D as Disk>⟧ setup.options setup.start setup.mode (commands_of script.now) disk result.0 result.1 }
     ensures later { D.faults (disk_of opened.log) ≤ D.faults result.0 }
     ensures time { GoesOn D.moment D.from (disk_of opened.log) result.0 }
 {
@@ -79,6 +81,7 @@ fn run_over<
     let Setup {
         options,
         start: _,
+        mode: _,
         shards,
         pipelined,
     } = setup;

@@ -1,5 +1,6 @@
 //! What a script is run with.
 
+use log_recovery::Mode;
 use model_base::Options;
 use run_outcome::LogStart;
 use std::alloc::Global;
@@ -12,14 +13,15 @@ pub struct Host<'a, R, G> {
     pub gate: &'a G,
 }
 
-/// How the write path is set up: its limits, how its log is opened, how many shards its table has, and whether groups
-/// go into the table in a stage of their own.
+/// How the write path is set up: its limits, how its log is opened, which ends its recovery accepts where it goes on,
+/// how many shards its table has, and whether groups go into the table in a stage of their own.
 ///
 /// The last sequence of a run whose log goes on is that of its options or the recovered one, whichever is greater.
 #[derive(Drop)]
 pub struct Setup {
     pub options: Options,
     pub start: LogStart,
+    pub mode: Mode,
     pub shards: u32,
     pub pipelined: bool,
 }

@@ -13,6 +13,7 @@
 //! - `reopening`: logs over old bytes, and logs behind what was recovered
 //! - `recovery`: what whole logs and those with another last record recover
 //! - `damage`: what logs recover that were cut or changed
+//! - `modes`: what each mode of recovery accepts
 //! - `numbered_logs`: logs with a number, read and recovered
 #![tactic(auto)]
 
@@ -28,6 +29,8 @@ mod checks;
 mod damage;
 #[cfg(test)]
 mod logs;
+#[cfg(test)]
+mod modes;
 #[cfg(test)]
 mod numbered_fragments;
 #[cfg(test)]

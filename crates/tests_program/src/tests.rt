@@ -3,6 +3,7 @@
 //! - `runs`: scripts of one client, what is refused, devices that fail, and generated scripts
 //! - `clients`: scripts of several clients
 //! - `failing`: each call of a device fails in turn, and what crashes leave
+//! - `modes`: ends of logs that a mode of recovery accepts, and others
 //! - `numbers`: logs with a number, alone and over older ones
 //! - `overlap`: what clients do while another's append, or its group, is under way
 //! - `recovery`: what logs recover
@@ -11,6 +12,7 @@
 
 mod clients;
 mod failing;
+mod modes;
 mod numbers;
 mod overlap;
 mod recovery;

@@ -107,7 +107,7 @@ const C_PUT: &str =
     "client 1\nok 1 1\nhistory 1\n1 1 1 1 log 0100000000000000010000000101630133\nstate 1 1\nc 3\nlog 28\n";
 
 /// Compares what a disk holds.
-fn check_left(rt: &impl Abort, disk: &MemDisk, want: &[u8]) {
+pub(super) fn check_left(rt: &impl Abort, disk: &MemDisk, want: &[u8]) {
     assert_eq!(rt; disk.content(), want);
 }
 

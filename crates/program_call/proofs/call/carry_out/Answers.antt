@@ -5,13 +5,14 @@ use Rattle.program_call.proofs.Invocation.{of_run, of_generate, of_recover, of_r
 use Rattle.program_call.proofs.call.carry_out.Goals as goal
 
 pub returns-in-Run-clause-run : goal.returns-in-Run-clause-run
-returns-in-Run-clause-run g c = λ wanted start asked.
+returns-in-Run-clause-run g c = λ wanted start mode asked.
     let given = c.in-Run in
     let does = c.run_script.ensures in
-    let named = of_run c.args.asked given.pipelined given.shards given.group_bytes given.batch_bytes given.last given.number given.resume asked.0 asked.1 wanted asked.2 asked.3 given.is asked.4 in
+    let named = of_run c.args.asked given.pipelined given.shards given.group_bytes given.batch_bytes given.last given.number given.resume given.mode asked.0 asked.1 wanted asked.2 asked.3 mode given.is asked.4 in
     let same = named.0 ∙ sym c.setup_of-setup.ensures.options in
     let same_start = asked.5 ∙ named.1 ∙ sym c.log_start-start.ensures ∙ sym c.setup_of-setup.ensures.start in
-    rw (same, same_start) (record {
+    let same_mode = named.2 ∙ sym c.setup_of-setup.ensures.mode in
+    rw (same, same_start, same_mode) (record {
       other = does.other;
       script = does.script;
       other_script = does.other_script;
@@ -37,11 +38,12 @@ returns-in-Generate-clause-generate g c = λ seed clients batches asked.
     })
 
 pub returns-in-Recover-clause-recover : goal.returns-in-Recover-clause-recover
-returns-in-Recover-clause-recover g c = λ wanted asked.
+returns-in-Recover-clause-recover g c = λ wanted mode asked.
     let given = c.in-Recover in
     let does = c.recover_log.ensures in
-    let same = of_recover c.args.asked given.number wanted given.is asked ∙ sym c.log_number.ensures in
-    rw same (record {
+    let named = of_recover c.args.asked given.number wanted given.mode mode given.is asked in
+    let same = named.0 ∙ sym c.log_number.ensures in
+    rw (same, named.1) (record {
       one = does.status;
       source_untouched = refl;
       as_before = does.disk_as_before;
@@ -51,6 +53,7 @@ returns-in-Recover-clause-recover g c = λ wanted asked.
       recovered = does.recovered;
       recovered_prefix = does.recovered_prefix;
       refused = does.refused;
+      damaged = does.damaged;
       silent = does.silent;
       completes = does.completes;
     })
@@ -79,22 +82,22 @@ pub returns-in-Run-clause-generate : goal.returns-in-Run-clause-generate
 returns-in-Run-clause-generate g c = λ seed clients batches asked. absurd (not_another is_run _ _ _ c.in-Run.is asked.2 refl refl)
 
 pub returns-in-Run-clause-recover : goal.returns-in-Run-clause-recover
-returns-in-Run-clause-recover g c = λ number asked. absurd (not_another is_run _ _ _ c.in-Run.is asked refl refl)
+returns-in-Run-clause-recover g c = λ number mode asked. absurd (not_another is_run _ _ _ c.in-Run.is asked refl refl)
 
 pub returns-in-Run-clause-replay : goal.returns-in-Run-clause-replay
 returns-in-Run-clause-replay g c = λ options asked. absurd (not_another is_run _ _ _ c.in-Run.is asked refl refl)
 
 pub returns-in-Generate-clause-run : goal.returns-in-Generate-clause-run
-returns-in-Generate-clause-run g c = λ options start asked. absurd (not_another is_generate _ _ _ c.in-Generate.is asked.4 refl refl)
+returns-in-Generate-clause-run g c = λ options start mode asked. absurd (not_another is_generate _ _ _ c.in-Generate.is asked.4 refl refl)
 
 pub returns-in-Generate-clause-recover : goal.returns-in-Generate-clause-recover
-returns-in-Generate-clause-recover g c = λ number asked. absurd (not_another is_generate _ _ _ c.in-Generate.is asked refl refl)
+returns-in-Generate-clause-recover g c = λ number mode asked. absurd (not_another is_generate _ _ _ c.in-Generate.is asked refl refl)
 
 pub returns-in-Generate-clause-replay : goal.returns-in-Generate-clause-replay
 returns-in-Generate-clause-replay g c = λ options asked. absurd (not_another is_generate _ _ _ c.in-Generate.is asked refl refl)
 
 pub returns-in-Recover-clause-run : goal.returns-in-Recover-clause-run
-returns-in-Recover-clause-run g c = λ options start asked. absurd (not_another is_recover _ _ _ c.in-Recover.is asked.4 refl refl)
+returns-in-Recover-clause-run g c = λ options start mode asked. absurd (not_another is_recover _ _ _ c.in-Recover.is asked.4 refl refl)
 
 pub returns-in-Recover-clause-generate : goal.returns-in-Recover-clause-generate
 returns-in-Recover-clause-generate g c = λ seed clients batches asked. absurd (not_another is_recover _ _ _ c.in-Recover.is asked.2 refl refl)
@@ -103,10 +106,10 @@ pub returns-in-Recover-clause-replay : goal.returns-in-Recover-clause-replay
 returns-in-Recover-clause-replay g c = λ options asked. absurd (not_another is_recover _ _ _ c.in-Recover.is asked refl refl)
 
 pub returns-in-Replay-clause-run : goal.returns-in-Replay-clause-run
-returns-in-Replay-clause-run g c = λ options start asked. absurd (not_another is_replay _ _ _ c.in-Replay.is asked.4 refl refl)
+returns-in-Replay-clause-run g c = λ options start mode asked. absurd (not_another is_replay _ _ _ c.in-Replay.is asked.4 refl refl)
 
 pub returns-in-Replay-clause-generate : goal.returns-in-Replay-clause-generate
 returns-in-Replay-clause-generate g c = λ seed clients batches asked. absurd (not_another is_replay _ _ _ c.in-Replay.is asked.2 refl refl)
 
 pub returns-in-Replay-clause-recover : goal.returns-in-Replay-clause-recover
-returns-in-Replay-clause-recover g c = λ number asked. absurd (not_another is_replay _ _ _ c.in-Replay.is asked refl refl)
+returns-in-Replay-clause-recover g c = λ number mode asked. absurd (not_another is_replay _ _ _ c.in-Replay.is asked refl refl)

@@ -42,7 +42,7 @@ returns-clause-runs g c =
 
 pub returns-clause-completes : goal.returns-clause-completes
 returns-clause-completes g c = λ sink_stood disk_stood.
-    over_empty _ _ _ (completes _ _ _ _ _ _ _ _ c.run_and_tell.ensures.runs c.run_and_tell.ensures.status sink_stood disk_stood)
+    over_empty _ _ _ (completes _ _ _ _ _ _ _ _ c.run_and_tell.ensures.runs c.run_and_tell.ensures.status sink_stood disk_stood (λ at why damaged. damaged))
 
 pub returns-clause-one_summary : goal.returns-clause-one_summary
 returns-clause-one_summary g c = λ zero.

@@ -7,3 +7,6 @@ returns-in-DiskFault g c = rw c.in-DiskFault.is (refuses _ _ _ _ _ _ _ _ c.disk_
 
 pub returns-in-NotEmpty : goal.returns-in-NotEmpty
 returns-in-NotEmpty g c = rw c.in-NotEmpty.is (refuses _ _ _ _ _ _ _ _ c.log_not_empty.ensures c.refuse_with-in-NotEmpty.ensures.made c.refuse_with-in-NotEmpty.ensures.none)
+
+pub returns-in-Damage : goal.returns-in-Damage
+returns-in-Damage g c = rw c.in-Damage.is (refuses _ _ _ _ _ _ _ _ c.log_damage.ensures c.refuse_with-in-Damage.ensures.made c.refuse_with-in-Damage.ensures.none)

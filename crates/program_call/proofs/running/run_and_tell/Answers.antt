@@ -13,5 +13,5 @@ returns-clause-runs g c =
     let after = c.tell_end.new.sink in
     let script = commands_of c.args.script in
     let setup = c.args.setup in
-    rw (c.end_with.ensures.status, c.end_with.ensures.disk) (runs_script g.D.Disk g.K.Sink (IsScript script) c.args.form setup.options setup.start was disk before after _
-    (ended_so g.D.Disk g.K.Sink setup.options setup.start script c.args.form was disk before after c.execute-disk.result.1 c.tell_end.result c.execute-disk.ensures.end c.tell_end.ensures))
+    rw (c.end_with.ensures.status, c.end_with.ensures.disk) (runs_script g.D.Disk g.K.Sink (IsScript script) c.args.form setup.options setup.start setup.mode was disk before after _
+    (ended_so g.D.Disk g.K.Sink setup.options setup.start setup.mode script c.args.form was disk before after c.execute-disk.result.1 c.tell_end.result c.execute-disk.ensures.end c.execute-disk.ensures.accepted c.tell_end.ensures))

@@ -24,11 +24,11 @@ pub returns-in-Ok-clause-runs : goal.returns-in-Ok-clause-runs
 returns-in-Ok-clause-runs g c =
     let left = g.S.Source.left c.args.source.now in
     let script = commands_of c.in-Ok.script in
-    runs_retold (observation_of g.D.Disk g.K.Sink (IsScript script) form.Whole c.args.setup.options c.args.setup.start c.args.disk c.run_and_tell.result.disk c.args.sink.now c.run_and_tell.new.sink) (SaysScript left) (λ s is. says_it left script s c.in-Ok.ensures.script.said is) _ _ _ _ _ _ _ c.run_and_tell.ensures.runs
+    runs_retold (observation_of g.D.Disk g.K.Sink (IsScript script) form.Whole c.args.setup.options c.args.setup.start c.args.setup.mode c.args.disk c.run_and_tell.result.disk c.args.sink.now c.run_and_tell.new.sink) (SaysScript left) (λ s is. says_it left script s c.in-Ok.ensures.script.said is) _ _ _ _ _ _ _ c.run_and_tell.ensures.runs
 
 pub returns-in-Ok-clause-completes : goal.returns-in-Ok-clause-completes
-returns-in-Ok-clause-completes g c = λ source_stood sink_stood disk_stood.
-    under _ _ _ _ (completes _ _ _ _ _ _ _ _ c.run_and_tell.ensures.runs c.run_and_tell.ensures.status sink_stood disk_stood)
+returns-in-Ok-clause-completes g c = λ source_stood sink_stood disk_stood no_damage.
+    under _ _ _ _ (completes _ _ _ _ _ _ _ _ c.run_and_tell.ensures.runs c.run_and_tell.ensures.status sink_stood disk_stood no_damage)
 
 pub returns-in-Err-clause-source : goal.returns-in-Err-clause-source
 returns-in-Err-clause-source g c =
@@ -49,7 +49,7 @@ returns-in-Err-clause-script g c =
     c.in-Err.ensures.error c.tell_read_error.ensures
 
 pub returns-in-Err-clause-completes : goal.returns-in-Err-clause-completes
-returns-in-Err-clause-completes g c = λ source_stood sink_stood disk_stood.
+returns-in-Err-clause-completes g c = λ source_stood sink_stood disk_stood no_damage.
     unread_completes (g.S.Source.left c.args.source.now) (g.D.Disk.told c.args.disk) c.args.setup.start (g.S.Source.faults c.args.source.now) (g.S.Source.faults c.read_script.new.source)
     (g.K.Sink.faults c.args.sink.now) (g.K.Sink.faults c.tell_read_error.new.sink) c.end_with.result.status (g.K.Sink.taken c.args.sink.now) (g.K.Sink.taken c.tell_read_error.new.sink)
     c.tell_read_error.result c.end_with.ensures.status c.in-Err.why c.in-Err.ensures.error c.tell_read_error.ensures source_stood
@@ -60,6 +60,6 @@ returns-in-Err-clause-runs g c =
     let before = c.args.sink.now in
     let after = c.tell_read_error.new.sink in
     let says = SaysScript (g.S.Source.left c.args.source.now) in
-    rw (c.end_with.ensures.status, c.end_with.ensures.disk) (runs_script g.D.Disk g.K.Sink says form.Whole c.args.setup.options c.args.setup.start was was before after _
-    (unread (observation_of g.D.Disk g.K.Sink says form.Whole c.args.setup.options c.args.setup.start was was before after) (g.D.Disk.faults was) (g.D.Disk.faults was) (g.K.Sink.faults before) (g.K.Sink.faults after)
+    rw (c.end_with.ensures.status, c.end_with.ensures.disk) (runs_script g.D.Disk g.K.Sink says form.Whole c.args.setup.options c.args.setup.start c.args.setup.mode was was before after _
+    (unread (observation_of g.D.Disk g.K.Sink says form.Whole c.args.setup.options c.args.setup.start c.args.setup.mode was was before after) (g.D.Disk.faults was) (g.D.Disk.faults was) (g.K.Sink.faults before) (g.K.Sink.faults after)
     c.in-Err.why c.tell_read_error.result refl c.tell_read_error.ensures))

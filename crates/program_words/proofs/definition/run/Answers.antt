@@ -15,8 +15,9 @@ returns c =
     let with_table = c.in_ok-with_table.ensures.app ∙ ap (λ (a : App). with_rule (with_rule a table) shards) staged.app in
     let with_limits = c.in_ok-with_limits.ensures.app ∙ ap (λ (a : App). with_rule (with_rule (with_rule a group_bytes) batch_bytes) last) with_table in
     let numbered = with_argument _ _ _ _ _ c.in_ok-arg.ensures c.number.ensures.local c.number.ensures.rule (record { app = with_limits; local = c.in_ok-with_limits.ensures.local }) in
-    let resume = c.resume.ensures in
+    let resumed = with_argument _ _ _ _ _ c.in_ok-arg-2.ensures c.resume.ensures.local c.resume.ensures.rule numbered in
+    let mode = c.mode.ensures in
     record {
-      app = IfOk-weaker c.arg-3.result _ _ (λ command adds. (with_argument _ _ _ _ _ adds resume.local resume.rule numbered).app) c.arg-3.ensures;
-      local = IfOk-weaker c.arg-3.result _ _ (λ command adds. (with_argument _ _ _ _ _ adds resume.local resume.rule numbered).local) c.arg-3.ensures;
+      app = IfOk-weaker c.arg-4.result _ _ (λ command adds. (with_argument _ _ _ _ _ adds mode.local mode.rule resumed).app) c.arg-4.ensures;
+      local = IfOk-weaker c.arg-4.result _ _ (λ command adds. (with_argument _ _ _ _ _ adds mode.local mode.rule resumed).local) c.arg-4.ensures;
     }

@@ -2,7 +2,7 @@ use Rattle.std.proofs.Common.{sym, subst, refl}
 use Rattle.run_outcome.specs.declared.log_start.LogStart.TheVariants.{Behind}
 use Rattle.run_execution.specs.declared.end.RunEnd.{RunEnd}
 use Rattle.run_execution.specs.Ends.{IsRefused}
-use Rattle.run_execution.proofs.Resumed.{before_of, goes_behind, opened_behind, refused_behind}
+use Rattle.run_execution.proofs.Resumed.{accepted_end, before_of, goes_behind, opened_behind, refused_behind}
 use Rattle.run_execution.proofs.opening.open_behind.Goals as goal
 
 pub returns-in-Ok-resume-clause-ok : goal.returns-in-Ok-resume-clause-ok
@@ -11,11 +11,11 @@ returns-in-Ok-resume-clause-ok g c =
     let shown = c.in-Ok.recovered in
     let told = g.D.Disk.told c.args.disk in
     let found = c.in-Ok.ensures in
-    let reads = c.recover.ensures.disk in
+    let reads = c.recover_mode.ensures.disk in
     record {
       before = before_of told shown;
       goes_on = goes_behind number shown told found.recovered;
-      is_opened = opened_behind number shown g.D.Disk c.args.disk c.recover.new.disk reads.same reads.time found.worked found.recovered c.in-Ok-resume.log (g.met.D.Disk.only_now c.args.disk) c.in-Ok-resume.ensures.ok;
+      is_opened = opened_behind number shown g.D.Disk c.args.disk c.recover_mode.new.disk reads.same reads.time found.worked found.recovered c.in-Ok-resume.log (g.met.D.Disk.only_now c.args.disk) c.in-Ok-resume.ensures.ok;
       map = refl;
       last = refl;
       none = found.numbered.none;
@@ -24,6 +24,11 @@ returns-in-Ok-resume-clause-ok g c =
 pub returns-clause-err : goal.returns-clause-err
 returns-clause-err g c =
     let found = c.in-Ok.ensures in
-    let reads = c.recover.ensures.disk in
-    subst (λ (end : RunEnd). IsRefused g.D.Disk (Behind c.args.number) c.args.disk c.in-Err.disk end) (sym c.from.ensures)
-    (refused_behind c.args.number c.in-Ok.recovered g.D.Disk c.args.disk c.recover.new.disk reads.same reads.time found.worked found.recovered c.in-Err.disk c.in-Err.why c.in-Err.ensures.err)
+    let reads = c.recover_mode.ensures.disk in
+    subst (λ (end : RunEnd). IsRefused g.D.Disk (Behind c.args.number) c.args.mode c.args.disk c.in-Err.disk end) (sym c.from.ensures)
+    (refused_behind c.args.number c.in-Ok.recovered g.D.Disk c.args.disk c.recover_mode.new.disk reads.same reads.time found.worked found.recovered c.in-Err.disk c.args.mode c.in-Err.why c.in-Err.ensures.err)
+
+pub returns-in-Ok-resume-clause-accepted : goal.returns-in-Ok-resume-clause-accepted
+returns-in-Ok-resume-clause-accepted g c =
+    let found = c.in-Ok.ensures in
+    accepted_end c.args.number c.args.mode (g.D.Disk.told c.args.disk) c.in-Ok.recovered found.recovered found.accepted

@@ -8,4 +8,4 @@ pub returns-in-Ok-reuse-clause-ok : goal.returns-in-Ok-reuse-clause-ok
 returns-in-Ok-reuse-clause-ok g c = rw (c.anew-in-Ok-reuse.ensures, c.in-Over.is) (opened_over c.in-Over.number c.args.disk c.in-Ok-reuse.log c.in-Ok-reuse.ensures.ok)
 
 pub returns-in-Err-reuse-clause-err : goal.returns-in-Err-reuse-clause-err
-returns-in-Err-reuse-clause-err g c = rw (c.from-in-Err-reuse.ensures, c.in-Over.is) (refused_over g.D.Disk c.args.disk c.in-Err-reuse.disk c.in-Over.number c.in-Err-reuse.why c.in-Err-reuse.ensures.err)
+returns-in-Err-reuse-clause-err g c = rw (c.from-in-Err-reuse.ensures, c.in-Over.is) (refused_over g.D.Disk c.args.disk c.in-Err-reuse.disk c.in-Over.number c.args.mode c.in-Err-reuse.why c.in-Err-reuse.ensures.err)

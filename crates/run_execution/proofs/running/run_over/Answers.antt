@@ -31,7 +31,7 @@ returns-in-Ok-clause-end g c = λ disk is.
     let settings = c.in-Ok.ensures.engine.1 ∙ settings_behind start disk opened options c.max.result _ _ is c.max.ensures (ap length value) in
     let comes = comes_to fault_of (λ (l : LogWriter g.row.D.Denot g.D.Disk). g.D.Disk.faults (disk_of l)) ran _ _ _ _ _ _ settings value (ap Wrote c.in-Ok.ensures.engine.0) c.run_engine.ensures in
     rw (c.end_run.ensures.end, c.end_run.ensures.disk)
-    (c.runs_leave_safe_logs.ensures.ends disk opened.log options start is.before script ran is.goes_on is.is_opened (omega (arith, c.requires.clients)) c.requires.options.1 comes)
+    (c.runs_leave_safe_logs.ensures.ends disk opened.log options start c.args.setup.mode is.before script ran is.goes_on is.is_opened (omega (arith, c.requires.clients)) c.requires.options.1 comes)
 
 pub returns-in-Ok-clause-later : goal.returns-in-Ok-clause-later
 returns-in-Ok-clause-later g c =

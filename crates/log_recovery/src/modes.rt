@@ -1,0 +1,143 @@
+//! Which ends of recovery a mode accepts.
+
+ghost use Rattle.std.specs.Prelude.{◌≡◌, ◌≤◌, ◌↔◌, IsTrue, IfOk, IfErr, IfSome, OnOk, drop, true};
+ghost use Rattle.base_devices.specs.Faults.{Rose};
+ghost use Rattle.model_base.specs.Reading.{are_zeros};
+ghost use Rattle.log_reader.specs.OnlyReads.{OnlyReads};
+ghost use Rattle.log_recovery.specs.declared.modes.Mode.TheVariants.{Point};
+ghost use Rattle.log_recovery.specs.Modes.{Accepts, IsWholeEnd, IsCutOff, PassesFile};
+
+use crate::recovery::End;
+use base_devices::Disk;
+use byteorder::{ByteOrder, LittleEndian};
+use log_block::{BLOCK_LEN, header_len};
+use model_base::{Damage, EndReason};
+
+/// Which ends of a log recovery accepts. Any other is damage.
+#[derive(Clone, Copy, Debug, PartialEq, Eq)]
+pub enum Mode {
+    /// Any end at all: the records in front of it are recovered.
+    Point,
+    /// The end of a whole log, and one where the last write was cut off.
+    Tail,
+    /// The end of a whole log.
+    Absolute,
+}
+
+/// Whether the mode accepts this end of the log that a disk holds, of which recovery says it. A fault of the disk is
+/// answered by its count.
+pub fn accepts<D: Disk>(
+    disk: &mut D,
+    number: Option<u32>,
+    mode: Mode,
+    end: End,
+) -> Result<bool, u64>
+    ensures decided { IfSome (D.told disk.old) (λ d. IfOk result
+        (λ is. IsTrue is ↔ Accepts number mode d.content end.at end.why)) }
+    ensures any { IfOk result (λ is. mode ≡ Point → is ≡ true) }
+    ensures worked { OnOk result (D.faults disk.new ≡ D.faults disk.old) }
+    ensures fault { IfErr result (λ count. Rose (D.faults disk.old) count × (count ≤ D.faults disk.new)) }
+    ensures disk { OnlyReads ⟦<D as Disk>⟧ disk.old disk.new }
+{
+    match mode {
+        Mode::Point => Ok(true),
+        Mode::Tail => {
+            if is_whole_end(end.why) {
+                Ok(true)
+            } else {
+                is_cut_off(disk, number, end)
+            }
+        }
+        Mode::Absolute => Ok(is_whole_end(end.why)),
+    }
+}
+
+/// Whether a log ends so as a whole one does.
+fn is_whole_end(why: EndReason) -> bool
+    ensures { IsTrue result ↔ IsWholeEnd why }
+{
+    match why {
+        EndReason::Clean => true,
+        EndReason::Broken(Damage::OldLog(_)) => true,
+        _ => false,
+    }
+}
+
+/// Whether the log ends so because its last write was cut off.
+fn is_cut_off<D: Disk>(disk: &mut D, number: Option<u32>, end: End) -> Result<bool, u64>
+    ensures decided { IfSome (D.told disk.old) (λ d. IfOk result
+        (λ is. IsTrue is ↔ IsCutOff number d.content end.at end.why)) }
+    ensures worked { OnOk result (D.faults disk.new ≡ D.faults disk.old) }
+    ensures fault { IfErr result (λ count. Rose (D.faults disk.old) count × (count ≤ D.faults disk.new)) }
+    ensures disk { OnlyReads ⟦<D as Disk>⟧ disk.old disk.new }
+{
+    match end.why {
+        EndReason::Unfinished => Ok(true),
+        EndReason::Broken(Damage::ShortHeader) => Ok(true),
+        EndReason::Broken(Damage::BadLength) => passes_file(disk, number, end.at),
+        EndReason::Broken(Damage::Zeros) => are_zeros_from(disk, end.at),
+        _ => Ok(false),
+    }
+}
+
+// No header is longer.
+const HEADER_ROOM: usize = 11;
+
+/// Whether the fragment at the place `at` goes on where the file ends, and doesn't pass its block.
+fn passes_file<D: Disk>(disk: &mut D, number: Option<u32>, at: u64) -> Result<bool, u64>
+    ensures decided { IfSome (D.told disk.old) (λ d. IfOk result (λ is. IsTrue is ↔ PassesFile number d.content at)) }
+    ensures worked { OnOk result (D.faults disk.new ≡ D.faults disk.old) }
+    ensures fault { IfErr result (λ count. Rose (D.faults disk.old) count × (count ≤ D.faults disk.new)) }
+    ensures disk { OnlyReads ⟦<D as Disk>⟧ disk.old disk.new }
+{
+    let mut header = [0; HEADER_ROOM];
+    let Ok(len) = disk.read(at, &mut header) else {
+        return Err(disk.faults());
+    };
+    if len < header_len(number) {
+        return Ok(false);
+    }
+    let fragment_len = header_len(number) + usize::from(LittleEndian::read_u16(&header[4..6]));
+    if fragment_len > BLOCK_LEN - (at % BLOCK_LEN as u64) as usize {
+        return Ok(false);
+    }
+    let last = at + fragment_len as u64 - 1;
+    let Ok(len) = disk.read(last, &mut [0]) else {
+        return Err(disk.faults());
+    };
+    Ok(len == 0)
+}
+
+// How many bytes are looked at at a time.
+const PIECE: usize = 4096;
+
+/// Whether all bytes of a file from this place on are zeros.
+fn are_zeros_from<D: Disk>(disk: &mut D, from: u64) -> Result<bool, u64>
+    ensures decided { IfSome (D.told disk.old) (λ d. IfOk result (λ is. is ≡ are_zeros (drop from d.content))) }
+    ensures worked { OnOk result (D.faults disk.new ≡ D.faults disk.old) }
+    ensures fault { IfErr result (λ count. Rose (D.faults disk.old) count × (count ≤ D.faults disk.new)) }
+    ensures disk { OnlyReads ⟦<D as Disk>⟧ disk.old disk.new }
+{
+    let mut piece = [0; PIECE];
+    let mut at = from;
+    // From `from` up to `at` there are zeros, and no read has failed.
+    loop {
+        let Ok(len) = disk.read(at, &mut piece) else {
+            return Err(disk.faults());
+        };
+        if len == 0 {
+            return Ok(true);
+        }
+        if !are_all_zeros(&piece[..len]) {
+            return Ok(false);
+        }
+        at += len as u64;
+    }
+}
+
+/// Whether each byte is 0.
+fn are_all_zeros(bytes: &[u8]) -> bool
+    ensures { result ≡ are_zeros bytes.now }
+{
+    bytes.iter().all(|byte| *byte == 0)
+}
