@@ -111,6 +111,7 @@ const AGAIN: [Again; 19] = [
 
 fn check_again(rt: &impl Abort, disk: &mut MemDisk) {
     let mut buf = [0; 3];
+    // All rows so far were as wanted.
     for (row, (call, wanted, safe, place, faults, content)) in AGAIN.iter().enumerate() {
         let answer = made(disk, *call, &mut buf);
         let found = (answer, disk.synced(), disk.place(), disk.faults());
@@ -150,6 +151,7 @@ const FAILED: [(u64, usize, &[u8], u64, u64); 7] = [
 
 // Only that kind fails.
 fn check_kinds(rt: &impl Abort, disk: &mut MemDisk, failing: usize) {
+    // Of the kinds so far just the one that is to fail has failed.
     for (row, call) in KINDS.iter().enumerate() {
         let failed = made(disk, *call, &mut [0; 2]).is_err();
         check(rt, row, &failed, &(row == failing));
@@ -158,6 +160,7 @@ fn check_kinds(rt: &impl Abort, disk: &mut MemDisk, failing: usize) {
 
 #[test]
 fn disk_fails_at_each_kind_of_call(rt: HostRuntime) -> Result<(), Fail> {
+    // All rows so far were as wanted.
     for (row, (call, failing, content, safe, place)) in FAILED.iter().enumerate() {
         let mut disk = MemDisk::new(rt.alloc(), 6, b"abcd", &[*call])?;
         check_kinds(&rt, &mut disk, *failing);
@@ -220,7 +223,9 @@ fn left(
 
 #[test]
 fn crash_leaves_what_was_written_again_and_cut(rt: HostRuntime) -> Result<(), Fail> {
+    // All rows so far were as wanted.
     for (row, (calls, len, crashed, torn)) in LEFT.iter().enumerate() {
+        // What the crashes so far have left is as wanted.
         for (tears, wanted) in [(false, *crashed), (true, *torn)] {
             let left = left(&rt, rt.alloc(), calls, *len, tears)?;
             check(&rt, row, &left.content(), &wanted);

@@ -75,6 +75,7 @@ fn check_modes(
     log: &[u8],
     wanted: Row,
 ) {
+    // All modes so far were as wanted.
     for mode in [Mode::Point, Mode::Tail, Mode::Absolute] {
         let found = recovered_by(mode, number, alloc, log, &[]);
         check(rt, row, &found, &wanted_by(mode, wanted));

@@ -92,6 +92,7 @@ const OVER: [(u64, Option<OpenError>, u64); 2] = [
 // Before the first append all that was there is there, also behind a crash.
 #[test]
 fn begins_over_old_bytes(rt: HostRuntime) -> Result<(), Fail> {
+    // All rows so far were as wanted.
     for (row, (call, wanted, place)) in OVER.iter().enumerate() {
         let (disk, error) = begun_over(rt.alloc(), *call)?;
         check(&rt, row, &(error, disk.place()), &(*wanted, *place));
@@ -115,6 +116,7 @@ const OVERWRITTEN: [(u64, usize); 4] = [(0, 0), (27, 0), (28, 1), (56, 1)];
 // Old records aren't safe any more once an append goes over the first of them.
 #[test]
 fn gives_up_old_bytes_as_it_writes(rt: HostRuntime) -> Result<(), Fail> {
+    // All rows so far were as wanted.
     for (row, (len, wanted)) in OVERWRITTEN.iter().enumerate() {
         let disk = overwritten(&rt, rt.alloc())?;
         assert!(rt; disk.synced() == 0 && *len <= disk.content().len() as u64);
@@ -141,6 +143,7 @@ const GOING: [Going; 6] = [
 
 #[test]
 fn goes_on_behind_what_is_kept(rt: HostRuntime) -> Result<(), Fail> {
+    // All rows so far were as wanted.
     for (row, (number, before, cut, kept, after, from)) in GOING.iter().enumerate() {
         let content = cut_at(before, *cut)?;
         let disk = MemDisk::new(rt.alloc(), content.len().max(56), content, &[])?;
@@ -185,6 +188,7 @@ fn large_log(alloc: Global, number: Option<u32>, zeros: usize) -> Result<MemDisk
 // that ends its block.
 #[test]
 fn goes_on_at_the_end_of_a_block(rt: HostRuntime) -> Result<(), Fail> {
+    // All rows so far were as wanted.
     for (row, (number, zeros, kept, end)) in BEHIND.iter().enumerate() {
         let disk = large_log(rt.alloc(), *number, *zeros)?;
         let batch = put(rt.alloc(), b"b", b"2")?;
@@ -263,6 +267,7 @@ fn check_cutting(
 
 #[test]
 fn keeps_what_is_safe_where_it_goes_on(rt: HostRuntime) -> Result<(), Fail> {
+    // All rows so far were as wanted.
     for (row, cutting) in CUTTING.iter().enumerate() {
         check_cutting(&rt, rt.alloc(), row, cutting, false)?;
         check_cutting(&rt, rt.alloc(), row, cutting, true)?;

@@ -251,6 +251,7 @@ fn is_text(text: &str, wanted: &str) -> bool {
 /// Whether a text is as wanted, line by line, but for the log's length.
 fn is_but_for_length(text: &str, wanted: &str) -> bool {
     let mut is_as_wanted = text.lines().count() == wanted.lines().count();
+    // It says whether the lines so far are the wanted ones.
     for (line, wanted) in text.lines().zip(wanted.lines()) {
         let are_lengths = line.starts_with("log ") && wanted.starts_with("log ");
         is_as_wanted = is_as_wanted && (line == wanted || are_lengths);

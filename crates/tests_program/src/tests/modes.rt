@@ -164,6 +164,7 @@ fn check_mode<R: Threads + Wait + rt::Clock + Abort + Sync>(rt: &R, alloc: Globa
 
 #[test]
 fn recovers_what_the_mode_accepts(rt: HostRuntime) {
+    // All rows so far were as wanted.
     for row in BY_MODE {
         check_mode(&rt, rt.alloc(), row);
     }
@@ -302,7 +303,9 @@ fn check_going_on<R: Threads + Wait + rt::Clock + Abort + Sync>(
 
 #[test]
 fn goes_on_where_the_mode_accepts(rt: HostRuntime) {
+    // All paths so far were as wanted.
     for path in PATHS {
+        // All rows so far were as wanted.
         for row in GOING_ON {
             check_going_on(&rt, rt.alloc(), path, row);
         }
@@ -355,7 +358,9 @@ fn check_written<R: Threads + Wait + rt::Clock + Abort + Sync>(
 
 #[test]
 fn writes_behind_an_accepted_end(rt: HostRuntime) {
+    // All paths so far were as wanted.
     for path in PATHS {
+        // All rows so far were as wanted.
         for row in WRITTEN {
             check_written(&rt, rt.alloc(), path, row);
         }
@@ -392,6 +397,7 @@ fn check_failing<R: Threads + Wait + rt::Clock + Abort + Sync>(
 
 #[test]
 fn a_fault_comes_before_the_damage(rt: HostRuntime) {
+    // All rows so far were as wanted.
     for row in FAILING {
         check_failing(&rt, rt.alloc(), row);
     }

@@ -42,6 +42,7 @@ fn check_rows_but_for_length<R: Threads + Wait + rt::Clock + Abort + Sync>(
     path: WritePath,
     rows: &[Row],
 ) {
+    // All rows so far were as wanted.
     for (words, text, want) in rows {
         let given = Given {
             words: *words,
@@ -59,6 +60,7 @@ fn check_rows_but_for_length<R: Threads + Wait + rt::Clock + Abort + Sync>(
 
 #[test]
 fn prints_what_came_of_a_script(rt: HostRuntime) {
+    // All paths so far were as wanted.
     for path in WITH_NUMBER {
         check_rows_but_for_length(&rt, rt.alloc(), path, &OUTCOMES);
     }
@@ -74,6 +76,7 @@ const HEADER_FROM_LENGTH: &[u8] = b"\x11\x00\x05\x07\x00\x00\x00";
 
 #[test]
 fn headers_have_the_number(rt: HostRuntime) {
+    // All paths so far were as wanted.
     for path in PATHS {
         let given = Given {
             words: "run --number 7",
@@ -139,6 +142,7 @@ fn check_used_again<R: Threads + Wait + rt::Clock + Abort + Sync>(
 
 #[test]
 fn writes_over_an_older_log(rt: HostRuntime) {
+    // All paths so far were as wanted.
     for path in PATHS {
         check_used_again(&rt, rt.alloc(), path);
     }
@@ -191,6 +195,7 @@ const DEVICES: [Device; 9] = [
 
 #[test]
 fn devices_fail_or_are_written_over(rt: HostRuntime) {
+    // All rows so far were as wanted.
     for (words, content, fails, status, want, left) in DEVICES {
         let given = Given {
             words,
@@ -223,6 +228,7 @@ const LEFT_ALONE: [(&str, &[u8], u8, &str); 3] = [
 
 #[test]
 fn an_older_log_is_left_alone(rt: HostRuntime) {
+    // All rows so far were as wanted.
     for (words, text, status, want) in LEFT_ALONE {
         let given = Given {
             words,
@@ -280,7 +286,9 @@ const LEFT: [Left; 6] = [
 
 #[test]
 fn each_call_of_the_disk_fails_over_an_older_log(rt: HostRuntime) {
+    // All paths so far were as wanted.
     for path in PATHS {
+        // All rows so far were as wanted.
         for (fails, status, want, content, safe) in LEFT {
             let given = Given {
                 words: "run --number 8",

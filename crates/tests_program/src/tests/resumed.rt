@@ -141,7 +141,9 @@ fn check_gone_on<R: Threads + Wait + rt::Clock + Abort + Sync>(
 
 #[test]
 fn goes_on_behind_what_is_recovered(rt: HostRuntime) {
+    // All paths so far were as wanted.
     for path in PATHS {
+        // All rows so far were as wanted.
         for row in GONE_ON {
             check_gone_on(&rt, rt.alloc(), path, row);
         }
@@ -176,6 +178,7 @@ fn goes_on_time_after_time(rt: HostRuntime) {
         0,
         "client 1\nhistory 0\nstate 0 0\nlog 0\n",
     );
+    // All rows so far were as wanted.
     for (text, want) in IN_TURN {
         let given = Given {
             words: "run --resume",
@@ -215,7 +218,9 @@ fn each_call_of_the_disk_fails_where_a_log_goes_on(rt: HostRuntime) {
     let Some(content) = TWO_RECORDS.get(..40) else {
         panic!(&rt; "so many bytes")
     };
+    // All paths so far were as wanted.
     for path in PATHS {
+        // All rows so far were as wanted.
         for (fails, status, want, len, safe, recovered) in LEFT {
             let given = Given {
                 words: "run --resume",
@@ -259,6 +264,7 @@ fn a_log_that_does_not_go_on_is_left_alone(rt: HostRuntime) {
     let Some(content) = TWO_RECORDS.get(..40) else {
         panic!(&rt; "so many bytes")
     };
+    // All rows so far were as wanted.
     for (words, text, fails, status, want) in LEFT_ALONE {
         let given = Given {
             words,

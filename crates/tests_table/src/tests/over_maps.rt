@@ -53,6 +53,7 @@ const ONE_ROUND: [Round; 1] = [Round {
 // A map of these pairs.
 fn map_of(rt: &impl Abort, alloc: Global, pairs: &[(&[u8], &[u8])]) -> ByteMap {
     let mut map = ByteMap::new(alloc);
+    // The map has the pairs so far.
     for i in 0..pairs.len() {
         let (key, value) = pairs[i];
         map.insert(key, value).expect(rt, "memory");
