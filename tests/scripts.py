@@ -11,7 +11,7 @@ PATHS = [[], THREE_SHARDS, ["--pipelined"], [*THREE_SHARDS, "--pipelined"]]
 
 
 def script_of(draw, is_named=False, count=None):
-    """A script of clients that write and read the same keys, of 2 to 16, or of so many.
+    """A script of clients that write and read the same keys, mostly of 2 to 16 and else of up to 64, or of so many.
 
     Where its batches are to be named, each begins with a note of its client and of how many of that client come before
     it, as `3.0`, and some scripts have long values.
@@ -20,7 +20,8 @@ def script_of(draw, is_named=False, count=None):
     least, most = draw.choice([(1, 4), (1, 4), (16, 40)])
     width = draw.choice([0, 0, 0, 400]) if is_named and most == 4 else 0
     clients = []
-    for client in range(draw.randint(2, 16) if count is None else count):
+    many = draw.choice([16, 16, 16, 64])
+    for client in range(draw.randint(2, many) if count is None else count):
         lines = []
         for turn in range(draw.randint(1, 12)):
             if is_named:

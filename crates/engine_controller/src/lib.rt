@@ -19,7 +19,7 @@
 //!
 //! | call | what it does |
 //! |---|---|
-//! | `open` | a controller for 1 to 16 clients, with a pass for each |
+//! | `open` | a controller for 1 to 64 clients, with a pass for each |
 //! | `stop`, `unstop` | takes the client's stop token; gives it back |
 //! | `slow`, `unslow` | takes the client's slow token, with a rate; gives it back |
 //! | `end` | gives back the tokens that the client holds |

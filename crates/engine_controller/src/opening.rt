@@ -16,7 +16,7 @@ use std::marker::PhantomData;
 use std::sync::Wait;
 
 impl<Time: Clock> Controller<Time> {
-    /// A controller for 1 to 16 clients, with a pass for each. Nobody holds a token.
+    /// A controller for 1 to 64 clients, with a pass for each. Nobody holds a token.
     pub fn open(alloc: Global, clients: u32) -> Result<(Controller<Time>, Passes), NoMemory>
         requires clients { (1 ≤ clients) × (clients ≤ MAX_CLIENTS) }
         ensures new { IfOk result (λ r. AreNew r.0 clients r.1) }

@@ -50,6 +50,32 @@ pub small_count : (bytes : List ℕ) (s n : ℕ) (h : IsBatch bytes s n) → n �
 small_count bytes s n h =
     omega (arith, h.count_is, count_by-le-length is_counted h.records, few_records h.records, h.fits, ap length h.bytes_are, length-append (header s n) (body h.records))
 
+-- The body of more records.
+pub body-appended : (records more : List Record) → body (records ++ more) ≡ body records ++ body more
+body-appended records more = flat_map-append record_bytes records more
+
+-- The count with more records.
+pub count_of-appended : (records more : List Record) → count_of (records ++ more) ≡ count_of records + count_of more
+count_of-appended records more = grind (arith, common_steps)
+
+-- Records count no more often than they have bytes.
+pub counts_no_more : (records : List Record) → count_of records ≤ length (body records)
+counts_no_more records = omega (arith, count_by-le-length is_counted records, few_records records)
+
+-- The bodies behind the old bytes and then the new count in the header make the batch with these additions more.
+pub appended_bytes : (old all now : List ℕ) (s n m : ℕ) (records more : List Record) → old ≡ header s n ++ body records → all ≡ old ++ body more
+    → now ≡ take 8 all ++ to_le_bytes w32 m ++ drop (8 + length (to_le_bytes w32 m)) all → now ≡ header s m ++ body (records ++ more)
+appended_bytes old all now s n m records more is_old is_all is_now =
+    let behind : all ≡ header s n ++ (body records ++ body more) =
+    is_all ∙ ap (λ (l : List ℕ). l ++ body more) is_old ∙ append_assoc (header s n) (body records) (body more) in
+    is_now ∙ count_set all s n m (body records ++ body more) behind ∙ ap (λ (l : List ℕ). header s m ++ l) (sym (body-appended records more))
+
+-- The batch with these additions more has the bytes of the old one and those of the bodies.
+pub appended_fits : (now : List ℕ) (s n limit : ℕ) (records more : List Record) → now ≡ header s n ++ body (records ++ more) → size_of_batch records + length (body more) ≤ limit
+    → length now ≤ limit
+appended_fits now s n limit records more is_now fits =
+    omega (arith, fits, ap length is_now, ap length (body-appended records more), length-append (body records) (body more))
+
 -- The record behind the old bytes and then the new count in the header make the batch with one addition more.
 pub added_bytes : (old more now : List ℕ) (s n m : ℕ) (records : List Record) (r : Record) → old ≡ header s n ++ body records → more ≡ old ++ record_bytes r
     → now ≡ take 8 more ++ to_le_bytes w32 m ++ drop (8 + length (to_le_bytes w32 m)) more → now ≡ header s m ++ body (records ++ r ∷ [])

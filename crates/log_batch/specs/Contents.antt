@@ -20,6 +20,14 @@ with_addition contents addition = record contents { records = contents.records +
 abbrev pub size_with : Contents → Record → ℕ
 size_with contents addition = size_of_batch (with_addition contents addition).records
 
+-- with these additions more, behind the others
+abbrev pub with_additions : Contents → List Record → Contents
+with_additions contents additions = record contents { records = contents.records ++ additions }
+
+-- how many bytes the batch has with them
+abbrev pub size_with_all : Contents → List Record → ℕ
+size_with_all contents additions = size_of_batch (with_additions contents additions).records
+
 -- The bytes are those of a batch of this sequence and this count: of the additions `records`. No other additions have
 -- these bytes.
 pub record IsBatch (bytes : List ℕ) (sequence count : ℕ) : Type 0 where

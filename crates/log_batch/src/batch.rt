@@ -2,13 +2,13 @@
 
 ghost use Rattle.std.specs.Prelude.{◌≡◌, ◌<◌, ◌≤◌, ◌^◌, ◌-◌, length, min, IfOk, OnOk, OnErr, IsOkUnless};
 ghost use Rattle.model_base.specs.Batch as model;
-ghost use Rattle.log_batch.specs.Contents.{IsBatch, empty, with_addition, size_with};
+ghost use Rattle.log_batch.specs.Contents.{IsBatch, empty, with_addition, size_with, with_additions, size_with_all};
 ghost use Rattle.log_batch.specs.OneBatch.{IsBatch-prop};
 ghost use Rattle.log_batch.specs.View.{record_of};
 
 use crate::record_bytes::{append_record, size_with_record};
 use crate::record_view::sequences_of;
-use crate::{AddError, RecordView, Records};
+use crate::{AddError, BatchView, RecordView, Records};
 use base_bytes::Bytes;
 use model_base::{MAX_SIZE, NoMemory};
 use std::alloc::Global;
@@ -123,6 +123,29 @@ impl Batch {
             return Err(AddError::NoMemory);
         }
         self.count += sequences_of(view);
+        self.bytes.overwrite(COUNT_AT, &self.count.to_le_bytes());
+        Ok(())
+    }
+
+    /// Adds the records of a batch that was read, in their order, behind the others (`WriteBatchInternal::Append` of
+    /// RocksDB's db/write_batch.cc). Its own sequence stays. Refused as [`Batch::put`] is; then none of them is added.
+    pub fn append(&mut self, other: &BatchView<'_>) -> Result<(), AddError>
+        ensures ok { OnOk result (self.new ≡ with_additions self.old other.now.records) }
+        ensures err { OnErr result (self.new ≡ self.old) }
+        ensures too_large { let size = size_with_all self.old other.now.records in
+            MAX_SIZE < size → result ≡ Err (AddError.TooLarge (min size (2 ^ 64 - 1))) }
+        ensures fits { size_with_all self.old other.now.records ≤ MAX_SIZE → IsOkUnless result AddError.NoMemory }
+    {
+        let records = other.records();
+        let body = records.bytes();
+        let size = self.size().saturating_add(body.len() as u64);
+        if size > MAX_SIZE {
+            return Err(AddError::TooLarge { size });
+        }
+        if self.bytes.append(body).is_err() {
+            return Err(AddError::NoMemory);
+        }
+        self.count += other.count();
         self.bytes.overwrite(COUNT_AT, &self.count.to_le_bytes());
         Ok(())
     }

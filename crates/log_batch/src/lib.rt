@@ -36,4 +36,5 @@ pub use effects::{write_record, write_records};
 pub use record_view::RecordView;
 pub use records::Records;
 pub use run::{Run, next_run};
+pub use split::split_record;
 pub use view::{BatchView, read_batch};

@@ -65,6 +65,13 @@ impl<'a> Records<'a> {
         Records { rest: bytes }
     }
 
+    /// The bytes of those that are left.
+    pub(crate) fn bytes(&self) -> &'a [u8]
+        ensures { result.now ≡ model.body self.now }
+    {
+        self.rest
+    }
+
     /// The same records from the same place on.
     pub(crate) fn again(&self) -> Records<'a>
         ensures same { result ≡ self.now }

@@ -1,7 +1,7 @@
 //! What there may be at most.
 
 /// The clients of a write path.
-pub const MAX_CLIENTS: u32 = 16;
+pub const MAX_CLIENTS: u32 = 64;
 
 /// The bytes of a batch.
 pub const MAX_SIZE: u64 = 16_777_216;

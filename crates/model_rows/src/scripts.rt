@@ -66,8 +66,10 @@ pub fn whole_scripts()
         ∷ commit (record { sync = true; no_log = true; no_slowdown = true }) ∷ []) ∷ []) }
     ensures two_clients { script_of whole_grammar (codes "client 1\nget a\nclient 2\nput a 1")
         ≡ Ok ((get (codes "a") ∷ []) ∷ (add put_a1 ∷ []) ∷ []) }
+    ensures most_clients { script_of whole_grammar (flat_map (λ n. codes "client " ++ decimal n ++ codes "\n")
+        (range_with_len 1 64)) ≡ Ok (replicate 64 []) }
     ensures too_many_clients { script_of whole_grammar (flat_map (λ n. codes "client " ++ decimal n ++ codes "\n")
-        (range_with_len 1 17)) ≡ fault_at 17 Clients }
+        (range_with_len 1 65)) ≡ fault_at 65 Clients }
     ensures no_key { script_of whole_grammar (codes "client 1\nmany") ≡ fault_at 2 Form }
     ensures flags_turned { script_of whole_grammar (codes "client 1\ncommit noslow sync") ≡ fault_at 2 Form }
     ensures no_rate { script_of whole_grammar (codes "client 1\nslow") ≡ fault_at 2 Form }

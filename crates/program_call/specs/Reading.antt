@@ -25,7 +25,7 @@ IsReadError before now (Fault count) = IsReached before count now
 IsReadError before now (Script line kind) = ⊥
 IsReadError before now NoMemory = Unit {0}
 
--- the source had just this script, of one to sixteen clients
+-- the source had just this script, of one to sixty-four clients
 pub record HasScript (old new : Option (List ℕ)) (s : script.Script) : Type 0 where
   pub said : IfSome old (λ text. model.script_of model.whole_grammar text ≡ Ok (commands_of s))
   pub ended : IsAtEnd new

@@ -31,7 +31,7 @@ use std::thread::Threads;
 
 /// Does what the words ask for, over the log on a disk, and prints what came of it to a sink.
 ///
-/// The words are the program's name, a command, and the command's options. `run` reads a script of 1 to 16 clients from
+/// The words are the program's name, a command, and the command's options. `run` reads a script of 1 to 64 clients from
 /// the source to its end, runs each client in a thread of its own over one write path, and prints the outcome; the log
 /// must be empty. With `--number` it needn't be: then the log is written over what stands on the disk, from its start
 /// on, and its fragments have that number in their headers. The number must be one that no log on this disk had, for a
@@ -46,7 +46,7 @@ use std::thread::Threads;
 /// it doesn't look at the source. `recover` prints what the log recovers, and changes nothing; with `--number` it reads
 /// the log as one whose fragments have that number, as those that `run` writes so, and those of RocksDB that are
 /// written over older ones; with `--mode` it refuses an end that the mode doesn't accept. `replay` reads a script of 1
-/// to 16 clients and a schedule of events after it, runs the schedule on the write path's core, and prints what the
+/// to 64 clients and a schedule of events after it, runs the schedule on the write path's core, and prints what the
 /// clients were told, the history and the published state; it doesn't look at the disk. The disk comes back on every
 /// path.
 ///
@@ -62,7 +62,7 @@ use std::thread::Threads;
 /// | `--shards` | `run`, `gen` | 1 to 64 | 16 | with `--table shards`, how many shards the table has |
 /// | `--table` | `run`, `gen` | `one`, `shards` | `one` | a tree under one lock, or a tree and a lock for each shard |
 ///
-/// SEED is from 0 to 2147483647, CLIENTS from 1 to 16, and BATCHES from 1 to 100000, for each client. A text has at
+/// SEED is from 0 to 2147483647, CLIENTS from 1 to 64, and BATCHES from 1 to 100000, for each client. A text has at
 /// most 16777216 bytes.
 pub fn run<
     S: Source,

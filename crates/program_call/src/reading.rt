@@ -48,7 +48,7 @@ fn read_text<S: Source>(alloc: Global, source: &mut S) -> Result<Vec<u8>, ReadEr
     Ok(text)
 }
 
-/// Reads a script of 1 to 16 clients.
+/// Reads a script of 1 to 64 clients.
 pub fn read_script<S: Source>(alloc: Global, source: &mut S) -> Result<Script, ReadError>
     ensures script { IfOk result (HasScript (S.left source.old) (S.left source.new)) }
     ensures error { IfErr result (IsScriptError (S.left source.old) (S.faults source.old) (S.faults source.new)) }

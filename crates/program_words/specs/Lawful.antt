@@ -154,7 +154,7 @@ abbrev pub replay_with : Given → Invocation
 replay_with given = Replay (is_some (value_of pipelined.name given)) (number_or 1048576 group_bytes given)
     (number_or MAX_SIZE batch_bytes given) (number_or 0 last given)
 
--- `gen` wants a seed below 2^31, up to 16 clients, and up to 100000 batches of each
+-- `gen` wants a seed below 2^31, up to 64 clients, and up to 100000 batches of each
 abbrev pub generate_with : Bool → Option ℕ → List Word → Option Invocation
 generate_with in_stages in_shards (seed ∷ clients ∷ batches ∷ []) =
     option_and_then (λ s. option_and_then (λ c. option_map (λ b. Generate in_stages in_shards s c b)

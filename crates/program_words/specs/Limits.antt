@@ -13,7 +13,7 @@ abbrev pub KeepsNumber : Option ℕ → Type 0
 KeepsNumber number = IfSome number (λ n. (1 ≤ n) × (n < 2 ^ 32))
 
 -- a batch may have its head at least, a write group a byte, and the sequence number is below 2^56; a script that
--- is made has from one client to 16, each with from one batch to 100000
+-- is made has from one client to 64, each with from one batch to 100000
 abbrev pub KeepsLimits : Invocation → Type 0
 KeepsLimits (Run pipelined shards group_bytes batch_bytes last number resume mode) = KeepsShards shards
     × (1 ≤ group_bytes) × (group_bytes ≤ 16777216) × (12 ≤ batch_bytes) × (batch_bytes ≤ MAX_SIZE) × (last < 2 ^ 56)

@@ -98,8 +98,8 @@ pub fn words_that_ask()
         ≡ Some (Run false None 1048576 16777216 4 None false Point) }
     ensures with_leading_zero { invocation_in (codes "writepath" ∷ codes "run" ∷ codes "--last" ∷ codes "04" ∷ [])
         ≡ Some (Run false None 1048576 16777216 4 None false Point) }
-    ensures generate { invocation_in (codes "writepath" ∷ codes "gen" ∷ codes "7" ∷ codes "16" ∷ codes "100000" ∷ [])
-        ≡ Some (Generate false None 7 16 100000) }
+    ensures generate { invocation_in (codes "writepath" ∷ codes "gen" ∷ codes "7" ∷ codes "64" ∷ codes "100000" ∷ [])
+        ≡ Some (Generate false None 7 64 100000) }
     ensures generate_in_shards { invocation_in (codes "writepath" ∷ codes "gen" ∷ codes "--table" ∷ codes "shards"
         ∷ codes "--shards" ∷ codes "2" ∷ codes "7" ∷ codes "2" ∷ codes "3" ∷ [])
         ≡ Some (Generate false (Some 2) 7 2 3) }
@@ -185,7 +185,7 @@ pub fn words_that_do_not_ask()
         ∷ []) ≡ None }
     ensures no_clients { invocation_in (codes "writepath" ∷ codes "gen" ∷ codes "0" ∷ codes "0" ∷ codes "1" ∷ [])
         ≡ None }
-    ensures too_many_clients { invocation_in (codes "writepath" ∷ codes "gen" ∷ codes "0" ∷ codes "17" ∷ codes "1" ∷ [])
+    ensures too_many_clients { invocation_in (codes "writepath" ∷ codes "gen" ∷ codes "0" ∷ codes "65" ∷ codes "1" ∷ [])
         ≡ None }
     ensures too_many_batches { invocation_in (codes "writepath" ∷ codes "gen" ∷ codes "0" ∷ codes "1"
         ∷ codes "100001" ∷ [])

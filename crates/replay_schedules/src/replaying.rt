@@ -33,7 +33,7 @@ pub struct Replayed {
     pub groups: u64,
 }
 
-/// Runs a schedule on the core of its script's clients, of which there are 1 to 16. Their commands are
+/// Runs a schedule on the core of its script's clients, of which there are 1 to 64. Their commands are
 /// those that a script may say, and all that each adds fits one batch of 16 MiB.
 pub fn replay_schedule(
     alloc: Global,

@@ -57,7 +57,7 @@ same_records [] some = refl
 same_records ([] ∷ groups) some = absurd (omega (arith, some.0))
 same_records ((e ∷ entries) ∷ groups) some = ap (λ l. record_of_entries (e ∷ entries) ∷ l) (same_records groups some.1)
 
--- a batch of 16 MiB at most, of one of 16 clients
+-- a batch of 16 MiB at most, of one of 64 clients
 abbrev pub Suits : Entry → Type 0
 Suits e = (size_of_batch e.records ≤ MAX_SIZE) × (e.client ≤ MAX_CLIENTS)
 

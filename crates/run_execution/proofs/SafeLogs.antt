@@ -156,7 +156,7 @@ tells_on (Some x) None c first second = absurd first
 tells_on (Some x) (Some y) None first second = second
 tells_on (Some x) (Some y) (Some z) first second = tt
 
--- batches of 16 MiB at most, of no more than 16 clients
+-- batches of 16 MiB at most, of no more than 64 clients
 all_suit : (settings : Settings) → settings.clients ≤ MAX_CLIENTS → (entries : List Entry) → AllByRecursion (λ (e : Entry). IsClient settings e.client) entries
     → AllByRecursion (λ (e : Entry). size_of_batch e.records ≤ MAX_SIZE) entries → AllByRecursion Suits entries
 all_suit settings few [] clients small = tt

@@ -60,7 +60,7 @@ module _ (seed clients batches ended : ℕ) (settings : Settings) (o : Outcome) 
   owned : AreOwned trace.entries
   owned = all_drawn seed clients batches ended settings o legal IsOwned (λ client some most. owned_drawn client (omega (arith, few, most)))
 
-  -- each client takes 400,000 sequences at most, and so all together 6,400,000
+  -- each client takes 400,000 sequences at most, and so all together 25,600,000
   one_within : (i : ℕ) → i < clients → sequences_of (entries_of_client (i + 1) trace.entries) ≤ 400000
   one_within i within =
       let t = transcript_of seed clients batches ended settings o legal i within in let right = t.right in
@@ -72,7 +72,7 @@ module _ (seed clients batches ended : ℕ) (settings : Settings) (o : Outcome) 
       let i : ℕ = client - 1 in let number : i + 1 ≡ client = omega arith in
       subst (λ k. sequences_of (entries_of_client k trace.entries) ≤ 400000) number (one_within i (omega arith))
 
-  all_within : sequences_of trace.entries ≤ 6400000
+  all_within : sequences_of trace.entries ≤ 25600000
   all_within =
       let all = ap sequences_of (all_from_one trace.entries named) in
       omega (arith, few, all, sum_within (λ (e : Entry). e.count) 400000 1 clients trace.entries below client_within)
@@ -87,10 +87,10 @@ module _ (seed clients batches ended : ℕ) (settings : Settings) (o : Outcome) 
       let commands = commands_drawn seed batches (i + 1) in
       let found_here = all_at NoneWithoutMemory o.transcripts i t.calls found t.there in
       let w = whole_of settings trace (i + 1) commands t.calls right.end found_here right.is_transcript in
-      let statuses = sound 6400000 trace legal.legal.groups o.fault (i + 1) 0 t.attempts no_fault
+      let statuses = sound 25600000 trace legal.legal.groups o.fault (i + 1) 0 t.attempts no_fault
       (λ last b. omega (arith, all_within, trace_start, boundary_within trace.start trace.entries last legal.legal.is_trace.entries b)) right.statuses in
       let is_plain = subst (IsPlain 0) w.0 (plain_batches batches (i + 1) (first_state seed (i + 1)) (omega arith)) in
-      let accepted = all_accepted 6400000 (omega arith) settings bytes trace (i + 1) 0 fresh t.calls right.end is_plain (record { long = refl; short = tt; asked = refl }) (subst (AreSound 6400000) right.commits statuses) w.1 in
+      let accepted = all_accepted 25600000 (omega arith) settings bytes trace (i + 1) 0 fresh t.calls right.end is_plain (record { long = refl; short = tt; asked = refl }) (subst (AreSound 25600000) right.commits statuses) w.1 in
       ap (map (λ (e : Entry). e.records)) right.accepted ∙ accepted ∙ ap (batches_after []) (sym w.0)
 
   have_batches : HaveBatches trace.entries 1 (script_of_seed seed clients batches)

@@ -18,7 +18,7 @@ has_tokens Whole = true
 abbrev pub more_forms : Language → List model.CommandForm
 more_forms language = if has_tokens language then model.token_forms else []
 
--- up to sixteen clients have these lines
+-- up to sixty-four clients have these lines
 abbrev pub grammar_of : Language → Grammar
 grammar_of language = record whole_grammar { forms = model.client_forms ++ more_forms language }
 

@@ -36,7 +36,7 @@ use model_base::{MAX_CLIENTS, ScriptFault, TEXT_LIMIT};
 use run_command_list::{CommandList, CommandView};
 use std::alloc::Global;
 
-/// Parses a script of 1 to 16 clients, which may have every line. The first fault in its lines decides,
+/// Parses a script of 1 to 64 clients, which may have every line. The first fault in its lines decides,
 /// and within a line the first kind in the order byte, word, form, client, clients. The text as a whole
 /// may be too long, before all else, or have no client, after all else.
 pub fn parse_clients(alloc: Global, text: &[u8]) -> Result<Script, ScriptError>

@@ -41,7 +41,7 @@ struct Draft {
     events: Option<Vec<Event>>,
 }
 
-/// Parses a script of 1 to 16 clients and its schedule. Faults come as in [`parse_clients`](crate::parse_clients);
+/// Parses a script of 1 to 64 clients and its schedule. Faults come as in [`parse_clients`](crate::parse_clients);
 /// without the line `schedule` the fault is `schedule`, after all others.
 pub fn parse_schedule(alloc: Global, text: &[u8]) -> Result<Schedule, ScriptError>
     ensures schedule { IfOk result (λ s. model.schedule_of replay_grammar event_words text.now

@@ -34,7 +34,7 @@ pub fn fill<C>(
         × (vec_capacity batches.new ≡ vec_capacity batches.old) }
 {
     // The jobs so far and what is left are all clients, in their order. They are taken from the front, so that the
-    // order stays without a second pass: there are sixteen at most.
+    // order stays without a second pass: there are sixty-four at most.
     while !clients.is_empty() {
         let client = clients.remove(0);
         jobs.push_reserved(Job {

@@ -3,8 +3,8 @@
 use crate::calls::{Call, Row, check_calls, made};
 use crate::checks::check;
 use base_devices::{
-    Clock, Disk, Failed, MemDisk, MemSink, MemSource, RealClock, Sink, Source, SteppedClock,
-    write_all,
+    Clock, Disk, Failed, MemDisk, MemSink, MemSource, RealClock, Sink, SliceDisk, Source,
+    SteppedClock, write_all,
 };
 use model_base::NoMemory;
 use std::alloc::Global;
@@ -49,6 +49,36 @@ fn sink_takes_what_fits(rt: HostRuntime) -> Result<(), Fail> {
     check_sink(&rt, &mut sink);
     check(&rt, 2, &sink.taken(), &b"abcdefg".as_slice());
     Ok(())
+}
+
+// Calls of a disk over the bytes `abcde`, what each is to answer, and how many faults it counts then. No call that would
+// change the bytes works, and with the first of these it counts as many faults as it can.
+const OF_SLICE: [(Call, Result<u64, Failed>, u64); 14] = [
+    (Call::Len, Ok(5), 0),
+    (Call::Read(1), Ok(3), 0),
+    (Call::Read(4), Ok(1), 0),
+    (Call::Read(5), Ok(0), 0),
+    (Call::Append(b""), Ok(0), 0),
+    (Call::Cut(5), Ok(0), 0),
+    (Call::Sync, Ok(0), 0),
+    (Call::Append(b"f"), Err(Failed), u64::MAX),
+    (Call::Sync, Err(Failed), u64::MAX),
+    (Call::Len, Ok(5), u64::MAX),
+    (Call::Cut(2), Err(Failed), u64::MAX),
+    (Call::Len, Ok(2), u64::MAX),
+    (Call::Rewind, Ok(0), u64::MAX),
+    (Call::Append(b""), Err(Failed), u64::MAX),
+];
+
+#[test]
+fn slice_is_read_and_never_written(rt: HostRuntime) {
+    let mut disk = SliceDisk::new(b"abcde");
+    let mut buf = [0; 3];
+    for (row, (call, wanted, faults)) in OF_SLICE.iter().enumerate() {
+        let answer = made(&mut disk, *call, &mut buf);
+        check(&rt, row, &(answer, disk.faults()), &(*wanted, *faults));
+    }
+    check(&rt, 0, &buf, b"ecd");
 }
 
 // Calls of a disk, what each is to answer, and how many bytes are safe then. The third call fails as listed, and the

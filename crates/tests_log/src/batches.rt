@@ -102,6 +102,50 @@ fn takes_no_more_than_the_limit(rt: HostRuntime) -> Result<(), Fail> {
     Ok(())
 }
 
+const WITH_ANOTHER: [u8; 33] = [
+    7, 0, 0, 0, 0, 0, 0, 0, // sequence 7
+    4, 0, 0, 0, // count 4
+    1, 1, b'a', 1, b'1', // put a 1
+    1, 1, b'a', 1, b'2', // put a 2
+    0, 1, b'a', // delete a
+    3, 1, b'x', // log data x
+    1, 1, b'a', 1, b'1', // put a 1
+];
+
+// The records of another batch come behind, and its sequence isn't looked at.
+#[test]
+fn takes_the_records_of_another(rt: HostRuntime) -> Result<(), Fail> {
+    let mut batch = Batch::new(rt.alloc())?;
+    add_all(&mut batch, &PUTS)?;
+    batch.set_sequence(7);
+    batch.append(&read_batch(&LOG_DATA_AND_A_PUT)?)?;
+    check(&rt, 0, &facts(&batch), &(&WITH_ANOTHER, 7, 4, 33));
+    Ok(())
+}
+
+// Eight bytes are too many by one, and none of them is taken.
+#[test]
+fn takes_all_records_of_another_or_none(rt: HostRuntime) -> Result<(), Fail> {
+    let mut batch = Batch::new(rt.alloc())?;
+    put_zeros(rt.alloc(), &mut batch, 16_777_190)?;
+    let refused = batch.append(&read_batch(&LOG_DATA_AND_A_PUT)?);
+    let too_large = AddError::TooLarge { size: 16_777_217 };
+    check(
+        &rt,
+        0,
+        &(refused, batch.count(), batch.size()),
+        &(Err(too_large), 1, 16_777_209),
+    );
+    let taken = batch.append(&read_batch(&A_SINGLE_DELETION)?);
+    check(
+        &rt,
+        1,
+        &(taken, batch.count(), batch.size()),
+        &(Ok(()), 2, 16_777_212),
+    );
+    Ok(())
+}
+
 const READ: [RecordView<'static>; 4] = [
     Value {
         key: b"a",

@@ -1,6 +1,6 @@
 //! Tests of the log: its fragments and records, batches, the writer and recovery. They stand in a crate of their own,
-//! so that `log_block`, `log_reader`, `log_batch`, `log_writer` and `log_recovery` are proved once and not with their
-//! tests again.
+//! so that `log_block`, `log_text`, `log_reader`, `log_batch`, `log_writer` and `log_recovery` are proved once and not
+//! with their tests again.
 //!
 //! - `checks`: a comparison, for the others
 //! - `changes`: what is done to logs, for the others
@@ -9,6 +9,7 @@
 //! - `numbered_fragments`: fragments of a log with a number
 //! - `reading`: a log's records one after another
 //! - `batches`: batches made and read
+//! - `texts`: the text of a record in a buffer
 //! - `writing`: groups on a disk, its faults and its crashes
 //! - `reopening`: logs over old bytes, and logs behind what was recovered
 //! - `recovery`: what whole logs and those with another last record recover
@@ -41,5 +42,7 @@ mod reading;
 mod recovery;
 #[cfg(test)]
 mod reopening;
+#[cfg(test)]
+mod texts;
 #[cfg(test)]
 mod writing;

@@ -17,8 +17,12 @@ use std::alloc::Global;
 use std::process::Abort;
 use std::test::Fail;
 
-// A log with this number over what stands on the disk.
-fn reused(alloc: Global, disk: MemDisk, number: u32) -> Result<LogWriter<MemDisk>, Fail> {
+/// A log with this number over what stands on the disk.
+pub(crate) fn reused(
+    alloc: Global,
+    disk: MemDisk,
+    number: u32,
+) -> Result<LogWriter<MemDisk>, Fail> {
     Ok(LogWriter::reuse(alloc, disk, number).map_err(|(_, error)| error)?)
 }
 

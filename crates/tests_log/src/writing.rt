@@ -13,8 +13,8 @@ use std::alloc::Global;
 use std::process::Abort;
 use std::test::Fail;
 
-// The log of `put a 1` and `put b 2` as one group from sequence 1 on. The checksum was computed by another program.
-const GROUP: [u8; 29] = [
+/// The log of `put a 1` and `put b 2` as one group from sequence 1 on. The checksum was computed by another program.
+pub(crate) const GROUP: [u8; 29] = [
     0x40, 0x41, 0x89, 0x60, 0x16, 0x00, 0x01, // the fragment's header
     0x01, 0x00, 0x00, 0x00, 0x00, 0x00, 0x00, 0x00, // sequence 1
     0x02, 0x00, 0x00, 0x00, // count 2
@@ -36,8 +36,8 @@ pub(crate) fn put_zeros(alloc: Global, len: usize) -> Result<Batch, Fail> {
     put(alloc, b"k", &value)
 }
 
-// Batches of so many zeros.
-fn three_batches(alloc: Global, zeros: [usize; 3]) -> Result<[Batch; 3], Fail> {
+/// Batches of so many zeros.
+pub(crate) fn three_batches(alloc: Global, zeros: [usize; 3]) -> Result<[Batch; 3], Fail> {
     let [one, two, three] = zeros;
     Ok([
         put_zeros(alloc, one)?,
@@ -46,8 +46,12 @@ fn three_batches(alloc: Global, zeros: [usize; 3]) -> Result<[Batch; 3], Fail> {
     ])
 }
 
-// A log on an empty disk that has room for so many bytes.
-fn opened(alloc: Global, capacity: usize, fails: &[u64]) -> Result<LogWriter<MemDisk>, Fail> {
+/// A log on an empty disk that has room for so many bytes.
+pub(crate) fn opened(
+    alloc: Global,
+    capacity: usize,
+    fails: &[u64],
+) -> Result<LogWriter<MemDisk>, Fail> {
     let disk = MemDisk::new(alloc, capacity, b"", fails)?;
     Ok(LogWriter::open(alloc, disk).map_err(|(_, error)| error)?)
 }
@@ -65,11 +69,15 @@ pub(crate) fn add(
     log.add_group(first, &[batch], sync)
 }
 
-// What the calls of three groups answered, and the log's length after them.
-type Answers = ([Result<(), Fault>; 3], u64);
+/// What the calls of three groups answered, and the log's length after them.
+pub(crate) type Answers = ([Result<(), Fault>; 3], u64);
 
-// Writes each of the batches as a group of its own, and syncs where that is asked.
-fn add_three(log: &mut LogWriter<MemDisk>, batches: [Batch; 3], syncs: [bool; 3]) -> Answers {
+/// Writes each of the batches as a group of its own, and syncs where that is asked.
+pub(crate) fn add_three(
+    log: &mut LogWriter<MemDisk>,
+    batches: [Batch; 3],
+    syncs: [bool; 3],
+) -> Answers {
     let [one, two, three] = batches;
     let answers = [
         add(log, 1, one, syncs[0]),

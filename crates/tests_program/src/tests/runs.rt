@@ -38,8 +38,14 @@ const FAULTY: [Row; 13] = [
     (
         "run",
         b"client 1\nclient 2\nclient 3\nclient 4\nclient 5\nclient 6\nclient 7\nclient 8\nclient 9\n\
-            client 10\nclient 11\nclient 12\nclient 13\nclient 14\nclient 15\nclient 16\nclient 17\n",
-        "script 17 clients\n",
+            client 10\nclient 11\nclient 12\nclient 13\nclient 14\nclient 15\nclient 16\nclient 17\n\
+            client 18\nclient 19\nclient 20\nclient 21\nclient 22\nclient 23\nclient 24\nclient 25\n\
+            client 26\nclient 27\nclient 28\nclient 29\nclient 30\nclient 31\nclient 32\nclient 33\n\
+            client 34\nclient 35\nclient 36\nclient 37\nclient 38\nclient 39\nclient 40\nclient 41\n\
+            client 42\nclient 43\nclient 44\nclient 45\nclient 46\nclient 47\nclient 48\nclient 49\n\
+            client 50\nclient 51\nclient 52\nclient 53\nclient 54\nclient 55\nclient 56\nclient 57\n\
+            client 58\nclient 59\nclient 60\nclient 61\nclient 62\nclient 63\nclient 64\nclient 65\n",
+        "script 65 clients\n",
     ),
 ];
 
@@ -146,8 +152,11 @@ const MIDDLE_SUMMARY: &str =
 const LARGE_SUMMARY: &str =
     "clients 16\nbatches 16000\nrecords 39946\nlast 39946\nkeys 1175\nsum 580970\n";
 
-/// However the sixteen clients meet, whatever the table is made of, and in one stage or two.
-const SUMMARIES: [Row; 8] = [
+const MOST_SUMMARY: &str =
+    "clients 64\nbatches 6400\nrecords 16008\nlast 16008\nkeys 4372\nsum 2166241\n";
+
+/// However the clients meet, whatever the table is made of, and in one stage or two.
+const SUMMARIES: [Row; 12] = [
     ("gen 1 1 2", b"", SMALL_SUMMARY),
     ("gen 7 16 1000", b"", LARGE_SUMMARY),
     ("gen --table shards 7 16 1000", b"", LARGE_SUMMARY),
@@ -172,6 +181,10 @@ const SUMMARIES: [Row; 8] = [
         b"",
         MIDDLE_SUMMARY,
     ),
+    ("gen 7 64 100", b"", MOST_SUMMARY),
+    ("gen --pipelined 7 64 100", b"", MOST_SUMMARY),
+    ("gen --table shards 7 64 100", b"", MOST_SUMMARY),
+    ("gen --table shards --pipelined 7 64 100", b"", MOST_SUMMARY),
 ];
 
 #[test]

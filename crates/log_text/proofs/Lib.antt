@@ -1,0 +1,2 @@
+pub mod TextLengths
+pub mod Laid
