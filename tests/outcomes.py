@@ -1,6 +1,7 @@
 """An independent checker of printed outcomes: a plain map, plain batches, and nothing of the program's own.
 
-`race`, `schedules`, `kill` and `faults` beside this file use it. Of an outcome it asks:
+`race`, `schedules`, `kill` and `faults` beside this file use it, and `shown` as `outcomes.py SCRIPT <OUTCOME`, which says
+what is wrong with it. Of an outcome it asks:
 
 - each client's accepted batches stand once in the history, in its order, each with just what the client put into it;
 - the runs of the history follow each other without a gap;
@@ -12,7 +13,9 @@
 """
 
 import os
+import sys
 
+sys.dont_write_bytecode = True
 from plain_log import varint
 
 ROOT = os.path.dirname(os.path.dirname(os.path.realpath(__file__)))
@@ -39,6 +42,14 @@ def text_of(script):
         lines.append(f"client {number}")
         lines += [" ".join(words) for words in commands]
     return "".join(line + "\n" for line in lines)
+
+
+def script_in(text):
+    """The script that a text is."""
+    script = []
+    for words in (line.split(" ") for line in text.split("\n") if line and not line.startswith("#")):
+        script.append([]) if words[0] == "client" else script[-1].append(words)
+    return script
 
 
 def string_bytes(text):
@@ -237,3 +248,19 @@ def summary_of(seed, clients, batches):
                     pairs[key] = draw() % 1000
     numbers = [clients, clients * batches, count, count, len(pairs), sum(pairs.values())]
     return "".join(f"{word} {n}\n" for word, n in zip(["clients", "batches", "records", "last", "keys", "sum"], numbers))
+
+
+def main():
+    with open(sys.argv[1]) as file:
+        script = script_in(file.read())
+    try:
+        _, rest = check_outcome(script, sys.stdin.read())
+        wanted(len(rest) == 1 and rest[0].startswith("log "), f"the log's line: {rest}")
+    except (Wrong, ValueError, IndexError) as why:
+        print(f"wanted {why}")
+        return 1
+    return 0
+
+
+if __name__ == "__main__":
+    sys.exit(main())

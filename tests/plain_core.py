@@ -1,0 +1,290 @@
+"""The core of the write path as a plain program: it takes events one by one, and knows what `replay` prints of them.
+
+`tools/diagram` draws its states. It goes by the table "The events of the core" of docs/ARCHITECTURE.md and by
+docs/FORMATS.md, and by nothing of the program's own. Clients are numbered from 1, and a line of a script is a list of
+words.
+"""
+
+from outcomes import changed, count_of, flag_of, history_line, read_of, record_bytes
+
+# The greatest sequence.
+GREATEST = 2**56 - 1
+
+# A batch begins with its sequence and its count.
+BATCH_HEADER = 12
+
+# Events that are taken by a method of another name, since a part of the state has theirs.
+TAKEN_BY = {"log": "log_group", "second": "to_second"}
+
+
+def schedule_of(text):
+    """The script, and the events as pairs of a word and a client's number, of a text that `replay` takes."""
+    script, events = [], None
+    for line in text.split("\n"):
+        words = line.split(" ")
+        if line == "" or line.startswith("#"):
+            continue
+        if events is not None:
+            events.append((words[0], int(words[1])))
+        elif line == "schedule":
+            events = []
+        elif words[0] == "client":
+            script.append([])
+        else:
+            script[-1].append(words)
+    return script, events
+
+
+class Client:
+    """Its lines that are left, the records of its batch, its calls that are answered with their replies, and whether it
+    waits for none.
+    """
+
+    def __init__(self, lines):
+        self.left, self.pending, self.calls, self.replies, self.is_idle = list(lines), [], [], [], True
+
+    def next_call(self):
+        """Its next commit or read, if there is one. Lines that add to its batch, or empty it, are done on the way."""
+        while self.left and self.left[0][0] not in ("commit", "get", "many", "scan"):
+            words = self.left.pop(0)
+            self.pending = [] if words[0] == "clear" else [*self.pending, words]
+        return self.left[0] if self.left else None
+
+    def is_told(self, reply):
+        self.calls.append(self.left.pop(0))
+        self.replies.append(reply)
+        self.is_idle = True
+
+
+class Writer:
+    """A batch on its way: whose, how it is committed, its run of sequences once it has one, and its answer."""
+
+    def __init__(self, client, commit, records):
+        self.client, self.flags, self.records = client, set(commit[1:]), records
+        self.size = BATCH_HEADER + sum(len(record_bytes(words)) for words in records)
+        self.run, self.answer = None, None
+
+
+def goes_with(leader, writer):
+    """Whether a writer may be in this leader's group, but for the sizes."""
+    return not ("sync" in writer.flags and "sync" not in leader.flags) and all(
+        (flag in writer.flags) == (flag in leader.flags) for flag in ("noslow", "nolog")
+    )
+
+
+def group_len(queue, group_bytes):
+    """How many writers of a queue make a group: those that fit, up to the first that doesn't."""
+    leader = queue[0]
+    cap = leader.size + group_bytes // 8 if leader.size <= group_bytes // 8 else group_bytes
+    count, total = 1, leader.size
+    for writer in queue[1:]:
+        total += writer.size
+        if not goes_with(leader, writer) or total > cap:
+            break
+        count += 1
+    return count
+
+
+class Core:
+    """The state. The log is `free`, `led`, `built`, `in log`, `marked` or `handed`, and all but free by a group; the
+    table is `still`, `launched` or `published`.
+    """
+
+    def __init__(self, script, is_pipelined=False, group_bytes=2**20, batch_bytes=2**24, last=0):
+        self.is_pipelined, self.group_bytes, self.batch_bytes = is_pipelined, group_bytes, batch_bytes
+        self.clients = [Client(lines) for lines in script]
+        self.queue, self.log, self.in_hand, self.log_failed = [], "free", [], False
+        self.second, self.table, self.inserted, self.finished = [], "still", [], []
+        # A logged or published batch is its last sequence, its client, its line of the history, and its records.
+        self.entries, self.given, self.published, self.groups, self.leaving = [], last, last, 0, []
+
+    def take(self, event, number):
+        """Takes an event where it may come, and says whether it did."""
+        return getattr(self, TAKEN_BY.get(event, event))(number)
+
+    # What a client waits for.
+
+    def link(self, number):
+        client = self.clients[number - 1]
+        call = client.next_call() if client.is_idle else None
+        if call is None or call[0] != "commit":
+            return False
+        writer = Writer(number, call, client.pending)
+        refusal = self.refusal_of(writer)
+        if refusal is None:
+            client.is_idle = False
+            self.queue.append(writer)
+        else:
+            client.is_told(refusal)
+        return True
+
+    def refusal_of(self, writer):
+        if count_of(writer.records) == 0:
+            return "no empty"
+        if writer.size > self.batch_bytes:
+            return f"no large {writer.size}"
+        return "no syncwithoutlog" if {"sync", "nolog"} <= writer.flags else None
+
+    def complete(self, number):
+        for writer in self.leaving:
+            if writer.client == number:
+                self.leaving.remove(writer)
+                if writer.run is not None:
+                    self.clients[number - 1].pending = []
+                self.clients[number - 1].is_told(writer.answer)
+                return True
+        return False
+
+    def read(self, number):
+        client = self.clients[number - 1]
+        call = client.next_call() if client.is_idle else None
+        if call is None or call[0] == "commit":
+            return False
+        client.is_told(read_of(call, self.published, self.published_map()))
+        return True
+
+    # The log.
+
+    def leads(self, number, phase):
+        return self.log == phase and self.in_hand[0].client == number
+
+    def elect(self, number):
+        if self.log != "free" or not self.queue or self.queue[0].client != number:
+            return False
+        self.log, self.in_hand = "led", self.queue[:1]
+        return True
+
+    def build(self, number):
+        if not self.leads(number, "led"):
+            return False
+        count = group_len(self.queue, self.group_bytes)
+        self.log, self.in_hand, self.queue = "built", self.queue[:count], self.queue[count:]
+        return True
+
+    def leave(self, group):
+        """The group's members leave with their answers, and the log is free."""
+        self.leaving += group
+        self.log, self.in_hand = "free", []
+
+    def give_runs(self):
+        """Gives the members runs in order; one whose run doesn't fit is refused, and later ones may still fit."""
+        for writer in self.in_hand:
+            last = self.given + count_of(writer.records)
+            if last > GREATEST:
+                writer.answer = f"no full {self.given}"
+                continue
+            writer.run, writer.answer = (self.given + 1, last), f"ok {self.given + 1} {last}"
+            ordinal = 1 + sum(client == writer.client for _, client, _, _ in self.entries)
+            flag = flag_of([flag for flag in ("sync", "nolog") if flag in writer.flags])
+            line = history_line(writer.client, ordinal, self.given + 1, flag, writer.records)
+            self.entries.append((last, writer.client, line, writer.records))
+            self.given = last
+
+    def log_group(self, number):
+        if not self.leads(number, "built") or self.log_failed:
+            return False
+        self.give_runs()
+        if all(writer.run is None for writer in self.in_hand):
+            self.leave(self.in_hand)
+            return True
+        self.log = "in log"
+        self.groups += "nolog" not in self.in_hand[0].flags
+        return True
+
+    def fault(self, number):
+        if not self.leads(number, "built"):
+            return False
+        for writer in self.in_hand:
+            writer.answer = "no logfault 1"
+        self.leave(self.in_hand)
+        self.log_failed = True
+        return True
+
+    def boundary(self, number):
+        if not self.is_pipelined or not self.leads(number, "in log"):
+            return False
+        self.log = "marked"
+        return True
+
+    def to_second(self, number):
+        if not self.leads(number, "marked"):
+            return False
+        self.log = "handed"
+        self.second.append(self.in_hand)
+        return True
+
+    def next(self, number):
+        if not self.leads(number, "handed"):
+            return False
+        self.log, self.in_hand = "free", []
+        return True
+
+    # The table.
+
+    def table_group(self):
+        """The group that is in the table, or comes next."""
+        if self.is_pipelined:
+            return self.second[0] if self.second else []
+        return self.in_hand if self.log == "in log" else []
+
+    def runners(self):
+        """Its members that have a run."""
+        return [writer.client for writer in self.table_group() if writer.run is not None]
+
+    def leads_table(self, number, phase):
+        group = self.table_group()
+        return self.table == phase and bool(group) and group[0].client == number
+
+    def launch(self, number):
+        if not self.leads_table(number, "still"):
+            return False
+        self.table, self.inserted, self.finished = "launched", [], []
+        return True
+
+    def insert(self, number):
+        if self.table != "launched" or number not in self.runners() or number in self.inserted:
+            return False
+        self.inserted.append(number)
+        return True
+
+    def finish(self, number):
+        if self.table != "launched" or number not in self.inserted or number in self.finished:
+            return False
+        self.finished.append(number)
+        return True
+
+    def publish(self, number):
+        has_all = self.table == "launched" and {*self.runners()} <= {*self.finished}
+        if not has_all or self.finished[-1] != number:
+            return False
+        self.table = "published"
+        self.published = max(writer.run[1] for writer in self.table_group() if writer.run is not None)
+        return True
+
+    def exit(self, number):
+        if not self.leads_table(number, "published"):
+            return False
+        group, self.table = self.table_group(), "still"
+        if self.is_pipelined:
+            self.second.pop(0)
+            self.leaving += group
+        else:
+            self.leave(group)
+        return True
+
+    # What is printed.
+
+    def published_map(self):
+        pairs = {}
+        for last, _, _, records in self.entries:
+            pairs = changed(pairs, records) if last <= self.published else pairs
+        return pairs
+
+    def text(self, taken, skipped):
+        """What `replay` prints after so many events."""
+        lines, pairs = [f"events {taken} skipped {skipped}"], self.published_map()
+        for number, client in enumerate(self.clients, 1):
+            lines += [f"client {number}", *client.replies]
+        lines += [f"history {len(self.entries)}", *(line for _, _, line, _ in self.entries)]
+        lines += [f"state {self.published} {len(pairs)}", *(f"{key} {pairs[key]}" for key in sorted(pairs))]
+        return "".join(line + "\n" for line in [*lines, f"groups {self.groups}"])
