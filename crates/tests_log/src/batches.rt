@@ -127,7 +127,8 @@ fn takes_the_records_of_another(rt: HostRuntime) -> Result<(), Fail> {
 #[test]
 fn takes_all_records_of_another_or_none(rt: HostRuntime) -> Result<(), Fail> {
     let mut batch = Batch::new(rt.alloc())?;
-    put_zeros(rt.alloc(), &mut batch, 16_777_190)?;
+    let (zeros, _, _) = put_zeros(rt.alloc(), &mut batch, 16_777_190)?;
+    zeros?;
     let refused = batch.append(&read_batch(&LOG_DATA_AND_A_PUT)?);
     let too_large = AddError::TooLarge { size: 16_777_217 };
     check(

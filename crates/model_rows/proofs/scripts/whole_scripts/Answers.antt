@@ -34,7 +34,6 @@ pub returns-clause-too_many_clients : goal.returns-clause-too_many_clients
 unfolding digits
 returns-clause-too_many_clients c = refl
 
-
 pub returns-clause-most_clients : goal.returns-clause-most_clients
 unfolding digits
 returns-clause-most_clients c = refl

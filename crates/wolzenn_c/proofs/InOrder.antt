@@ -1,0 +1,94 @@
+-- Where a key stands among pairs in the order of their keys.
+use Rattle.std.proofs.Common.{◌≡◌, ℕ, ◌<◌, ◌≤◌, Bool, true, false, cond, List, [], ◌∷◌, refl, sym, ap, ◌∙◌, length, filter, Option, Some, None, slice_get, slice_index_or, arith, zero, suc}
+use Rattle.std.proofs.lemmas.Bool.{true≢false}
+use Rattle.std.specs.declared.cmp.Ordering.{Ordering}
+use Rattle.std.specs.declared.cmp.Ordering.TheVariants.{Less, Equal, Greater}
+use Rattle.std.specs.Ordering.{is_eq, is_lt, ordering_reverse}
+use Rattle.std.specs.Cmp.{IsTotalOrder}
+use Rattle.std.specs.List.{AllByRecursion, AllWithin}
+use Rattle.std.specs.List.Sorted.{IsStrictlySortedBy, IsPartitionedBy}
+use Rattle.std.specs.Map.{keys_of, lookup}
+use Rattle.std.specs.BTreeMap.{is_at}
+
+module _ {K : Type 0} (R : K → K → Ordering) (o : IsTotalOrder R) (key : K) where
+  turned : (x y : K) (r : Ordering) → R x y ≡ r → R y x ≡ ordering_reverse r
+  turned x y r e = o.antisymm y x ∙ ap ordering_reverse e
+
+  below-by : (x y : K) (r : Ordering) → R y key ≡ r → is_lt r ≡ true → R x y ≡ Less → is_lt (R x key) ≡ true
+  below-by x y Less e t f = rw (o.trans x y key f e) refl
+  below-by x y Equal e t f = absurd (true≢false (sym t))
+  below-by x y Greater e t f = absurd (true≢false (sym t))
+
+  all_past : (x : K) (l : List K) → R key x ≡ Less → AllByRecursion (λ k. R x k ≡ Less) l → AllByRecursion (λ k. R key k ≡ Less) l
+  all_past x [] e a = tt
+  all_past x (k ∷ l) e a = (o.trans key x k e a.0, all_past x l e a.1)
+
+  all_same : (x : K) (l : List K) → R key x ≡ Equal → AllByRecursion (λ k. R x k ≡ Less) l → AllByRecursion (λ k. R key k ≡ Less) l
+  all_same x [] e a = tt
+  all_same x (k ∷ l) e a = (o.congr key x k e ∙ a.0, all_same x l e a.1)
+
+  module _ {V : Type 0} where
+    -- whether a pair's key comes before this one
+    abbrev pub before : K × V → Bool
+    before p = is_lt (R p.0 key)
+
+    -- ---- how many come before
+
+    none_before : (l : List (K × V)) → AllByRecursion (λ k. R key k ≡ Less) (keys_of l) → length (filter before l) ≡ 0
+    none_before [] a = refl
+    none_before (p ∷ l) a = rw (turned key p.0 Less a.0) (none_before l a.1)
+
+    -- the first i alone come before
+    pub counted : (l : List (K × V)) (i : ℕ) → i ≤ length l → AllWithin (λ y. before y ≡ true) l 0 i
+        → AllWithin (λ y. before y ≡ false) l i (length l) → length (filter before l) ≡ i
+    counted [] zero le front back = refl
+    counted [] (suc i) le front back = absurd (omega arith)
+    counted (p ∷ l) zero le front back =
+        rw (back 0 p (omega arith) (omega arith)) (counted l zero (omega arith) (λ k d a b. absurd (omega arith)) (λ k d a b. back (suc k) d (omega arith) (omega arith)))
+    counted (p ∷ l) (suc i) le front back =
+        rw (front 0 p (omega arith) (omega arith))
+        (ap suc (counted l i (omega arith) (λ k d a b. front (suc k) d (omega arith) (omega arith)) (λ k d a b. back (suc k) d (omega arith) (omega arith))))
+
+    -- ---- they come first
+
+    key_at : (P : K → Type 0) (l : List (K × V)) → AllByRecursion P (keys_of l) → (j : ℕ) (d : K × V) → j < length l → P (slice_index_or l j d).0
+    key_at P [] a j d lt = absurd (omega arith)
+    key_at P (p ∷ l) a zero d lt = a.0
+    key_at P (p ∷ l) a (suc j) d lt = key_at P l a.1 j d (omega arith)
+
+    pub first : (l : List (K × V)) → IsStrictlySortedBy R (keys_of l) → IsPartitionedBy before l
+    unfolding IsStrictlySortedBy
+    first [] s i j d le lt t = absurd (omega arith)
+    first (p ∷ l) s zero zero d le lt t = t
+    first (p ∷ l) s zero (suc j) d le lt t =
+        let q = slice_index_or l j d in below-by p.0 q.0 (R q.0 key) refl t (key_at (λ k. R p.0 k ≡ Less) l s.0 j d (omega arith))
+    first (p ∷ l) s (suc i) zero d le lt t = absurd (omega arith)
+    first (p ∷ l) s (suc i) (suc j) d le lt t = first l s.1 i j d (omega arith) (omega arith) t
+
+    -- ---- what stands behind them
+
+    lacked : (l : List (K × V)) → AllByRecursion (λ k. R key k ≡ Less) (keys_of l) → lookup (is_at (R key)) l ≡ None
+    lacked [] a = refl
+    lacked (p ∷ l) a = rw a.0 (lacked l a.1)
+
+    -- the value of a pair, if it has the key
+    abbrev pub value_of : Option (K × V) → Option V
+    value_of None = None
+    value_of (Some p) = cond (is_eq (R key p.0)) (Some p.1) None
+
+    there-by : (p : K × V) (l : List (K × V)) (r : Ordering) → R p.0 key ≡ r → AllByRecursion (λ k. R p.0 k ≡ Less) (keys_of l)
+        → lookup (is_at (R key)) l ≡ value_of (slice_get l (length (filter before l)))
+        → lookup (is_at (R key)) (p ∷ l) ≡ value_of (slice_get (p ∷ l) (length (filter before (p ∷ l))))
+    there-by p l Less e a more = rw (turned p.0 key Less e) (rw e more)
+    there-by p l Equal e a more =
+        let f = turned p.0 key Equal e in rw e (rw (none_before l (all_same p.0 (keys_of l) f a)) (rw f refl))
+    there-by p l Greater e a more =
+        let f = turned p.0 key Greater e in let b = all_past p.0 (keys_of l) f a in
+        rw e (rw (none_before l b) (rw f (lacked l b)))
+
+    -- a key that has a value stands behind those before it
+    pub there : (l : List (K × V)) → IsStrictlySortedBy R (keys_of l)
+        → lookup (is_at (R key)) l ≡ value_of (slice_get l (length (filter before l)))
+    unfolding IsStrictlySortedBy
+    there [] s = refl
+    there (p ∷ l) s = there-by p l (R p.0 key) refl s.0 (there l s.1)

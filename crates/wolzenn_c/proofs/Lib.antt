@@ -1,0 +1,4 @@
+pub mod InOrder
+pub mod Passing
+pub mod Places
+pub mod Values

@@ -1,0 +1,105 @@
+-- Where a record's strings stand in the bytes round it.
+use Rattle.std.proofs.Common.{◌≡◌, ℕ, ◌+◌, ◌-◌, ◌≤◌, List, [], ◌∷◌, ◌++◌, length, take, drop, refl, sym, ◌∙◌, ap, subst, arith, append_assoc, append-nil, length-append, length-drop}
+use Rattle.std.proofs.Math.Seq.{take-append_seam, drop-append_seam}
+use Rattle.std.proofs.lemmas.List.{take-append-drop}
+use Rattle.model_base.specs.Varint.{varint}
+use Rattle.model_base.specs.declared.batch.BatchError.{BatchError}
+use Rattle.model_base.specs.Batch.{Record, IsReadable, NoRecord, record_bytes, varstring}
+use Rattle.log_batch.proofs.OneAnswer.{from_place}
+use Rattle.wolzenn_c.specs.declared.batch_bytes.WzOp.{WzOp}
+use Rattle.wolzenn_c.specs.BatchBytes.{StandsAt, Shows, IsRecordBetween}
+
+-- a string between a front and a rest, and within two other places
+stands_between : (front s rest : List ℕ) (from to : ℕ) → from ≤ length front → length front + length s ≤ to
+    → StandsAt (front ++ (s ++ rest)) from to (length front) (length s) s
+stands_between front s rest from to after before =
+    let as_long : length front + length s - length front ≡ length s = omega arith in
+    record {
+      len_is = refl;
+      behind_from = after;
+      before_to = before;
+      there = ap (λ (n : ℕ). take n (drop (length front) (front ++ (s ++ rest)))) as_long
+          ∙ ap (λ (l : List ℕ). take (length s) l) (drop-append_seam front (s ++ rest)) ∙ take-append_seam s rest;
+    }
+
+stands : (bytes front s rest : List ℕ) (from to place : ℕ) → bytes ≡ front ++ (s ++ rest) → place ≡ length front
+    → from ≤ place → place + length s ≤ to → StandsAt bytes from to place (length s) s
+stands bytes front s rest from to place is at after before =
+    rw (is, at) (stands_between front s rest from to (omega (arith, after, at)) (omega (arith, before, at)))
+
+-- the key of a record of one string, in front of the record's end
+pub key_alone : (front key rest : List ℕ) (tag end place : ℕ) → end ≡ length (front ++ (tag ∷ (varstring key ++ []))) → place + length key ≡ end
+    → StandsAt (front ++ (tag ∷ (varstring key ++ [])) ++ rest) (length front) end place (length key) key
+key_alone front key rest tag end place is at =
+    let v = varint (length key) in
+    let bytes = front ++ (tag ∷ (varstring key ++ [])) ++ rest in
+    let split : bytes ≡ (front ++ (tag ∷ v)) ++ (key ++ rest) = simp (append_assoc, append-nil) refl in
+    let place_is : place ≡ length (front ++ (tag ∷ v)) =
+    omega (arith, length-append front (tag ∷ (varstring key ++ [])), length-append front (tag ∷ v), length-append (varstring key) [], length-append v key) in
+    let after : length front ≤ place = omega (arith, place_is, length-append front (tag ∷ v)) in
+    stands bytes (front ++ (tag ∷ v)) key rest (length front) end place split place_is after (omega (arith, at))
+
+-- how far a record of two strings reaches
+pair_end : (front key s : List ℕ) (tag end : ℕ) → end ≡ length (front ++ (tag ∷ (varstring key ++ (varstring s ++ []))))
+    → end ≡ length front + 1 + length (varint (length key)) + length key + length (varint (length s)) + length s
+pair_end front key s tag end is =
+    omega (
+      arith,
+      is,
+      length-append front (tag ∷ (varstring key ++ (varstring s ++ []))),
+      length-append (varstring key) (varstring s ++ []),
+      length-append (varstring s) [],
+      length-append (varint (length key)) key,
+      length-append (varint (length s)) s,
+    )
+
+-- the key of a record of two strings
+pub key_before : (front key s rest : List ℕ) (tag end place : ℕ) → end ≡ length (front ++ (tag ∷ (varstring key ++ (varstring s ++ []))))
+    → place ≡ end - length s - length (varint (length s)) - length key
+    → StandsAt (front ++ (tag ∷ (varstring key ++ (varstring s ++ []))) ++ rest) (length front) end place (length key) key
+key_before front key s rest tag end place is at =
+    let v = varint (length key) in
+    let bytes = front ++ (tag ∷ (varstring key ++ (varstring s ++ []))) ++ rest in
+    let all = pair_end front key s tag end is in
+    let split : bytes ≡ (front ++ (tag ∷ v)) ++ (key ++ ((varstring s ++ []) ++ rest)) = simp (append_assoc, append-nil) refl in
+    let place_is : place ≡ length (front ++ (tag ∷ v)) = omega (arith, all, at, length-append front (tag ∷ v)) in
+    stands bytes (front ++ (tag ∷ v)) key ((varstring s ++ []) ++ rest) (length front) end place split place_is (omega (arith, all, at)) (omega (arith, all, at))
+
+-- its value
+pub value_behind : (front key s rest : List ℕ) (tag end place : ℕ) → end ≡ length (front ++ (tag ∷ (varstring key ++ (varstring s ++ [])))) → place ≡ end - length s
+    → StandsAt (front ++ (tag ∷ (varstring key ++ (varstring s ++ []))) ++ rest) (length front) end place (length s) s
+value_behind front key s rest tag end place is at =
+    let before = front ++ (tag ∷ (varstring key ++ varint (length s))) in
+    let bytes = front ++ (tag ∷ (varstring key ++ (varstring s ++ []))) ++ rest in
+    let all = pair_end front key s tag end is in
+    let split : bytes ≡ before ++ (s ++ rest) = simp (append_assoc, append-nil) refl in
+    let place_is : place ≡ length before =
+    omega (arith, all, at, length-append front (tag ∷ (varstring key ++ varint (length s))), length-append (varstring key) (varint (length s)), length-append (varint (length key)) key) in
+    stands bytes before s rest (length front) end place split place_is (omega (arith, all, at)) (omega (arith, all, at))
+
+-- The record in front of the bytes from a place on is the next, and its operation shows it.
+pub next_is : (bytes : List ℕ) (place : ℕ) (r : Record) (rest : List ℕ) (op : WzOp) → place ≤ length bytes → IsReadable r
+    → take (length bytes - place) (drop place bytes) ≡ record_bytes r ++ rest
+    → ((front behind : List ℕ) → length bytes - length rest ≡ length (front ++ record_bytes r)
+    → Shows (front ++ record_bytes r ++ behind) (length front) (length bytes - length rest) op r)
+    → IsRecordBetween bytes place (length bytes - length rest) op
+next_is bytes place r rest op inside readable is shown =
+    let front = take place bytes ++ record_bytes r in
+    let from : drop place bytes ≡ record_bytes r ++ rest = sym (from_place place bytes) ∙ is in
+    let all : bytes ≡ front ++ rest = sym (take-append-drop place bytes) ∙ ap (λ (l : List ℕ). take place bytes ++ l) from ∙ sym (append_assoc (take place bytes) (record_bytes r) rest) in
+    let end : length bytes - length rest ≡ length front = omega (arith, ap length all, length-append front rest) in
+    let behind : drop (length bytes - length rest) bytes ≡ rest = ap (λ (n : ℕ). drop n bytes) end ∙ ap (λ (l : List ℕ). drop (length front) l) all ∙ drop-append_seam front rest in
+    record {
+      found = r;
+      readable = readable;
+      spelled = from ∙ ap (λ (l : List ℕ). record_bytes r ++ l) (sym behind);
+      within = omega arith;
+      shown = let at : length (take place bytes) ≡ place = omega (arith, inside, ap length (take-append-drop place bytes), length-append (take place bytes) (drop place bytes), length-drop place bytes) in
+          let P : List ℕ → Type 0 = λ l. Shows l place (length bytes - length rest) op r in
+          let Q : ℕ → Type 0 = λ n. Shows (front ++ rest) n (length bytes - length rest) op r in
+          subst P (sym all) (subst Q at (shown (take place bytes) rest end));
+    }
+
+-- An error in front of the bytes from a place on, which are all that is left.
+pub error_from : (bytes : List ℕ) (place : ℕ) (e : BatchError) → NoRecord (take (length bytes - place) (drop place bytes)) e → NoRecord (drop place bytes) e
+error_from bytes place e wrong = let P : List ℕ → Type 0 = λ l. NoRecord l e in subst P (from_place place bytes) wrong

@@ -1,0 +1,8 @@
+-- Readers of bytes in memory, whose reads never fail.
+use Rattle.std.specs.Prelude.{◌≢◌, ℕ, Option, Some}
+use Rattle.log_reader.specs.declared.reader.Next.{Next}
+use Rattle.log_reader.specs.declared.reader.Next.TheVariants.{Fault}
+
+-- a reader with this answer hasn't stopped by a fault
+abbrev pub IsUnfailed : Option Next → Type 0
+IsUnfailed stopped = (count : ℕ) → stopped ≢ Some (Fault count)

@@ -1,0 +1,33 @@
+-- What the functions of a reader come to for C.
+use Rattle.std.specs.Prelude.{◌≡◌, ℕ, List, length, None}
+use Rattle.log_reader.specs.declared.reader.Next.{Next}
+use Rattle.log_reader.specs.declared.reader.Next.TheVariants as next
+use Rattle.log_reader.specs.Reader.{Reader, Follows}
+use Rattle.wolzenn_c.specs.declared.codes.TheConstants.{DONE, END, NO_MEMORY}
+use Rattle.wolzenn_c.specs.declared.codes.WzEnd.{WzEnd}
+use Rattle.wolzenn_c.specs.declared.reader.WzRecord.{WzRecord}
+use Rattle.wolzenn_c.specs.Readings.{number_of, ReadsOn}
+use Rattle.wolzenn_c.specs.Reasons.{end_of}
+
+-- a reader of a log with this number, at its start
+pub record IsOpened (number : ℕ) (r : Reader) : Type 0 where
+  pub number_is : r.number ≡ number_of number
+  pub start : r.place ≡ 0
+  pub going : r.stopped ≡ None
+  pub follows : (file : List ℕ) → Follows file r
+
+-- An answer in numbers: its code, and the record and the end that C has before and after. The record has this many
+-- bytes. No fault is told.
+abbrev pub Tells : Next → ℕ → WzRecord × WzEnd → ℕ → WzRecord × WzEnd → Type 0
+Tells (next.Record start end) len before code after =
+    (code ≡ DONE) × (after ≡ (record { start = start; end = end; len = len }, before.1))
+Tells (next.End at why) len before code after = (code ≡ END) × (after ≡ (before.0, end_of at why))
+Tells (next.Fault count) len before code after = ⊥
+Tells next.NoMemory len before code after = (code ≡ NO_MEMORY) × (after ≡ before)
+
+-- a reader has read on, and its answer is told
+pub record IsNext (file : List ℕ) (old new : Reader) (before : WzRecord × WzEnd) (code : ℕ)
+    (after : WzRecord × WzEnd) : Type 0 where
+  pub answer : Next
+  pub reads : ReadsOn file old new answer
+  pub tells : Tells answer (length new.in_hand) before code after

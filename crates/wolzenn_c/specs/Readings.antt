@@ -1,0 +1,23 @@
+-- What a call of a reader over bytes in memory comes to.
+use Rattle.std.specs.Prelude.{◌≡◌, ℕ, ◌==◌, List, Option, Some, None, IfSome, if◌then◌else◌}
+use Rattle.log_reader.specs.declared.reader.Next.{Next}
+use Rattle.log_reader.specs.Reader.{Reader, Follows, PlaceAfter, GoesForward}
+use Rattle.log_reader.specs.Records.{Reads, stopped_by}
+
+-- the number of a log, which has none where 0 is given
+abbrev pub number_of : ℕ → Option ℕ
+number_of number = if number == 0 then None else Some number
+
+-- a reader that hasn't stopped reads on, and answers what this comes to
+pub record Goes (file : List ℕ) (old new : Reader) (answer : Next) : Type 0 where
+  pub reads : Follows file old → Reads old.number file old.place new.in_hand answer
+  pub place : PlaceAfter old new answer
+  pub forward : GoesForward old.place answer
+  pub stopped : new.stopped ≡ stopped_by answer
+
+-- A reader is asked for the next record of the file. Once it has stopped it answers the same again.
+pub record ReadsOn (file : List ℕ) (old new : Reader) (answer : Next) : Type 0 where
+  pub number : new.number ≡ old.number
+  pub follows : Follows file old → Follows file new
+  pub goes : old.stopped ≡ None → Goes file old new answer
+  pub again : IfSome old.stopped (λ told. (answer ≡ told) × (new ≡ old))

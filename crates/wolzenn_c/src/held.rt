@@ -1,0 +1,60 @@
+//! An object on the heap, behind a pointer that C can keep.
+
+ghost use Rattle.std.specs.Prelude.{◌≡◌, ◌≢◌, Option, Some, None};
+ghost use Rattle.wolzenn_c.specs.Holding.{holdable};
+ghost use Rattle.wolzenn_c.specs.declared.object.Object.{Object as Obj};
+
+use crate::object::Object;
+use std::alloc::Global;
+use std::marker::Model;
+
+/// An object on the heap, or nothing. Contracts see which, as `object`.
+///
+/// It can't be let go: it ends by `into_box` or `end`, so that no object is left behind.
+#[repr(C)]
+pub struct Held {
+    at: *mut u8,
+    ghost object: { Option Obj } by { Prim.hlevel holdable },
+}
+
+impl Model for Held {
+    ghost use Rattle.wolzenn_c.specs.Holding.{held_owns};
+    ghost use Rattle.wolzenn_c.specs.contracts.object.Object.{the_row};
+
+    ghost also_owns = { λ h. held_owns the_row h.at h.object };
+}
+
+impl Held {
+    /// Nothing.
+    pub fn empty() -> Held
+        ensures { result.object ≡ None }
+    {
+        Held {
+            at: std::ptr::null_mut(),
+        }
+    }
+
+    /// Keeps an object.
+    pub fn of(object: Box<Object>) -> Held
+        ensures { result.object ≡ Some object.value }
+    {
+        let at = Box::into_raw(object);
+        Held { at: at as *mut u8 }
+    }
+
+    /// The object in its box again.
+    pub fn into_box(self, alloc: Global) -> Box<Object>
+        requires { self.object ≢ None }
+        ensures { self.object ≡ Some result.value }
+    {
+        let Held { at } = self;
+        unsafe { Box::from_raw(alloc, at as *mut Object) }
+    }
+
+    /// Ends what holds nothing.
+    pub fn end(self)
+        requires { self.object ≡ None }
+    {
+        let Held { at: _ } = self;
+    }
+}

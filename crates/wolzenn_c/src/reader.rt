@@ -1,0 +1,125 @@
+//! Reading the records of a log.
+
+ghost use Rattle.std.specs.Prelude.{◌≡◌, ◌≢◌, ◌⊎◌, ℕ, length, None, MatchOption};
+ghost use Rattle.log_reader.specs.declared.reader.Next.TheVariants.{Fault};
+ghost use Rattle.wolzenn_c.specs.Buffers.{Copies};
+ghost use Rattle.wolzenn_c.specs.Objects.{as_reader};
+ghost use Rattle.wolzenn_c.specs.ReaderCalls.{IsOpened, Tells, IsNext};
+ghost use Rattle.wolzenn_c.specs.Readings.{ReadsOn};
+
+use crate::buffer::copy_to;
+use crate::codes::{CLOSED, DONE, END, NO_MEMORY, WzEnd, end_of};
+use crate::handle::WzHandle;
+use crate::object::Object;
+use crate::reading::Reading;
+use log_reader::Next;
+use std::alloc::Global;
+
+/// A record: the offset of its first fragment, the one behind its last, and how many bytes it has.
+#[repr(C)]
+#[derive(Clone, Copy, Debug, Drop)]
+pub struct WzRecord {
+    pub start: u64,
+    pub end: u64,
+    pub len: usize,
+}
+
+/// Opens a reader at the start of a log. The log has this number, or none where it is 0.
+///
+/// What the handle held before is freed. `DONE`: it holds the reader. `NO_MEMORY`: it holds nothing.
+#[unsafe(no_mangle)]
+pub extern "C" fn wz_reader_open(alloc: Global, handle: &mut WzHandle, number: u32) -> u32
+    ensures code { (result ≡ DONE) ⊎ (result ≡ NO_MEMORY) }
+    ensures done { result ≡ DONE → MatchOption (as_reader handle.new.held.object) ⊥ (IsOpened number) }
+    ensures no_memory { result ≡ NO_MEMORY → handle.new.held.object ≡ None }
+{
+    handle.clear(alloc);
+    let Ok(reading) = Reading::open(alloc, number) else {
+        return NO_MEMORY;
+    };
+    let Ok(object) = Box::new(alloc, Object::Reader(reading)) else {
+        return NO_MEMORY;
+    };
+    handle.put(alloc, object);
+    DONE
+}
+
+/// Reads the next record of the log that these bytes are, which are the caller's, and the same at each call of this
+/// reader.
+///
+/// `DONE`: `found` is where its fragments stand in the log, as offsets in bytes, and how many bytes the record has.
+/// `END`: `end` is at which offset no more is read, and why. `NO_MEMORY`. After `END` and `NO_MEMORY` each further call
+/// answers the same. `CLOSED`: the handle holds no reader. What an answer doesn't tell stays as it was.
+#[unsafe(no_mangle)]
+pub extern "C" fn wz_reader_next(
+    alloc: Global,
+    handle: &mut WzHandle,
+    log: &[u8],
+    found: &mut WzRecord,
+    end: &mut WzEnd,
+) -> u32
+    ensures next { MatchOption (as_reader handle.old.held.object) (result ≡ CLOSED)
+        (λ old. MatchOption (as_reader handle.new.held.object) ⊥
+        (λ new. IsNext log.now old new (found.old, end.old) result (found.new, end.new))) }
+    ensures closed { result ≡ CLOSED → handle.new.held.object ≡ handle.old.held.object }
+    ensures untold { result ≡ CLOSED → (found.new ≡ found.old) × (end.new ≡ end.old) }
+{
+    let Some(mut object) = handle.take(alloc) else {
+        return CLOSED;
+    };
+    let code = match &mut *object {
+        Object::Reader(reading) => next_of(reading, log, found, end),
+        Object::Recovery(_) | Object::Batch(_) => CLOSED,
+    };
+    handle.put(alloc, object);
+    code
+}
+
+/// Reads on, and tells what this comes to.
+fn next_of(reading: &mut Reading, log: &[u8], found: &mut WzRecord, end: &mut WzEnd) -> u32
+    ensures { IsNext log.now reading.old.reader reading.new.reader (found.old, end.old) result (found.new, end.new) }
+{
+    let answer = reading.next(log);
+    tell(answer, reading.reader.record().len(), found, end)
+}
+
+/// Tells an answer in numbers.
+fn tell(answer: Next, len: usize, found: &mut WzRecord, last: &mut WzEnd) -> u32
+    requires { (count : ℕ) → answer ≢ Fault count }
+    ensures { Tells answer len (found.old, last.old) result (found.new, last.new) }
+{
+    match answer {
+        Next::Record { start, end } => {
+            *found = WzRecord { start, end, len };
+            DONE
+        }
+        Next::End { at, why } => {
+            *last = end_of(at, why);
+            END
+        }
+        Next::Fault { .. } => unreachable!(),
+        Next::NoMemory => NO_MEMORY,
+    }
+}
+
+/// Copies the record that the last `wz_reader_next` read to the start of the caller's buffer, and touches nothing
+/// behind it.
+///
+/// `DONE`. `SMALL`: the buffer has fewer bytes than the record, and none was written. `CLOSED`: the handle holds no
+/// reader. The handle holds what it held.
+#[unsafe(no_mangle)]
+pub extern "C" fn wz_reader_record(alloc: Global, handle: &mut WzHandle, buffer: &mut [u8]) -> u32
+    ensures same { handle.new.held.object ≡ handle.old.held.object }
+    ensures record { MatchOption (as_reader handle.old.held.object) ((result ≡ CLOSED) × (buffer.new ≡ buffer.old))
+        (λ reader. Copies reader.in_hand buffer.old result buffer.new) }
+{
+    let Some(object) = handle.take(alloc) else {
+        return CLOSED;
+    };
+    let code = match object.reader() {
+        Some(reading) => copy_to(reading.reader.record(), buffer),
+        None => CLOSED,
+    };
+    handle.put(alloc, object);
+    code
+}

@@ -1,0 +1,114 @@
+//! Recovery of a log.
+
+ghost use Rattle.std.specs.Prelude.{◌≡◌, ◌≢◌, ℕ, length, Err, None, IfOk, IfErr, MatchOption};
+ghost use Rattle.log_recovery.specs.declared.recovery.RecoverError.TheVariants.{Fault};
+ghost use Rattle.log_recovery.specs.Modes.{TellsDamage};
+ghost use Rattle.wolzenn_c.specs.Objects.{as_recovery};
+ghost use Rattle.wolzenn_c.specs.Readings.{number_of};
+ghost use Rattle.wolzenn_c.specs.Recoveries.{mode_of as mode_with, damage_of, IsRecovery, Recovers};
+
+use crate::codes::{DAMAGE, DONE, NO_MEMORY, RANGE, WzEnd, end_of};
+use crate::handle::WzHandle;
+use crate::object::Object;
+use crate::reading::log_number;
+use crate::recovery_pairs::RecoveryPairs;
+use base_devices::SliceDisk;
+use log_recovery::{Mode, RecoverError, recover_mode};
+use std::alloc::Global;
+
+/// What was recovered, in numbers: how many batches, how many pairs of key and value they leave, the last sequence, the
+/// offset behind the last batch kept, and where and why recovery ended.
+#[repr(C)]
+#[derive(Clone, Copy, Debug, Drop)]
+pub struct WzRecovered {
+    pub groups: usize,
+    pub pairs: usize,
+    pub last: u64,
+    pub kept: u64,
+    pub end: WzEnd,
+}
+
+/// Recovers the log that these bytes are, which are the caller's. The log has this number, or none where it is 0. The
+/// modes are 0 for point-in-time recovery, 1 for a tail that may be cut off, and 2 for whole logs alone.
+///
+/// What the handle held before is freed. `DONE`: `summary` says what was recovered, and the handle holds the pairs.
+/// `DAMAGE`: the mode doesn't accept the end; `summary.end` says where and why, and the rest of `summary` is 0.
+/// `RANGE`: there is no such mode. `NO_MEMORY`. At any answer but `DONE` the handle holds nothing. At `RANGE` and
+/// `NO_MEMORY` `summary` stays as it was.
+#[unsafe(no_mangle)]
+pub extern "C" fn wz_recover(
+    alloc: Global,
+    handle: &mut WzHandle,
+    number: u32,
+    mode: u32,
+    log: &[u8],
+    summary: &mut WzRecovered,
+) -> u32
+    ensures recovers { MatchOption (mode_with mode) (result ≡ RANGE) (λ m.
+        Recovers (number_of number) m log.now result (as_recovery handle.new.held.object) summary.new) }
+    ensures nothing { result ≢ DONE → handle.new.held.object ≡ None }
+    ensures untold { result ≢ DONE → result ≢ DAMAGE → summary.new ≡ summary.old }
+{
+    handle.clear(alloc);
+    let Some(mode) = mode_of(mode) else {
+        return RANGE;
+    };
+    match recovered(alloc, log_number(number), mode, log) {
+        Ok((pairs, told)) => {
+            let Ok(object) = Box::new(alloc, Object::Recovery(pairs)) else {
+                return NO_MEMORY;
+            };
+            handle.put(alloc, object);
+            *summary = told;
+            DONE
+        }
+        Err(RecoverError::Damage { at, why }) => {
+            *summary = WzRecovered {
+                groups: 0,
+                pairs: 0,
+                last: 0,
+                kept: 0,
+                end: end_of(at, why),
+            };
+            DAMAGE
+        }
+        Err(RecoverError::NoMemory) => NO_MEMORY,
+        Err(RecoverError::Fault { .. }) => unreachable!(),
+    }
+}
+
+/// The mode with this number, if there is one.
+fn mode_of(mode: u32) -> Option<Mode>
+    ensures { result ≡ mode_with mode }
+{
+    match mode {
+        0 => Some(Mode::Point),
+        1 => Some(Mode::Tail),
+        2 => Some(Mode::Absolute),
+        _ => None,
+    }
+}
+
+/// The pairs that a log recovers, and the numbers of its recovery.
+fn recovered(
+    alloc: Global,
+    number: Option<u32>,
+    mode: Mode,
+    log: &[u8],
+) -> Result<(RecoveryPairs, WzRecovered), RecoverError>
+    ensures ok { IfOk result (λ r. IsRecovery number mode log.now r.0.pairs r.1) }
+    ensures err { IfErr result (TellsDamage number mode log.now) }
+    ensures no_fault { (count : ℕ) → result ≢ Err (Fault count) }
+{
+    let mut disk = SliceDisk::new(log);
+    let recovered = recover_mode(alloc, &mut disk, number, mode)?;
+    let pairs = RecoveryPairs::of(alloc, &recovered.map)?;
+    let summary = WzRecovered {
+        groups: recovered.groups.len(),
+        pairs: pairs.pairs.len(),
+        last: recovered.last,
+        kept: recovered.kept,
+        end: end_of(recovered.end.at, recovered.end.why),
+    };
+    Ok((pairs, summary))
+}
