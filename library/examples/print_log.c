@@ -1,0 +1,86 @@
+/* Prints a log of RocksDB or LevelDB: where each record stands, and what the batch in it does.
+
+   print_log LOG [NUMBER]
+
+   NUMBER is the log's own, where its fragments have one. Keys and values are printed in hexadecimal, `-` for none.
+   The last line says where reading ended, and by which of the reasons of wolzenn.h, with its two numbers. */
+#include "wolzenn.h"
+
+#include <inttypes.h>
+#include <stdio.h>
+#include <stdlib.h>
+
+static void print_bytes(const uint8_t *bytes, size_t len) {
+    for (size_t i = 0; i < len; i++) printf("%02x", bytes[i]);
+    if (len == 0) printf("-");
+}
+
+static const char *name_of(uint32_t kind) {
+    if (kind == WZ_VALUE) return "put";
+    if (kind == WZ_DELETION) return "del";
+    return kind == WZ_LOG_DATA ? "note" : "sdel";
+}
+
+/* Prints the operations of the batch that a record holds, up to the first that doesn't read. */
+static void print_batch(const uint8_t *bytes, size_t len) {
+    wz_batch_head head;
+    wz_end why;
+    wz_op op;
+    uint32_t code = wz_batch_read(bytes, len, &head, &why);
+    if (code == WZ_DONE) printf("  batch %" PRIu64 " %" PRIu32 "\n", head.sequence, head.count);
+    size_t at = WZ_BATCH_HEADER_LEN;
+    while (code == WZ_DONE && (code = wz_batch_next(bytes, len, &at, &op, &why)) == WZ_DONE) {
+        printf("  %s ", name_of(op.kind));
+        print_bytes(bytes + op.key_at, op.key_len);
+        if (op.kind == WZ_VALUE) {
+            printf(" ");
+            print_bytes(bytes + op.value_at, op.value_len);
+        }
+        printf("\n");
+    }
+    if (code == WZ_NO_BATCH) printf("  no batch: reason %" PRIu32 "\n", why.why);
+}
+
+/* The whole file in memory, or null. */
+static uint8_t *read_file(const char *path, size_t *len) {
+    FILE *file = fopen(path, "rb");
+    uint8_t *bytes = NULL;
+    size_t room = 0, more = 1;
+    for (*len = 0; file != NULL && more > 0; *len += more) {
+        if (room - *len < 65536) {
+            uint8_t *grown = realloc(bytes, room = room * 2 + 65536);
+            if (grown == NULL) break;
+            bytes = grown;
+        }
+        more = fread(bytes + *len, 1, room - *len, file);
+    }
+    int failed = file == NULL || more > 0 || ferror(file);
+    if (file != NULL) fclose(file);
+    if (failed) free(bytes);
+    return failed ? NULL : bytes;
+}
+
+int main(int argc, char **argv) {
+    size_t len;
+    uint8_t *log = argc > 1 ? read_file(argv[1], &len) : NULL;
+    if (log == NULL) return fprintf(stderr, "print_log: the log can't be read\n"), 2;
+
+    wz_handle reader = WZ_HANDLE_INIT;
+    wz_record record;
+    wz_end end;
+    uint32_t code = wz_reader_open(&reader, argc > 2 ? (uint32_t)strtoul(argv[2], NULL, 10) : 0);
+    while (code == WZ_DONE && (code = wz_reader_next(&reader, log, len, &record, &end)) == WZ_DONE) {
+        printf("record %" PRIu64 " %" PRIu64 "\n", record.start, record.end);
+        /* One byte more, since malloc(0) may give null. */
+        uint8_t *bytes = malloc(record.len + 1);
+        if (bytes == NULL) code = WZ_NO_MEMORY;
+        if (code == WZ_DONE) code = wz_reader_record(&reader, bytes, record.len);
+        if (code == WZ_DONE) print_batch(bytes, record.len);
+        free(bytes);
+    }
+    if (code == WZ_END) printf("end %" PRIu64 " %" PRIu32, end.at, end.why);
+    if (code == WZ_END) printf(" %" PRIu64 " %" PRIu64 "\n", end.first, end.second);
+    wz_close(&reader);
+    free(log);
+    return code == WZ_END ? 0 : 1;
+}

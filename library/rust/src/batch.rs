@@ -1,0 +1,141 @@
+//! Building batches, and reading them.
+
+use crate::raw::{self, Handle, Step};
+use crate::{End, Error, Why, BATCH_HEADER_LEN};
+use std::iter::FusedIterator;
+
+/// A batch's sequence, and how many of its records count.
+#[derive(Clone, Copy, Debug, PartialEq, Eq)]
+pub struct BatchHead {
+    /// The sequence of its first record that counts.
+    pub sequence: u64,
+    /// How many of its records count. Each of these takes a sequence.
+    pub count: u32,
+}
+
+/// A batch that is built.
+#[derive(Debug)]
+pub struct Batch {
+    held: Handle,
+}
+
+impl Batch {
+    /// A batch of no records, with the sequence 0.
+    pub fn new() -> Result<Batch, Error> {
+        Ok(Batch { held: Handle::batch()? })
+    }
+
+    /// Adds a key with its value behind the other records. Where that can't be, the batch is as it was.
+    pub fn put(&mut self, key: &[u8], value: &[u8]) -> Result<(), Error> {
+        self.held.put(key, value)
+    }
+
+    /// Adds a deletion of a key, as [`put`](Batch::put) adds a value.
+    pub fn delete(&mut self, key: &[u8]) -> Result<(), Error> {
+        self.held.delete(key)
+    }
+
+    /// Adds a single deletion: of a key that was set at most once.
+    pub fn single_delete(&mut self, key: &[u8]) -> Result<(), Error> {
+        self.held.single_delete(key)
+    }
+
+    /// Adds bytes that stand in the log alone, and take no sequence.
+    pub fn log_data(&mut self, blob: &[u8]) -> Result<(), Error> {
+        self.held.log_data(blob)
+    }
+
+    /// Adds the records of another batch's bytes, whose sequence isn't looked at: so several batches make one record
+    /// of the log, a group.
+    pub fn append(&mut self, bytes: &[u8]) -> Result<(), Error> {
+        self.held.append(bytes)
+    }
+
+    /// Takes all records out, and sets the sequence to 0.
+    pub fn clear(&mut self) {
+        self.held.clear()
+    }
+
+    /// Gives it the sequence of its first record that counts.
+    pub fn set_sequence(&mut self, sequence: u64) {
+        self.held.set_sequence(sequence)
+    }
+
+    /// Its sequence, and how many of its records count.
+    pub fn head(&self) -> BatchHead {
+        self.held.head()
+    }
+
+    /// Its bytes, which are those of RocksDB's `WriteBatch::Data()`.
+    pub fn bytes(&self) -> Vec<u8> {
+        let mut bytes = Vec::new();
+        self.read_into(&mut bytes);
+        bytes
+    }
+
+    /// Copies its bytes into a buffer, whose content they replace.
+    pub fn read_into(&self, buffer: &mut Vec<u8>) {
+        buffer.clear();
+        buffer.resize(self.held.batch_len(), 0);
+        self.held.batch_bytes(buffer);
+    }
+}
+
+/// Looks through the bytes of a batch: its sequence and its count, or `Error::NoBatch`.
+pub fn read_batch(bytes: &[u8]) -> Result<BatchHead, Error> {
+    raw::read_batch(bytes)
+}
+
+/// A record of a batch.
+#[derive(Clone, Copy, Debug, PartialEq, Eq)]
+pub enum Op<'a> {
+    /// Gives a key a value.
+    Put(&'a [u8], &'a [u8]),
+    /// Takes a key out.
+    Delete(&'a [u8]),
+    /// Takes a key out that was set at most once.
+    SingleDelete(&'a [u8]),
+    /// Stands in the log alone.
+    LogData(&'a [u8]),
+}
+
+/// The records of a batch's bytes, which they borrow. Where no record stands there is an error, and no more behind it.
+/// [`read_batch`] says beforehand whether there will be one.
+#[derive(Clone, Debug)]
+pub struct BatchRecords<'a> {
+    bytes: &'a [u8],
+    at: Option<usize>,
+}
+
+impl<'a> BatchRecords<'a> {
+    /// The records behind the header.
+    pub fn new(bytes: &'a [u8]) -> BatchRecords<'a> {
+        BatchRecords { bytes, at: Some(BATCH_HEADER_LEN) }
+    }
+}
+
+impl<'a> Iterator for BatchRecords<'a> {
+    type Item = Result<Op<'a>, Error>;
+
+    fn next(&mut self) -> Option<Result<Op<'a>, Error>> {
+        let at = self.at?;
+        match raw::next_op(self.bytes, at) {
+            Step::Op(op, next) => {
+                self.at = Some(next);
+                Some(Ok(op))
+            }
+            Step::End => None,
+            Step::NoBatch(end) => {
+                self.at = None;
+                Some(Err(Error::NoBatch(end)))
+            }
+            // There are fewer bytes than a header has.
+            Step::Past => {
+                self.at = None;
+                Some(Err(Error::NoBatch(End { at: 0, why: Why::Short })))
+            }
+        }
+    }
+}
+
+impl FusedIterator for BatchRecords<'_> {}

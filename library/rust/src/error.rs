@@ -1,0 +1,132 @@
+//! Why something wasn't done, and why reading ended.
+
+use std::fmt;
+use std::io;
+
+/// Where reading or recovery ended, and why; or why bytes are no batch.
+#[derive(Clone, Copy, Debug, PartialEq, Eq)]
+pub struct End {
+    /// The offset of the fragment or the record that is meant.
+    pub at: u64,
+    /// Why.
+    pub why: Why,
+}
+
+/// Why reading or recovery ended, or why bytes are no batch. It is printed in the words of the repository's
+/// `docs/RECOVERY.md`.
+#[derive(Clone, Copy, Debug, PartialEq, Eq)]
+pub enum Why {
+    /// The log ends behind a whole record, or is empty.
+    Clean,
+    /// A fragment's header is cut off.
+    ShortHeader,
+    /// A header of zeros.
+    Zeros,
+    /// A fragment passes the end of its block or of the log.
+    BadLength,
+    /// A fragment of no type that such a log has: this one.
+    BadType(u8),
+    /// A fragment's checksum differs.
+    BadChecksum,
+    /// Bytes that aren't zeros where a block ends.
+    BadTrailer,
+    /// A fragment of another log, which has this number.
+    OldLog(u32),
+    /// A fragment stands where none of its type may.
+    BadOrder,
+    /// The log ends inside a record.
+    Unfinished,
+    /// A batch whose header or record is cut off.
+    Short,
+    /// A length in a batch isn't in its shortest spelling, or too long.
+    BadVarint,
+    /// A record of a batch has a tag that isn't read: this one.
+    Tag(u8),
+    /// A batch's header has another count than its records.
+    Count {
+        /// That of the header.
+        said: u32,
+        /// That of the records.
+        found: u64,
+    },
+    /// A batch's run of sequences doesn't begin above the last one before it.
+    Order {
+        /// Its first sequence.
+        first: u64,
+        /// The last one before it.
+        last: u64,
+    },
+    /// A batch's run of sequences passes 2^56 - 1.
+    High {
+        /// Its first sequence.
+        first: u64,
+        /// How many there are.
+        count: u32,
+    },
+}
+
+impl fmt::Display for Why {
+    fn fmt(&self, f: &mut fmt::Formatter<'_>) -> fmt::Result {
+        match *self {
+            Why::Clean => f.write_str("clean"),
+            Why::ShortHeader => f.write_str("shortheader"),
+            Why::Zeros => f.write_str("zeros"),
+            Why::BadLength => f.write_str("badlength"),
+            Why::BadType(kind) => write!(f, "badtype {kind}"),
+            Why::BadChecksum => f.write_str("badchecksum"),
+            Why::BadTrailer => f.write_str("badtrailer"),
+            Why::OldLog(number) => write!(f, "oldlog {number}"),
+            Why::BadOrder => f.write_str("badorder"),
+            Why::Unfinished => f.write_str("unfinished"),
+            Why::Short => f.write_str("short"),
+            Why::BadVarint => f.write_str("badvarint"),
+            Why::Tag(tag) => write!(f, "tag {tag}"),
+            Why::Count { said, found } => write!(f, "count {said} {found}"),
+            Why::Order { first, last } => write!(f, "order {first} {last}"),
+            Why::High { first, count } => write!(f, "high {first} {count}"),
+        }
+    }
+}
+
+impl fmt::Display for End {
+    fn fmt(&self, f: &mut fmt::Formatter<'_>) -> fmt::Result {
+        write!(f, "{} {}", self.at, self.why)
+    }
+}
+
+/// Why something wasn't done.
+#[derive(Clone, Copy, Debug, PartialEq, Eq)]
+pub enum Error {
+    /// There was no memory.
+    NoMemory,
+    /// The batch would have more than [`MAX_BATCH`](crate::MAX_BATCH) bytes.
+    TooLarge,
+    /// The log ends here in a way that the mode doesn't accept.
+    Damage(End),
+    /// The bytes are no batch, or no record of one stands here.
+    NoBatch(End),
+}
+
+impl fmt::Display for Error {
+    fn fmt(&self, f: &mut fmt::Formatter<'_>) -> fmt::Result {
+        match self {
+            Error::NoMemory => f.write_str("no memory"),
+            Error::TooLarge => f.write_str("the batch would have too many bytes"),
+            Error::Damage(end) => write!(f, "the log ends at {} by {}", end.at, end.why),
+            Error::NoBatch(end) => write!(f, "no batch: at {} {}", end.at, end.why),
+        }
+    }
+}
+
+impl std::error::Error for Error {}
+
+impl From<Error> for io::Error {
+    fn from(error: Error) -> io::Error {
+        let kind = match error {
+            Error::NoMemory => io::ErrorKind::OutOfMemory,
+            Error::TooLarge => io::ErrorKind::InvalidInput,
+            Error::Damage(_) | Error::NoBatch(_) => io::ErrorKind::InvalidData,
+        };
+        io::Error::new(kind, error)
+    }
+}

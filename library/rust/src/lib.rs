@@ -1,0 +1,50 @@
+//! The logs and write batches of RocksDB and LevelDB, read and written by proved code.
+//!
+//! The code is that of the repository's `library/wolzenn.h`: written in Rattle, proved there, and linked here as an
+//! archive, which `library/build` makes. This crate is what makes it safe to call. It isn't proved itself; `unsafe`
+//! stands in its module `raw` alone.
+//!
+//! ```no_run
+//! use wolzenn::{recover, Mode};
+//!
+//! let log = std::fs::read("000012.log")?;
+//! let recovery = recover(&log, None, Mode::Point)?;
+//! for (key, value) in recovery.pairs() {
+//!     println!("{key:?} {value:?}");
+//! }
+//! println!("ended at {}: {}", recovery.end().at, recovery.end().why);
+//! # Ok::<(), Box<dyn std::error::Error>>(())
+//! ```
+//!
+//! A log is borrowed bytes, so it is in memory as a whole. `number` is the log's number where its fragments have one
+//! (RocksDB's `recycle_log_file_num`), and `None` where they have none, as in LevelDB's logs and most of RocksDB's.
+//!
+//! A reader, a recovery and a batch stay on the thread that made them.
+
+#![deny(unsafe_code)]
+#![warn(missing_docs)]
+
+mod batch;
+mod checksum;
+mod error;
+#[allow(unsafe_code)]
+mod raw;
+mod reading;
+mod recovery;
+mod writing;
+
+pub use batch::{read_batch, Batch, BatchHead, BatchRecords, Op};
+pub use checksum::{crc32c, crc32c_extend, crc32c_mask};
+pub use error::{End, Error, Why};
+pub use reading::{Record, Records};
+pub use recovery::{recover, Mode, Pairs, Recovery};
+pub use writing::LogWriter;
+
+/// The bytes of a log's block.
+pub const BLOCK_LEN: usize = 32_768;
+
+/// The bytes of a batch's header.
+pub const BATCH_HEADER_LEN: usize = 12;
+
+/// The most bytes of a [`Batch`].
+pub const MAX_BATCH: usize = 16_777_216;

@@ -1,0 +1,444 @@
+//! The library's functions, and what makes each of them safe to call. No other module has `unsafe`.
+
+use crate::{BatchHead, End, Error, Mode, Op, Why};
+use std::cell::UnsafeCell;
+use std::ffi::c_void;
+use std::fmt;
+use std::num::NonZeroU32;
+
+// As in library/wolzenn.h, which says what each is.
+const DONE: u32 = 0;
+const NO_MEMORY: u32 = 1;
+const END: u32 = 4;
+const TOO_LARGE: u32 = 5;
+const DAMAGE: u32 = 6;
+const NO_BATCH: u32 = 7;
+const RANGE: u32 = 8;
+
+const DELETION: u32 = 0;
+const VALUE: u32 = 1;
+const LOG_DATA: u32 = 3;
+const SINGLE_DELETION: u32 = 7;
+
+#[repr(C)]
+struct RawHandle {
+    full: bool,
+    at: *mut c_void,
+}
+
+#[repr(C)]
+#[derive(Default)]
+struct RawEnd {
+    at: u64,
+    why: u32,
+    first: u64,
+    second: u64,
+}
+
+#[repr(C)]
+#[derive(Default)]
+struct RawRecord {
+    start: u64,
+    end: u64,
+    len: usize,
+}
+
+#[repr(C)]
+#[derive(Default)]
+struct RawRecovered {
+    groups: usize,
+    pairs: usize,
+    last: u64,
+    kept: u64,
+    end: RawEnd,
+}
+
+#[repr(C)]
+#[derive(Default)]
+struct RawPairLens {
+    key_len: usize,
+    value_len: usize,
+}
+
+#[repr(C)]
+#[derive(Default)]
+struct RawBatchHead {
+    sequence: u64,
+    count: u32,
+}
+
+#[repr(C)]
+#[derive(Default)]
+struct RawOp {
+    kind: u32,
+    key_at: usize,
+    key_len: usize,
+    value_at: usize,
+    value_len: usize,
+}
+
+extern "C" {
+    fn wz_close(handle: *mut RawHandle);
+    fn wz_crc32c(bytes: *const u8, len: usize) -> u32;
+    fn wz_crc32c_extend(crc: u32, bytes: *const u8, len: usize) -> u32;
+    fn wz_crc32c_mask(crc: u32) -> u32;
+    fn wz_reader_open(handle: *mut RawHandle, number: u32) -> u32;
+    fn wz_reader_next(
+        handle: *mut RawHandle,
+        log: *const u8,
+        log_len: usize,
+        record: *mut RawRecord,
+        end: *mut RawEnd,
+    ) -> u32;
+    fn wz_reader_record(handle: *mut RawHandle, buffer: *mut u8, buffer_len: usize) -> u32;
+    fn wz_recover(
+        handle: *mut RawHandle,
+        number: u32,
+        mode: u32,
+        log: *const u8,
+        log_len: usize,
+        summary: *mut RawRecovered,
+    ) -> u32;
+    fn wz_pair_len(handle: *mut RawHandle, index: usize, lens: *mut RawPairLens) -> u32;
+    fn wz_pair(
+        handle: *mut RawHandle,
+        index: usize,
+        key: *mut u8,
+        key_len: usize,
+        value: *mut u8,
+        value_len: usize,
+    ) -> u32;
+    fn wz_pair_find(handle: *mut RawHandle, key: *const u8, key_len: usize, index: *mut usize) -> u32;
+    fn wz_batch_new(handle: *mut RawHandle) -> u32;
+    fn wz_batch_put(handle: *mut RawHandle, key: *const u8, key_len: usize, value: *const u8, value_len: usize)
+        -> u32;
+    fn wz_batch_delete(handle: *mut RawHandle, key: *const u8, key_len: usize) -> u32;
+    fn wz_batch_single_delete(handle: *mut RawHandle, key: *const u8, key_len: usize) -> u32;
+    fn wz_batch_log_data(handle: *mut RawHandle, blob: *const u8, blob_len: usize) -> u32;
+    fn wz_batch_append(handle: *mut RawHandle, bytes: *const u8, len: usize) -> u32;
+    fn wz_batch_clear(handle: *mut RawHandle) -> u32;
+    fn wz_batch_set_sequence(handle: *mut RawHandle, sequence: u64) -> u32;
+    fn wz_batch_get(handle: *mut RawHandle, head: *mut RawBatchHead) -> u32;
+    fn wz_batch_len(handle: *mut RawHandle, len: *mut usize) -> u32;
+    fn wz_batch_bytes(handle: *mut RawHandle, buffer: *mut u8, buffer_len: usize) -> u32;
+    fn wz_batch_read(bytes: *const u8, len: usize, head: *mut RawBatchHead, why: *mut RawEnd) -> u32;
+    fn wz_batch_next(bytes: *const u8, len: usize, at: *mut usize, op: *mut RawOp, why: *mut RawEnd) -> u32;
+    fn wz_log_record_len(number: u32, offset: u64, len: usize) -> usize;
+    fn wz_log_record(
+        number: u32,
+        offset: u64,
+        record: *const u8,
+        record_len: usize,
+        buffer: *mut u8,
+        buffer_len: usize,
+        len: *mut usize,
+    ) -> u32;
+}
+
+/// What an answer means that only the library could give wrongly.
+fn wanted(code: u32, wanted: u32) {
+    assert_eq!(code, wanted, "an answer of the library");
+}
+
+/// An answer of a function that can find no memory, or a batch too large.
+fn done(code: u32) -> Result<(), Error> {
+    match code {
+        DONE => Ok(()),
+        NO_MEMORY => Err(Error::NoMemory),
+        TOO_LARGE => Err(Error::TooLarge),
+        _ => unreachable!("the answer {code} of the library"),
+    }
+}
+
+fn number_of(number: Option<NonZeroU32>) -> u32 {
+    number.map_or(0, NonZeroU32::get)
+}
+
+fn end_of(raw: &RawEnd) -> End {
+    let why = match raw.why {
+        1 => Why::Clean,
+        2 => Why::ShortHeader,
+        3 => Why::Zeros,
+        4 => Why::BadLength,
+        5 => Why::BadType(raw.first as u8),
+        6 => Why::BadChecksum,
+        7 => Why::BadTrailer,
+        8 => Why::OldLog(raw.first as u32),
+        9 => Why::BadOrder,
+        10 => Why::Unfinished,
+        11 => Why::Short,
+        12 => Why::BadVarint,
+        13 => Why::Tag(raw.first as u8),
+        14 => Why::Count { said: raw.first as u32, found: raw.second },
+        15 => Why::Order { first: raw.first, last: raw.second },
+        16 => Why::High { first: raw.first, count: raw.second as u32 },
+        why => unreachable!("the reason {why} of the library"),
+    };
+    End { at: raw.at, why }
+}
+
+/// A handle that holds a reader, a recovery or a batch. It isn't `Sync`, so no two calls work on it at once, and no
+/// call of the library calls back: so the library has it alone during a call, also where it is shared here.
+pub(crate) struct Handle {
+    raw: UnsafeCell<RawHandle>,
+}
+
+/// What reading on comes to.
+pub(crate) enum Next {
+    Record { start: u64, end: u64, len: usize },
+    End(End),
+}
+
+/// What is told of a recovery.
+#[derive(Debug)]
+pub(crate) struct Summary {
+    pub groups: usize,
+    pub pairs: usize,
+    pub last: u64,
+    pub kept: u64,
+    pub end: End,
+}
+
+impl fmt::Debug for Handle {
+    fn fmt(&self, f: &mut fmt::Formatter<'_>) -> fmt::Result {
+        f.write_str("Handle")
+    }
+}
+
+impl Drop for Handle {
+    fn drop(&mut self) {
+        // SAFETY: the handle is as the library left it, or holds nothing.
+        unsafe { wz_close(self.raw.get()) }
+    }
+}
+
+impl Handle {
+    /// It holds nothing.
+    fn empty() -> Handle {
+        Handle { raw: UnsafeCell::new(RawHandle { full: false, at: std::ptr::null_mut() }) }
+    }
+
+    pub fn reader(number: Option<NonZeroU32>) -> Result<Handle, Error> {
+        let handle = Handle::empty();
+        // SAFETY: the handle holds nothing.
+        done(unsafe { wz_reader_open(handle.raw.get(), number_of(number)) })?;
+        Ok(handle)
+    }
+
+    /// Reads on in the log.
+    pub fn next(&mut self, log: &[u8]) -> Result<Next, Error> {
+        let (mut record, mut end) = (RawRecord::default(), RawEnd::default());
+        // SAFETY: the handle is ours alone, and the slice is that many bytes, as all slices below are. That these are
+        // the same at each call is `Records`' part; where they aren't, other records are read.
+        let code = unsafe { wz_reader_next(self.raw.get(), log.as_ptr(), log.len(), &mut record, &mut end) };
+        match code {
+            DONE => Ok(Next::Record { start: record.start, end: record.end, len: record.len }),
+            END => Ok(Next::End(end_of(&end))),
+            code => Err(done(code).expect_err("an answer that isn't DONE")),
+        }
+    }
+
+    /// Copies the record in hand, which has as many bytes as the buffer.
+    pub fn record(&self, buffer: &mut [u8]) {
+        // SAFETY: the handle is used by this call alone, and the buffer is ours alone.
+        let code = unsafe { wz_reader_record(self.raw.get(), buffer.as_mut_ptr(), buffer.len()) };
+        wanted(code, DONE);
+    }
+
+    pub fn recovery(log: &[u8], number: Option<NonZeroU32>, mode: Mode) -> Result<(Handle, Summary), Error> {
+        let handle = Handle::empty();
+        let mode = match mode {
+            Mode::Point => 0,
+            Mode::Tail => 1,
+            Mode::Absolute => 2,
+        };
+        let mut raw = RawRecovered::default();
+        // SAFETY: the handle holds nothing, and the summary is ours alone.
+        let code = unsafe { wz_recover(handle.raw.get(), number_of(number), mode, log.as_ptr(), log.len(), &mut raw) };
+        if code == DAMAGE {
+            return Err(Error::Damage(end_of(&raw.end)));
+        }
+        done(code)?;
+        let RawRecovered { groups, pairs, last, kept, end } = raw;
+        Ok((handle, Summary { groups, pairs, last, kept, end: end_of(&end) }))
+    }
+
+    /// How many bytes the key and the value of a pair have, if it is there.
+    pub fn pair_len(&self, index: usize) -> Option<(usize, usize)> {
+        let mut lens = RawPairLens::default();
+        // SAFETY: the handle is used by this call alone.
+        let code = unsafe { wz_pair_len(self.raw.get(), index, &mut lens) };
+        if code == END {
+            return None;
+        }
+        wanted(code, DONE);
+        Some((lens.key_len, lens.value_len))
+    }
+
+    /// Copies a pair, which has as many bytes as the buffers.
+    pub fn pair(&self, index: usize, key: &mut [u8], value: &mut [u8]) {
+        // SAFETY: the handle is used by this call alone, and the buffers are two of the caller's.
+        let code =
+            unsafe { wz_pair(self.raw.get(), index, key.as_mut_ptr(), key.len(), value.as_mut_ptr(), value.len()) };
+        wanted(code, DONE);
+    }
+
+    pub fn find(&self, key: &[u8]) -> Result<usize, usize> {
+        let mut index = 0;
+        // SAFETY: the handle is used by this call alone.
+        let code = unsafe { wz_pair_find(self.raw.get(), key.as_ptr(), key.len(), &mut index) };
+        if code == END {
+            return Err(index);
+        }
+        wanted(code, DONE);
+        Ok(index)
+    }
+
+    pub fn batch() -> Result<Handle, Error> {
+        let handle = Handle::empty();
+        // SAFETY: the handle holds nothing.
+        done(unsafe { wz_batch_new(handle.raw.get()) })?;
+        Ok(handle)
+    }
+
+    pub fn put(&mut self, key: &[u8], value: &[u8]) -> Result<(), Error> {
+        // SAFETY: the handle is ours alone.
+        done(unsafe { wz_batch_put(self.raw.get(), key.as_ptr(), key.len(), value.as_ptr(), value.len()) })
+    }
+
+    pub fn delete(&mut self, key: &[u8]) -> Result<(), Error> {
+        // SAFETY: the handle is ours alone.
+        done(unsafe { wz_batch_delete(self.raw.get(), key.as_ptr(), key.len()) })
+    }
+
+    pub fn single_delete(&mut self, key: &[u8]) -> Result<(), Error> {
+        // SAFETY: the handle is ours alone.
+        done(unsafe { wz_batch_single_delete(self.raw.get(), key.as_ptr(), key.len()) })
+    }
+
+    pub fn log_data(&mut self, blob: &[u8]) -> Result<(), Error> {
+        // SAFETY: the handle is ours alone.
+        done(unsafe { wz_batch_log_data(self.raw.get(), blob.as_ptr(), blob.len()) })
+    }
+
+    pub fn append(&mut self, bytes: &[u8]) -> Result<(), Error> {
+        // SAFETY: the handle is ours alone.
+        let code = unsafe { wz_batch_append(self.raw.get(), bytes.as_ptr(), bytes.len()) };
+        if code == NO_BATCH {
+            return Err(read_batch(bytes).expect_err("bytes that are no batch"));
+        }
+        done(code)
+    }
+
+    pub fn clear(&mut self) {
+        // SAFETY: the handle is ours alone.
+        wanted(unsafe { wz_batch_clear(self.raw.get()) }, DONE);
+    }
+
+    pub fn set_sequence(&mut self, sequence: u64) {
+        // SAFETY: the handle is ours alone.
+        wanted(unsafe { wz_batch_set_sequence(self.raw.get(), sequence) }, DONE);
+    }
+
+    pub fn head(&self) -> BatchHead {
+        let mut head = RawBatchHead::default();
+        // SAFETY: the handle is used by this call alone.
+        wanted(unsafe { wz_batch_get(self.raw.get(), &mut head) }, DONE);
+        BatchHead { sequence: head.sequence, count: head.count }
+    }
+
+    pub fn batch_len(&self) -> usize {
+        let mut len = 0;
+        // SAFETY: the handle is used by this call alone.
+        wanted(unsafe { wz_batch_len(self.raw.get(), &mut len) }, DONE);
+        len
+    }
+
+    /// Copies the batch's bytes, which are as many as the buffer has.
+    pub fn batch_bytes(&self, buffer: &mut [u8]) {
+        // SAFETY: the handle is used by this call alone, and the buffer is the caller's.
+        let code = unsafe { wz_batch_bytes(self.raw.get(), buffer.as_mut_ptr(), buffer.len()) };
+        wanted(code, DONE);
+    }
+}
+
+pub(crate) fn crc32c(bytes: &[u8]) -> u32 {
+    // SAFETY: the slice is that many bytes.
+    unsafe { wz_crc32c(bytes.as_ptr(), bytes.len()) }
+}
+
+pub(crate) fn crc32c_extend(crc: u32, bytes: &[u8]) -> u32 {
+    // SAFETY: the slice is that many bytes.
+    unsafe { wz_crc32c_extend(crc, bytes.as_ptr(), bytes.len()) }
+}
+
+pub(crate) fn crc32c_mask(crc: u32) -> u32 {
+    // SAFETY: it takes a number, any one.
+    unsafe { wz_crc32c_mask(crc) }
+}
+
+pub(crate) fn read_batch(bytes: &[u8]) -> Result<BatchHead, Error> {
+    let (mut head, mut why) = (RawBatchHead::default(), RawEnd::default());
+    // SAFETY: the slice is that many bytes, and the two are ours alone.
+    let code = unsafe { wz_batch_read(bytes.as_ptr(), bytes.len(), &mut head, &mut why) };
+    if code == NO_BATCH {
+        return Err(Error::NoBatch(end_of(&why)));
+    }
+    wanted(code, DONE);
+    Ok(BatchHead { sequence: head.sequence, count: head.count })
+}
+
+/// What stands at a place of a batch's bytes.
+pub(crate) enum Step<'a> {
+    /// A record, and the place behind it.
+    Op(Op<'a>, usize),
+    End,
+    NoBatch(End),
+    /// The place is past the end.
+    Past,
+}
+
+pub(crate) fn next_op(bytes: &[u8], mut at: usize) -> Step<'_> {
+    let (mut op, mut why) = (RawOp::default(), RawEnd::default());
+    // SAFETY: the slice is that many bytes, and the three are ours alone.
+    let code = unsafe { wz_batch_next(bytes.as_ptr(), bytes.len(), &mut at, &mut op, &mut why) };
+    match code {
+        END => return Step::End,
+        NO_BATCH => return Step::NoBatch(end_of(&why)),
+        RANGE => return Step::Past,
+        code => wanted(code, DONE),
+    }
+    let key = &bytes[op.key_at..op.key_at + op.key_len];
+    let op = match op.kind {
+        DELETION => Op::Delete(key),
+        VALUE => Op::Put(key, &bytes[op.value_at..op.value_at + op.value_len]),
+        LOG_DATA => Op::LogData(key),
+        SINGLE_DELETION => Op::SingleDelete(key),
+        kind => unreachable!("the kind {kind} of the library"),
+    };
+    Step::Op(op, at)
+}
+
+pub(crate) fn record_len(number: Option<NonZeroU32>, offset: u64, len: usize) -> usize {
+    // SAFETY: it takes numbers, any ones.
+    unsafe { wz_log_record_len(number_of(number), offset, len) }
+}
+
+/// Puts a record's bytes of the log into a buffer, which has as many.
+pub(crate) fn record_text(number: Option<NonZeroU32>, offset: u64, record: &[u8], buffer: &mut [u8]) {
+    let mut len = 0;
+    // SAFETY: the record is shared and the buffer is the caller's alone, so that they don't overlap.
+    let code = unsafe {
+        wz_log_record(
+            number_of(number),
+            offset,
+            record.as_ptr(),
+            record.len(),
+            buffer.as_mut_ptr(),
+            buffer.len(),
+            &mut len,
+        )
+    };
+    wanted(code, DONE);
+    wanted(u32::from(len == buffer.len()), 1);
+}

@@ -1,0 +1,142 @@
+//! Recovering a log.
+
+use crate::raw::{Handle, Summary};
+use crate::{End, Error};
+use std::iter::FusedIterator;
+use std::num::NonZeroU32;
+
+/// Which ends of a log recovery accepts.
+#[derive(Clone, Copy, Debug, PartialEq, Eq)]
+pub enum Mode {
+    /// Any: the records in front of it are recovered (kPointInTimeRecovery).
+    Point,
+    /// That of a whole log, and one where the last write was cut off.
+    Tail,
+    /// That of a whole log (kAbsoluteConsistency).
+    Absolute,
+}
+
+/// What a log recovers: the pairs of key and value that its batches leave.
+#[derive(Debug)]
+pub struct Recovery {
+    held: Handle,
+    summary: Summary,
+}
+
+/// Recovers a log with this number, if it has one: the batches in front of the first place that doesn't read, or where
+/// a record is no batch or its sequences don't rise. `Error::Damage` where the mode doesn't accept the end.
+pub fn recover(log: &[u8], number: Option<NonZeroU32>, mode: Mode) -> Result<Recovery, Error> {
+    let (held, summary) = Handle::recovery(log, number, mode)?;
+    Ok(Recovery { held, summary })
+}
+
+impl Recovery {
+    /// How many records of the log are recovered, each of them a batch.
+    pub fn groups(&self) -> usize {
+        self.summary.groups
+    }
+
+    /// The last sequence, 0 where there is none.
+    pub fn last(&self) -> u64 {
+        self.summary.last
+    }
+
+    /// The offset behind the last record that is recovered. The log may go on there, once it is cut there.
+    pub fn kept(&self) -> u64 {
+        self.summary.kept
+    }
+
+    /// Where recovery ended, and why.
+    pub fn end(&self) -> End {
+        self.summary.end
+    }
+
+    /// How many pairs there are.
+    pub fn len(&self) -> usize {
+        self.summary.pairs
+    }
+
+    /// Whether there are none.
+    pub fn is_empty(&self) -> bool {
+        self.len() == 0
+    }
+
+    /// The key and the value of the pair with this index, from 0 on, in the byte order of the keys.
+    pub fn pair(&self, index: usize) -> Option<(Vec<u8>, Vec<u8>)> {
+        let (key_len, value_len) = self.held.pair_len(index)?;
+        let (mut key, mut value) = (vec![0; key_len], vec![0; value_len]);
+        self.held.pair(index, &mut key, &mut value);
+        Some((key, value))
+    }
+
+    /// The index of this key's pair; or as an error, where it has none, that of the next key's, which is
+    /// [`len`](Recovery::len) where there is none.
+    pub fn find(&self, key: &[u8]) -> Result<usize, usize> {
+        self.held.find(key)
+    }
+
+    /// The value of a key, if it has one.
+    pub fn get(&self, key: &[u8]) -> Option<Vec<u8>> {
+        let index = self.find(key).ok()?;
+        self.pair(index).map(|(_, value)| value)
+    }
+
+    /// All pairs, in the byte order of the keys.
+    pub fn pairs(&self) -> Pairs<'_> {
+        Pairs { recovery: self, front: 0, back: self.len() }
+    }
+
+    /// The pairs from this key on.
+    pub fn pairs_from(&self, key: &[u8]) -> Pairs<'_> {
+        let front = self.find(key).unwrap_or_else(|next| next);
+        Pairs { recovery: self, front, back: self.len() }
+    }
+}
+
+impl<'a> IntoIterator for &'a Recovery {
+    type Item = (Vec<u8>, Vec<u8>);
+    type IntoIter = Pairs<'a>;
+
+    fn into_iter(self) -> Pairs<'a> {
+        self.pairs()
+    }
+}
+
+/// The pairs of a recovery in the byte order of their keys.
+#[derive(Clone, Debug)]
+pub struct Pairs<'a> {
+    recovery: &'a Recovery,
+    front: usize,
+    back: usize,
+}
+
+impl Iterator for Pairs<'_> {
+    type Item = (Vec<u8>, Vec<u8>);
+
+    fn next(&mut self) -> Option<Self::Item> {
+        if self.front >= self.back {
+            return None;
+        }
+        self.front += 1;
+        self.recovery.pair(self.front - 1)
+    }
+
+    fn size_hint(&self) -> (usize, Option<usize>) {
+        let left = self.back - self.front;
+        (left, Some(left))
+    }
+}
+
+impl DoubleEndedIterator for Pairs<'_> {
+    fn next_back(&mut self) -> Option<Self::Item> {
+        if self.front >= self.back {
+            return None;
+        }
+        self.back -= 1;
+        self.recovery.pair(self.back)
+    }
+}
+
+impl ExactSizeIterator for Pairs<'_> {}
+
+impl FusedIterator for Pairs<'_> {}

@@ -1,0 +1,68 @@
+//! Writing a log.
+
+use crate::raw;
+use std::io::{self, Write};
+use std::num::NonZeroU32;
+
+/// Writes the records of a log one behind another. What is written becomes safe by a sync of the file, which is the
+/// caller's.
+#[derive(Debug)]
+pub struct LogWriter<W> {
+    sink: W,
+    number: Option<NonZeroU32>,
+    offset: u64,
+    buffer: Vec<u8>,
+    has_failed: bool,
+}
+
+impl<W: Write> LogWriter<W> {
+    /// A new log with this number, if it has one.
+    pub fn new(sink: W, number: Option<NonZeroU32>) -> LogWriter<W> {
+        LogWriter::resume(sink, number, 0)
+    }
+
+    /// A log that goes on at this offset, as [`Recovery::kept`](crate::Recovery::kept) tells it. What the sink writes
+    /// comes there: a file is cut to this length first, and stands at its end.
+    pub fn resume(sink: W, number: Option<NonZeroU32>, offset: u64) -> LogWriter<W> {
+        LogWriter { sink, number, offset, buffer: Vec::new(), has_failed: false }
+    }
+
+    /// Writes a record, and answers the offset behind it. Where that fails, the sink may have a part of it: then no
+    /// more is written, and the log may go on by another writer at [`offset`](LogWriter::offset), once it is cut
+    /// there.
+    pub fn append(&mut self, record: &[u8]) -> io::Result<u64> {
+        if self.has_failed {
+            return Err(io::Error::other("an earlier record was not written"));
+        }
+        let len = raw::record_len(self.number, self.offset, record.len());
+        self.buffer.clear();
+        self.buffer.try_reserve(len).map_err(|_| io::Error::from(io::ErrorKind::OutOfMemory))?;
+        self.buffer.resize(len, 0);
+        raw::record_text(self.number, self.offset, record, &mut self.buffer);
+        self.has_failed = true;
+        self.sink.write_all(&self.buffer)?;
+        self.has_failed = false;
+        self.offset += len as u64;
+        Ok(self.offset)
+    }
+
+    /// Flushes the sink.
+    pub fn flush(&mut self) -> io::Result<()> {
+        self.sink.flush()
+    }
+
+    /// The offset behind the last record that was written.
+    pub fn offset(&self) -> u64 {
+        self.offset
+    }
+
+    /// What it writes to, as to sync it.
+    pub fn get_ref(&self) -> &W {
+        &self.sink
+    }
+
+    /// Gives back what it writes to.
+    pub fn into_inner(self) -> W {
+        self.sink
+    }
+}

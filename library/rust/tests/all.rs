@@ -1,0 +1,139 @@
+//! What the crate's own code does over the library: of that `tests/library` of the repository tries more.
+
+use std::io::{self, Cursor, Read, Write};
+use std::num::NonZeroU32;
+use wolzenn::*;
+
+/// A batch of sequence 1 that sets `a` to `1`, as docs/FORMATS.md has it.
+const BATCH: &[u8] = b"\x01\0\0\0\0\0\0\0\x01\0\0\0\x01\x01a\x011";
+
+fn log_of(records: &[&[u8]], number: Option<NonZeroU32>) -> Vec<u8> {
+    let mut log = LogWriter::new(Vec::new(), number);
+    for record in records {
+        log.append(record).unwrap();
+    }
+    assert_eq!(log.offset(), log.get_ref().len() as u64);
+    log.into_inner()
+}
+
+#[test]
+fn checksums() {
+    assert_eq!(crc32c(b"123456789"), 0xe306_9283);
+    assert_eq!(crc32c_extend(crc32c(b"1234"), b"56789"), 0xe306_9283);
+    assert_eq!(crc32c(b""), 0);
+    assert_eq!(crc32c_mask(0), 0xa282_ead8);
+}
+
+#[test]
+fn a_batch_and_its_records() {
+    let mut batch = Batch::new().unwrap();
+    batch.put(b"a", b"1").unwrap();
+    batch.set_sequence(1);
+    assert_eq!(batch.bytes(), BATCH);
+    batch.delete(b"b").unwrap();
+    batch.log_data(b"").unwrap();
+    batch.single_delete(b"c").unwrap();
+    assert_eq!(batch.head(), BatchHead { sequence: 1, count: 3 });
+    let bytes = batch.bytes();
+    let ops: Vec<Op> = BatchRecords::new(&bytes).collect::<Result<_, _>>().unwrap();
+    assert_eq!(ops, [Op::Put(b"a", b"1"), Op::Delete(b"b"), Op::LogData(b""), Op::SingleDelete(b"c")]);
+    assert_eq!(batch.put(b"k", &vec![0; MAX_BATCH]), Err(Error::TooLarge));
+    assert_eq!(batch.append(b"none"), Err(Error::NoBatch(End { at: 0, why: Why::Short })));
+    assert_eq!(batch.bytes(), bytes);
+    batch.append(BATCH).unwrap();
+    assert_eq!(batch.head().count, 4);
+    batch.clear();
+    assert_eq!(batch.bytes(), [0; BATCH_HEADER_LEN]);
+}
+
+#[test]
+fn bytes_that_are_no_batch() {
+    assert_eq!(read_batch(BATCH), Ok(BatchHead { sequence: 1, count: 1 }));
+    let short = BatchRecords::new(b"few").collect::<Vec<_>>();
+    assert_eq!(short, [Err(Error::NoBatch(End { at: 0, why: Why::Short }))]);
+    let mut bytes = BATCH.to_vec();
+    bytes.push(9);
+    let found = BatchRecords::new(&bytes).collect::<Vec<_>>();
+    assert_eq!(found, [Ok(Op::Put(b"a", b"1")), Err(Error::NoBatch(End { at: 17, why: Why::Tag(9) }))]);
+    assert!(read_batch(&bytes).unwrap_err().to_string().contains("tag 9"));
+}
+
+#[test]
+fn records_of_a_log() {
+    for number in [None, NonZeroU32::new(7)] {
+        let long = vec![5; 3 * BLOCK_LEN];
+        let log = log_of(&[BATCH, b"", &long], number);
+        let mut records = Records::new(&log, number).unwrap();
+        let found: Vec<Record> = (&mut records).collect::<Result<_, _>>().unwrap();
+        assert_eq!(found.iter().map(|it| it.bytes.as_slice()).collect::<Vec<_>>(), [BATCH, b"", &long]);
+        assert_eq!(records.end(), Some(End { at: log.len() as u64, why: Why::Clean }));
+        assert!(records.next().is_none());
+        let mut read = Vec::new();
+        Cursor::from(found[2].clone()).read_to_end(&mut read).unwrap();
+        assert_eq!(read, long);
+        let mut cut = Records::new(&log[..log.len() - 1], number).unwrap();
+        assert_eq!(cut.by_ref().count(), 2);
+        assert_eq!(cut.end().unwrap().why, Why::BadLength);
+    }
+}
+
+#[test]
+fn a_recovery() {
+    let mut log = LogWriter::new(Vec::new(), None);
+    let mut batch = Batch::new().unwrap();
+    for (first, key, value) in [(1, b"b", b"2"), (2, b"a", b"1"), (3, b"c", b"3")] {
+        batch.clear();
+        batch.put(key, value).unwrap();
+        batch.set_sequence(first);
+        log.append(&batch.bytes()).unwrap();
+    }
+    let kept = log.offset();
+    let mut log = log.into_inner();
+    log.extend([1, 2, 3]);
+    let recovery = recover(&log, None, Mode::Point).unwrap();
+    assert_eq!((recovery.groups(), recovery.len(), recovery.last(), recovery.kept()), (3, 3, 3, kept));
+    assert_eq!(recovery.end(), End { at: kept, why: Why::ShortHeader });
+    let keys = |pairs: Pairs| pairs.map(|(key, _)| key[0]).collect::<Vec<_>>();
+    assert_eq!(keys(recovery.pairs()), b"abc");
+    assert_eq!(keys(recovery.pairs_from(b"aa")), b"bc");
+    assert_eq!(recovery.pairs().rev().map(|(_, value)| value[0]).collect::<Vec<_>>(), b"321");
+    assert_eq!(recovery.get(b"b").as_deref(), Some(&b"2"[..]));
+    assert_eq!((recovery.get(b"bb"), recovery.find(b"bb"), recovery.find(b"d")), (None, Err(2), Err(3)));
+    let refused = recover(&log, None, Mode::Absolute).unwrap_err();
+    assert_eq!(refused, Error::Damage(recovery.end()));
+    assert_eq!(io::Error::from(refused).kind(), io::ErrorKind::InvalidData);
+    // It goes on at `kept`, once it is cut there.
+    log.truncate(recovery.kept() as usize);
+    let mut log = LogWriter::resume(log, None, recovery.kept());
+    batch.set_sequence(recovery.last() + 1);
+    log.append(&batch.bytes()).unwrap();
+    assert_eq!(recover(&log.into_inner(), None, Mode::Absolute).unwrap().groups(), 4);
+}
+
+/// Takes so many bytes, and no more.
+struct Full(usize);
+
+impl Write for Full {
+    fn write(&mut self, bytes: &[u8]) -> io::Result<usize> {
+        let taken = self.0.min(bytes.len());
+        self.0 -= taken;
+        if taken == 0 {
+            Err(io::Error::other("full"))
+        } else {
+            Ok(taken)
+        }
+    }
+
+    fn flush(&mut self) -> io::Result<()> {
+        Ok(())
+    }
+}
+
+#[test]
+fn a_write_that_fails_is_the_last() {
+    let mut log = LogWriter::new(Full(30), None);
+    assert_eq!(log.append(BATCH).unwrap(), 24);
+    assert!(log.append(BATCH).is_err());
+    assert!(log.append(b"").is_err());
+    assert_eq!(log.offset(), 24);
+}

@@ -1,0 +1,222 @@
+/* Wolzenn for programs in C, C++ and Rust: the logs and write batches of RocksDB and LevelDB, read and written by
+   proved code.
+
+   Answers. A function that can fail answers one of the codes WZ_DONE .. below. What it gives is written through the
+   pointers that it says, and only at the answers that it says; at any other what they point to is as it was.
+
+   Handles. A wz_handle is the caller's own variable. It starts as WZ_HANDLE_INIT, and holds nothing then. What it
+   holds is the library's memory: a reader, a recovery or a batch. A call that opens one of these first frees what the
+   handle held, so that it holds nothing where that call fails. wz_close frees what it holds, and is fine for a handle
+   that holds nothing. A handle may be moved in memory between calls. It is never copied, and stays on one thread while
+   it holds something; threads may use different handles at once. Its fields are the library's own.
+
+   Bytes. A pointer with a length is that many bytes, to be read (const) or to be written, and fewer than 2^63. No
+   pointer is null, also where the length is 0. (malloc(0) and the data() of an empty std::vector may be null.) What
+   is written through a pointer that isn't const, a handle too, overlaps nothing else of the same call. The bytes stay
+   the caller's: no function keeps a pointer to them. No function locks, waits, starts a thread, calls back, or ends
+   the process. There is no global state.
+
+   Memory comes from malloc and realloc, and goes by free. Where these have none the answer is WZ_NO_MEMORY, and
+   nothing is lost.
+
+   What is promised below is proved, of the functions as they are called from Rattle. That pointers and lengths are as
+   said above is up to the caller. docs/LIBRARY.md has more, and first programs. */
+#ifndef WOLZENN_H
+#define WOLZENN_H
+
+#include <stdbool.h>
+#include <stddef.h>
+#include <stdint.h>
+
+#ifdef __cplusplus
+extern "C" {
+#endif
+
+/* The version of this header, and that of the library that the program runs with. They are the same number unless the
+   header is another library's. */
+#define WZ_VERSION 1u
+uint32_t wz_version(void);
+
+/* What a function answers. */
+enum {
+  WZ_DONE = 0,      /* it was done */
+  WZ_NO_MEMORY = 1, /* malloc or realloc failed */
+  WZ_CLOSED = 2,    /* the handle holds nothing of the kind that the function works on */
+  WZ_SMALL = 3,     /* the buffer is too small: nothing was written to it */
+  WZ_END = 4,       /* there is no more */
+  WZ_TOO_LARGE = 5, /* the batch would have more than WZ_MAX_BATCH bytes */
+  WZ_DAMAGE = 6,    /* the log ends in a way that the mode doesn't accept */
+  WZ_NO_BATCH = 7,  /* the bytes are no batch */
+  WZ_RANGE = 8      /* a number is none of those that the function takes */
+};
+
+/* Why reading or recovery ended, or why bytes are no batch: `why` of wz_end. The reason's own numbers stand in
+   `first` and `second`, which are 0 where it has none. `at` is the offset of the fragment or the record that is
+   meant. */
+enum {
+  WZ_CLEAN = 1,        /* the log ends behind a whole record, or is empty */
+  WZ_SHORT_HEADER = 2, /* a fragment's header is cut off */
+  WZ_ZEROS = 3,        /* a header of zeros */
+  WZ_BAD_LENGTH = 4,   /* a fragment passes the end of its block or of the log */
+  WZ_BAD_TYPE = 5,     /* a fragment of no type that such a log has: first is its type */
+  WZ_BAD_CHECKSUM = 6, /* a fragment's checksum differs */
+  WZ_BAD_TRAILER = 7,  /* bytes that aren't zeros where a block ends */
+  WZ_OLD_LOG = 8,      /* a fragment of another log: first is that log's number */
+  WZ_BAD_ORDER = 9,    /* a fragment stands where none of its type may */
+  WZ_UNFINISHED = 10,  /* the log ends inside a record */
+  WZ_SHORT = 11,       /* a batch whose header or record is cut off */
+  WZ_BAD_VARINT = 12,  /* a length in a batch isn't in its shortest spelling, or too long */
+  WZ_TAG = 13,         /* a record of a batch has a tag that isn't read: first is the tag */
+  WZ_COUNT = 14,       /* a batch's header has another count (first) than its records (second) */
+  WZ_ORDER = 15,       /* a batch's run of sequences begins (first) no later than the last one before it (second) */
+  WZ_HIGH = 16         /* a batch's run of sequences passes 2^56 - 1: its first, and how many there are (second) */
+};
+
+/* Which ends of a log recovery accepts. */
+enum {
+  WZ_POINT = 0,   /* any: the records in front of it are recovered (kPointInTimeRecovery) */
+  WZ_TAIL = 1,    /* that of a whole log, and one where the last write was cut off */
+  WZ_ABSOLUTE = 2 /* that of a whole log (kAbsoluteConsistency) */
+};
+
+/* What a record of a batch does. */
+enum {
+  WZ_DELETION = 0,        /* takes a key out */
+  WZ_VALUE = 1,           /* gives a key a value */
+  WZ_LOG_DATA = 3,        /* stands in the log alone, and takes no sequence: its bytes are the key of wz_op */
+  WZ_SINGLE_DELETION = 7  /* takes a key out that was set at most once */
+};
+
+#define WZ_BLOCK_LEN 32768u       /* the bytes of a log's block */
+#define WZ_BATCH_HEADER_LEN 12u   /* the bytes of a batch's header */
+#define WZ_MAX_BATCH 16777216u    /* the most bytes of a batch that is built here */
+
+typedef struct { bool full; void *at; } wz_handle;
+#define WZ_HANDLE_INIT {0, 0}
+
+/* What is told of an end, a record, a recovery, a pair, a batch, and a record of a batch. */
+typedef struct { uint64_t at; uint32_t why; uint64_t first; uint64_t second; } wz_end;
+typedef struct { uint64_t start; uint64_t end; size_t len; } wz_record;
+typedef struct { size_t groups; size_t pairs; uint64_t last; uint64_t kept; wz_end end; } wz_recovered;
+typedef struct { size_t key_len; size_t value_len; } wz_pair_lens;
+typedef struct { uint64_t sequence; uint32_t count; } wz_batch_head;
+typedef struct { uint32_t kind; size_t key_at; size_t key_len; size_t value_at; size_t value_len; } wz_op;
+
+/* Frees what the handle holds. It holds nothing then. */
+void wz_close(wz_handle *handle);
+
+/* ---- checksums ---- */
+
+/* The CRC-32C of the bytes. */
+uint32_t wz_crc32c(const uint8_t *bytes, size_t len);
+
+/* The CRC-32C of some bytes and these behind them, from that of the former. */
+uint32_t wz_crc32c_extend(uint32_t crc, const uint8_t *bytes, size_t len);
+
+/* The form in which a checksum stands in a log. */
+uint32_t wz_crc32c_mask(uint32_t crc);
+
+/* ---- reading a log ----
+   `number` is the log's number where its fragments have one (RocksDB's recycle_log_file_num), and 0 where they have
+   none, as in LevelDB's logs and most of RocksDB's. */
+
+/* Opens a reader at the start of a log. WZ_DONE, WZ_NO_MEMORY. */
+uint32_t wz_reader_open(wz_handle *handle, uint32_t number);
+
+/* Reads the next record of the log, whose bytes are the same at each call of this reader. WZ_DONE: record->start is
+   the offset of its first fragment, record->end the one behind its last, record->len its bytes; wz_reader_record has
+   it. WZ_END: *end says at which offset no more is read, and why. WZ_NO_MEMORY. After WZ_END and WZ_NO_MEMORY each
+   further call answers the same. WZ_CLOSED: it holds no reader. */
+uint32_t wz_reader_next(wz_handle *handle, const uint8_t *log, size_t log_len, wz_record *record, wz_end *end);
+
+/* Copies the record that the last wz_reader_next read, where that answered WZ_DONE, to the start of the buffer, and
+   touches nothing behind it. WZ_DONE, WZ_SMALL, WZ_CLOSED: it holds no reader. */
+uint32_t wz_reader_record(wz_handle *handle, uint8_t *buffer, size_t buffer_len);
+
+/* ---- recovering a log ---- */
+
+/* Recovers a log: the batches in front of the first place that doesn't read, or where a record is no batch or its
+   sequences don't rise. WZ_DONE: *summary says how many batches and how many pairs of key and value they leave, the
+   last sequence, the offset behind the last batch kept (where a log may go on), and where and why recovery ended; the
+   handle holds the pairs. WZ_DAMAGE: the mode doesn't accept the end; summary->end says where and why, the rest of
+   *summary is 0, and the handle holds nothing. WZ_RANGE: there is no such mode, and the handle holds nothing.
+   WZ_NO_MEMORY. */
+uint32_t wz_recover(wz_handle *handle, uint32_t number, uint32_t mode, const uint8_t *log, size_t log_len,
+                    wz_recovered *summary);
+
+/* How many bytes the key and the value have of the pair with this index, from 0 on, in the byte order of the keys.
+   WZ_DONE, WZ_END: there is no such pair, WZ_CLOSED: the handle holds no recovery. */
+uint32_t wz_pair_len(wz_handle *handle, size_t index, wz_pair_lens *lens);
+
+/* Copies the key and the value of this pair to the starts of the two buffers, and touches nothing behind them.
+   WZ_DONE, WZ_SMALL: one of the buffers is too small, and neither was written to, WZ_END, WZ_CLOSED. */
+uint32_t wz_pair(wz_handle *handle, size_t index, uint8_t *key, size_t key_len, uint8_t *value, size_t value_len);
+
+/* How many pairs have a key before this one: the index of its own pair, if it has one, else where it would stand.
+   WZ_DONE: the key has a pair, and *index is its index. WZ_END: it has none, and *index is that of the next key's
+   pair, or how many there are. WZ_CLOSED: the handle holds no recovery. */
+uint32_t wz_pair_find(wz_handle *handle, const uint8_t *key, size_t key_len, size_t *index);
+
+/* ---- building a batch ---- */
+
+/* Opens a batch of no records, with the sequence 0. WZ_DONE, WZ_NO_MEMORY. */
+uint32_t wz_batch_new(wz_handle *handle);
+
+/* Adds a record behind the others. WZ_DONE; at any other answer the batch is as it was: WZ_TOO_LARGE, WZ_NO_MEMORY,
+   WZ_CLOSED: the handle holds no batch. */
+uint32_t wz_batch_put(wz_handle *handle, const uint8_t *key, size_t key_len, const uint8_t *value, size_t value_len);
+uint32_t wz_batch_delete(wz_handle *handle, const uint8_t *key, size_t key_len);
+uint32_t wz_batch_single_delete(wz_handle *handle, const uint8_t *key, size_t key_len);
+uint32_t wz_batch_log_data(wz_handle *handle, const uint8_t *blob, size_t blob_len);
+
+/* Adds the records of another batch's bytes behind the others, so that several batches make one record of the log, a
+   group. Its sequence isn't looked at. As above, and WZ_NO_BATCH: the bytes are no batch (wz_batch_read says why). */
+uint32_t wz_batch_append(wz_handle *handle, const uint8_t *bytes, size_t len);
+
+/* Takes all records out, and sets the sequence to 0. WZ_DONE, WZ_CLOSED. */
+uint32_t wz_batch_clear(wz_handle *handle);
+
+/* Gives it the sequence of its first record that counts. WZ_DONE, WZ_CLOSED. */
+uint32_t wz_batch_set_sequence(wz_handle *handle, uint64_t sequence);
+
+/* Its sequence, and how many of its records count: each of these takes a sequence. WZ_DONE, WZ_CLOSED. */
+uint32_t wz_batch_get(wz_handle *handle, wz_batch_head *head);
+
+/* How many bytes it has. WZ_DONE, WZ_CLOSED. */
+uint32_t wz_batch_len(wz_handle *handle, size_t *len);
+
+/* Copies its bytes, which are those of RocksDB's WriteBatch::Data(), to the start of the buffer, and touches nothing
+   behind them. WZ_DONE, WZ_SMALL, WZ_CLOSED. */
+uint32_t wz_batch_bytes(wz_handle *handle, uint8_t *buffer, size_t buffer_len);
+
+/* ---- reading a batch ---- */
+
+/* Looks through the bytes of a batch. WZ_DONE: they are one, and *head says its sequence and its count. WZ_NO_BATCH:
+   they are none, and *why says so: WZ_SHORT, WZ_BAD_VARINT, WZ_TAG or WZ_COUNT, with the offset 0. */
+uint32_t wz_batch_read(const uint8_t *bytes, size_t len, wz_batch_head *head, wz_end *why);
+
+/* The record of a batch's bytes that stands at *at, which starts as WZ_BATCH_HEADER_LEN. WZ_DONE: *op says what it
+   does and where in the bytes its key and its value stand, and *at is the place behind it. WZ_END: the bytes end
+   there. WZ_NO_BATCH: no record stands there, and *why says why, with this place as the offset. WZ_RANGE: *at is past
+   the end. At these *at stays. Where a record has no value, op->value_at and op->value_len are 0. Nothing is copied,
+   and no memory is taken. */
+uint32_t wz_batch_next(const uint8_t *bytes, size_t len, size_t *at, wz_op *op, wz_end *why);
+
+/* ---- writing a log ----
+   The file is the caller's: he writes what these give at the file's end, syncs it when he wants it safe, and keeps
+   the offset. A log begins at the offset 0. One that is recovered goes on at `kept` of its summary, once the file is
+   cut there. `number` is as above. */
+
+/* How many bytes a record of len bytes takes in a log that has `offset` bytes so far: its fragments, each behind its
+   header, and the zeros that end a block. The greatest size_t where it would be more than that. */
+size_t wz_log_record_len(uint32_t number, uint64_t offset, size_t len);
+
+/* Puts these bytes of the log to the start of the buffer, and touches nothing behind them. WZ_DONE: *len says how
+   many they are. WZ_SMALL. */
+uint32_t wz_log_record(uint32_t number, uint64_t offset, const uint8_t *record, size_t record_len, uint8_t *buffer,
+                       size_t buffer_len, size_t *len);
+
+#ifdef __cplusplus
+}
+#endif
+#endif

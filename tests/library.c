@@ -1,0 +1,494 @@
+// Calls the library, for `library` beside this file.
+//
+//     library answer   reads lines and prints what the library says to each:
+//                      `log NUMBER MODE HEX`         all that reading and recovering a log tells, and its batches
+//                      `text NUMBER OFFSET HEX`      a record's bytes of a log
+//                      `batch`                       a new batch, to which the next lines are said:
+//                      `put HEX HEX`, `del HEX`, `sdel HEX`, `note HEX`, `append HEX`, `seq N`, `clear`
+//                      `crc N HEX`                   the checksum, as it goes on from N, and the masked one
+//     library calls    the answers at the edges of each function, also those that change nothing
+//     library memory   reads one line `log ..`, and has each allocation of a reading, a recovery and a batch refused
+//                      in turn: the answer is WZ_NO_MEMORY, what was there stays, and nothing is lost
+//
+// Hexadecimal of no bytes is `-`. Each buffer has just the bytes that are asked for, and a mark behind them, so that
+// whatever passes its end is seen. `calls` and `memory` print nothing where all is well. It is linked with
+// `-Wl,--wrap=malloc,--wrap=realloc,--wrap=free`, and counts the blocks that are held.
+
+#include "wolzenn.h"
+
+#include <inttypes.h>
+#include <stdio.h>
+#include <stdlib.h>
+#include <string.h>
+
+void *__real_malloc(size_t len);
+void *__real_realloc(void *block, size_t len);
+void __real_free(void *block);
+
+// How many allocations are still granted, where that is counted, and how many blocks are held.
+static long granted = -1, held = 0;
+
+static int is_refused(void) {
+    return granted >= 0 && granted-- == 0;
+}
+
+void *__wrap_malloc(size_t len) {
+    void *block = is_refused() ? NULL : __real_malloc(len);
+    held += block != NULL;
+    return block;
+}
+
+void *__wrap_realloc(void *old, size_t len) {
+    void *block = is_refused() ? NULL : __real_realloc(old, len);
+    held += block != NULL && old == NULL;
+    return block;
+}
+
+void __wrap_free(void *block) {
+    held -= block != NULL;
+    __real_free(block);
+}
+
+static void wanted(int holds, int line, const char *what) {
+    if (holds) return;
+    printf("line %d: %s\n", line, what);
+    exit(1);
+}
+
+#define WANTED(holds) wanted((holds) != 0, __LINE__, #holds)
+
+// Bytes that are ours, with a mark behind them.
+typedef struct {
+    uint8_t *at;
+    size_t len;
+} bytes;
+
+enum { MARK = 0xA5 };
+
+static bytes room_for(size_t len) {
+    bytes made = {malloc(len + 1), len};
+    WANTED(made.at != NULL);
+    memset(made.at, MARK, len + 1);
+    return made;
+}
+
+static void done_with(bytes it) {
+    WANTED(it.at[it.len] == MARK);
+    free(it.at);
+}
+
+static int digit_of(char digit) {
+    return digit <= '9' ? digit - '0' : digit - 'a' + 10;
+}
+
+static bytes bytes_of_hex(const char *hex) {
+    size_t len = hex[0] == '-' ? 0 : strlen(hex) / 2;
+    bytes made = room_for(len);
+    for (size_t i = 0; i < len; i++) made.at[i] = (uint8_t)(digit_of(hex[2 * i]) << 4 | digit_of(hex[2 * i + 1]));
+    return made;
+}
+
+static void print_hex(const uint8_t *at, size_t len) {
+    for (size_t i = 0; i < len; i++) printf("%02x", at[i]);
+    if (len == 0) printf("-");
+}
+
+static void print_end(wz_end end) {
+    printf("%" PRIu64 " %" PRIu32 " %" PRIu64 " %" PRIu64 "\n", end.at, end.why, end.first, end.second);
+}
+
+// What is said of the bytes of a batch, whatever they are: the whole, and each record up to where none stands.
+static void print_batch(const uint8_t *at, size_t len) {
+    wz_batch_head head = {0, 0};
+    wz_end why = {0, 0, 0, 0};
+    wz_op op;
+    size_t place = WZ_BATCH_HEADER_LEN;
+    uint32_t code = wz_batch_read(at, len, &head, &why);
+    printf("batch %" PRIu32 " %" PRIu64 " %" PRIu32 " ", code, head.sequence, head.count);
+    print_end(why);
+    while ((code = wz_batch_next(at, len, &place, &op, &why)) == WZ_DONE) {
+        printf("op %" PRIu32 " %zu %zu %zu %zu\n", op.kind, op.key_at, op.key_len, op.value_at, op.value_len);
+    }
+    printf("ops %" PRIu32 " %zu ", code, place);
+    print_end(why);
+}
+
+static void answer_log(uint32_t number, uint32_t mode, bytes log) {
+    wz_handle handle = WZ_HANDLE_INIT;
+    wz_record record;
+    wz_end end = {0, 0, 0, 0}, again = {0, 0, 0, 0};
+    WANTED(wz_reader_open(&handle, number) == WZ_DONE);
+    uint32_t code;
+    while ((code = wz_reader_next(&handle, log.at, log.len, &record, &end)) == WZ_DONE) {
+        bytes found = room_for(record.len);
+        if (record.len > 0) WANTED(wz_reader_record(&handle, found.at, record.len - 1) == WZ_SMALL);
+        WANTED(found.at[0] == MARK);
+        WANTED(wz_reader_record(&handle, found.at, record.len) == WZ_DONE);
+        printf("record %" PRIu64 " %" PRIu64 " ", record.start, record.end);
+        print_hex(found.at, found.len);
+        printf("\n");
+        print_batch(found.at, found.len);
+        done_with(found);
+    }
+    WANTED(code == WZ_END && wz_reader_next(&handle, log.at, log.len, &record, &again) == WZ_END);
+    WANTED(again.at == end.at && again.why == end.why && again.first == end.first && again.second == end.second);
+    printf("end ");
+    print_end(end);
+
+    // The reader is freed, since the handle is used again.
+    wz_recovered found;
+    memset(&found, 0, sizeof found);
+    code = wz_recover(&handle, number, mode, log.at, log.len, &found);
+    printf("recovered %" PRIu32 " %zu %zu ", code, found.groups, found.pairs);
+    printf("%" PRIu64 " %" PRIu64 " ", found.last, found.kept);
+    print_end(found.end);
+    for (size_t i = 0; i < found.pairs; i++) {
+        wz_pair_lens lens;
+        size_t index;
+        WANTED(wz_pair_len(&handle, i, &lens) == WZ_DONE);
+        bytes key = room_for(lens.key_len), value = room_for(lens.value_len);
+        if (key.len > 0) WANTED(wz_pair(&handle, i, key.at, key.len - 1, value.at, value.len) == WZ_SMALL);
+        if (value.len > 0) WANTED(wz_pair(&handle, i, key.at, key.len, value.at, value.len - 1) == WZ_SMALL);
+        WANTED((key.len == 0 || key.at[0] == MARK) && (value.len == 0 || value.at[0] == MARK));
+        WANTED(wz_pair(&handle, i, key.at, key.len, value.at, value.len) == WZ_DONE);
+        WANTED(wz_pair_find(&handle, key.at, key.len, &index) == WZ_DONE && index == i);
+        printf("pair ");
+        print_hex(key.at, key.len);
+        printf(" ");
+        print_hex(value.at, value.len);
+        // The next key that could be there, the same and a byte of zero, has no pair or the next one.
+        bytes next = room_for(key.len + 1);
+        memcpy(next.at, key.at, key.len);
+        next.at[key.len] = 0;
+        code = wz_pair_find(&handle, next.at, next.len, &index);
+        WANTED((code == WZ_DONE || code == WZ_END) && index == i + 1);
+        printf(" %" PRIu32 "\n", code);
+        done_with(next);
+        done_with(key);
+        done_with(value);
+    }
+    wz_close(&handle);
+}
+
+static void answer_text(uint32_t number, uint64_t offset, bytes record) {
+    size_t len = wz_log_record_len(number, offset, record.len), written = 77;
+    bytes text = room_for(len);
+    if (len > 0) WANTED(wz_log_record(number, offset, record.at, record.len, text.at, len - 1, &written) == WZ_SMALL);
+    WANTED(written == 77 && text.at[0] == MARK);
+    WANTED(wz_log_record(number, offset, record.at, record.len, text.at, len, &written) == WZ_DONE && written == len);
+    printf("text ");
+    print_hex(text.at, text.len);
+    printf("\n");
+    done_with(text);
+}
+
+static bytes bytes_of_batch(wz_handle *batch) {
+    size_t len;
+    WANTED(wz_batch_len(batch, &len) == WZ_DONE);
+    bytes found = room_for(len);
+    WANTED(wz_batch_bytes(batch, found.at, len - 1) == WZ_SMALL && found.at[0] == MARK);
+    WANTED(wz_batch_bytes(batch, found.at, len) == WZ_DONE);
+    return found;
+}
+
+static void answer_batch(wz_handle *batch, const char *word, const char *one, const char *two) {
+    bytes key = bytes_of_hex(one), value = bytes_of_hex(two);
+    uint32_t code = 99;
+    if (!strcmp(word, "put")) code = wz_batch_put(batch, key.at, key.len, value.at, value.len);
+    if (!strcmp(word, "del")) code = wz_batch_delete(batch, key.at, key.len);
+    if (!strcmp(word, "sdel")) code = wz_batch_single_delete(batch, key.at, key.len);
+    if (!strcmp(word, "note")) code = wz_batch_log_data(batch, key.at, key.len);
+    if (!strcmp(word, "append")) code = wz_batch_append(batch, key.at, key.len);
+    if (!strcmp(word, "seq")) code = wz_batch_set_sequence(batch, strtoull(one, NULL, 10));
+    if (!strcmp(word, "clear")) code = wz_batch_clear(batch);
+    wz_batch_head head;
+    WANTED(wz_batch_get(batch, &head) == WZ_DONE);
+    bytes found = bytes_of_batch(batch);
+    printf("%s %" PRIu32 " %" PRIu64 " %" PRIu32 " ", word, code, head.sequence, head.count);
+    print_hex(found.at, found.len);
+    printf("\n");
+    done_with(found);
+    done_with(key);
+    done_with(value);
+}
+
+// Cuts a line into four words, of which those that aren't there are `-`.
+static void words_of(char *line, const char **words) {
+    static const char none[] = "-";
+    for (int i = 0; i < 4; i++) {
+        words[i] = i == 0 ? strtok(line, " \n") : strtok(NULL, " \n");
+        if (words[i] == NULL) words[i] = none;
+    }
+}
+
+static int answer(void) {
+    char *line = NULL;
+    size_t room = 0;
+    const char *words[4];
+    wz_handle batch = WZ_HANDLE_INIT;
+    while (getline(&line, &room, stdin) > 0) {
+        words_of(line, words);
+        uint32_t number = (uint32_t)strtoul(words[1], NULL, 10);
+        if (!strcmp(words[0], "log")) {
+            bytes log = bytes_of_hex(words[3]);
+            answer_log(number, (uint32_t)strtoul(words[2], NULL, 10), log);
+            done_with(log);
+        } else if (!strcmp(words[0], "text")) {
+            bytes record = bytes_of_hex(words[3]);
+            answer_text(number, strtoull(words[2], NULL, 10), record);
+            done_with(record);
+        } else if (!strcmp(words[0], "crc")) {
+            bytes data = bytes_of_hex(words[2]);
+            uint32_t crc = number == 0 ? wz_crc32c(data.at, data.len) : wz_crc32c_extend(number, data.at, data.len);
+            printf("crc %" PRIu32 " %" PRIu32 "\n", crc, wz_crc32c_mask(crc));
+            done_with(data);
+        } else if (!strcmp(words[0], "batch")) {
+            WANTED(wz_batch_new(&batch) == WZ_DONE);
+        } else {
+            answer_batch(&batch, words[0], words[1], words[2]);
+        }
+    }
+    wz_close(&batch);
+    // The line that `getline` made isn't counted where it allocates inside of the C library.
+    __real_free(line);
+    return 0;
+}
+
+// What each function answers where the handle holds nothing, or something of another kind.
+static void check_other_kinds(wz_handle *handle, int is_reader, int is_recovery, int is_batch) {
+    uint8_t byte = MARK, other = MARK;
+    wz_record record = {1, 2, 3};
+    wz_end end = {1, 2, 3, 4};
+    wz_pair_lens lens = {5, 6};
+    wz_batch_head head = {7, 8};
+    size_t number = 9;
+    if (!is_reader) {
+        WANTED(wz_reader_next(handle, &byte, 1, &record, &end) == WZ_CLOSED);
+        WANTED(wz_reader_record(handle, &byte, 1) == WZ_CLOSED);
+    }
+    if (!is_recovery) {
+        WANTED(wz_pair_len(handle, 0, &lens) == WZ_CLOSED);
+        WANTED(wz_pair(handle, 0, &byte, 1, &other, 1) == WZ_CLOSED);
+        WANTED(wz_pair_find(handle, &byte, 1, &number) == WZ_CLOSED);
+    }
+    if (!is_batch) {
+        WANTED(wz_batch_put(handle, &byte, 1, &byte, 1) == WZ_CLOSED);
+        WANTED(wz_batch_delete(handle, &byte, 1) == WZ_CLOSED);
+        WANTED(wz_batch_single_delete(handle, &byte, 1) == WZ_CLOSED);
+        WANTED(wz_batch_log_data(handle, &byte, 1) == WZ_CLOSED);
+        WANTED(wz_batch_clear(handle) == WZ_CLOSED);
+        WANTED(wz_batch_set_sequence(handle, 1) == WZ_CLOSED);
+        WANTED(wz_batch_get(handle, &head) == WZ_CLOSED);
+        WANTED(wz_batch_len(handle, &number) == WZ_CLOSED);
+        WANTED(wz_batch_bytes(handle, &byte, 1) == WZ_CLOSED);
+        uint8_t empty[WZ_BATCH_HEADER_LEN] = {0};
+        WANTED(wz_batch_append(handle, empty, sizeof empty) == WZ_CLOSED);
+    }
+    WANTED(byte == MARK && other == MARK && number == 9);
+    WANTED(record.start == 1 && record.end == 2 && record.len == 3 && end.at == 1 && end.why == 2);
+    WANTED(lens.key_len == 5 && lens.value_len == 6 && head.sequence == 7 && head.count == 8);
+}
+
+static void check_no_pair(wz_handle *recovery, size_t pairs) {
+    uint8_t byte = MARK, other = MARK;
+    wz_pair_lens lens = {5, 6};
+    size_t index = 9;
+    for (int i = 0; i < 2; i++) {
+        size_t past = i == 0 ? pairs : SIZE_MAX;
+        WANTED(wz_pair_len(recovery, past, &lens) == WZ_END && lens.key_len == 5 && lens.value_len == 6);
+        WANTED(wz_pair(recovery, past, &byte, 1, &other, 1) == WZ_END && byte == MARK && other == MARK);
+    }
+    uint8_t last[] = {255, 255, 255};
+    WANTED(wz_pair_find(recovery, last, sizeof last, &index) == WZ_END && index == pairs);
+}
+
+// A batch takes no more than it may, and stays as it is.
+static void check_large(wz_handle *batch) {
+    static uint8_t large[WZ_MAX_BATCH + 1];
+    bytes old = bytes_of_batch(batch);
+    size_t len;
+    // The tag, its length in four bytes, and what is left.
+    size_t fits = WZ_MAX_BATCH - old.len - 5;
+    WANTED(wz_batch_delete(batch, large, fits + 1) == WZ_TOO_LARGE);
+    WANTED(wz_batch_put(batch, large, 1, large, WZ_MAX_BATCH) == WZ_TOO_LARGE);
+    WANTED(wz_batch_append(batch, large, sizeof large) == WZ_NO_BATCH);
+    bytes now = bytes_of_batch(batch);
+    WANTED(now.len == old.len && !memcmp(now.at, old.at, old.len));
+    done_with(now);
+    WANTED(wz_batch_delete(batch, large, fits) == WZ_DONE);
+    WANTED(wz_batch_len(batch, &len) == WZ_DONE && len == WZ_MAX_BATCH);
+    WANTED(wz_batch_log_data(batch, large, 0) == WZ_TOO_LARGE);
+    WANTED(wz_batch_append(batch, old.at, old.len) == WZ_TOO_LARGE);
+    WANTED(wz_batch_len(batch, &len) == WZ_DONE && len == WZ_MAX_BATCH);
+    done_with(old);
+}
+
+static int calls(void) {
+    static const uint8_t batch[] = {1, 0, 0, 0, 0, 0, 0, 0, 1, 0, 0, 0, 1, 1, 'a', 1, '1'};
+    uint8_t log[64];
+    size_t len;
+    wz_record record = {0, 0, 0};
+    wz_end end = {0, 0, 0, 0};
+    wz_recovered found;
+    wz_handle handle = WZ_HANDLE_INIT;
+    WANTED(wz_version() == WZ_VERSION);
+    WANTED(wz_log_record(0, 0, batch, sizeof batch, log, sizeof log, &len) == WZ_DONE && len == 24);
+
+    check_other_kinds(&handle, 0, 0, 0);
+    wz_close(&handle);
+    WANTED(wz_reader_open(&handle, 0) == WZ_DONE);
+    check_other_kinds(&handle, 1, 0, 0);
+    WANTED(wz_reader_next(&handle, log, len, &record, &end) == WZ_DONE && record.len == sizeof batch);
+    WANTED(end.at == 0 && end.why == 0);
+    // A handle may be moved.
+    wz_handle moved = handle;
+    memset(&handle, 0, sizeof handle);
+    record.len = 5;
+    WANTED(wz_reader_next(&moved, log, len, &record, &end) == WZ_END && end.at == 24 && end.why == WZ_CLEAN);
+    WANTED(record.len == 5);
+    wz_close(&moved);
+    wz_close(&moved);
+    check_other_kinds(&moved, 0, 0, 0);
+
+    WANTED(wz_recover(&handle, 0, WZ_ABSOLUTE, log, len, &found) == WZ_DONE);
+    WANTED(found.groups == 1 && found.pairs == 1 && found.last == 1 && found.kept == 24 && found.end.why == WZ_CLEAN);
+    check_other_kinds(&handle, 0, 1, 0);
+    check_no_pair(&handle, 1);
+    // What isn't accepted, or isn't there, leaves a handle that holds nothing.
+    WANTED(wz_recover(&handle, 0, WZ_ABSOLUTE, log, len - 1, &found) == WZ_DAMAGE);
+    WANTED(found.groups == 0 && found.pairs == 0 && found.last == 0 && found.kept == 0);
+    WANTED(found.end.at == 0 && found.end.why == WZ_BAD_LENGTH);
+    check_other_kinds(&handle, 0, 0, 0);
+    memset(&found, 7, sizeof found);
+    wz_recovered old = found;
+    WANTED(wz_reader_open(&handle, 1) == WZ_DONE);
+    WANTED(wz_recover(&handle, 0, 3, log, len, &found) == WZ_RANGE && !memcmp(&found, &old, sizeof old));
+    check_other_kinds(&handle, 0, 0, 0);
+    WANTED(wz_recover(&handle, 0, WZ_TAIL, log, len - 1, &found) == WZ_DONE && found.groups == 0);
+    check_no_pair(&handle, 0);
+    WANTED(wz_recover(&handle, 9, WZ_POINT, log, len, &found) == WZ_DONE);
+    WANTED(found.end.why == WZ_BAD_TYPE && found.end.first == 1);
+
+    WANTED(wz_batch_new(&handle) == WZ_DONE);
+    check_other_kinds(&handle, 0, 0, 1);
+    WANTED(wz_batch_append(&handle, batch, sizeof batch) == WZ_DONE);
+    check_large(&handle);
+    // A reader takes the batch's place, and frees it.
+    WANTED(wz_reader_open(&handle, 0) == WZ_DONE);
+    check_other_kinds(&handle, 1, 0, 0);
+    wz_close(&handle);
+
+    wz_op op = {1, 2, 3, 4, 5};
+    size_t at = sizeof batch + 1;
+    end.at = 55;
+    WANTED(wz_batch_next(batch, sizeof batch, &at, &op, &end) == WZ_RANGE && at == sizeof batch + 1);
+    at = SIZE_MAX;
+    WANTED(wz_batch_next(batch, sizeof batch, &at, &op, &end) == WZ_RANGE && at == SIZE_MAX);
+    at = sizeof batch;
+    WANTED(wz_batch_next(batch, sizeof batch, &at, &op, &end) == WZ_END && at == sizeof batch);
+    WANTED(op.kind == 1 && op.key_at == 2 && op.value_len == 5 && end.at == 55);
+
+    WANTED(wz_log_record_len(0, 0, SIZE_MAX) == SIZE_MAX && wz_log_record_len(0, 0, SIZE_MAX - 7) == SIZE_MAX);
+    WANTED(wz_log_record_len(7, UINT64_MAX, 0) == 12 && wz_log_record_len(0, UINT64_MAX, 0) == 8);
+    WANTED(wz_log_record_len(0, 0, (size_t)1 << 62) > (size_t)1 << 62);
+    WANTED(held == 0);
+    return 0;
+}
+
+// What a call has left of a batch whose bytes were these.
+static void check_batch_is(wz_handle *batch, bytes old) {
+    long left = granted;
+    granted = -1;
+    bytes now = bytes_of_batch(batch);
+    WANTED(now.len == old.len && !memcmp(now.at, old.at, old.len));
+    done_with(now);
+    granted = left;
+}
+
+// A batch grows until an allocation fails. Its answer is given back.
+static uint32_t grow_batch(wz_handle *batch) {
+    static const uint8_t blob[900];
+    uint32_t code = wz_batch_new(batch);
+    for (int i = 0; i < 12 && code == WZ_DONE; i++) {
+        long left = granted;
+        granted = -1;
+        bytes old = bytes_of_batch(batch);
+        granted = left;
+        if (i % 4 == 0) code = wz_batch_put(batch, blob, 100, blob, sizeof blob);
+        if (i % 4 == 1) code = wz_batch_delete(batch, blob, sizeof blob);
+        if (i % 4 == 2) code = wz_batch_log_data(batch, blob, 300);
+        if (i % 4 == 3) code = wz_batch_append(batch, old.at, old.len);
+        if (code != WZ_DONE) check_batch_is(batch, old);
+        left = granted;
+        granted = -1;
+        done_with(old);
+        granted = left;
+    }
+    return code;
+}
+
+static uint32_t read_all(wz_handle *reader, uint32_t number, bytes log) {
+    wz_record record = {1, 2, 3}, old = record;
+    wz_end end = {1, 2, 3, 4};
+    uint32_t code = wz_reader_open(reader, number);
+    if (code != WZ_DONE) return code;
+    while ((code = wz_reader_next(reader, log.at, log.len, &record, &end)) == WZ_DONE) old = record;
+    if (code == WZ_END) return WZ_DONE;
+    WANTED(record.start == old.start && record.end == old.end && record.len == old.len && end.at == 1 && end.why == 2);
+    granted = -1;
+    WANTED(wz_reader_next(reader, log.at, log.len, &record, &end) == WZ_NO_MEMORY);
+    granted = 0;
+    return code;
+}
+
+static uint32_t recover_all(wz_handle *recovery, uint32_t number, bytes log) {
+    wz_recovered found, old;
+    memset(&found, 7, sizeof found);
+    old = found;
+    uint32_t code = wz_recover(recovery, number, WZ_POINT, log.at, log.len, &found);
+    if (code != WZ_DONE) WANTED(!memcmp(&found, &old, sizeof old));
+    return code;
+}
+
+static int memory(void) {
+    char *line = NULL;
+    size_t room = 0;
+    const char *words[4];
+    WANTED(getline(&line, &room, stdin) > 0);
+    words_of(line, words);
+    uint32_t number = (uint32_t)strtoul(words[1], NULL, 10);
+    bytes log = bytes_of_hex(words[3]);
+    long before = held;
+    for (int kind = 0; kind < 3; kind++) {
+        long refused = 0;
+        for (int is_all_granted = 0; !is_all_granted; refused++) {
+            // What the handle holds before is freed by a call that fails, too.
+            wz_handle handle = WZ_HANDLE_INIT;
+            granted = -1;
+            WANTED(wz_batch_new(&handle) == WZ_DONE);
+            granted = refused;
+            uint32_t code = kind == 0   ? read_all(&handle, number, log)
+                            : kind == 1 ? recover_all(&handle, number, log)
+                                        : grow_batch(&handle);
+            // One that was refused has counted to -1.
+            is_all_granted = granted > 0 || (granted == 0 && code == WZ_DONE);
+            WANTED(code == (is_all_granted ? WZ_DONE : WZ_NO_MEMORY));
+            granted = -1;
+            if (code != WZ_DONE && kind == 1) check_other_kinds(&handle, 0, 0, 0);
+            wz_close(&handle);
+            WANTED(held == before);
+        }
+        WANTED(refused > 3);
+    }
+    done_with(log);
+    __real_free(line);
+    return 0;
+}
+
+int main(int argc, char **argv) {
+    const char *word = argc > 1 ? argv[1] : "";
+    if (!strcmp(word, "answer")) return answer();
+    if (!strcmp(word, "calls")) return calls();
+    if (!strcmp(word, "memory")) return memory();
+    return 2;
+}

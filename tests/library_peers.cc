@@ -1,0 +1,115 @@
+// Has RocksDB or LevelDB write a log, for `library` beside this file, and prints what is written, as the example
+// print_log prints it. With RocksDB it also makes many batches by draws, and compares their bytes with those that the
+// library makes.
+//
+//     library_peers FOLDER
+//
+// It is built against the one that the macro PEER names, `leveldb` or `rocksdb`, whose calls are alike.
+
+#include <cstdio>
+#include <memory>
+#include <random>
+#include <stdexcept>
+#include <string>
+
+#include "wolzenn.h"
+
+#define TEXT_OF(words) #words
+#define HEADER_OF(file) TEXT_OF(file)
+#define DATABASE PEER/db.h
+#define BATCH PEER/write_batch.h
+#include HEADER_OF(DATABASE)
+#include HEADER_OF(BATCH)
+
+static void check(bool holds, const std::string& what) {
+    if (!holds) throw std::runtime_error(what);
+}
+
+static std::string hex(const std::string& text) {
+    std::string found;
+    char digits[3];
+    for (unsigned char byte : text) {
+        std::snprintf(digits, sizeof digits, "%02x", byte);
+        found += digits;
+    }
+    return found.empty() ? "-" : found;
+}
+
+static std::mt19937 draws(7);
+
+static std::string text() {
+    std::string found(draws() % 8 == 0 ? draws() % 40000 : draws() % 6, ' ');
+    for (char& byte : found) byte = static_cast<char>(draws());
+    return found;
+}
+
+static const uint8_t* bytes(const std::string& text) {
+    return reinterpret_cast<const uint8_t*>(text.data());
+}
+
+// Adds an operation to both batches, and answers it as print_log prints it.
+template <class Batch>
+static std::string add(Batch& theirs, wz_handle* ours) {
+    std::string key = text(), value = text();
+    uint32_t code = WZ_DONE;
+    std::string line;
+    auto kind = draws() % 6;
+    if (kind == 0) {
+        theirs.Delete(key);
+        code = wz_batch_delete(ours, bytes(key), key.size());
+        line = "  del " + hex(key);
+    } else if constexpr (requires { theirs.SingleDelete(key); }) {
+        if (kind == 1) {
+            theirs.SingleDelete(key);
+            code = wz_batch_single_delete(ours, bytes(key), key.size());
+            line = "  sdel " + hex(key);
+        } else if (kind == 2) {
+            theirs.PutLogData(value);
+            code = wz_batch_log_data(ours, bytes(value), value.size());
+            line = "  note " + hex(value);
+        }
+    }
+    if (line.empty()) {
+        theirs.Put(key, value);
+        code = wz_batch_put(ours, bytes(key), key.size(), bytes(value), value.size());
+        line = "  put " + hex(key) + " " + hex(value);
+    }
+    check(code == WZ_DONE, "an addition");
+    return line + "\n";
+}
+
+// That the bytes of both are the same, where the peer shows its own.
+template <class Batch>
+static void compare(const Batch& theirs, wz_handle* ours) {
+    if constexpr (requires { theirs.Data(); }) {
+        size_t len = 0;
+        check(wz_batch_len(ours, &len) == WZ_DONE, "a length");
+        std::string found(len, ' ');
+        check(wz_batch_bytes(ours, reinterpret_cast<uint8_t*>(&found[0]), len) == WZ_DONE, "bytes");
+        check(found == theirs.Data(), "the bytes of a batch");
+    }
+}
+
+int main(int argc, char** argv) {
+    if (argc != 2) return 2;
+    PEER::Options options;
+    options.create_if_missing = true;
+    PEER::DB* opened = nullptr;
+    check(PEER::DB::Open(options, argv[1], &opened).ok(), "an opening");
+    std::unique_ptr<PEER::DB> database(opened);
+    wz_handle ours = WZ_HANDLE_INIT;
+    for (int turn = 0; turn < 400; turn++) {
+        PEER::WriteBatch theirs;
+        std::string lines;
+        check(wz_batch_new(&ours) == WZ_DONE, "a batch");
+        for (auto count = 1 + draws() % 4; count > 0; count--) lines += add(theirs, &ours);
+        compare(theirs, &ours);
+        // The log of the last fifty is read back; all of them would be more than a log may have before it goes on to
+        // another.
+        if (turn % 8 != 0) continue;
+        check(database->Write(PEER::WriteOptions(), &theirs).ok(), "a write");
+        std::fputs(lines.c_str(), stdout);
+    }
+    wz_close(&ours);
+    return 0;
+}
