@@ -203,7 +203,7 @@ uint32_t wz_batch_read(const uint8_t *bytes, size_t len, wz_batch_head *head, wz
 uint32_t wz_batch_next(const uint8_t *bytes, size_t len, size_t *at, wz_op *op, wz_end *why);
 
 /* ---- writing a log ----
-   The file is the caller's: he writes what these give at the file's end, syncs it when he wants it safe, and keeps
+   The file is the caller's, who writes what these give at its end, syncs it when it should be safe, and keeps
    the offset. A log begins at the offset 0. One that is recovered goes on at `kept` of its summary, once the file is
    cut there. `number` is as above. */
 
