@@ -1,41 +1,83 @@
 """Charts of rates by clients, for the scripts beside this file."""
 
-COLOURS = ["#1b6ca8", "#d1495b", "#edae49", "#66a182", "#7a4fa3", "#5c5c5c"]
-WIDTH, HEIGHT, LEFT, TOP = 420, 280, 70, 40
+COLOURS = ["#1b6ca8", "#d1495b", "#b57d00", "#3f8a5f", "#7a4fa3", "#5c5c5c"]
+INK, GREY, PALE = "#222222", "#767676", "#d9d9d9"
+# A chart's columns and ticks stand in a field of this size, from its left edge on. Charts are so far from each other.
+WIDTH, HEIGHT, LEFT, TOP, GAP = 380, 280, 80, 60, 24
+# About so wide is a letter of a name.
+LETTER = 7
 
 
-def axes(x0, title, clients, most):
-    """The parts of an empty chart, and where its columns stand."""
+def step_of(most):
+    """From tick to tick: 1, 2 or 5 times a power of ten, so that no more than five reach the greatest rate."""
+    power = 1
+    while True:
+        for step in (power, 2 * power, 5 * power):
+            if 5 * step >= most:
+                return step
+        power *= 10
+
+
+def text(x, y, words, fill=GREY, more=""):
+    return f'<text x="{x:.0f}" y="{y:.0f}" fill="{fill}"{more}>{words}</text>'
+
+
+def axes(x0, title, clients, step, top):
+    """The parts of an empty chart up to this rate, and where its columns stand."""
+    bottom, middle, end = TOP + HEIGHT, ' text-anchor="middle"', ' text-anchor="end"'
     parts = [
-        f'<text x="{x0}" y="20">{title}: batches a second by clients</text>',
-        f'<path d="M{x0} {TOP}V{TOP + HEIGHT}H{x0 + WIDTH - 40}" stroke="black" fill="none"/>',
+        text(x0, 24, title, INK, ' font-size="14" font-weight="bold"'),
+        text(x0, TOP - 12, "batches a second"),
+        text(x0 + WIDTH / 2, bottom + 36, "clients", GREY, middle),
     ]
-    for step in range(1, 5):
-        y = TOP + HEIGHT - HEIGHT * step / 4
-        parts.append(f'<text x="{x0 - 6}" y="{y + 4}" text-anchor="end">{most * step / 4:.0f}</text>')
-    columns = [x0 + (WIDTH - 60) * i / max(1, len(clients) - 1) + 10 for i in range(len(clients))]
-    for x, count in zip(columns, clients):
-        parts.append(f'<text x="{x}" y="{TOP + HEIGHT + 18}" text-anchor="middle">{count}</text>')
+    for rate in range(0, top + 1, step):
+        y = bottom - HEIGHT * rate / top
+        parts.append(f'<path d="M{x0} {y:.0f}H{x0 + WIDTH}" stroke="{GREY if rate == 0 else PALE}" fill="none"/>')
+        parts.append(text(x0 - 8, y + 4, f"{rate:,}", GREY, end))
+    columns = [x0 + 10 + (WIDTH - 20) * i / max(1, len(clients) - 1) for i in range(len(clients))]
+    parts += [text(x, bottom + 18, count, GREY, middle) for x, count in zip(columns, clients)]
     return parts, columns
+
+
+def names(x0, series):
+    """The series' names in their colours, in as many rows as they need, and how many rows these are."""
+    parts, x, row = [], 0, 0
+    for number, name in enumerate(series):
+        width = 22 + LETTER * len(name)
+        if x > 0 and x + width > WIDTH:
+            x, row = 0, row + 1
+        y, colour = TOP + HEIGHT + 62 + 20 * row, COLOURS[number % len(COLOURS)]
+        parts.append(f'<path d="M{x0 + x} {y - 4}h14" stroke="{colour}" stroke-width="3"/>')
+        parts.append(text(x0 + x + 19, y, name, INK))
+        x += width + 10
+    return parts, row + 1
+
+
+def chart(x0, title, clients, rates):
+    """The parts of a chart, and how many rows of names it has."""
+    most = max(max(values) for values in rates.values())
+    step = step_of(most)
+    top = step * max(1, -int(-most // step))
+    parts, columns = axes(x0, title, clients, step, top)
+    for number, values in enumerate(rates.values()):
+        colour = COLOURS[number % len(COLOURS)]
+        points = [f"{x:.0f},{TOP + HEIGHT - HEIGHT * rate / top:.0f}" for x, rate in zip(columns, values)]
+        parts.append(f'<polyline points="{" ".join(points)}" fill="none" stroke="{colour}" stroke-width="2"/>')
+    named, rows = names(x0, rates)
+    return parts + named, rows
 
 
 def plot(path, clients, tables):
     """Draws the batches a second by clients: a chart for each table, which has its title, and rates by name."""
-    rows = max(1 + (len(rates) - 1) // 4 for _, rates in tables)
-    parts = [
-        f'<svg xmlns="http://www.w3.org/2000/svg" width="{len(tables) * (WIDTH + LEFT)}"'
-        f' height="{HEIGHT + 90 + 20 * rows}" font-family="sans-serif" font-size="12">'
+    each = LEFT + WIDTH + GAP
+    charts = [chart(at * each + LEFT, title, clients, rates) for at, (title, rates) in enumerate(tables)]
+    height = TOP + HEIGHT + 54 + 20 * max(rows for _, rows in charts)
+    lines = [
+        f'<svg xmlns="http://www.w3.org/2000/svg" width="{len(tables) * each}" height="{height}"'
+        ' font-family="Helvetica, Arial, sans-serif" font-size="12">',
+        '<rect width="100%" height="100%" rx="6" fill="#ffffff"/>',
+        *(part for parts, _ in charts for part in parts),
+        "</svg>",
     ]
-    for at, (title, rates) in enumerate(tables):
-        x0, most = at * (WIDTH + LEFT) + LEFT, max(max(values) for values in rates.values())
-        chart, columns = axes(x0, title, clients, most)
-        parts += chart
-        for number, (name, values) in enumerate(rates.items()):
-            points = " ".join(f"{x:.0f},{TOP + HEIGHT - HEIGHT * v / most:.0f}" for x, v in zip(columns, values))
-            colour = COLOURS[number % len(COLOURS)]
-            parts.append(f'<polyline points="{points}" fill="none" stroke="{colour}" stroke-width="2"/>')
-            x, y = x0 + 105 * (number % 4), TOP + HEIGHT + 45 + 20 * (number // 4)
-            parts.append(f'<text x="{x}" y="{y}" fill="{colour}">{name}</text>')
-    parts.append("</svg>")
     with open(path, "w", encoding="utf-8") as file:
-        file.write("\n".join(parts) + "\n")
+        file.write("\n".join(lines) + "\n")

@@ -17,6 +17,15 @@ CLIENT_COLOURS = [
     ("#8a6d00", "#f4e9b8"),
     ("#a3245c", "#f8d3e2"),
 ]
+# A strong colour for each layer of crates, by turns: enough of them that none comes twice.
+LAYER_COLOURS = [strong for strong, _ in CLIENT_COLOURS] + [
+    "#007d80",
+    "#6d4630",
+    "#3c42c4",
+    "#c2221f",
+    "#4f5b66",
+    "#5c8200",
+]
 # The size of the letters of a chip.
 CHIP_SIZE = 10.5
 
@@ -26,6 +35,11 @@ SANS, MONO = "Helvetica, Arial, sans-serif", "Menlo, Consolas, DejaVu Sans Mono,
 def colours_of(client):
     """The strong and the light colour of a client, who is numbered from 1."""
     return CLIENT_COLOURS[(client - 1) % len(CLIENT_COLOURS)]
+
+
+def colour_of_layer(number):
+    """The colour of a layer, which is numbered from 1. Two next to each other have different ones."""
+    return LAYER_COLOURS[(number - 1) % len(LAYER_COLOURS)]
 
 
 def number(value):
@@ -76,13 +90,12 @@ class Picture:
         edge = f' stroke="{stroke}"' if stroke != "none" else ""
         self.parts.append(f'<circle cx="{number(x)}" cy="{number(y)}" r="{number(radius)}" fill="{fill}"{edge}/>')
 
-    def text(self, x, y, text, size=12, fill=INK, anchor="start", bold=False, mono=False, struck=False):
+    def text(self, x, y, text, size=12, fill=INK, anchor="start", bold=False, mono=False):
         """A line of text: its anchor is `start`, `middle` or `end`."""
         more = f' font-size="{number(size)}"' if size != 12 else ""
         more += f' text-anchor="{anchor}"' if anchor != "start" else ""
         more += ' font-weight="bold"' if bold else ""
         more += f' font-family="{MONO}"' if mono else ""
-        more += ' text-decoration="line-through"' if struck else ""
         at, shown = f'x="{number(x)}" y="{number(y)}"', escape(text, quote=False)
         self.parts.append(f'<text {at} fill="{fill}"{more}>{shown}</text>')
 
