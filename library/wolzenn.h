@@ -54,7 +54,8 @@ enum {
    `first` and `second`, which are 0 where it has none. `at` is the offset of the fragment or the record that is
    meant. */
 enum {
-  WZ_CLEAN = 1,        /* the log ends behind a whole record, or is empty */
+  WZ_CLEAN = 1,        /* the log ends after a whole record, or in or after the zeros that end its block, or is
+                          empty: `at` is its length, which may be past `kept` of its recovery */
   WZ_SHORT_HEADER = 2, /* a fragment's header is cut off */
   WZ_ZEROS = 3,        /* a header of zeros */
   WZ_BAD_LENGTH = 4,   /* a fragment passes the end of its block or of the log */
@@ -78,6 +79,9 @@ enum {
   WZ_TAIL = 1,    /* that of a whole log, and one where the last write was cut off */
   WZ_ABSOLUTE = 2 /* that of a whole log (kAbsoluteConsistency) */
 };
+/* After the end of a log that was written over an older one come the older bytes, and they may show as any of the
+   reasons: there only WZ_POINT is sure to accept the end. A log that is read by a wrong number ends at 0 with
+   WZ_OLD_LOG, which each mode accepts, and recovers nothing. */
 
 /* What a record of a batch does. */
 enum {
@@ -94,12 +98,23 @@ enum {
 typedef struct { bool full; void *at; } wz_handle;
 #define WZ_HANDLE_INIT {0, 0}
 
-/* What is told of an end, a record, a recovery, a pair, a batch, and a record of a batch. */
+/* Where something ends, and why. */
 typedef struct { uint64_t at; uint32_t why; uint64_t first; uint64_t second; } wz_end;
+
+/* A record: the offset of its first fragment, the one after its last, and its bytes. */
 typedef struct { uint64_t start; uint64_t end; size_t len; } wz_record;
+
+/* A recovery: how many records are kept, each of which is one batch; how many pairs they leave; the last sequence and
+   the offset after the last record kept, both 0 where there is none; and where and why it ended. */
 typedef struct { size_t groups; size_t pairs; uint64_t last; uint64_t kept; wz_end end; } wz_recovered;
+
+/* How many bytes a pair's key and value have. */
 typedef struct { size_t key_len; size_t value_len; } wz_pair_lens;
+
+/* A batch's sequence, and how many of its records count. */
 typedef struct { uint64_t sequence; uint32_t count; } wz_batch_head;
+
+/* A record of a batch: what it does, and where in the batch's bytes its key and its value are. */
 typedef struct { uint32_t kind; size_t key_at; size_t key_len; size_t value_at; size_t value_len; } wz_op;
 
 /* Frees what the handle holds. It holds nothing then. */
@@ -117,30 +132,33 @@ uint32_t wz_crc32c_extend(uint32_t crc, const uint8_t *bytes, size_t len);
 uint32_t wz_crc32c_mask(uint32_t crc);
 
 /* ---- reading a log ----
-   `number` is the log's number where its fragments have one (RocksDB's recycle_log_file_num), and 0 where they have
-   none, as in LevelDB's logs and most of RocksDB's. */
+   `number` is the log's number where its fragments have one (RocksDB's recycle_log_file_num): that of the file's name,
+   4 for 000004.log. It is 0 where they have none, as in LevelDB's logs and most of RocksDB's. A log with a number that
+   is read by 0 ends at 0 with WZ_BAD_TYPE and 5 to 8. */
 
 /* Opens a reader at the start of a log. WZ_DONE, WZ_NO_MEMORY. */
 uint32_t wz_reader_open(wz_handle *handle, uint32_t number);
 
-/* Reads the next record of the log, whose bytes are the same at each call of this reader. WZ_DONE: record->start is
+/* Reads the next record of the log, whose bytes are the same at each call of this reader: one that has grown is read
+   by a new reader, since this one has a copy of a block. WZ_DONE: record->start is
    the offset of its first fragment, record->end the one behind its last, record->len its bytes; wz_reader_record has
    it. WZ_END: *end says at which offset no more is read, and why. WZ_NO_MEMORY. After WZ_END and WZ_NO_MEMORY each
    further call answers the same. WZ_CLOSED: it holds no reader. */
 uint32_t wz_reader_next(wz_handle *handle, const uint8_t *log, size_t log_len, wz_record *record, wz_end *end);
 
-/* Copies the record that the last wz_reader_next read, where that answered WZ_DONE, to the start of the buffer, and
-   touches nothing behind it. WZ_DONE, WZ_SMALL, WZ_CLOSED: it holds no reader. */
+/* Copies the record that the last wz_reader_next read to the start of the buffer, and touches nothing behind it.
+   WZ_DONE, WZ_SMALL, WZ_END: it read none, or there was no such call yet, WZ_CLOSED: it holds no reader. */
 uint32_t wz_reader_record(wz_handle *handle, uint8_t *buffer, size_t buffer_len);
 
 /* ---- recovering a log ---- */
 
 /* Recovers a log: the batches in front of the first place that doesn't read, or where a record is no batch or its
-   sequences don't rise. WZ_DONE: *summary says how many batches and how many pairs of key and value they leave, the
-   last sequence, the offset behind the last batch kept (where a log may go on), and where and why recovery ended; the
-   handle holds the pairs. WZ_DAMAGE: the mode doesn't accept the end; summary->end says where and why, the rest of
-   *summary is 0, and the handle holds nothing. WZ_RANGE: there is no such mode, and the handle holds nothing.
-   WZ_NO_MEMORY. */
+   sequences don't rise. Runs of sequences may leave gaps; a batch of which no record counts is kept whatever its
+   sequence. WZ_DONE: *summary says what was recovered, and the handle holds the pairs of key and value. They are those
+   of this log alone, over an empty map: a deletion leaves no pair, also of a key that a database has in its tables or
+   its other logs. Who needs deletions reads record by record. A log may go on at summary->kept. WZ_DAMAGE: the mode
+   doesn't accept the end; summary->end says where and why, the rest of *summary is 0, and the handle holds nothing.
+   WZ_RANGE: there is no such mode, and the handle holds nothing. WZ_NO_MEMORY. */
 uint32_t wz_recover(wz_handle *handle, uint32_t number, uint32_t mode, const uint8_t *log, size_t log_len,
                     wz_recovered *summary);
 
@@ -170,13 +188,16 @@ uint32_t wz_batch_single_delete(wz_handle *handle, const uint8_t *key, size_t ke
 uint32_t wz_batch_log_data(wz_handle *handle, const uint8_t *blob, size_t blob_len);
 
 /* Adds the records of another batch's bytes behind the others, so that several batches make one record of the log, a
-   group. Its sequence isn't looked at. As above, and WZ_NO_BATCH: the bytes are no batch (wz_batch_read says why). */
+   group. Its sequence isn't looked at. As above, and before all others WZ_NO_BATCH: the bytes are no batch
+   (wz_batch_read says why). */
 uint32_t wz_batch_append(wz_handle *handle, const uint8_t *bytes, size_t len);
 
 /* Takes all records out, and sets the sequence to 0. WZ_DONE, WZ_CLOSED. */
 uint32_t wz_batch_clear(wz_handle *handle);
 
-/* Gives it the sequence of its first record that counts. WZ_DONE, WZ_CLOSED. */
+/* Gives it the sequence of its first record that counts. WZ_DONE, WZ_CLOSED. Any number is taken. Recovery keeps a
+   batch with such records only where its run begins above the last one, so at 1 or more, and ends at 2^56 - 1 or
+   below. */
 uint32_t wz_batch_set_sequence(wz_handle *handle, uint64_t sequence);
 
 /* Its sequence, and how many of its records count: each of these takes a sequence. WZ_DONE, WZ_CLOSED. */
@@ -192,20 +213,22 @@ uint32_t wz_batch_bytes(wz_handle *handle, uint8_t *buffer, size_t buffer_len);
 /* ---- reading a batch ---- */
 
 /* Looks through the bytes of a batch. WZ_DONE: they are one, and *head says its sequence and its count. WZ_NO_BATCH:
-   they are none, and *why says so: WZ_SHORT, WZ_BAD_VARINT, WZ_TAG or WZ_COUNT, with the offset 0. */
+   they are none, and *why says so: WZ_SHORT, WZ_BAD_VARINT, WZ_TAG or WZ_COUNT, with the offset 0; wz_batch_next finds
+   the place of a record that doesn't read. */
 uint32_t wz_batch_read(const uint8_t *bytes, size_t len, wz_batch_head *head, wz_end *why);
 
-/* The record of a batch's bytes that stands at *at, which starts as WZ_BATCH_HEADER_LEN. WZ_DONE: *op says what it
-   does and where in the bytes its key and its value stand, and *at is the place behind it. WZ_END: the bytes end
-   there. WZ_NO_BATCH: no record stands there, and *why says why, with this place as the offset. WZ_RANGE: *at is past
-   the end. At these *at stays. Where a record has no value, op->value_at and op->value_len are 0. Nothing is copied,
-   and no memory is taken. */
+/* The record at the place *at of a batch's bytes. *at starts as WZ_BATCH_HEADER_LEN; at any other place the bytes are
+   read as if a record began there. WZ_DONE: *op says what it does and where in the bytes its key and its value are,
+   and *at is the place behind it. WZ_END: the bytes end there. WZ_NO_BATCH: no record is there, and *why says why,
+   with this place as the offset. WZ_RANGE: *at is past the end. At these *at stays. Where a record has no value,
+   op->value_at and op->value_len are 0. Nothing is copied, and no memory is taken. */
 uint32_t wz_batch_next(const uint8_t *bytes, size_t len, size_t *at, wz_op *op, wz_end *why);
 
 /* ---- writing a log ----
-   The file is the caller's, who writes what these give at its end, syncs it when it should be safe, and keeps
-   the offset. A log begins at the offset 0. One that is recovered goes on at `kept` of its summary, once the file is
-   cut there. `number` is as above. */
+   The file is the caller's, who writes what these give at its end, syncs it when it should be safe, and keeps the
+   offset. A log begins at the offset 0, also one with a number that is written over an older file: there each record
+   is written at its offset, and not at the file's end. One that is recovered goes on at `kept` of its summary, once
+   the file is cut there. `number` is as above. */
 
 /* How many bytes a record of len bytes takes in a log that has `offset` bytes so far: its fragments, each behind its
    header, and the zeros that end a block. The greatest size_t where it would be more than that. */

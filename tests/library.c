@@ -119,6 +119,9 @@ static void answer_log(uint32_t number, uint32_t mode, bytes log) {
     wz_end end = {0, 0, 0, 0}, again = {0, 0, 0, 0};
     WANTED(wz_reader_open(&handle, number) == WZ_DONE);
     uint32_t code;
+    // No record is in hand before the first and after the last, also where the log ends inside one.
+    bytes none = room_for(WZ_BLOCK_LEN);
+    WANTED(wz_reader_record(&handle, none.at, none.len) == WZ_END && none.at[0] == MARK);
     while ((code = wz_reader_next(&handle, log.at, log.len, &record, &end)) == WZ_DONE) {
         bytes found = room_for(record.len);
         if (record.len > 0) WANTED(wz_reader_record(&handle, found.at, record.len - 1) == WZ_SMALL);
@@ -131,6 +134,8 @@ static void answer_log(uint32_t number, uint32_t mode, bytes log) {
         done_with(found);
     }
     WANTED(code == WZ_END && wz_reader_next(&handle, log.at, log.len, &record, &again) == WZ_END);
+    WANTED(wz_reader_record(&handle, none.at, none.len) == WZ_END && none.at[0] == MARK);
+    done_with(none);
     WANTED(again.at == end.at && again.why == end.why && again.first == end.first && again.second == end.second);
     printf("end ");
     print_end(end);

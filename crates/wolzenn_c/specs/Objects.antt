@@ -1,15 +1,15 @@
 -- What a handle holds, of each kind.
 use Rattle.std.specs.Prelude.{Option, Some, None}
 use Rattle.log_batch.specs.Contents.{Contents}
-use Rattle.log_reader.specs.Reader.{Reader}
 use Rattle.model_base.specs.Map.{Pairs}
 use Rattle.wolzenn_c.specs.declared.object.Object.{Object}
 use Rattle.wolzenn_c.specs.declared.object.Object.TheVariants as object
+use Rattle.wolzenn_c.specs.declared.reading.Reading.{Reading}
 
 -- the reader that it holds, if it holds one
-abbrev pub as_reader : Option Object → Option Reader
+abbrev pub as_reader : Option Object → Option Reading
 as_reader None = None
-as_reader (Some (object.Reader r)) = Some r.reader
+as_reader (Some (object.Reader r)) = Some r
 as_reader (Some (object.Recovery r)) = None
 as_reader (Some (object.Batch b)) = None
 

@@ -1,20 +1,22 @@
 -- What the functions of a reader come to for C.
-use Rattle.std.specs.Prelude.{◌≡◌, ℕ, List, length, None}
+use Rattle.std.specs.Prelude.{◌≡◌, ℕ, ◌==◌, false, List, length, Option, Some, None, if◌then◌else◌}
 use Rattle.log_reader.specs.declared.reader.Next.{Next}
 use Rattle.log_reader.specs.declared.reader.Next.TheVariants as next
-use Rattle.log_reader.specs.Reader.{Reader, Follows}
+use Rattle.log_reader.specs.Reader.{Follows}
 use Rattle.wolzenn_c.specs.declared.codes.TheConstants.{DONE, END, NO_MEMORY}
 use Rattle.wolzenn_c.specs.declared.codes.WzEnd.{WzEnd}
 use Rattle.wolzenn_c.specs.declared.reader.WzRecord.{WzRecord}
+use Rattle.wolzenn_c.specs.declared.reading.Reading.{Reading}
 use Rattle.wolzenn_c.specs.Readings.{number_of, ReadsOn}
 use Rattle.wolzenn_c.specs.Reasons.{end_of}
 
--- a reader of a log with this number, at its start
-pub record IsOpened (number : ℕ) (r : Reader) : Type 0 where
-  pub number_is : r.number ≡ number_of number
-  pub start : r.place ≡ 0
-  pub going : r.stopped ≡ None
-  pub follows : (file : List ℕ) → Follows file r
+-- a reader of a log with this number, at its start, with no record in hand
+pub record IsOpened (number : ℕ) (r : Reading) : Type 0 where
+  pub number_is : r.reader.number ≡ number_of number
+  pub start : r.reader.place ≡ 0
+  pub going : r.reader.stopped ≡ None
+  pub no_record : r.has_record ≡ false
+  pub follows : (file : List ℕ) → Follows file r.reader
 
 -- An answer in numbers: its code, and the record and the end that C has before and after. The record has this many
 -- bytes. No fault is told.
@@ -25,9 +27,14 @@ Tells (next.End at why) len before code after = (code ≡ END) × (after ≡ (be
 Tells (next.Fault count) len before code after = ⊥
 Tells next.NoMemory len before code after = (code ≡ NO_MEMORY) × (after ≡ before)
 
--- a reader has read on, and its answer is told
-pub record IsNext (file : List ℕ) (old new : Reader) (before : WzRecord × WzEnd) (code : ℕ)
+-- A reader has read on, and its answer is told. A record is in hand just where the code says that one was read.
+pub record IsNext (file : List ℕ) (old new : Reading) (before : WzRecord × WzEnd) (code : ℕ)
     (after : WzRecord × WzEnd) : Type 0 where
   pub answer : Next
-  pub reads : ReadsOn file old new answer
-  pub tells : Tells answer (length new.in_hand) before code after
+  pub reads : ReadsOn file old.reader new.reader answer
+  pub tells : Tells answer (length new.reader.in_hand) before code after
+  pub in_hand : new.has_record ≡ (code == DONE)
+
+-- the record in hand, if one is
+abbrev pub record_of : Reading → Option (List ℕ)
+record_of r = if r.has_record then Some r.reader.in_hand else None

@@ -1,6 +1,7 @@
 -- What a call of a reader over bytes in memory comes to.
-use Rattle.std.specs.Prelude.{◌≡◌, ℕ, ◌==◌, List, Option, Some, None, IfSome, if◌then◌else◌}
+use Rattle.std.specs.Prelude.{◌≡◌, ℕ, ◌==◌, Bool, true, false, List, Option, Some, None, IfSome, if◌then◌else◌}
 use Rattle.log_reader.specs.declared.reader.Next.{Next}
+use Rattle.log_reader.specs.declared.reader.Next.TheVariants as next
 use Rattle.log_reader.specs.Reader.{Reader, Follows, PlaceAfter, GoesForward}
 use Rattle.log_reader.specs.Records.{Reads, stopped_by}
 
@@ -21,3 +22,10 @@ pub record ReadsOn (file : List ℕ) (old new : Reader) (answer : Next) : Type 0
   pub follows : Follows file old → Follows file new
   pub goes : old.stopped ≡ None → Goes file old new answer
   pub again : IfSome old.stopped (λ told. (answer ≡ told) × (new ≡ old))
+
+-- whether an answer is a record
+abbrev pub is_record : Next → Bool
+is_record (next.Record start end) = true
+is_record (next.End at why) = false
+is_record (next.Fault count) = false
+is_record next.NoMemory = false

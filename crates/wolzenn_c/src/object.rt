@@ -22,7 +22,7 @@ pub enum Object {
 impl Object {
     /// The reader, if it is one.
     pub fn reader(&self) -> Option<&Reading>
-        ensures { option_map (λ r. r.now.reader) result ≡ as_reader (Some self.now) }
+        ensures { option_map (λ r. r.now) result ≡ as_reader (Some self.now) }
     {
         match self {
             Object::Reader(reading) => Some(reading),

@@ -4,7 +4,7 @@ ghost use Rattle.std.specs.Prelude.{◌≡◌, ◌≢◌, ◌⊎◌, ℕ, length
 ghost use Rattle.log_reader.specs.declared.reader.Next.TheVariants.{Fault};
 ghost use Rattle.wolzenn_c.specs.Buffers.{Copies};
 ghost use Rattle.wolzenn_c.specs.Objects.{as_reader};
-ghost use Rattle.wolzenn_c.specs.ReaderCalls.{IsOpened, Tells, IsNext};
+ghost use Rattle.wolzenn_c.specs.ReaderCalls.{IsOpened, Tells, IsNext, record_of};
 ghost use Rattle.wolzenn_c.specs.Readings.{ReadsOn};
 
 use crate::buffer::copy_to;
@@ -77,7 +77,7 @@ pub extern "C" fn wz_reader_next(
 
 /// Reads on, and tells what this comes to.
 fn next_of(reading: &mut Reading, log: &[u8], found: &mut WzRecord, end: &mut WzEnd) -> u32
-    ensures { IsNext log.now reading.old.reader reading.new.reader (found.old, end.old) result (found.new, end.new) }
+    ensures { IsNext log.now reading.old reading.new (found.old, end.old) result (found.new, end.new) }
 {
     let answer = reading.next(log);
     tell(answer, reading.reader.record().len(), found, end)
@@ -102,24 +102,37 @@ fn tell(answer: Next, len: usize, found: &mut WzRecord, last: &mut WzEnd) -> u32
     }
 }
 
-/// Copies the record that the last `wz_reader_next` read to the start of the caller's buffer, and touches nothing
-/// behind it.
+/// Copies the record that the last `wz_reader_next` of this reader read to the start of the caller's buffer, and
+/// touches nothing behind it.
 ///
-/// `DONE`. `SMALL`: the buffer has fewer bytes than the record, and none was written. `CLOSED`: the handle holds no
-/// reader. The handle holds what it held.
+/// `DONE`. `SMALL`: the buffer has fewer bytes than the record. `END`: that call read no record, or there was none yet.
+/// `CLOSED`: the handle holds no reader. At these three nothing is written. The handle holds what it held.
 #[unsafe(no_mangle)]
 pub extern "C" fn wz_reader_record(alloc: Global, handle: &mut WzHandle, buffer: &mut [u8]) -> u32
     ensures same { handle.new.held.object ≡ handle.old.held.object }
     ensures record { MatchOption (as_reader handle.old.held.object) ((result ≡ CLOSED) × (buffer.new ≡ buffer.old))
-        (λ reader. Copies reader.in_hand buffer.old result buffer.new) }
+        (λ r. MatchOption (record_of r) ((result ≡ END) × (buffer.new ≡ buffer.old))
+        (λ bytes. Copies bytes buffer.old result buffer.new)) }
 {
     let Some(object) = handle.take(alloc) else {
         return CLOSED;
     };
     let code = match object.reader() {
-        Some(reading) => copy_to(reading.reader.record(), buffer),
+        Some(reading) => copy_record(reading, buffer),
         None => CLOSED,
     };
     handle.put(alloc, object);
     code
+}
+
+/// Copies the record in hand, if one is.
+fn copy_record(reading: &Reading, buffer: &mut [u8]) -> u32
+    ensures { MatchOption (record_of reading.now) ((result ≡ END) × (buffer.new ≡ buffer.old))
+        (λ bytes. Copies bytes buffer.old result buffer.new) }
+{
+    if reading.has_record {
+        copy_to(reading.reader.record(), buffer)
+    } else {
+        END
+    }
 }

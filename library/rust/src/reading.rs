@@ -53,7 +53,8 @@ impl<'a> Records<'a> {
     }
 
     /// Reads the next record into a buffer, whose content it replaces, and answers its offsets: that of its first
-    /// fragment, and the one behind its last. After `None` and after an error it is the same again.
+    /// fragment, and the one behind its last. At `None` the buffer stays as it is. After `None` and after an error it
+    /// is the same again.
     pub fn read_into(&mut self, buffer: &mut Vec<u8>) -> Result<Option<(u64, u64)>, Error> {
         if let Some(error) = self.failed {
             return Err(error);

@@ -28,13 +28,15 @@ impl<W: Write> LogWriter<W> {
     }
 
     /// Writes a record, and answers the offset behind it. Where that fails, the sink may have a part of it: then no
-    /// more is written, and the log may go on by another writer at [`offset`](LogWriter::offset), once it is cut
-    /// there.
+    /// more is written, each further call fails with [`ErrorKind::Other`](io::ErrorKind::Other), and the log may go on
+    /// by another writer at [`offset`](LogWriter::offset), once it is cut there. A log that would have 2^64 bytes or
+    /// more is refused before anything is written.
     pub fn append(&mut self, record: &[u8]) -> io::Result<u64> {
         if self.has_failed {
             return Err(io::Error::other("an earlier record was not written"));
         }
         let len = raw::record_len(self.number, self.offset, record.len());
+        let end = self.offset.checked_add(len as u64).ok_or_else(|| io::Error::other("the log is too long"))?;
         self.buffer.clear();
         self.buffer.try_reserve(len).map_err(|_| io::Error::from(io::ErrorKind::OutOfMemory))?;
         self.buffer.resize(len, 0);
@@ -42,7 +44,7 @@ impl<W: Write> LogWriter<W> {
         self.has_failed = true;
         self.sink.write_all(&self.buffer)?;
         self.has_failed = false;
-        self.offset += len as u64;
+        self.offset = end;
         Ok(self.offset)
     }
 
