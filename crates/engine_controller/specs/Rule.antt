@@ -1,5 +1,5 @@
 -- The rule of the controller's five words, and what each step on them tells.
-use Rattle.std.specs.Prelude.{◌≡◌, ◌≢◌, ℕ, ◌+◌, ◌-◌, ◌^◌, ◌≤◌, Bool, true, false, ◌||◌, List, [], ◌∷◌, ◌++◌, ◌==◌, nat_lt, ⊤}
+use Rattle.std.specs.Prelude.{◌≡◌, ◌≢◌, ℕ, ◌+◌, ◌-◌, ◌^◌, ◌≤◌, Bool, true, false, ◌||◌, List, [], ◌∷◌, ◌++◌, ◌==◌, nat_lt, ⊤, Option, IfSome}
 use Rattle.std.specs.List.{AllByRecursion, sum_by}
 use mathlib.Core.Option.{some}
 use mathlib.Core.List.{IsPrefix}
@@ -197,6 +197,10 @@ pub record Exchanges (action : Action) (found : Numbers) (v : List Observer) (x 
   where
     pub made : x ≡ found → Makes action v x w
     pub other : x ≢ found → Sees v x x w
+
+-- a delay of so many bytes, at this moment where there is one, and else at any
+abbrev pub IsDelayAt : Option ℕ → ℕ → Action → Type 0
+IsDelayAt last bytes action = (now : ℕ) × IfSome last (λ moment. moment ≡ now) × (action ≡ Delay now bytes)
 
 -- a load that asks for a delay makes the call where nobody slows writes, since it changes no number there
 pub record Asks (action : Action) (v : List Observer) (x : Numbers) (w : List Observer) : Type 0 where

@@ -10,14 +10,18 @@ ghost use Rattle.engine_controller.specs.Passes.{IsPassOf, IsNoteOf, GoesOn, End
 
 use crate::controller::Controller;
 use crate::look::Look;
+use crate::numbers::Action;
 use crate::pass::{Note, Pass};
 use crate::rule::{Copied, Looking, Sight};
 use crate::words::{join, load, split};
 use base_devices::Clock;
+use std::marker::Brand;
 use std::sync::Wait;
 
 impl<Time: Clock> Controller<Time> {
-    /// Asks how long a group of so many bytes has to wait. The clock is asked once for its moment, before the call.
+    /// Asks how long a group of so many bytes has to wait. Where somebody slows writes the clock is asked once for its
+    /// moment, before the call. Where nobody does, no answer depends on the moment and the clock isn't asked: the call
+    /// is at the last moment that it had answered, where it tells one, or at any.
     pub fn delay<R: Wait>(&self, rt: &R, pass: &mut Pass, clock: &mut Time, bytes: u64) -> Look
         requires own { IsPassOf self.now pass.old }
         ensures own { IsPassOf self.now pass.new × (client_of pass.new ≡ client_of pass.old) }
@@ -25,8 +29,13 @@ impl<Time: Clock> Controller<Time> {
             × EndsWith (client_of pass.old) (seen_by pass.old) (delay now bytes) (Some (look_of result))
             (seen_by pass.new) }
     {
+        // Where nobody slows writes this load is the whole call, and no word is written.
+        let found = self.ask_unslowed::<Brand, R>(rt, &mut pass.seat, clock, bytes);
+        if found.delays == 0 {
+            return Look::new(found.stops, 0, 0);
+        }
         let now = clock.now();
-        self.ask_delay(rt, &mut pass.seat, now, bytes)
+        self.call(rt, &mut pass.seat, Action::Delay { now, bytes })
     }
 
     /// Reads how many clients stop and slow writes. A client that stops them itself is among these.

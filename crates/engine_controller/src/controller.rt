@@ -2,17 +2,16 @@
 
 ghost use Rattle.std.specs.Prelude.{◌≡◌};
 ghost use Rattle.crossbeam_utils.specs.Seq.{cell_view};
-ghost use Rattle.model_base.specs.Controller.{delay};
 ghost use Rattle.engine_controller.specs.declared.numbers.Numbers.{Numbers};
-ghost use Rattle.engine_controller.specs.declared.numbers.Action.TheVariants.{Delay};
 ghost use Rattle.engine_controller.specs.Looks.{look_of, look_at};
 ghost use Rattle.engine_controller.specs.Numbers.{numbers_of, action_of};
-ghost use Rattle.engine_controller.specs.Rule.{Makes, MayCall, IsClientView, client_in, seen_in, asked_in};
+ghost use Rattle.engine_controller.specs.Rule.{Makes, IsDelayAt, Asks, MayCall, IsClientView};
+ghost use Rattle.engine_controller.specs.Rule.{client_in, seen_in, asked_in};
 
 use crate::look::Look;
 use crate::numbers::{Action, Numbers};
-use crate::rule::{Cell, Seat, Sight};
-use crate::words::{ask_unslowed, exchange, load};
+use crate::rule::{Asking, Cell, Seat, Sight, Unslowed};
+use crate::words::{exchange, load};
 use base_devices::Clock;
 use std::marker::{Brand, PhantomData};
 use std::sync::{Mutex, Wait};
@@ -49,18 +48,22 @@ impl<Time: Clock> Controller<Time> {
         unreachable!()
     }
 
-    // Asks for a delay. Where nobody slows writes a load is the whole call, and no word is written.
-    pub(crate) fn ask_delay<R: Wait>(&self, rt: &R, seat: &mut Seat, now: u64, bytes: u64) -> Look
+    // Reads the numbers, and has asked for a delay with that where nobody slows writes: there a load is the whole call,
+    // and no word is written. The clock isn't asked. It is here for the last moment that it answered, which only the
+    // clauses and proofs know.
+    pub(crate) fn ask_unslowed<Picked: Asking, R: Wait>(
+        &self,
+        rt: &R,
+        seat: &mut Seat,
+        clock: &Time,
+        bytes: u64,
+    ) -> Numbers
+        requires picked { IsDelayAt (Time.last clock.now) bytes Picked.call }
         requires cell { seat.old.table_id ≡ self.now.cell.table.shared.table_id }
         requires view { IsClientView (cell_view seat.old) }
         ensures cell { seat.new.table_id ≡ seat.old.table_id }
-        ensures made { (found : Numbers) × Makes (Delay now bytes) (cell_view seat.old) found (cell_view seat.new)
-            × (look_of result ≡ look_at (numbers_of found) (delay now bytes)) }
+        ensures asks { Asks Picked.call (cell_view seat.old) result (cell_view seat.new) }
     {
-        let found = ask_unslowed::<Brand, R>(&self.cell, rt, seat, now, bytes);
-        if found.delays == 0 {
-            return Look::new(found.stops, 0, 0);
-        }
-        self.call(rt, seat, Action::Delay { now, bytes })
+        load::<Unslowed<Picked>, R>(&self.cell, rt, seat)
     }
 }

@@ -23,7 +23,7 @@
 //! | `stop`, `unstop` | takes the client's stop token; gives it back |
 //! | `slow`, `unslow` | takes the client's slow token, with a rate; gives it back |
 //! | `end` | gives back the tokens that the client holds |
-//! | `delay` | asks for so many bytes, at the clock's moment: the counts of tokens, and how long to wait |
+//! | `delay` | asks for so many bytes: the counts of tokens, and how long to wait, by a clock while writes are slowed |
 //! | `look` | the counts of tokens |
 //! | `note`, `learn` | carry what one pass has seen to another, and make no call |
 //! | `close` | takes all passes back |

@@ -111,7 +111,7 @@ impl<Picked: Asking> Outcome<Numbers, ControllerView> for Exchange<Picked> {
 }
 
 /// A load that asks for a delay where nobody slows writes: there the call changes no number, so that it needs no
-/// exchange.
+/// exchange, and the moment changes no answer, so that the proof may pick it.
 pub struct Unslowed<Picked: Asking> {
     asking: PhantomData<Picked>,
 }

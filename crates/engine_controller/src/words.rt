@@ -7,11 +7,10 @@ ghost use Rattle.crossbeam_utils.specs.Seq.{cell_view};
 ghost use Rattle.model_base.specs.Controller.{numbers_after};
 ghost use Rattle.engine_controller.specs.declared.numbers.Numbers.{Numbers};
 ghost use Rattle.engine_controller.specs.Numbers.{numbers_of, action_of};
-ghost use Rattle.engine_controller.specs.declared.numbers.Action.TheVariants.{Delay};
-ghost use Rattle.engine_controller.specs.Rule.{Kept, Makes, Sees, Asks, MayCall, IsClientView, client_in, seen_in, asked_in};
+ghost use Rattle.engine_controller.specs.Rule.{Kept, Makes, Sees, MayCall, IsClientView, client_in, seen_in, asked_in};
 
 use crate::numbers::{Action, Numbers};
-use crate::rule::{Asking, Cell, ControllerView, Exchange, Moved, Seat, Unslowed};
+use crate::rule::{Asking, Cell, ControllerView, Exchange, Moved, Seat};
 use atomic_table::Split;
 use crossbeam_utils::rule::Outcome;
 use std::sync::Wait;
@@ -28,23 +27,6 @@ pub fn load<Picked: Outcome<Numbers, ControllerView>, R: Wait>(
     ensures rule { Picked.then (cell_view seat.old) result result (cell_view seat.new) }
 {
     cell.load_as::<Picked, R>(rt, seat)
-}
-
-/// Reads the numbers, and has asked for a delay with that where nobody slows writes.
-pub fn ask_unslowed<Picked: Asking, R: Wait>(
-    cell: &Cell,
-    rt: &R,
-    seat: &mut Seat,
-    now: u64,
-    bytes: u64,
-) -> Numbers
-    requires picked { Picked.call ≡ Delay now bytes }
-    requires cell { seat.old.table_id ≡ cell.now.table.shared.table_id }
-    requires view { IsClientView (cell_view seat.old) }
-    ensures cell { seat.new.table_id ≡ seat.old.table_id }
-    ensures asks { Asks (Delay now bytes) (cell_view seat.old) result (cell_view seat.new) }
-{
-    load::<Unslowed<Picked>, R>(cell, rt, seat)
 }
 
 /// One exchange, which makes the call where the numbers are still those found before.

@@ -23,7 +23,7 @@ use Rattle.engine_rule.specs.Entries.{SeesMore}
 use Rattle.engine_groups.specs.Meaning.{Meaning}
 use Rattle.engine_groups.specs.declared.engine.GroupEngine.{GroupEngine}
 use Rattle.engine_groups.specs.declared.engine.EngineClient.{EngineClient}
-use Rattle.engine_groups.specs.Clients.{IsClientOf, map_at_opening, account_in, own_commits, told_of}
+use Rattle.engine_groups.specs.Clients.{IsClientOf, IsIdle, map_at_opening, account_in, own_commits, told_of}
 use Rattle.engine_groups.proofs.Answered.{begins_self}
 
 pub on_ok : {A B : Type 0} {P Q : Type 0} (r : Result A B) → (P → Q) → OnOk r P → OnOk r Q
@@ -43,25 +43,48 @@ back_no_delays : (b : Bool) (client : ℕ) (seen : List ControllerCall) (action 
 back_no_delays true client seen action after still h = ends_delays client seen action None after h ∙ (ap (λ (d : Bool). delays_of client seen ++ place_if d (length after - 1)) still ∙ append-nil (delays_of client seen))
 back_no_delays false client seen action after still h = ap (delays_of client) h
 
+-- its envelope went, or came back
+pub envelope_moved : {D T C G S U P : Type 0} {ghosts : Ghosts D} (meaning : Meaning T S U P) (e : GroupEngine D T C G S U P ghosts) (c : EngineClient D T C S U P ghosts) (envelope : Option (Unit {0})) → IsIdle meaning e c → IsIdle meaning e (record c { envelope = envelope })
+envelope_moved meaning e c envelope idle = let s = idle.seated in record {
+  seated = record {
+    is_engine = s.is_engine;
+    writer = s.writer;
+    number = s.number;
+    seat = s.seat;
+    ready = s.ready;
+    seat_number = s.seat_number;
+    start = s.start;
+    table = s.table;
+    pass = s.pass;
+    pass_number = s.pass_number;
+    can_lead = record { lists = s.can_lead.lists; layout = s.can_lead.layout };
+  };
+  out = idle.out;
+  has_asked = idle.has_asked;
+}
+
 module _ {D T C G S U P : Type 0} {ghosts : Ghosts D} (meaning : Meaning T S U P) (e : GroupEngine D T C G S U P ghosts) (c : EngineClient D T C S U P ghosts) (fits : IsClientOf meaning e c) where
   -- its seat has seen more
   pub seat_moved : (seat : S) → meaning.ours e.table seat → Learns (meaning.opening e.table).start (meaning.account c.seat) (meaning.account seat) → IsClientOf meaning e (record c { seat = seat })
-  seat_moved seat our learns = let s = fits.seated in record {
-    seated = record {
-      is_engine = s.is_engine;
-      writer = s.writer;
-      number = s.number;
-      seat = our;
-      ready = record { idle = learns.stage ∙ s.ready.idle; none_launched = learns.launched ∙ s.ready.none_launched };
-      seat_number = learns.number ∙ s.seat_number;
-      start = s.start;
-      table = s.table;
-      pass = s.pass;
-      pass_number = s.pass_number;
-      can_lead = record { lists = s.can_lead.lists; layout = s.can_lead.layout };
+  seat_moved seat our learns = let s = fits.idle.seated in record {
+    idle = record {
+      seated = record {
+        is_engine = s.is_engine;
+        writer = s.writer;
+        number = s.number;
+        seat = our;
+        ready = record { idle = learns.stage ∙ s.ready.idle; none_launched = learns.launched ∙ s.ready.none_launched };
+        seat_number = learns.number ∙ s.seat_number;
+        start = s.start;
+        table = s.table;
+        pass = s.pass;
+        pass_number = s.pass_number;
+        can_lead = record { lists = s.can_lead.lists; layout = s.can_lead.layout };
+      };
+      out = fits.idle.out;
+      has_asked = fits.idle.has_asked;
     };
-    out = fits.out;
-    has_asked = fits.has_asked;
+    envelope = fits.envelope;
   }
 
   pub seat_keeps : (seat : S) → Begins (meaning.account c.seat).seen (meaning.account seat).seen → Keeps (account_in meaning c) (account_in meaning (record c { seat = seat }))
@@ -78,34 +101,37 @@ module _ {D T C G S U P : Type 0} {ghosts : Ghosts D} (meaning : Meaning T S U P
   pub seat_reads : {A B : Type 0} (r : Result A B) (at : A → ℕ) (answers : A → Pairs → Type 0) (seat : S) → IfOk r (λ x. at x ≡ last_of (meaning.opening e.table).start (meaning.account seat).seen)
       → IfOk r (λ x. answers x (map_after (meaning.opening e.table).base (meaning.account seat).seen)) → IfOk r (λ x. ReadsAtEnd (at x) (answers x) (account_in meaning (record c { seat = seat })))
   seat_reads (Ok x) at answers seat is answer = record {
-    at_is = is ∙ ap (λ (start : ℕ). last_of start (meaning.account seat).seen) (sym fits.seated.start);
-    answer = subst (answers x) (seen_of_all (account_in meaning (record c { seat = seat })).seen (meaning.opening e.table).base (ap (map_at_opening meaning) fits.seated.table)) answer;
+    at_is = is ∙ ap (λ (start : ℕ). last_of start (meaning.account seat).seen) (sym fits.idle.seated.start);
+    answer = subst (answers x) (seen_of_all (account_in meaning (record c { seat = seat })).seen (meaning.opening e.table).base (ap (map_at_opening meaning) fits.idle.seated.table)) answer;
   }
   seat_reads (Err x) at answers seat is answer = tt
 
   -- its pass has seen more, with no delay of its own
   pub pass_moved : (pass : Pass) → IsPassOf e.controller pass → pass_client pass ≡ pass_client c.pass → delays_of c.number (seen_by pass) ≡ delays_of c.number (seen_by c.pass) → IsClientOf meaning e (record c { pass = pass })
-  pass_moved pass own same delays = let s = fits.seated in record {
-    seated = record {
-      is_engine = s.is_engine;
-      writer = s.writer;
-      number = s.number;
-      seat = s.seat;
-      ready = s.ready;
-      seat_number = s.seat_number;
-      start = s.start;
-      table = s.table;
-      pass = own;
-      pass_number = same ∙ s.pass_number;
-      can_lead = record { lists = s.can_lead.lists; layout = s.can_lead.layout };
+  pass_moved pass own same delays = let s = fits.idle.seated in record {
+    idle = record {
+      seated = record {
+        is_engine = s.is_engine;
+        writer = s.writer;
+        number = s.number;
+        seat = s.seat;
+        ready = s.ready;
+        seat_number = s.seat_number;
+        start = s.start;
+        table = s.table;
+        pass = own;
+        pass_number = same ∙ s.pass_number;
+        can_lead = record { lists = s.can_lead.lists; layout = s.can_lead.layout };
+      };
+      out = fits.idle.out;
+      has_asked = subst (AllByRecursion (λ (place : ℕ). (x : Commit) × In x (own_commits c.number (told_of c)) × (place_of x ≡ place))) (sym delays) fits.idle.has_asked;
     };
-    out = fits.out;
-    has_asked = subst (AllByRecursion (λ (place : ℕ). (x : Commit) × In x (own_commits c.number (told_of c)) × (place_of x ≡ place))) (sym delays) fits.has_asked;
+    envelope = fits.envelope;
   }
 
   -- the tokens, by the client's number
   pub same_tokens : asked_by c.pass ≡ tokens_of c.number (seen_by c.pass)
-  same_tokens = ap (λ (k : ℕ). tokens_of k (seen_by c.pass)) fits.seated.pass_number
+  same_tokens = ap (λ (k : ℕ). tokens_of k (seen_by c.pass)) fits.idle.seated.pass_number
 
   -- it saw and asked nothing
   pub pass_keeps : (pass : Pass) → seen_by pass ≡ seen_by c.pass → Keeps (account_in meaning c) (account_in meaning (record c { pass = pass }))
@@ -121,13 +147,13 @@ module _ {D T C G S U P : Type 0} {ghosts : Ghosts D} (meaning : Meaning T S U P
   -- it made a call that is no delay
   pub no_delays : (pass : Pass) (action : Action) (told : Option Look) → EndsWith (pass_client c.pass) (seen_by c.pass) action told (seen_by pass) → is_delay action ≡ false → delays_of c.number (seen_by pass) ≡ delays_of c.number (seen_by c.pass)
   no_delays pass action told ends still =
-      let own = subst (λ (k : ℕ). EndsWith k (seen_by c.pass) action told (seen_by pass)) fits.seated.pass_number ends in
+      let own = subst (λ (k : ℕ). EndsWith k (seen_by c.pass) action told (seen_by pass)) fits.idle.seated.pass_number ends in
       ends_delays c.number (seen_by c.pass) action told (seen_by pass) own ∙ (ap (λ (b : Bool). delays_of c.number (seen_by c.pass) ++ place_if b (length (seen_by pass) - 1)) still ∙ append-nil (delays_of c.number (seen_by c.pass)))
 
   -- it took a token or gave one back
   module _ (pass : Pass) (action : Action) (ends : EndsWith (pass_client c.pass) (seen_by c.pass) action None (seen_by pass)) where
     ends_own : EndsWith c.number (seen_by c.pass) action None (seen_by pass)
-    ends_own = subst (λ (k : ℕ). EndsWith k (seen_by c.pass) action None (seen_by pass)) fits.seated.pass_number ends
+    ends_own = subst (λ (k : ℕ). EndsWith k (seen_by c.pass) action None (seen_by pass)) fits.idle.seated.pass_number ends
 
     pub pass_asks : token_in action ≡ action ∷ [] → Asks (account_in meaning c) action (account_in meaning (record c { pass = pass }))
     pass_asks is =
@@ -165,14 +191,14 @@ module _ {D T C G S U P : Type 0} {ghosts : Ghosts D} (meaning : Meaning T S U P
         (back_no_delays b k middle unslow (seen_by pass) refl s ∙ back_no_delays a k (seen_by c.pass) unstop middle refl f)
 
     pub end_moved : IsPassOf e.controller pass → pass_client pass ≡ pass_client c.pass → IsClientOf meaning e (record c { pass = pass })
-    end_moved own same = pass_moved pass own same (back_delays (pass_client c.pass) fits.seated.pass_number first second)
+    end_moved own same = pass_moved pass own same (back_delays (pass_client c.pass) fits.idle.seated.pass_number first second)
 
     pub end_gives : pass_client pass ≡ pass_client c.pass → asked_by pass ≡ asked_by c.pass ++ given_back (asked_by c.pass) → GivesBack (account_in meaning c) (account_in meaning (record c { pass = pass }))
     end_gives same tokens = record {
       number = refl;
       mine = refl;
       ends = refl;
-      asked = ap (λ (k : ℕ). tokens_of k (seen_by pass)) (sym (same ∙ fits.seated.pass_number)) ∙ (tokens ∙ ap (λ (l : List Action). l ++ given_back l) same_tokens);
+      asked = ap (λ (k : ℕ). tokens_of k (seen_by pass)) (sym (same ∙ fits.idle.seated.pass_number)) ∙ (tokens ∙ ap (λ (l : List Action). l ++ given_back l) same_tokens);
       attempts = refl;
       seen = record {
         start = refl;
@@ -185,7 +211,7 @@ module _ {D T C G S U P : Type 0} {ghosts : Ghosts D} (meaning : Meaning T S U P
   -- its pass has seen more of others' calls
   module _ (pass : Pass) (goes : GoesOn (pass_client c.pass) (seen_by c.pass) (seen_by pass)) where
     goes_own : GoesOn c.number (seen_by c.pass) (seen_by pass)
-    goes_own = subst (λ (k : ℕ). GoesOn k (seen_by c.pass) (seen_by pass)) fits.seated.pass_number goes
+    goes_own = subst (λ (k : ℕ). GoesOn k (seen_by c.pass) (seen_by pass)) fits.idle.seated.pass_number goes
 
     pub learn_moved : IsPassOf e.controller pass → pass_client pass ≡ pass_client c.pass → IsClientOf meaning e (record c { pass = pass })
     learn_moved own same = pass_moved pass own same (goes_delays c.number (seen_by c.pass) (seen_by pass) goes_own)

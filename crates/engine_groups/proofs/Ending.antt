@@ -59,7 +59,7 @@ module _ {D T C G S U P : Type 0} {ghosts : Ghosts D} (meaning : Meaning T S U P
 
   pub is_engine : IsEngine meaning e
   is_engine = elim (slice_get_cases cs 0).1 [
-    | inl there ↦ (fit 0 there.0 there.2).seated.is_engine
+    | inl there ↦ (fit 0 there.0 there.2).idle.seated.is_engine
     | inr gone ↦ absurd (let some = e.list.some in let n = all.number_of in let none = gone.0 in omega (arith, some, n, none))
   ]
 
@@ -68,7 +68,7 @@ module _ {D T C G S U P : Type 0} {ghosts : Ghosts D} (meaning : Meaning T S U P
 
   out_of : (xs : List (EngineClient D T C S U P ghosts)) → AllByRecursion (IsClientOf meaning e) xs → AllOut (table_of e.list) (map writer_in xs)
   out_of [] h = tt
-  out_of (c ∷ xs) h = (h.0.seated.writer.0, h.0.out, out_of xs h.1)
+  out_of (c ∷ xs) h = (h.0.idle.seated.writer.0, h.0.idle.out, out_of xs h.1)
 
   pub all_out : AllOut (table_of e.list) (map writer_in cs)
   all_out = out_of cs all_fit
@@ -81,20 +81,20 @@ module _ {D T C G S U P : Type 0} {ghosts : Ghosts D} (meaning : Meaning T S U P
   pub all_there : AllThere (clients_of e.list) (map writer_in cs)
   all_there k low high = elim (slice_get_cases cs (k - 1)).1 [
     | inl there ↦ (
-        let is : there.0.writer.client ≡ k = (fit (k - 1) there.0 there.2).seated.number ∙ ((all.each (k - 1) there.0 there.2).1 ∙ (let n : k - 1 + 1 ≡ k = omega (arith, low) in n)) in
+        let is : there.0.writer.client ≡ k = (fit (k - 1) there.0 there.2).idle.seated.number ∙ ((all.each (k - 1) there.0 there.2).1 ∙ (let n : k - 1 + 1 ≡ k = omega (arith, low) in n)) in
         subst (λ (j : ℕ). HasClient j (map writer_in cs)) is (has_at cs (k - 1) there.0 there.2))
     | inr gone ↦ absurd (let a = gone.0 in let n = all.number_of in omega (arith, a, n, low, high))
   ]
 
   pub seats_ready : (seat : S) → In seat (map seat_in cs) → meaning.ours e.table seat × IsReady (meaning.account seat)
-  seats_ready seat is = let t = from_map seat_in (IsClientOf meaning e) cs all_fit seat is in (subst (λ (s : S). meaning.ours e.table s × IsReady (meaning.account s)) t.2 (t.1.seated.seat, t.1.seated.ready))
+  seats_ready seat is = let t = from_map seat_in (IsClientOf meaning e) cs all_fit seat is in (subst (λ (s : S). meaning.ours e.table s × IsReady (meaning.account s)) t.2 (t.1.idle.seated.seat, t.1.idle.seated.ready))
 
   pass_at : (i : ℕ) (p : Pass) → slice_get (map pass_in cs) i ≡ Some p → IsPassOf e.controller p × (pass_client p ≡ i + 1)
   pass_at i p at = elim (slice_get_cases cs i).1 [
     | inl there ↦ (
         let f = fit i there.0 there.2 in
         let is : pass_in there.0 ≡ p = cc (sym (slice_get-map pass_in cs i) ∙ at, ap (option_map pass_in) there.2) in
-        subst (λ (x : Pass). IsPassOf e.controller x × (pass_client x ≡ i + 1)) is (f.seated.pass, f.seated.pass_number ∙ (all.each i there.0 there.2).1))
+        subst (λ (x : Pass). IsPassOf e.controller x × (pass_client x ≡ i + 1)) is (f.idle.seated.pass, f.idle.seated.pass_number ∙ (all.each i there.0 there.2).1))
     | inr gone ↦ absurd (cc (sym (slice_get-map pass_in cs i) ∙ at, ap (option_map pass_in) gone.1))
   ]
 
@@ -137,14 +137,14 @@ module _ {D T C G S U P : Type 0} {ghosts : Ghosts D} (meaning : Meaning T S U P
           let f = fit i c at in
           let number : c.number ≡ i + 1 = (all.each i c at).1 in
           let own : own_commits c.number (answers_told c.writer) ≡ commits_of (i + 1) (map commit_of handled) =
-          ap (own_commits c.number) (sym (ap (λ k. of k handled) (sym f.seated.number) ∙ merged_at handled cs merged i c at)) ∙ (sym (commits_told c.number handled) ∙ ap (λ k. commits_of k (map commit_of handled)) number) in
+          ap (own_commits c.number) (sym (ap (λ k. of k handled) (sym f.idle.seated.number) ∙ merged_at handled cs merged i c at)) ∙ (sym (commits_told c.number handled) ∙ ap (λ k. commits_of k (map commit_of handled)) number) in
           record {
             seen = (meaning.account c.seat).seen;
             begins = seen.each (meaning.account c.seat) (in_map meaning.account c.seat (map seat_in cs) (in_map seat_in c cs (in_at cs i c at)));
             known = seen_by c.pass;
             goes_on = whole.each i c.pass (slice_get-map pass_in cs i ∙ ap (option_map pass_in) at);
-            has_asked = subst (λ (z : ℕ × List Commit). HasAsked z.0 z.1 (seen_by c.pass)) (λ j. (number j, own j)) f.has_asked;
-            is = (λ j. account_of (f.seated.start j) (map_at_opening meaning (f.seated.table j)) (number j) (own j) (meaning.account c.seat).seen (seen_by c.pass));
+            has_asked = subst (λ (z : ℕ × List Commit). HasAsked z.0 z.1 (seen_by c.pass)) (λ j. (number j, own j)) f.idle.has_asked;
+            is = (λ j. account_of (f.idle.seated.start j) (map_at_opening meaning (f.idle.seated.table j)) (number j) (own j) (meaning.account c.seat).seen (seen_by c.pass));
           }
 
       -- each client's meaning.account is its part of all

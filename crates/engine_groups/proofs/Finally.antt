@@ -54,7 +54,7 @@ module _ {D T C S U P : Type 0} {ghosts : Ghosts D} (meaning : Meaning T S U P) 
           our = tt;
           calls = path.calls;
           wrote = path.wrote;
-          consistent = consistent_served about.start about.clients about.group_bytes (seen_by_note leadership.asked) (map commit_of handled) leadership.path.last (fault_of leadership.path.log.value) published (meaning.history s.0) path.calls path.consistent accepted;
+          consistent = consistent_served about.start about.clients about.group_bytes (seen_by_note leadership.asked) (map commit_of handled) leadership.held.value.path.last (fault_of leadership.held.value.path.log) published (meaning.history s.0) path.calls path.consistent accepted;
         };
       }
 

@@ -58,7 +58,7 @@ module _ {D T C S U P : Type 0} {ghosts : Ghosts D} where
 
   -- the log, with the note, as it is leadership
   abbrev pub LogIn : EngineAtOpening D T C ghosts → Leadership D T C S U P ghosts → List (List MemberVersions) → List (Handling Request Answer) → Type 0
-  LogIn about leadership published handled = LogStandsFor about.opened.value about.start about.clients about.group_bytes (seen_by_note leadership.asked) leadership.path.log.value published leadership.path.last handled
+  LogIn about leadership published handled = LogStandsFor about.opened.value about.start about.clients about.group_bytes (seen_by_note leadership.asked) leadership.held.value.path.log published leadership.held.value.path.last handled
 
   module _ (about : EngineAtOpening D T C ghosts) (leadership : Leadership D T C S U P ghosts) (published : List (List MemberVersions)) where
     -- what holds once a leader has answered its group
@@ -66,7 +66,7 @@ module _ {D T C S U P : Type 0} {ghosts : Ghosts D} where
       pub is_paid : Paid own group ys
       pub path : LogIn about leadership published (seen ++ all_answers own is_paid.own_reply is_paid.gs)
       pub kept : AreHandled about.controller.value about.opened.value about.start (seen ++ all_answers own is_paid.own_reply is_paid.gs)
-      pub number : leadership.path.last ≡ last_run run about.start (seen ++ all_answers own is_paid.own_reply is_paid.gs)
+      pub number : leadership.held.value.path.last ≡ last_run run about.start (seen ++ all_answers own is_paid.own_reply is_paid.gs)
 
     kept_now : (seen new : List (Handling Request Answer)) → LogIn about leadership published (seen ++ new) → AreHandled about.controller.value about.opened.value about.start seen
         → AllByRecursion HandsBack new → AllByRecursion (ShowsDelay about.controller.value) new → AreHandled about.controller.value about.opened.value about.start (seen ++ new)
@@ -74,7 +74,7 @@ module _ {D T C S U P : Type 0} {ghosts : Ghosts D} where
       answered = path.consistent.answered;
       handed_back = all_append HandsBack seen new old.handed_back handed_back;
       shown = all_append (ShowsDelay about.controller.value) seen new old.shown shown;
-      written = record { calls = path.calls; log = leadership.path.log.value; wrote = path.wrote; worked = w.worked; lost = w.lost; both = w.both; parts = w.parts };
+      written = record { calls = path.calls; log = leadership.held.value.path.log; wrote = path.wrote; worked = w.worked; lost = w.lost; both = w.both; parts = w.parts };
     }
 
     pub has_led : (own : QueuedWriter Request) (group : List (QueuedWriter Request)) (seen : List (Handling Request Answer)) (xs : List (ℕ × Request)) (ys : List (ℕ × Answer)) → xs ≡ asks own group → InOrder xs ys

@@ -16,7 +16,7 @@ use Rattle.engine_groups.specs.declared.leader.Leadership.{Leadership}
 use Rattle.engine_parts.specs.declared.layout.Layout.{Layout}
 use Rattle.engine_parts.specs.declared.requests.Request.{Request}
 use Rattle.engine_parts.specs.declared.requests.Answer.{Answer}
-use Rattle.engine_groups.specs.Clients.{IsClientOf, opened_log, own_commits}
+use Rattle.engine_groups.specs.Clients.{IsIdle, opened_log, own_commits}
 use Rattle.engine_parts.specs.Layout.{IsLaid, IsRoomy}
 use Rattle.engine_groups.specs.Leaving.{HasAnswered, IsToLeave}
 use Rattle.engine_groups.proofs.Leads.{of_engine}
@@ -28,7 +28,7 @@ module _ {D T C G S U P : Type 0} {ghosts : Ghosts D} (meaning : Meaning T S U P
     (number start : ℕ) (mine : List (Request × Answer)) (own : QueuedWriter Request) (seen : List (Handling Request Answer)) (w : EngineClient D T C S U P ghosts) (leadership : Leadership D T C S U P ghosts) (l : IsToLeave meaning e number start mine own seen w leadership) where
   pub left_client : (w' : EngineClient D T C S U P ghosts) → w'.number ≡ w.number → w'.start ≡ w.start → w'.table ≡ w.table → Belongs e.list w'.writer → client_of w'.writer ≡ client_of w.writer → IsOut w'.writer → answers_told w'.writer ≡ mine ++ (own.asked, l.p) ∷ []
       → meaning.ours e.table w'.seat → IsReady (meaning.account w'.seat) → (meaning.account w'.seat).number ≡ (meaning.account w.seat).number → w'.pass ≡ w.pass → AreReady (clients_of e.list) w'.lists → IsRoomy (clients_of e.list) w'.layout
-      → IsClientOf meaning e w'
+      → IsIdle meaning e w'
   left_client w' same_number same_start same_table belongs client out told_now seat ready seat_number pass lists layout =
       let q = l.seats in record {
         seated = record {

@@ -1,5 +1,5 @@
 -- An engine and its clients, and a client's account.
-use Rattle.std.specs.Prelude.{◌≡◌, ℕ, ◌<◌, ◌≤◌, List, [], ◌∷◌, ◌++◌, None, vec_capacity}
+use Rattle.std.specs.Prelude.{◌≡◌, ℕ, ◌<◌, ◌≤◌, List, [], ◌∷◌, ◌++◌, None, Some, vec_capacity}
 use Rattle.base_devices.specs.declared.disk.Disk.{Ghosts}
 use Rattle.model_base.specs.declared.limits.TheConstants.{MAX_SIZE}
 use Rattle.model_base.specs.History.{max_sequence}
@@ -89,13 +89,20 @@ module _ {Device Versions Time Seat Turn Part : Type 0} {ghosts : Ghosts Device}
         pub pass_number : pass_client c.pass ≡ c.number
         pub can_lead : CanLead (clients_of e.list) c
 
-    -- it is a client of the engine, between two of its calls
-    pub record IsClientOf {Watch : Type 0} (e : GroupEngine Device Versions Time Watch Seat Turn Part ghosts)
+    -- it is a client of the engine that stands in no list, wherever its envelope is
+    pub record IsIdle {Watch : Type 0} (e : GroupEngine Device Versions Time Watch Seat Turn Part ghosts)
         (c : EngineClient Device Versions Time Seat Turn Part ghosts) : Type 0
       where
         pub seated : IsSeated e c
         pub out : IsOut c.writer
         pub has_asked : HasAsked c.number (own_commits c.number (told_of c)) (seen_by c.pass)
+
+    -- it is a client of the engine, between two of its calls
+    pub record IsClientOf {Watch : Type 0} (e : GroupEngine Device Versions Time Watch Seat Turn Part ghosts)
+        (c : EngineClient Device Versions Time Seat Turn Part ghosts) : Type 0
+      where
+        pub idle : IsIdle e c
+        pub envelope : c.envelope ≡ Some tt
 
     abbrev pub account_in : EngineClient Device Versions Time Seat Turn Part ghosts → Account
     account_in c = account_of c.start (map_at_opening meaning c.table.value) c.number (own_commits c.number (told_of c))

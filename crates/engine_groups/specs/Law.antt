@@ -45,7 +45,7 @@ pub record LeadershipStandsFor {Device Versions Time Seat Turn Part : Type 0} {g
   pub note : IsNoteOf about.controller.value leadership.asked
   pub published : List (List MemberVersions)
   pub path : LogStandsFor about.opened.value about.start about.clients about.group_bytes (seen_by_note leadership.asked)
-      leadership.path.log.value published leadership.path.last handled
+      leadership.held.value.path.log published leadership.held.value.path.last handled
   pub turn : TurnIs meaning about.table.value about.pipelined published leadership.turn
 
 abbrev pub RightStandsFor : {Device Versions Time Seat Turn Part : Type 0} {ghosts : Ghosts Device}
@@ -62,7 +62,7 @@ pub record LeadershipIsStaged {Device Versions Time Seat Turn Part : Type 0} {gh
     (handled : List (Handling Request Answer)) : Type 0 where
   pub note : IsNoteOf about.controller.value leadership.asked
   pub path : LogStandsFor about.opened.value about.start about.clients about.group_bytes (seen_by_note leadership.asked)
-      leadership.path.log.value (published_with end parts published) leadership.path.last handled
+      leadership.held.value.path.log (published_with end parts published) leadership.held.value.path.last handled
   pub turn : TurnIs meaning about.table.value about.pipelined published leadership.turn
 
 -- What the list's law is about, and what its leaders keep
@@ -77,4 +77,4 @@ module _ {Device Versions Time Seat Turn Part : Type 0} {ghosts : Ghosts Device}
       (Right Versions Seat Turn Part) (EngineAtOpening Device Versions Time ghosts)
       → Leadership Device Versions Time Seat Turn Part ghosts → List (Handling Request Answer) → Type 0
   law_in meaning list = logs_from (λ l hs. LeadershipStandsFor meaning (about_of list) l hs) (kept_in list)
-      (λ l. l.path.last) run_of (start_of list)
+      (λ l. l.held.value.path.last) run_of (start_of list)

@@ -65,7 +65,7 @@ module _ {Device Versions Time Watch Seat Turn Part : Type 0} {ghosts : Ghosts D
           seen
       pub kept : AreHandled (about_of e.list).controller.value (about_of e.list).opened.value (about_of e.list).start
           (seen ++ all_answers own p gs)
-      pub last : leadership.path.last ≡ last_run run_of (start_of e.list) (seen ++ all_answers own p gs)
+      pub last : leadership.held.value.path.last ≡ last_run run_of (start_of e.list) (seen ++ all_answers own p gs)
       pub own_now : of number (seen ++ all_answers own p gs) ≡ mine ++ (own.asked, p) ∷ []
       pub requests : TakesRequests (clients_of e.list) w.lists.requests
       pub replies_few : vec_len w.lists.replies.list ≤ clients_of e.list

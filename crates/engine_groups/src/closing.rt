@@ -8,11 +8,11 @@ ghost use Rattle.engine_groups.specs.Clients.{writer_in, seat_in, pass_in};
 
 use crate::engine::{ClosingRoom, EngineClient, GroupEngine};
 use crate::laws;
-use crate::leader::{Leadership, Right, one_turn};
+use crate::leader::{Held, Leadership, Right, one_turn};
 use base_devices::{Clock, Disk};
 use engine_calls::{Clients, Closed, Gate};
 use engine_controller::{Controller, Note, Pass, Passes};
-use engine_parts::{Answer, LogPath, Request, take_first};
+use engine_parts::{LogPath, SealedAnswer, SealedRequest, take_first};
 use line_writers::Writer;
 use log_writer::LogWriter;
 use std::rt;
@@ -23,7 +23,9 @@ use table_tree::{Nodes, Parts};
 /// Takes the clients apart.
 pub(crate) fn part_all<Device: Disk, Versions: Table<Nodes, Parts>, Time>(
     clients: &mut Vec<EngineClient<Device, Versions, Time>>,
-    writers: &mut Vec<Writer<Request, Answer, Leadership<Device, Versions, Time>, Right<Versions>>>,
+    writers: &mut Vec<
+        Writer<SealedRequest, SealedAnswer, Leadership<Device, Versions, Time>, Right<Versions>>,
+    >,
     seats: &mut Vec<Versions::Seat>,
     passes: &mut Vec<Pass>,
 )
@@ -47,6 +49,7 @@ pub(crate) fn part_all<Device: Disk, Versions: Table<Nodes, Parts>, Time>(
             pass,
             lists: _,
             layout: _,
+            envelope: _,
         } = client;
         writers.push_reserved(writer);
         seats.push_reserved(seat);
@@ -125,12 +128,11 @@ impl<
         part_all(&mut clients, &mut writers, &mut seats, &mut passes);
         clients.destroy_empty();
         let (leadership, right) = list.close(writers);
-        let Leadership {
+        let Leadership { held, turn, asked } = leadership;
+        let Held {
             path: LogPath { log, last },
-            turn,
             clock: _,
-            asked,
-        } = leadership;
+        } = Box::into_inner(held);
         let Right { turn: apart } = right;
         let turn = one_turn(turn, apart);
         let passes = Passes {
@@ -143,9 +145,6 @@ impl<
             clients: seats,
         });
         laws::closings();
-        Closed {
-            log: Box::into_inner(log),
-            last,
-        }
+        Closed { log, last }
     }
 }

@@ -3,7 +3,7 @@
 use crate::leader::{Leadership, Right};
 use base_devices::Disk;
 use engine_controller::{Controller, Others, Pass};
-use engine_parts::{Answer, Layout, Request};
+use engine_parts::{Envelope, Layout, SealedAnswer, SealedRequest};
 use line_writers::{Lists, Writer, WriterList};
 use std::alloc::Global;
 use std::snapshot::Snapshot;
@@ -13,8 +13,8 @@ use table_tree::{Nodes, Parts};
 /// A write path whose clients write in groups.
 pub struct GroupEngine<Device: Disk, Versions: Table<Nodes, Parts>, Time, Watch> {
     pub(crate) list: WriterList<
-        Request,
-        Answer,
+        SealedRequest,
+        SealedAnswer,
         Leadership<Device, Versions, Time>,
         Right<Versions>,
     >,
@@ -31,18 +31,25 @@ pub struct EngineClient<Device: Disk, Versions: Table<Nodes, Parts>, Time> {
     pub(crate) start: u64,
     /// The table as it was when the client was made. Its opening says over which map the client reads.
     pub(crate) table: Snapshot<Versions>,
-    pub(crate) writer: Writer<Request, Answer, Leadership<Device, Versions, Time>, Right<Versions>>,
+    pub(crate) writer: Writer<
+        SealedRequest,
+        SealedAnswer,
+        Leadership<Device, Versions, Time>,
+        Right<Versions>,
+    >,
     pub(crate) seat: Versions::Seat,
     pub(crate) pass: Pass,
-    pub(crate) lists: Lists<Request, Answer>,
+    pub(crate) lists: Lists<SealedRequest, SealedAnswer>,
     pub(crate) layout: Layout,
+    /// It is here between the client's writes, and away with the request until the answer comes.
+    pub(crate) envelope: Option<Envelope>,
 }
 
 /// The room that closing takes, and what shows there that nobody but the clients called the controller. No seat can be
 /// shared by threads, so that the room isn't the engine's.
 pub struct ClosingRoom<Device: Disk, Versions: Table<Nodes, Parts>, Time> {
     pub(crate) writers: Vec<
-        Writer<Request, Answer, Leadership<Device, Versions, Time>, Right<Versions>>,
+        Writer<SealedRequest, SealedAnswer, Leadership<Device, Versions, Time>, Right<Versions>>,
     >,
     pub(crate) seats: Vec<Versions::Seat>,
     pub(crate) passes: Vec<Pass>,

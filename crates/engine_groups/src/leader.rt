@@ -5,7 +5,7 @@ ghost use Rattle.engine_groups.specs.Turns.{turn_of};
 
 use base_devices::Disk;
 use engine_controller::{Controller, Note};
-use engine_parts::{Answer, LogPath, Request};
+use engine_parts::{LogPath, SealedAnswer, SealedRequest};
 use line_rule::LogOfGroups;
 use line_writers::PipelinedRole;
 use log_writer::LogWriter;
@@ -26,13 +26,19 @@ pub struct EngineAtOpening<Device: Disk, Versions, Time> {
     pub pipelined: bool,
 }
 
-/// What a leader takes over from the one before: the path of its group, the right to launch it where there is one
-/// stage, the clock, and what the one before had seen of the write controller.
+/// What a leader takes over from the one before: the path of its group with the clock, the right to launch it where
+/// there is one stage, and what the one before had seen of the write controller. Path and clock lie in a box: a slot of
+/// the line is as large as the largest that it may hold, and each client's request and answer go through one.
 pub struct Leadership<Device: Disk, Versions: Table<Nodes, Parts>, Time> {
-    pub path: LogPath<Device>,
+    pub held: Box<Held<Device, Time>>,
     pub turn: Option<Versions::Turn>,
-    pub clock: Time,
     pub asked: Note,
+}
+
+/// What goes from leader to leader in one box.
+pub struct Held<Device: Disk, Time> {
+    pub path: LogPath<Device>,
+    pub clock: Time,
 }
 
 /// The right to launch groups, where that is a stage of its own.
@@ -42,7 +48,7 @@ pub struct Right<Versions: Table<Nodes, Parts>> {
 
 /// The right to launch, which a leader of the second list was given.
 pub(crate) fn turn_in<Device: Disk, Versions: Table<Nodes, Parts>, Time>(
-    role: PipelinedRole<Leadership<Device, Versions, Time>, Right<Versions>, Answer>,
+    role: PipelinedRole<Leadership<Device, Versions, Time>, Right<Versions>, SealedAnswer>,
 ) -> Versions::Turn
     requires { (u : Versions.Turn) × (turn_of role ≡ Some u) }
     ensures { turn_of role ≡ Some result }
@@ -67,8 +73,8 @@ pub(crate) fn one_turn<Turn>(with_log: Option<Turn>, apart: Option<Turn>) -> Tur
 }
 
 impl<Device: Disk, Versions: Table<Nodes, Parts>, Time> LogOfGroups<
-    Request,
-    Answer,
+    SealedRequest,
+    SealedAnswer,
     Right<Versions>,
 > for Leadership<Device, Versions, Time> {
     type About = EngineAtOpening<Device, Versions, Time>;
@@ -84,9 +90,9 @@ impl<Device: Disk, Versions: Table<Nodes, Parts>, Time> LogOfGroups<
 
     ghost lawful = { λ a q. IsNoted a.controller.value q };
 
-    ghost number_of = { λ l. l.path.last };
+    ghost number_of = { λ l. l.held.value.path.last };
 
     fn number(&self) -> u64 {
-        self.path.last
+        self.held.path.last
     }
 }

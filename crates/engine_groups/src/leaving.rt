@@ -7,7 +7,7 @@ ghost use Rattle.line_rule.specs.declared.view.Handling.{Handling};
 ghost use Rattle.line_writers.specs.Seats.{piped_of};
 ghost use Rattle.engine_parts.specs.declared.requests.Request.{Request as Asked};
 ghost use Rattle.engine_parts.specs.declared.requests.Answer.{Answer as Told};
-ghost use Rattle.engine_groups.specs.Clients.{IsClientOf, told_of, opened_log};
+ghost use Rattle.engine_groups.specs.Clients.{IsIdle, told_of, opened_log};
 ghost use Rattle.engine_groups.specs.Leaving.{HasAnswered, IsFlat, IsToHandOn, IsToLeave};
 
 use crate::engine::{EngineClient, GroupEngine};
@@ -15,7 +15,7 @@ use crate::leader::{Leadership, Right, turn_in};
 use base_devices::{Clock, Disk};
 use engine_calls::Gate;
 use engine_memtable::lead;
-use engine_parts::Answer;
+use engine_parts::SealedAnswer;
 use std::rt;
 use std::sync::Wait;
 use table_calls::Table;
@@ -32,13 +32,13 @@ impl<
         &self,
         client: &mut EngineClient<Device, Versions, Time>,
         leadership: Leadership<Device, Versions, Time>,
-    ) -> Answer
+    ) -> SealedAnswer
         requires leaves { (number start : ℕ) × (mine : List (Asked × Told)) × (own : QueuedWriter Asked)
             × (seen : List (Handling Asked Told))
             × (l : IsToLeave Versions.Table self.now number start mine own seen client.old leadership)
             × IsFlat Versions.Table self.now number start mine own seen client.old leadership l }
         requires parts { client.old.layout.parts.parts ≡ [] }
-        ensures fits { IsClientOf Versions.Table self.now client.new }
+        ensures fits { IsIdle Versions.Table self.now client.new }
         ensures answered { (number start : ℕ) (mine : List (Asked × Told)) (own : QueuedWriter Asked)
             (seen : List (Handling Asked Told))
             → IsToLeave Versions.Table self.now number start mine own seen client.old leadership
@@ -66,12 +66,12 @@ impl<
         client: &mut EngineClient<Device, Versions, Time>,
         leadership: Leadership<Device, Versions, Time>,
         end: u64,
-    ) -> Answer
+    ) -> SealedAnswer
         requires piped { piped_of self.now.list ≡ true }
         requires leaves { (number start : ℕ) × (mine : List (Asked × Told)) × (own : QueuedWriter Asked)
             × (seen : List (Handling Asked Told))
             × IsToHandOn Versions.Table self.now number start mine own seen client.old leadership end }
-        ensures fits { IsClientOf Versions.Table self.now client.new }
+        ensures fits { IsIdle Versions.Table self.now client.new }
         ensures answered { (number start : ℕ) (mine : List (Asked × Told)) (own : QueuedWriter Asked)
             (seen : List (Handling Asked Told))
             → IsToHandOn Versions.Table self.now number start mine own seen client.old leadership end

@@ -36,5 +36,5 @@ mod writing;
 
 pub use engine::{ClosingRoom, EngineClient, GroupEngine};
 pub use engine_calls::{Clients, Closed, Receipt, Refused};
-pub use leader::{EngineAtOpening, Leadership, Right};
+pub use leader::{EngineAtOpening, Held, Leadership, Right};
 pub use opening::OpenRefused;

@@ -17,11 +17,11 @@ ghost use Rattle.engine_groups.specs.AtStart.{AreSeatsAtStart, ArePassesAtStart,
 
 use crate::engine::{ClosingRoom, EngineClient, GroupEngine};
 use crate::laws;
-use crate::leader::{EngineAtOpening, Leadership, Right, one_turn};
+use crate::leader::{EngineAtOpening, Held, Leadership, Right, one_turn};
 use base_devices::{Clock, Disk};
 use engine_calls::{Clients, Gate};
 use engine_controller::{Controller, Note, Pass, Passes};
-use engine_parts::{Answer, Layout, LogPath, Request};
+use engine_parts::{Envelope, Layout, LogPath, SealedAnswer, SealedRequest};
 use line_rule::Start;
 use line_writers::{Lists, Writer, WriterList};
 use log_writer::LogWriter;
@@ -130,21 +130,24 @@ fn given_back<Device: Disk, Versions: Table<Nodes, Parts>, Time: Drop, Watch>(
 ) -> OpenRefused<Device, Versions, Time, Watch>
     requires turn { ((u : Versions.Turn) × (leadership.turn ≡ Some u) × (right.turn ≡ None))
         ⊎ ((u : Versions.Turn) × (leadership.turn ≡ None) × (right.turn ≡ Some u)) }
-    ensures same { (result.log ≡ leadership.path.log.value) × (result.clock ≡ leadership.clock) × (result.table ≡ table)
-        × (result.seats.clients ≡ seats) × (result.gate ≡ gate) }
+    ensures same { (result.log ≡ leadership.held.value.path.log) × (result.clock ≡ leadership.held.value.clock)
+        × (result.table ≡ table) × (result.seats.clients ≡ seats) × (result.gate ≡ gate) }
     ensures turn { ((leadership.turn ≡ Some result.seats.turn) × (right.turn ≡ None))
         ⊎ ((leadership.turn ≡ None) × (right.turn ≡ Some result.seats.turn)) }
 {
     let Leadership {
-        path: LogPath { log, last: _ },
+        held,
         turn,
-        clock,
         asked: _,
     } = leadership;
+    let Held {
+        path: LogPath { log, last: _ },
+        clock,
+    } = Box::into_inner(held);
     let Right { turn: apart } = right;
     let turn = one_turn(turn, apart);
     OpenRefused {
-        log: Box::into_inner(log),
+        log,
         clock,
         table,
         seats: Seats {
@@ -206,27 +209,35 @@ impl<
         let Ok(layouts) = Layout::for_all(alloc, count) else {
             return Err(OpenRefused::of(log, clock, table, seats, gate));
         };
+        let Ok(envelopes) = Envelope::for_all(alloc, count) else {
+            return Err(OpenRefused::of(log, clock, table, seats, gate));
+        };
         let Ok(clients) = Vec::with_capacity(alloc, count as usize) else {
             return Err(OpenRefused::of(log, clock, table, seats, gate));
         };
-        let log = match Box::new(alloc, log) {
-            Ok(log) => log,
-            Err(AllocFailed { value: log }) => {
+        let last = options.last;
+        let path = LogPath { log, last };
+        let held = match Box::new(alloc, Held { path, clock }) {
+            Ok(held) => held,
+            Err(AllocFailed { value: held }) => {
                 clients.destroy_empty();
+                let Held {
+                    path: LogPath { log, last: _ },
+                    clock,
+                } = held;
                 return Err(OpenRefused::of(log, clock, table, seats, gate));
             }
         };
         Self::open_with(
-            alloc, log, clock, table, seats, gate, options, pipelined, controller, passes, layouts,
-            clients,
+            alloc, held, table, seats, gate, options, pipelined, controller, passes, layouts,
+            envelopes, clients,
         )
     }
 
     /// An engine with all that it needs but the list, and its clients.
     fn open_with(
         alloc: Global,
-        log: Box<LogWriter<Device>>,
-        clock: Time,
+        held: Box<Held<Device, Time>>,
         table: Versions,
         seats: Seats<Versions::Seat, Versions::Turn>,
         gate: Watch,
@@ -235,6 +246,7 @@ impl<
         controller: Controller<Time>,
         mut passes: Passes,
         layouts: Vec<Layout>,
+        envelopes: Vec<Envelope>,
         clients: Vec<EngineClient<Device, Versions, Time>>,
     ) -> Result<
         (
@@ -247,39 +259,46 @@ impl<
             × (options.batch_bytes ≤ MAX_SIZE) }
         requires clients { (0 < (Versions.opening table).clients)
             × ((Versions.opening table).clients ≤ MAX_CLIENTS) }
-        requires log { fault_of log.value ≡ None }
+        requires log { (fault_of held.value.path.log ≡ None) × (held.value.path.last ≡ options.last) }
         requires turn { Versions.our_turn table seats.turn × (Versions.history seats.turn ≡ []) }
         requires seats { AreSeatsAtStart Versions.Table table (Versions.opening table).clients
             seats.clients.items }
         requires controller { AreNewPasses controller (Versions.opening table).clients passes }
         requires layouts { AreRoomy (Versions.opening table).clients layouts.items
             × (length layouts.items ≡ (Versions.opening table).clients) }
+        requires envelopes { length envelopes.items ≡ (Versions.opening table).clients }
         requires room { (clients.items ≡ []) × ((Versions.opening table).clients ≤ vec_capacity clients) }
-        ensures engine { IfOk result (λ r. (r.0.table ≡ table) × (opened_log r.0 ≡ log.value)
+        ensures engine { IfOk result (λ r. (r.0.table ≡ table) × (opened_log r.0 ≡ held.value.path.log)
             × (settings_of Versions.Table r.0
             ≡ settings_with options (map_at_opening Versions.Table table) (Versions.opening table).clients
-            (Device.faults (disk_of log.value)))) }
+            (Device.faults (disk_of held.value.path.log)))) }
         ensures clients { IfOk result (λ r. AreOurs (IsClientOf Versions.Table r.0)
             (account_in Versions.Table) (clients_of r.0.list) r.1.clients.items) }
         ensures new { IfOk result (λ r. (i : ℕ) (c : _) → slice_get r.1.clients.items i ≡ Some c
             → account_in Versions.Table c ≡ newcomer options.last (map_at_opening Versions.Table table) (i + 1)) }
         ensures room { IfOk result (λ r. HasRoomToClose r.0.controller (clients_of r.0.list) r.1.room) }
         ensures stages { IfOk result (λ r. piped_of r.0.list ≡ pipelined) }
-        ensures err { IfErr result (λ e. (e.log ≡ log.value) × (e.clock ≡ clock) × (e.table ≡ table) × (e.seats ≡ seats)
-            × (e.gate ≡ gate)) }
+        ensures err { IfErr result (λ e. (e.log ≡ held.value.path.log) × (e.clock ≡ held.value.clock)
+            × (e.table ≡ table) × (e.seats ≡ seats) × (e.gate ≡ gate)) }
     {
         let Seats {
             turn,
             clients: seats,
         } = seats;
         let count = seats.len() as u32;
-        let start = start_with(&table, &controller, &log, options, count, pipelined);
+        let start = start_with(
+            &table,
+            &controller,
+            &held.path.log,
+            options,
+            count,
+            pipelined,
+        );
         let (with_log, apart) = part_turn(pipelined, turn);
         let last = options.last;
         let leadership = Leadership {
-            path: LogPath { log, last },
+            held,
             turn: with_log,
-            clock,
             asked: first_note(&controller, &mut passes.clients),
         };
         laws::groups_stay_consistent();
@@ -295,7 +314,7 @@ impl<
                 };
                 engine.gate.opened(engine.table.locks());
                 let clients = engine.seat_all(
-                    last, writers, seats, passes, lists, layouts, clients,
+                    last, writers, seats, passes, lists, layouts, envelopes, clients,
                 );
                 Ok((engine, clients))
             }
@@ -312,12 +331,18 @@ impl<
         &self,
         start: u64,
         mut writers: Vec<
-            Writer<Request, Answer, Leadership<Device, Versions, Time>, Right<Versions>>,
+            Writer<
+                SealedRequest,
+                SealedAnswer,
+                Leadership<Device, Versions, Time>,
+                Right<Versions>,
+            >,
         >,
         mut seats: Vec<Versions::Seat>,
         passes: Passes,
-        mut lists: Vec<Lists<Request, Answer>>,
+        mut lists: Vec<Lists<SealedRequest, SealedAnswer>>,
         mut layouts: Vec<Layout>,
+        mut envelopes: Vec<Envelope>,
         mut clients: Vec<EngineClient<Device, Versions, Time>>,
     ) -> Clients<EngineClient<Device, Versions, Time>, ClosingRoom<Device, Versions, Time>>
         requires engine { IsEngine Versions.Table self.now × (start ≡ (Versions.opening self.now.table).start) }
@@ -330,6 +355,7 @@ impl<
             × (length lists.items ≡ clients_of self.now.list) }
         requires layouts { AreRoomy (clients_of self.now.list) layouts.items
             × (length layouts.items ≡ clients_of self.now.list) }
+        requires envelopes { length envelopes.items ≡ clients_of self.now.list }
         requires clients { (clients.items ≡ []) × (clients_of self.now.list ≤ vec_capacity clients) }
         ensures clients { AreNewcomers Versions.Table self.now 1 result.clients.items
             × (length result.clients.items ≡ clients_of self.now.list) }
@@ -354,8 +380,11 @@ impl<
             let Some(layout) = layouts.pop() else {
                 unreachable!()
             };
+            let Some(envelope) = envelopes.pop() else {
+                unreachable!()
+            };
             let number = writers.len() as u32 + 1;
-            let client = self.seat_one(number, start, writer, seat, pass, lists, layout);
+            let client = self.seat_one(number, start, writer, seat, pass, lists, layout, envelope);
             clients.push_reserved(client);
         }
         clients.reverse();
@@ -368,16 +397,22 @@ impl<
         Clients { clients, room }
     }
 
-    /// A client with its seats at list and table, and its lists.
+    /// A client with its seats at list and table, its lists, and its envelope.
     fn seat_one(
         &self,
         number: u32,
         start: u64,
-        writer: Writer<Request, Answer, Leadership<Device, Versions, Time>, Right<Versions>>,
+        writer: Writer<
+            SealedRequest,
+            SealedAnswer,
+            Leadership<Device, Versions, Time>,
+            Right<Versions>,
+        >,
         seat: Versions::Seat,
         pass: Pass,
-        lists: Lists<Request, Answer>,
+        lists: Lists<SealedRequest, SealedAnswer>,
         layout: Layout,
+        envelope: Envelope,
     ) -> EngineClient<Device, Versions, Time>
         requires engine { IsEngine Versions.Table self.now × (start ≡ (Versions.opening self.now.table).start) }
         requires number { (0 < number) × (number ≤ clients_of self.now.list) }
@@ -398,6 +433,7 @@ impl<
             pass,
             lists,
             layout,
+            envelope: Some(envelope),
         }
     }
 }

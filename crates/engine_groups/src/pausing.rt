@@ -7,7 +7,7 @@ use crate::leader::{Leadership, Right};
 use base_devices::{Clock, Disk};
 use crossbeam_utils::Backoff;
 use engine_calls::Gate;
-use engine_parts::{Answer, Request};
+use engine_parts::{SealedAnswer, SealedRequest};
 use line_writers::Writer;
 use table_calls::Table;
 use table_tree::{Nodes, Parts};
@@ -38,7 +38,12 @@ impl<
     /// while groups before it are on their way into the table, behind which its own would wait.
     pub(crate) fn let_others_link(
         &self,
-        writer: &mut Writer<Request, Answer, Leadership<Device, Versions, Time>, Right<Versions>>,
+        writer: &mut Writer<
+            SealedRequest,
+            SealedAnswer,
+            Leadership<Device, Versions, Time>,
+            Right<Versions>,
+        >,
         sync: bool,
         staged: bool,
     )
@@ -56,7 +61,12 @@ impl<
     /// Pauses while a group stands in the second list, some times at most.
     fn pause_behind(
         &self,
-        writer: &mut Writer<Request, Answer, Leadership<Device, Versions, Time>, Right<Versions>>,
+        writer: &mut Writer<
+            SealedRequest,
+            SealedAnswer,
+            Leadership<Device, Versions, Time>,
+            Right<Versions>,
+        >,
     )
         requires { Belongs self.now.list writer.old }
         ensures { StandsStill writer.new writer.old }

@@ -12,7 +12,7 @@ use crate::leader::{Leadership, Right};
 use base_devices::{Clock, Disk};
 use engine_calls::Gate;
 use engine_memtable::work;
-use engine_parts::{Answer, Request};
+use engine_parts::{SealedAnswer, SealedRequest};
 use line_writers::{PipelinedRole, Role, Writer};
 use std::rt;
 use std::sync::Wait;
@@ -30,9 +30,14 @@ impl<
     pub(crate) fn await_own_role<R: Wait + rt::Clock>(
         &self,
         rt: &R,
-        writer: &mut Writer<Request, Answer, Leadership<Device, Versions, Time>, Right<Versions>>,
+        writer: &mut Writer<
+            SealedRequest,
+            SealedAnswer,
+            Leadership<Device, Versions, Time>,
+            Right<Versions>,
+        >,
         seat: &mut Versions::Seat,
-    ) -> Role<Leadership<Device, Versions, Time>, Answer>
+    ) -> Role<Leadership<Device, Versions, Time>, SealedAnswer>
         requires list { Belongs self.now.list writer.old
             × ((q : Asked) × IsIn (law_in Versions.Table self.now.list) q (answers_told writer.old) writer.old) }
         requires seat { Versions.ours self.now.table seat.old × IsReady (Versions.account seat.old) }

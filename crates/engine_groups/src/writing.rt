@@ -18,7 +18,7 @@ ghost use Rattle.engine_groups.specs.Law.{LeadershipIsStaged, LeadershipStandsFo
 ghost use Rattle.engine_parts.specs.Numbering.{AreBeside, others_in};
 ghost use Rattle.engine_parts.specs.Staged.{IsStaged};
 ghost use Rattle.engine_parts.specs.Handled.{AreHandled, IsNoted, handled_with};
-ghost use Rattle.engine_groups.specs.Clients.{IsClientOf, IsSeated, IsAnswered, told_of, own_commits, opened_log};
+ghost use Rattle.engine_groups.specs.Clients.{IsClientOf, IsIdle, IsSeated, IsAnswered, told_of, own_commits, opened_log};
 ghost use Rattle.engine_groups.specs.Serving.{IsToServe, IsServed};
 
 use crate::engine::{EngineClient, GroupEngine};
@@ -29,7 +29,8 @@ use crate::seeing::await_above;
 use base_devices::{Clock, Disk};
 use engine_calls::{Gate, Receipt, Refused};
 use engine_parts::{
-    Answer, Delay, Request, ask, log_phase, may_be_apart, may_proceed, refuse_stalled, refused_by,
+    Answer, Delay, Request, SealedAnswer, SealedRequest, ask, log_phase, may_be_apart, may_proceed,
+    refuse_stalled, refused_by,
 };
 use line_writers::Role;
 use log_batch::{Batch, Measure, refusal_at_once};
@@ -106,11 +107,16 @@ impl<
             options,
             note: Some(self.controller.note(&mut client.pass)),
         };
+        let Some(envelope) = client.envelope.take() else {
+            unreachable!()
+        };
+        let (told, envelope) = self.submit(rt, client, envelope.ask(request)).open();
+        client.envelope = Some(envelope);
         let Answer {
             answer,
             delay: _,
             note,
-        } = self.submit(rt, client, request);
+        } = told;
         await_above(rt, shown, &answer);
         // The client is answered once its own reads see the group whole.
         self.see(rt, client, &answer, note);
@@ -122,21 +128,21 @@ impl<
         &self,
         rt: &R,
         client: &mut EngineClient<Device, Versions, Time>,
-        request: Request,
-    ) -> Answer
-        requires client { IsClientOf Versions.Table self.now client.old }
+        request: SealedRequest,
+    ) -> SealedAnswer
+        requires client { IsIdle Versions.Table self.now client.old }
         requires note { IsNoted self.now.controller request }
         // who holds a stop token never waits in the list
         requires free { holds_stop (asked_by client.old.pass) ≡ false }
-        ensures fits { IsClientOf Versions.Table self.now client.new }
+        ensures fits { IsIdle Versions.Table self.now client.new }
         ensures answered { IsAnswered self.now.controller (opened_log self.now) (Versions.opening self.now.table).start
             request result client.old client.new }
         ensures seen { Begins (Versions.account client.old.seat).seen (Versions.account client.new.seat).seen
             × SeesMore client.old.number (seen_by client.old.pass) (seen_by client.new.pass) }
     {
         let item = Item {
-            size: request.batch.size(),
-            options: request.options,
+            size: request.as_request().batch.size(),
+            options: request.as_request().options,
         };
         self.list.link(rt, &mut client.writer, item, request);
         self.gate.linked(client.number);
@@ -157,7 +163,7 @@ impl<
         rt: &R,
         client: &mut EngineClient<Device, Versions, Time>,
         leadership: Leadership<Device, Versions, Time>,
-    ) -> Answer
+    ) -> SealedAnswer
         requires seated { IsSeated Versions.Table self.now client.old }
         requires has_asked { HasAsked client.old.number (own_commits client.old.number (told_of client.old))
             (seen_by client.old.pass) }
@@ -166,7 +172,7 @@ impl<
             × (of client.old.number seen ≡ told_of client.old)
             × AreHandled self.now.controller (opened_log self.now) (Versions.opening self.now.table).start seen
             × LeadershipStandsFor Versions.Table (about_of self.now.list) leadership seen }
-        ensures fits { IsClientOf Versions.Table self.now client.new }
+        ensures fits { IsIdle Versions.Table self.now client.new }
         ensures answered { (own : QueuedWriter Asked) (seen : List (Handling Asked Told))
             → IsChosen own seen (told_of client.old) client.old.writer
             → IsAnswered self.now.controller (opened_log self.now)
@@ -229,8 +235,8 @@ impl<
             client.new.layout.parts.parts st.published
             (handled ++ handled_with client.old.lists.requests.list.items client.new.lists.replies.list.items) }
         ensures turn { result.0.turn ≡ leadership.turn }
-        ensures staged { IsStaged client.old.number (clients_of self.now.list) leadership.path.last result.0.path.last
-            result.1
+        ensures staged { IsStaged client.old.number (clients_of self.now.list) leadership.held.value.path.last
+            result.0.held.value.path.last result.1
             client.new.layout.members.items client.new.layout.parts.parts client.new.lists.replies.list.items }
         ensures beside { IfSome result.1 (λ _. AreBeside (is_none leadership.turn)
             (others_in client.old.lists.requests.list.items) client.new.layout.members.items) }
@@ -240,13 +246,13 @@ impl<
         let controller = &self.controller;
         let pass = &mut client.pass;
         let asked = leadership.asked;
-        let clock = &mut leadership.clock;
+        let clock = &mut leadership.held.clock;
         // The leader learns what those before it and its members have seen, so that its delay stands after theirs.
         let look = ask(rt, controller, pass, clock, asked, requests);
         let delay = Delay {
             pass: Snapshot::of(pass),
         };
-        let no_slowdown = requests[0].1.options.no_slowdown;
+        let no_slowdown = requests[0].1.as_request().options.no_slowdown;
         let proceeds = may_proceed(rt, controller, pass, clock, look, no_slowdown);
         // The next leader is told what this one has seen after its wait, so that no two groups have one delay.
         leadership.asked = controller.note(pass);
@@ -257,9 +263,8 @@ impl<
         let apart = may_be_apart(leadership.turn.is_none(), self.table.locks());
         let leader = client.number;
         let layout = &mut client.layout;
-        let path = leadership.path;
-        let (path, end) = log_phase(path, leader, apart, &delay, requests, layout, replies);
-        leadership.path = path;
+        let path = &mut leadership.held.path;
+        let end = log_phase(path, leader, apart, &delay, requests, layout, replies);
         (leadership, end)
     }
 }

@@ -2,7 +2,8 @@
 -- itself for a struct whose fields are few: here it gives up.
 use denote.RattleType.{RattleType}
 use denote.Struct.Declared.{shape, fields}
-use denote.Param.Send.{IsSend, IsSync, AllSend, AllSync, struct_send, struct_sync, recorded_send, recorded_sync, sendable}
+use denote.Enum.Declared.{shape as variants}
+use denote.Param.Send.{IsSend, IsSync, AllSend, AllSync, struct_send, struct_sync, enum_send, recorded_send, recorded_sync, sendable}
 use Rattle.std.proofs.Crossing.{crosses, Vec-send}
 use Rattle.std.proofs.alloc.Global.TheSendSync as heap
 use Rattle.base_devices.specs.declared.disk.Disk.{Ghosts}
@@ -28,30 +29,43 @@ use Rattle.line_writers.proofs.writer.Writer.TheSendSync as writer
 use Rattle.line_writers.proofs.room.Lists.TheSendSync as lists
 use Rattle.engine_parts.specs.contracts.requests.Request as request
 use Rattle.engine_parts.specs.contracts.requests.Answer as answer_row
+use Rattle.engine_parts.specs.contracts.envelope.Letter as letter
+use Rattle.engine_parts.specs.contracts.envelope.Envelope as envelope
+use Rattle.engine_parts.specs.contracts.envelope.SealedRequest as sealed_request
+use Rattle.engine_parts.specs.contracts.envelope.SealedAnswer as sealed_answer
 use Rattle.engine_groups.specs.contracts.leader.Leadership as leader_row
 use Rattle.engine_groups.specs.contracts.leader.Right as right_row
 use Rattle.engine_groups.specs.contracts.leader.EngineAtOpening as about_row
 use Rattle.engine_parts.specs.contracts.layout.Layout as layout
 use Rattle.engine_groups.specs.contracts.engine.GroupEngine as engine
 use Rattle.engine_groups.specs.contracts.engine.EngineClient as client
-use Rattle.engine_parts.specs.contracts.requests.RequestHasGroupingItem.TheImpl as itemized
-use Rattle.engine_parts.specs.contracts.requests.AnswerGivesRun.TheImpl as given
-use Rattle.engine_groups.specs.contracts.leader.LeadershipLogOfGroupsRequestAnswerRight.TheImpl as ledger
+use Rattle.engine_parts.specs.contracts.envelope.SealedRequestHasGroupingItem.TheImpl as itemized
+use Rattle.engine_parts.specs.contracts.envelope.SealedAnswerGivesRun.TheImpl as given
+use Rattle.engine_groups.specs.contracts.leader.LeadershipLogOfGroupsSealedRequestSealedAnswerRight.TheImpl as ledger
 use Rattle.engine_groups.proofs.leader.Leadership.TheSendSync as leader
 use Rattle.engine_groups.proofs.leader.Right.TheSendSync as right
-use Rattle.engine_parts.proofs.numbering.Numbering.TheSendSync as numbering
+use Rattle.engine_parts.specs.contracts.numbering.Numbering as numbering
 
 request_fields : AllSend (fields request.the_type)
 request_fields = (batch.the_send, (nodes_send, (options.the_field_send, (search (sendable, note.the_send), tt))))
 
-request_send : IsSend request.the_row
-request_send = let C = request.the_type in recorded_send request.the_field.row C.D C.to C.to_one (struct_send (shape C) request_fields)
-
 answer_fields : AllSend (fields answer_row.the_type)
 answer_fields = (search (sendable, receipt.the_send, refused.the_send), (search crosses, (search (sendable, note.the_send), tt)))
 
-answer_send : IsSend answer_row.the_row
-answer_send = let C = answer_row.the_type in recorded_send answer_row.the_field.row C.D C.to C.to_one (struct_send (shape C) answer_fields)
+letter_send : IsSend letter.the_row
+letter_send = let C = letter.the_type in recorded_send letter.the_field.row C.D C.to C.to_one (enum_send (variants C) (tt, ((struct_send (shape request.the_type) request_fields, tt), ((struct_send (shape answer_row.the_type) answer_fields, tt), tt))))
+
+envelope_send : IsSend envelope.the_row
+envelope_send = search (sendable, crosses, letter_send) depth 9
+
+sealed_request_send : IsSend sealed_request.the_row
+sealed_request_send = search (sendable, crosses, letter_send) depth 9
+
+sealed_answer_send : IsSend sealed_answer.the_row
+sealed_answer_send = search (sendable, crosses, letter_send) depth 9
+
+numbering_send : IsSend numbering.the_row
+numbering_send = search (sendable, batch.the_send, envelope_send) depth 9
 
 gathered_send : IsSend gathered.the_row
 gathered_send = search (sendable, nodes_send) depth 9
@@ -66,7 +80,7 @@ parts_send : IsSend parts.the_row
 parts_send = search (sendable, Vec-send, part_send) depth 9
 
 layout_fields : AllSend (fields layout.the_type)
-layout_fields = (Vec-send _ numbering.the_send, (Vec-send _ batch.the_send, (parts_send, (search (sendable, Vec-send), tt))))
+layout_fields = (Vec-send _ numbering_send, (Vec-send _ batch.the_send, (parts_send, (search (sendable, Vec-send), tt))))
 
 abbrev S : RattleType
 S = seat_row.the_row tree.the_row nodes.the_row
@@ -90,11 +104,11 @@ module _ (D C G : RattleType) (ghosts : Ghosts (RattleType.Denot D)) (disk_send 
   pub client_send : IsSend (client.the_row D table.the_row C S U nodes.the_row ghosts)
   client_send =
       let K = client.the_type D table.the_row C S U nodes.the_row ghosts in
-      let all : AllSend (fields K) = (search sendable, (search sendable, (search sendable, (writer.the_field_send request.the_row answer_row.the_row H M request_send answer_send leader_send right_send, (seat_send, (pass.the_field_send, (lists.the_field_send request.the_row answer_row.the_row request_send answer_send, (struct_send (shape layout.the_type) layout_fields, tt)))))))) in
+      let all : AllSend (fields K) = (search sendable, (search sendable, (search sendable, (writer.the_field_send sealed_request.the_row sealed_answer.the_row H M sealed_request_send sealed_answer_send leader_send right_send, (seat_send, (pass.the_field_send, (lists.the_field_send sealed_request.the_row sealed_answer.the_row sealed_request_send sealed_answer_send, (struct_send (shape layout.the_type) layout_fields, (search (sendable, envelope_send) depth 9, tt))))))))) in
       recorded_send (client.the_field D table.the_row C S U nodes.the_row ghosts).row K.D K.to K.to_one (struct_send (shape K) all)
 
   pub engine_sync : IsSync G → IsSync (engine.the_row D table.the_row C G S U nodes.the_row ghosts table_ghosts.ghosts)
   engine_sync gate_sync =
       let K = engine.the_type D table.the_row C G S U nodes.the_row ghosts table_ghosts.ghosts in
-      let all : AllSync (fields K) = (list.the_field_sync request.the_row answer_row.the_row H M (about_row.the_row D table.the_row C ghosts) itemized.ghosts given.ghosts (ledger.ghosts D table.the_row C S U nodes.the_row ghosts ledger.no_dict table_ghosts.ghosts ledger.no_dict) request_send answer_send leader_send right_send, (table_sync, (controller.the_field_sync C, (gate_sync, (heap.the_field_sync, (search sendable, tt)))))) in
+      let all : AllSync (fields K) = (list.the_field_sync sealed_request.the_row sealed_answer.the_row H M (about_row.the_row D table.the_row C ghosts) itemized.ghosts given.ghosts (ledger.ghosts D table.the_row C S U nodes.the_row ghosts ledger.no_dict table_ghosts.ghosts ledger.no_dict) sealed_request_send sealed_answer_send leader_send right_send, (table_sync, (controller.the_field_sync C, (gate_sync, (heap.the_field_sync, (search sendable, tt)))))) in
       recorded_sync (engine.the_field D table.the_row C G S U nodes.the_row ghosts table_ghosts.ghosts).row K.D K.to K.to_one (struct_sync (shape K) all)

@@ -1,3 +1,4 @@
+pub mod Letters
 pub mod Replies
 pub mod Sizes
 pub mod Apart

@@ -32,7 +32,7 @@ pub one_batch : (last : ℕ) (q : Request) → length (batch_at last q) ≤ 1
 one_batch last q = one_by last q (nat_le (last + count_of q.batch.records) max_sequence)
 
 enough_by : (last : ℕ) (x : ℕ × Request) (xs : List (ℕ × Request)) (b : Bool) → ((m : ℕ) → AreEnough (numberings_of m xs) (batches_of m xs))
-    → AreEnough ((cond b (numbered.Given x.0 (run_after last x.1.batch.records) x.1.batch.sequence) (numbered.SequenceFull x.0 last x.1.batch)) ∷ numberings_of (cond b (last + count_of x.1.batch.records) last) xs) (cond b (record x.1.batch { sequence = last + 1 } ∷ []) [] ++ batches_of (cond b (last + count_of x.1.batch.records) last) xs)
+    → AreEnough ((cond b (numbered.Given x.0 (run_after last x.1.batch.records) x.1.batch.sequence tt) (numbered.SequenceFull x.0 last x.1.batch tt)) ∷ numberings_of (cond b (last + count_of x.1.batch.records) last) xs) (cond b (record x.1.batch { sequence = last + 1 } ∷ []) [] ++ batches_of (cond b (last + count_of x.1.batch.records) last) xs)
 enough_by last x xs true more = more (last + count_of x.1.batch.records)
 enough_by last x xs false more = more last
 
@@ -56,7 +56,7 @@ batches_are last (x ∷ xs) = batches_by last x xs (nat_le (last + count_of x.1.
 module _ (delay : Delay) where
   -- the answers to what was laid out
   written_by : (last end : ℕ) (x : ℕ × Request) (xs : List (ℕ × Request)) (b : Bool) → ((m : ℕ) → answers (Written end) delay (numberings_of m xs) (batches_of m xs) ≡ replies_of delay m end xs)
-      → answers (Written end) delay ((cond b (numbered.Given x.0 (run_after last x.1.batch.records) x.1.batch.sequence) (numbered.SequenceFull x.0 last x.1.batch)) ∷ numberings_of (cond b (last + count_of x.1.batch.records) last) xs) (cond b (record x.1.batch { sequence = last + 1 } ∷ []) [] ++ batches_of (cond b (last + count_of x.1.batch.records) last) xs)
+      → answers (Written end) delay ((cond b (numbered.Given x.0 (run_after last x.1.batch.records) x.1.batch.sequence tt) (numbered.SequenceFull x.0 last x.1.batch tt)) ∷ numberings_of (cond b (last + count_of x.1.batch.records) last) xs) (cond b (record x.1.batch { sequence = last + 1 } ∷ []) [] ++ batches_of (cond b (last + count_of x.1.batch.records) last) xs)
       ≡ (x.0, cond b (accepted_reply delay last end x.1) (refused_reply delay (SequenceFull last) x.1)) ∷ replies_of delay (cond b (last + count_of x.1.batch.records) last) end xs
   written_by last end x xs true more = ap (λ l. (x.0, accepted_reply delay last end x.1) ∷ l) (more (last + count_of x.1.batch.records))
   written_by last end x xs false more = ap (λ l. (x.0, refused_reply delay (SequenceFull last) x.1) ∷ l) (more last)
@@ -66,7 +66,7 @@ module _ (delay : Delay) where
   answers_written last end (x ∷ xs) = written_by last end x xs (nat_le (last + count_of x.1.batch.records) max_sequence) (λ m. answers_written m end xs)
 
   faulted_by : (last n : ℕ) (x : ℕ × Request) (xs : List (ℕ × Request)) (b : Bool) → ((m : ℕ) → answers (Faulted n) delay (numberings_of m xs) (batches_of m xs) ≡ failures delay n xs)
-      → answers (Faulted n) delay ((cond b (numbered.Given x.0 (run_after last x.1.batch.records) x.1.batch.sequence) (numbered.SequenceFull x.0 last x.1.batch)) ∷ numberings_of (cond b (last + count_of x.1.batch.records) last) xs) (cond b (record x.1.batch { sequence = last + 1 } ∷ []) [] ++ batches_of (cond b (last + count_of x.1.batch.records) last) xs)
+      → answers (Faulted n) delay ((cond b (numbered.Given x.0 (run_after last x.1.batch.records) x.1.batch.sequence tt) (numbered.SequenceFull x.0 last x.1.batch tt)) ∷ numberings_of (cond b (last + count_of x.1.batch.records) last) xs) (cond b (record x.1.batch { sequence = last + 1 } ∷ []) [] ++ batches_of (cond b (last + count_of x.1.batch.records) last) xs)
       ≡ (x.0, refused_reply delay (LogFault n) x.1) ∷ failures delay n xs
   faulted_by last n x xs true more = ap (λ l. (x.0, refused_reply delay (LogFault n) x.1) ∷ l) (more (last + count_of x.1.batch.records))
   faulted_by last n x xs false more = ap (λ l. (x.0, refused_reply delay (LogFault n) x.1) ∷ l) (more last)

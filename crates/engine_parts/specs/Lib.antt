@@ -1,5 +1,6 @@
 pub mod Items
 pub mod Runs
+pub mod Letters
 pub mod Handled
 pub mod Asking
 pub mod Numbering

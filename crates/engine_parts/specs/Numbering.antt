@@ -26,8 +26,8 @@ use Rattle.engine_parts.specs.Handled.{reply_with, run_after}
 -- the numbering of a request, where `last` was given last: its run, and the sequence that its batch has
 abbrev pub numbering_at : ℕ → ℕ × Request → Numbering
 numbering_at last x = if nat_le (last + count_of x.1.batch.records) max_sequence then
-    Given x.0 (run_after last x.1.batch.records) x.1.batch.sequence
-    else SequenceFull x.0 last x.1.batch
+    Given x.0 (run_after last x.1.batch.records) x.1.batch.sequence tt
+    else SequenceFull x.0 last x.1.batch tt
 
 abbrev pub numberings_of : ℕ → List (ℕ × Request) → List Numbering
 numberings_of last [] = []
@@ -89,27 +89,27 @@ run_with (Faulted count) delay run before b =
 
 abbrev pub answers : GroupFate → Delay → List Numbering → List Contents → List (ℕ × Answer)
 answers o delay [] bs = []
-answers o delay (Given client run before ∷ numberings) [] = []
-answers o delay (Given client run before ∷ numberings) (b ∷ bs) =
+answers o delay (Given client run before envelope ∷ numberings) [] = []
+answers o delay (Given client run before envelope ∷ numberings) (b ∷ bs) =
     (client, run_with o delay run before b) ∷ answers o delay numberings bs
-answers o delay (SequenceFull client last b ∷ numberings) bs =
+answers o delay (SequenceFull client last b envelope ∷ numberings) bs =
     (client, full_with o delay last b) ∷ answers o delay numberings bs
 
 -- there is a batch for each run, and no more
 abbrev pub AreEnough : List Numbering → List Contents → Type 0
 AreEnough [] bs = bs ≡ []
-AreEnough (Given client run before ∷ numberings) [] = ⊥
-AreEnough (Given client run before ∷ numberings) (b ∷ bs) = AreEnough numberings bs
-AreEnough (SequenceFull client last b ∷ numberings) bs = AreEnough numberings bs
+AreEnough (Given client run before envelope ∷ numberings) [] = ⊥
+AreEnough (Given client run before envelope ∷ numberings) (b ∷ bs) = AreEnough numberings bs
+AreEnough (SequenceFull client last b envelope ∷ numberings) bs = AreEnough numberings bs
 
 -- one numbering's answer, and the batches that are left
 abbrev pub IsAnswer : GroupFate → Delay → Numbering → List Contents → ℕ × Answer → List Contents → Type 0
-IsAnswer o delay (Given client run before) [] y left = ⊥
-IsAnswer o delay (Given client run before) (b ∷ bs) y left =
+IsAnswer o delay (Given client run before envelope) [] y left = ⊥
+IsAnswer o delay (Given client run before envelope) (b ∷ bs) y left =
     (y ≡ (client, run_with o delay run before b)) × (left ≡ bs)
-IsAnswer o delay (SequenceFull client last b) bs y left = (y ≡ (client, full_with o delay last b)) × (left ≡ bs)
+IsAnswer o delay (SequenceFull client last b envelope) bs y left = (y ≡ (client, full_with o delay last b)) × (left ≡ bs)
 
 abbrev pub HasBatch : Numbering → List Contents → Type 0
-HasBatch (Given client run before) [] = ⊥
-HasBatch (Given client run before) (b ∷ bs) = ⊤
-HasBatch (SequenceFull client last b) bs = ⊤
+HasBatch (Given client run before envelope) [] = ⊥
+HasBatch (Given client run before envelope) (b ∷ bs) = ⊤
+HasBatch (SequenceFull client last b envelope) bs = ⊤

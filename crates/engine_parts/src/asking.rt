@@ -10,8 +10,9 @@ ghost use Rattle.engine_rule.specs.Plans.{item_of_request, LetsProceed};
 ghost use Rattle.engine_parts.specs.Handled.{commit_requests_of, seen_at, held_up_with, IsNoted, IsHeldUp};
 ghost use Rattle.engine_parts.specs.Asking.{HasAskedFor, HasLearned, OnlyLooks, all_seen};
 
+use crate::envelope::{SealedAnswer, SealedRequest};
 use crate::numbering::{batch_of, take_first};
-use crate::requests::{Answer, Delay, Request};
+use crate::requests::{Answer, Delay};
 use base_devices::Clock;
 use engine_calls::Refused;
 use engine_controller::{Controller, Look, Note, Pass};
@@ -31,7 +32,7 @@ pub fn ask<Time: Clock, R: Wait>(
     pass: &mut Pass,
     clock: &mut Time,
     before: Note,
-    requests: &mut [(u32, Request)],
+    requests: &mut [(u32, SealedRequest)],
 ) -> Look
     requires pass { IsPassOf controller.now pass.old }
     requires notes { IsNoteOf controller.now before
@@ -53,7 +54,7 @@ fn learn_all<Time: Clock, R: Wait>(
     rt: &R,
     controller: &Controller<Time>,
     pass: &mut Pass,
-    requests: &mut [(u32, Request)],
+    requests: &mut [(u32, SealedRequest)],
 )
     requires pass { IsPassOf controller.now pass.old }
     requires notes { AllByRecursion (λ (x : ℕ × _). IsNoted controller.now x.1) requests.old }
@@ -64,21 +65,21 @@ fn learn_all<Time: Clock, R: Wait>(
     // The notes of the members before `i` are taken, and the pass has seen what they show.
     for i in 0..requests.len() {
         let member = &mut requests[i];
-        if let Some(note) = member.1.note.take() {
+        if let Some(note) = member.1.take_note() {
             controller.learn(rt, pass, note);
         }
     }
 }
 
 /// The sum of the sizes of a group's batches.
-fn bytes_of(requests: &[(u32, Request)]) -> u64
+fn bytes_of(requests: &[(u32, SealedRequest)]) -> u64
     requires { length requests.now < 255 }
     ensures { result ≡ size_of (map item_of_request (commit_requests_of requests.now)) }
 {
     let mut bytes = 0;
     // `bytes` is the sum of the sizes of the batches before `i`.
     for i in 0..requests.len() {
-        bytes += requests[i].1.batch.size();
+        bytes += requests[i].1.as_request().batch.size();
     }
     bytes
 }
@@ -162,8 +163,8 @@ pub fn refuse_stalled<Time: Clock>(
     pass: &mut Pass,
     look: Look,
     delay: &Delay,
-    requests: &mut Vec<(u32, Request)>,
-    replies: &mut Vec<(u32, Answer)>,
+    requests: &mut Vec<(u32, SealedRequest)>,
+    replies: &mut Vec<(u32, SealedAnswer)>,
 )
     requires pass { IsPassOf controller.now pass.old × (seen_by pass.old ≡ seen_at delay.now) }
     requires room { length requests.old.items ≤ vec_capacity replies.old }
@@ -177,11 +178,12 @@ pub fn refuse_stalled<Time: Clock>(
 {
     // Each request that is taken has its reply, in the same order, and the pass has seen no more.
     while let Some((client, request)) = take_first(requests) {
-        let reply = Answer {
-            answer: Err(refused_by(look, batch_of(request))),
+        let (batch, envelope) = batch_of(request);
+        let answer = Answer {
+            answer: Err(refused_by(look, batch)),
             delay: Snapshot::of(delay),
             note: Some(controller.note(pass)),
         };
-        replies.push_reserved((client, reply));
+        replies.push_reserved((client, envelope.tell(answer)));
     }
 }

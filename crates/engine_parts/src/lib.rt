@@ -1,7 +1,8 @@
-//! What the leader of a group does that knows no engine: what a client asks of it and is answered (`requests`), what it
-//! asks of the write controller for its group (`asking`), how it gives the members their runs (`numbering`, `layout`),
-//! and how it writes their batches to the log as one record (`logging`).
+//! What the leader of a group does that knows no engine: what a client asks of it and is answered (`requests`), in what
+//! that goes to and fro (`envelope`), what it asks of the write controller for its group (`asking`), how it gives the
+//! members their runs (`numbering`, `layout`), and how it writes their batches to the log as one record (`logging`).
 //!
+//! - `specs/Letters`: what lies in an envelope.
 //! - `specs/Items`, `Runs`: what the list of writers sees of requests and answers.
 //! - `specs/Handled`: requests that were handled, as commits of `engine_rule`.
 //! - `specs/Asking`: how a leader's view of the write controller goes on.
@@ -11,12 +12,14 @@
 #![tactic(auto)]
 
 mod asking;
+mod envelope;
 mod layout;
 mod logging;
 mod numbering;
 mod requests;
 
 pub use asking::{ask, may_proceed, refuse_stalled, refused_by};
+pub use envelope::{Envelope, SealedAnswer, SealedRequest};
 pub use layout::Layout;
 pub use logging::{LogPath, log_phase};
 pub use numbering::{Numbering, may_be_apart, take_first};

@@ -15,18 +15,18 @@ ghost use Rattle.engine_parts.specs.LogLaw.{Past, StandsForPast, with_group};
 ghost use Rattle.engine_parts.specs.Led.{GoesOnWith, IsLedGroup, LeadsBy};
 ghost use Rattle.engine_parts.specs.Staged.{IsStaged};
 
+use crate::envelope::{SealedAnswer, SealedRequest};
 use crate::layout::Layout;
 use crate::numbering::{GroupFate, answer_all, lay_out, refuse_all};
-use crate::requests::{Answer, Delay, Request};
+use crate::requests::Delay;
 use base_devices::Disk;
 use log_batch::Batch;
 use log_writer::{Fault, LogWriter};
 use model_base::WriteOptions;
 
-/// The log, and the last sequence given. The log lies in a box: a slot of the line is as large as the largest that it
-/// may hold, and each client's request and reply go through one.
+/// The log, and the last sequence given.
 pub struct LogPath<Device: Disk> {
-    pub log: Box<LogWriter<Device>>,
+    pub log: LogWriter<Device>,
     pub last: u64,
 }
 
@@ -54,15 +54,15 @@ fn log_group<Device: Disk>(
 /// the table, apart if they may be, with those who are to work beside the leader, and the answer is the group's last
 /// sequence.
 pub fn log_phase<Device: Disk>(
-    path: LogPath<Device>,
+    path: &mut LogPath<Device>,
     leader: u32,
     apart: bool,
     delay: &Delay,
-    requests: &mut Vec<(u32, Request)>,
+    requests: &mut Vec<(u32, SealedRequest)>,
     layout: &mut Layout,
-    replies: &mut Vec<(u32, Answer)>,
-) -> (LogPath<Device>, Option<u64>)
-    requires last { path.last ≤ max_sequence }
+    replies: &mut Vec<(u32, SealedAnswer)>,
+) -> Option<u64>
+    requires last { path.old.last ≤ max_sequence }
     requires few { length requests.old.items < 255 }
     requires group { (group_bytes : ℕ) × IsLedGroup group_bytes layout.old.parts.clients requests.old.items }
     requires leads { LeadsBy leader requests.old.items }
@@ -73,12 +73,12 @@ pub fn log_phase<Device: Disk>(
     requires replies { (replies.old.items ≡ []) × (length requests.old.items ≤ vec_capacity replies.old) }
     ensures path { (past : Past (Log Device ⟦<Device as Disk>⟧)) (went : List ControllerCall)
         → GoesOnWith past.group_bytes layout.old.parts.clients past.asked requests.old.items (seen_at delay.now) went
-        → StandsForPast layout.old.parts.clients past path.log.value path.last
-        → StandsForPast layout.old.parts.clients (with_group past went result.1 layout.new.parts.parts
-        requests.old.items replies.new.items) result.0.log.value result.0.last }
-    ensures staged { IsStaged leader layout.old.parts.clients path.last result.0.last result.1 layout.new.members.items
-        layout.new.parts.parts replies.new.items }
-    ensures beside { IfSome result.1 (λ _. AreBeside apart (others_in requests.old.items) layout.new.members.items) }
+        → StandsForPast layout.old.parts.clients past path.old.log path.old.last
+        → StandsForPast layout.old.parts.clients (with_group past went result layout.new.parts.parts
+        requests.old.items replies.new.items) path.new.log path.new.last }
+    ensures staged { IsStaged leader layout.old.parts.clients path.old.last path.new.last result
+        layout.new.members.items layout.new.parts.parts replies.new.items }
+    ensures beside { IfSome result (λ _. AreBeside apart (others_in requests.old.items) layout.new.members.items) }
     ensures replies { InOrder requests.old.items replies.new.items
         × AllByRecursion HandsBack (handled_with requests.old.items replies.new.items)
         × AllByRecursion (IsReplyOf delay.now) replies.new.items }
@@ -90,13 +90,13 @@ pub fn log_phase<Device: Disk>(
         × (vec_capacity replies.new ≡ vec_capacity replies.old)
         × (vec_capacity layout.new.members ≡ vec_capacity layout.old.members) }
 {
-    let LogPath { mut log, last } = path;
+    let last = path.last;
     // Nothing is written after a fault: nobody knows what stands there, and recovery may end at it.
-    if let Some(count) = log.fault() {
+    if let Some(count) = path.log.fault() {
         refuse_all(count, delay, requests, replies);
-        return (LogPath { log, last }, None);
+        return None;
     }
-    let options = requests[0].1.options;
+    let options = requests[0].1.as_request().options;
     let end = lay_out(
         requests,
         leader,
@@ -115,13 +115,19 @@ pub fn log_phase<Device: Disk>(
             layout,
             replies,
         );
-        return (LogPath { log, last: end }, None);
+        path.last = end;
+        return None;
     }
     // All batches are one record, so that recovery keeps all of them or none.
-    if let Err(Fault { count }) = log_group(&mut log, last, layout.batches.as_slice(), options) {
+    if let Err(Fault { count }) = log_group(
+        &mut path.log,
+        last,
+        layout.batches.as_slice(),
+        options,
+    ) {
         layout.drop_parts();
         answer_layout(GroupFate::Faulted { count }, delay, layout, replies);
-        return (LogPath { log, last }, None);
+        return None;
     }
     answer_layout(
         GroupFate::Written { group_last: end },
@@ -129,7 +135,8 @@ pub fn log_phase<Device: Disk>(
         layout,
         replies,
     );
-    (LogPath { log, last: end }, Some(end))
+    path.last = end;
+    Some(end)
 }
 
 /// Answers what lies on the layout.
@@ -137,7 +144,7 @@ fn answer_layout(
     fate: GroupFate,
     delay: &Delay,
     layout: &mut Layout,
-    replies: &mut Vec<(u32, Answer)>,
+    replies: &mut Vec<(u32, SealedAnswer)>,
 )
     requires enough { AreEnough layout.old.numberings.items layout.old.batches.items }
     requires room { length layout.old.numberings.items ≤ vec_capacity replies.old }

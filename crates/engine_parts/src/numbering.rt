@@ -12,6 +12,7 @@ ghost use Rattle.engine_parts.specs.declared.requests.Request.{Request};
 ghost use Rattle.engine_parts.specs.Handled.{commit_requests_of, reply_with, failures};
 ghost use Rattle.engine_parts.specs.Numbering.{numbering_at, numberings_of, batch_at, batches_of, HasVersions, AreBeside, AreParts, others_in, others_than, parts_with, answers, AreEnough, IsAnswer, HasBatch, run_with, full_with};
 
+use crate::envelope::{Envelope, SealedAnswer, SealedRequest};
 use crate::requests::{Answer, Delay, Request};
 use engine_calls::{Receipt, Refused};
 use log_batch::{Batch, Run, next_run};
@@ -24,18 +25,21 @@ use table_tree::Parts;
 const WORTH_WAKING: u64 = 8;
 
 /// What becomes of a member's batch: it has a run, and stands among the batches that are written, with the first
-/// sequence of its run; or there is no room. `before` is the sequence that the batch had as it was handed in.
+/// sequence of its run; or there is no room. `before` is the sequence that the batch had as it was handed in. The
+/// answer goes back in the envelope in which the batch came.
 #[derive(Drop)]
 pub enum Numbering {
     Given {
         client: u32,
         run: Run,
         before: u64,
+        envelope: Envelope,
     },
     SequenceFull {
         client: u32,
         last: u64,
         batch: Batch,
+        envelope: Envelope,
     },
 }
 
@@ -59,22 +63,23 @@ pub fn take_first<Element>(items: &mut Vec<Element>) -> Option<Element>
     Some(items.remove(0))
 }
 
-/// The batch of a request that gets no run.
-pub(crate) fn batch_of(request: Request) -> Batch
-    ensures { result ≡ request.batch }
+/// The batch of a request that gets no run, and its envelope.
+pub(crate) fn batch_of(request: SealedRequest) -> (Batch, Envelope)
+    ensures { result.0 ≡ request.batch }
 {
+    let (request, envelope) = request.open();
     let Request {
         batch,
         nodes: _,
         options: _,
         note: _,
     } = request;
-    batch
+    (batch, envelope)
 }
 
 /// Gives runs behind `last` to the requests whose runs fit, and answers the sequence given last then.
 pub(crate) fn number_all(
-    requests: &mut Vec<(u32, Request)>,
+    requests: &mut Vec<(u32, SealedRequest)>,
     member: u32,
     last: u64,
     numberings: &mut Vec<Numbering>,
@@ -106,7 +111,7 @@ pub(crate) fn number_all(
 
 /// The same, where each member with a run gets its own part. Those that have one beside the leader are noted.
 pub(crate) fn number_apart(
-    requests: &mut Vec<(u32, Request)>,
+    requests: &mut Vec<(u32, SealedRequest)>,
     leader: u32,
     last: u64,
     numberings: &mut Vec<Numbering>,
@@ -159,11 +164,11 @@ fn note_member(member: u32, leader: u32, has_part: bool, members: &mut Vec<u32>)
 
 /// Whether the members beside the leader bring so many records, on the average, that it is worth waking them, so that
 /// each inserts its own part.
-fn are_worth_waking(requests: &[(u32, Request)]) -> bool {
+fn are_worth_waking(requests: &[(u32, SealedRequest)]) -> bool {
     let mut records: u64 = 0;
     // `records` is the sum of those gone through.
     for (_, request) in requests.iter().skip(1) {
-        records = records.saturating_add(u64::from(request.batch.count()));
+        records = records.saturating_add(u64::from(request.as_request().batch.count()));
     }
     let members = (requests.len() as u64).saturating_sub(1);
     records >= members.saturating_mul(WORTH_WAKING)
@@ -181,7 +186,7 @@ pub fn may_be_apart(staged: bool, locks: u64) -> bool
 /// may be apart each member with a run gets its own, and is noted as one that is to work beside the leader. The leader
 /// has all where they may not, where it has no run itself, and where the group isn't worth waking anybody.
 pub(crate) fn lay_out(
-    requests: &mut Vec<(u32, Request)>,
+    requests: &mut Vec<(u32, SealedRequest)>,
     leader: u32,
     apart: bool,
     last: u64,
@@ -211,7 +216,7 @@ pub(crate) fn lay_out(
         × (vec_capacity members.new ≡ vec_capacity members.old) }
 {
     members.clear();
-    let count = u64::from(requests[0].1.batch.count());
+    let count = u64::from(requests[0].1.as_request().batch.count());
     if apart && next_run(last, count).is_ok() && are_worth_waking(requests.as_slice()) {
         return number_apart(requests, leader, last, numberings, batches, parts, members);
     }
@@ -221,7 +226,7 @@ pub(crate) fn lay_out(
 /// Gives one request its run, if it fits.
 fn number_one(
     client: u32,
-    request: Request,
+    request: SealedRequest,
     member: u32,
     last: u64,
     numberings: &mut Vec<Numbering>,
@@ -243,6 +248,7 @@ fn number_one(
     ensures room { (vec_capacity numberings.new ≡ vec_capacity numberings.old)
         × (vec_capacity batches.new ≡ vec_capacity batches.old) }
 {
+    let (request, envelope) = request.open();
     let Request {
         mut batch,
         mut nodes,
@@ -257,6 +263,7 @@ fn number_one(
                 client,
                 last,
                 batch,
+                envelope,
             });
             return last;
         }
@@ -267,6 +274,7 @@ fn number_one(
         client,
         run,
         before: batch.sequence(),
+        envelope,
     });
     // The log writes a single batch as it stands, so its sequence is set before.
     batch.set_sequence(run.first);
@@ -280,7 +288,7 @@ pub(crate) fn answer_all(
     delay: &Delay,
     numberings: &mut Vec<Numbering>,
     batches: &mut Vec<Batch>,
-    replies: &mut Vec<(u32, Answer)>,
+    replies: &mut Vec<(u32, SealedAnswer)>,
 )
     requires enough { AreEnough numberings.old.items batches.old.items }
     requires room { length numberings.old.items ≤ vec_capacity replies.old }
@@ -303,7 +311,7 @@ fn answer_one(
     delay: &Delay,
     numbering: Numbering,
     batches: &mut Vec<Batch>,
-) -> (u32, Answer)
+) -> (u32, SealedAnswer)
     requires { HasBatch numbering batches.old.items }
     ensures answer { IsAnswer fate delay.now numbering batches.old.items result batches.new.items }
     ensures room { vec_capacity batches.new ≡ vec_capacity batches.old }
@@ -313,17 +321,23 @@ fn answer_one(
             client,
             run,
             before,
+            envelope,
         } => {
             let Some(batch) = take_first(batches) else {
                 unreachable!()
             };
-            (client, run_reply(fate, delay, run, before, batch))
+            let answer = run_reply(fate, delay, run, before, batch);
+            (client, envelope.tell(answer))
         }
         Numbering::SequenceFull {
             client,
             last,
             batch,
-        } => (client, full_reply(fate, delay, last, batch)),
+            envelope,
+        } => {
+            let answer = full_reply(fate, delay, last, batch);
+            (client, envelope.tell(answer))
+        }
     }
 }
 
@@ -381,8 +395,8 @@ fn reply(delay: &Delay, answer: Result<Receipt, Refused>) -> Answer
 pub(crate) fn refuse_all(
     count: u64,
     delay: &Delay,
-    requests: &mut Vec<(u32, Request)>,
-    replies: &mut Vec<(u32, Answer)>,
+    requests: &mut Vec<(u32, SealedRequest)>,
+    replies: &mut Vec<(u32, SealedAnswer)>,
 )
     requires room { length requests.old.items ≤ vec_capacity replies.old }
     requires empty { replies.old.items ≡ [] }
@@ -393,7 +407,8 @@ pub(crate) fn refuse_all(
 {
     // The answers so far, with those to the requests that are left, are all answers.
     while let Some((client, request)) = take_first(requests) {
-        let reply = refusal(delay, Refusal::LogFault { count }, batch_of(request));
-        replies.push_reserved((client, reply));
+        let (batch, envelope) = batch_of(request);
+        let answer = refusal(delay, Refusal::LogFault { count }, batch);
+        replies.push_reserved((client, envelope.tell(answer)));
     }
 }

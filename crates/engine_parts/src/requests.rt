@@ -7,7 +7,6 @@ ghost use Rattle.table_rule.specs.Batches.{new_versions};
 
 use engine_calls::{Receipt, Refused};
 use engine_controller::{Note, Pass};
-use line_rule::{GivesRun, HasGroupingItem};
 use log_batch::Batch;
 use model_base::WriteOptions;
 use std::snapshot::Snapshot;
@@ -26,12 +25,6 @@ pub struct Request {
     ghost small: { model.size_of_batch batch.records ≤ MAX_SIZE },
 }
 
-impl HasGroupingItem for Request {
-    ghost use Rattle.engine_parts.specs.Items.{item_with};
-
-    ghost item_of = { λ r. item_with r.batch.records r.options };
-}
-
 /// A delay that a leader asked for its group: what its pass had seen then, with the delay itself as the last call. It
 /// is there for the proofs alone.
 #[derive(Drop)]
@@ -47,10 +40,4 @@ pub struct Answer {
     pub delay: Snapshot<Delay>,
     /// What the leader has seen of the write controller, where the batch was refused since writes are held up.
     pub note: Option<Note>,
-}
-
-impl GivesRun for Answer {
-    ghost use Rattle.engine_parts.specs.Items.{run_in};
-
-    ghost run_of = { λ p. run_in p.answer };
 }

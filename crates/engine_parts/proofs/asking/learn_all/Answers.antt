@@ -7,7 +7,7 @@ use Rattle.engine_controller.specs.declared.pass.Note.{Note}
 use Rattle.engine_parts.specs.declared.requests.Request.{Request}
 use Rattle.engine_parts.specs.Handled.{noted_in}
 use Rattle.engine_parts.specs.Asking.{HasLearned}
-use Rattle.engine_parts.proofs.Views.{half_at, learned_none, learned_more, learned_nothing, legal_seen, noting_none, unnoted}
+use Rattle.engine_parts.proofs.Views.{half_at, learned_none, learned_more, learned_nothing, legal_seen, unnoted}
 use Rattle.engine_parts.proofs.asking.learn_all.Goals as goal
 use Rattle.engine_parts.proofs.asking.learn_all.Goals.{in-Some, in_default}
 
@@ -32,20 +32,20 @@ loop-i-preserved g c =
     let ys : List (ℕ × Request) = c.loop-i.requests in
     let z : ℕ × Request = get_or ys i x0 in
     let all = map_over_more unnoted xs ys i z h v.requests (ap (λ (d : ℕ × Request). get_or ys i d) c.index-requests-i.is) in
-    let step = elim c.match-take.branch as (λ _. IsPassOf c.args.controller.now c.match-take.pass × (client_of c.match-take.pass ≡ k) × HasLearned k (seen_by was) (take (i + 1) xs) (seen_by c.match-take.pass)) [
+    let step = elim c.match-take_note.branch as (λ _. IsPassOf c.args.controller.now c.match-take_note.pass × (client_of c.match-take_note.pass ≡ k) × HasLearned k (seen_by was) (take (i + 1) xs) (seen_by c.match-take_note.pass)) [
       | in-Some w ↦ subst (λ p. IsPassOf c.args.controller.now p × (client_of p ≡ k) × HasLearned k (seen_by was) (take (i + 1) xs) (seen_by p)) (sym w.pass-is) (
         w.learn.ensures.own.0,
         w.learn.ensures.own.1 ∙ v.client,
         subst (λ l. HasLearned k (seen_by was) l (seen_by w.learn.new.pass)) more
             (learned_more k (seen_by was) (seen_by c.loop-i.pass) (seen_by w.learn.new.pass) (take i xs) x v.learned
             (subst (λ j. GoesOn j (seen_by c.loop-i.pass) (seen_by w.learn.new.pass)) v.client w.learn.ensures.seen)
-            (subst (λ (o : Option Note). IsPrefix (noted_in o) (seen_by w.learn.new.pass)) (sym w.in-Some.is ∙ (c.take.ensures.value ∙ ap (λ (y : ℕ × Request). y.1.note) at)) w.learn.ensures.noted)),
+            (subst (λ (o : Option Note). IsPrefix (noted_in o) (seen_by w.learn.new.pass)) (sym w.in-Some.is ∙ (c.take_note.ensures.value ∙ ap (λ (y : ℕ × Request). y.1.note) at)) w.learn.ensures.noted)),
       )
       | in_default w ↦ subst (λ p. IsPassOf c.args.controller.now p × (client_of p ≡ k) × HasLearned k (seen_by was) (take (i + 1) xs) (seen_by p)) (sym w.pass-is) (
         v.pass,
         v.client,
         subst (λ l. HasLearned k (seen_by was) l (seen_by c.loop-i.pass)) more
-            (learned_nothing k (seen_by was) (seen_by c.loop-i.pass) (take i xs) x v.learned (sym (ap (λ (y : ℕ × Request). y.1.note) at) ∙ (sym c.take.ensures.value ∙ w.in_default.is))),
+            (learned_nothing k (seen_by was) (seen_by c.loop-i.pass) (take i xs) x v.learned (sym (ap (λ (y : ℕ × Request). y.1.note) at) ∙ (sym c.take_note.ensures.value ∙ w.in_default.is))),
       )
     ] in
     record {
@@ -53,5 +53,5 @@ loop-i-preserved g c =
       pass = step.0;
       client = step.1;
       learned = step.2;
-      requests = ap (λ (q : Request). set ys i (z.0, q)) (noting_none z.1 c.take.new.self _ _ _ c.take.ensures.after) ∙ all;
+      requests = ap (λ (q : Request). set ys i (z.0, q)) c.take_note.ensures.after ∙ all;
     }

@@ -6,6 +6,7 @@ use Rattle.log_writer.specs.Groups.{counts_of, body_lens_of}
 use Rattle.table_rule.specs.declared.content.MemberVersions.{MemberVersions}
 use Rattle.table_tree.specs.Parts.{Members, group_of}
 use Rattle.engine_parts.proofs.logging.log_phase.Goals as goal
+use Rattle.engine_parts.specs.declared.requests.Request.{Request}
 use Rattle.engine_parts.specs.Handled.{commit_requests_of, handled_with, replies_of}
 use Rattle.engine_parts.specs.Numbering.{AreBeside, batches_of, others_in}
 use Rattle.engine_parts.specs.Staged.{MayLaunch}
@@ -27,9 +28,9 @@ pub returns-in-Some-clause-path : goal.returns-in-Some-clause-path
 returns-in-Some-clause-path g c past went goes s =
     let opened = past.opened in let start = past.start in let gb = past.group_bytes in let asked = past.asked in let published = past.published in let hs = past.handled in
     let led = goes.led in let numbers = goes.numbers in let comes = goes.comes_after in let is_asked = goes.asked_for in let proceeds = goes.proceeds in
-    let xs = c.args.requests.now.items in let h = c.args.path in let clients = c.args.layout.now.parts.clients in
-    subst (λ ys. Stands our_log as_is tt opened start clients gb went h.log.value published h.last (hs ++ handled_with xs ys)) (sym c.refuse_all.ensures.replies)
-    (stands_dead our_log as_is tt opened start clients gb asked h.log.value published h.last hs s xs led.lawful led.whole c.args.delay.now numbers is_asked comes went proceeds c.in-Some.count (ap fault_of (sym c.deref.ensures) ∙ (sym c.fault.ensures ∙ c.in-Some.is)))
+    let xs = c.args.requests.now.items in let h = c.args.path.now in let clients = c.args.layout.now.parts.clients in
+    subst (λ ys. Stands our_log as_is tt opened start clients gb went h.log published h.last (hs ++ handled_with xs ys)) (sym c.refuse_all.ensures.replies)
+    (stands_dead our_log as_is tt opened start clients gb asked h.log published h.last hs s xs led.lawful led.whole c.args.delay.now numbers is_asked comes went proceeds c.in-Some.count (sym c.fault.ensures ∙ c.in-Some.is))
 
 pub returns-in-Some-clause-replies : goal.returns-in-Some-clause-replies
 returns-in-Some-clause-replies g c = pays_faulted c.args.delay.now c.in-Some.count c.args.requests.now.items c.refuse_all.new.replies.items c.refuse_all.ensures.replies
@@ -37,100 +38,98 @@ returns-in-Some-clause-replies g c = pays_faulted c.args.delay.now c.in-Some.cou
 pub answer_layout-requires-clause-enough : goal.answer_layout-requires-clause-enough
 answer_layout-requires-clause-enough g c =
     let d = c.drop_parts.ensures.others in let n = c.lay_out-end.ensures in
-    layout_enough c.args.path.last c.args.requests.now.items c.drop_parts.new.self.numberings.items c.drop_parts.new.self.batches.items (ap (λ v. v.items) d.0 ∙ n.numberings) (ap (λ v. v.items) d.1 ∙ n.batches)
+    layout_enough c.args.path.now.last c.args.requests.now.items c.drop_parts.new.self.numberings.items c.drop_parts.new.self.batches.items (ap (λ v. v.items) d.0 ∙ n.numberings) (ap (λ v. v.items) d.1 ∙ n.batches)
 
 pub answer_layout-requires-clause-room : goal.answer_layout-requires-clause-room
 answer_layout-requires-clause-room g c =
     let d = c.drop_parts.ensures.others in let n = c.lay_out-end.ensures in
-    layout_room c.args.path.last (vec_capacity c.args.replies.now) c.args.requests.now.items c.drop_parts.new.self.numberings.items (ap (λ v. v.items) d.0 ∙ n.numberings) c.requires.replies.1
+    layout_room c.args.path.now.last (vec_capacity c.args.replies.now) c.args.requests.now.items c.drop_parts.new.self.numberings.items (ap (λ v. v.items) d.0 ∙ n.numberings) c.requires.replies.1
 
 pub returns-then-is_empty-clause-path : goal.returns-then-is_empty-clause-path
 returns-then-is_empty-clause-path g c past went goes s =
     let opened = past.opened in let start = past.start in let gb = past.group_bytes in let asked = past.asked in let published = past.published in let hs = past.handled in
     let led = goes.led in let numbers = goes.numbers in let comes = goes.comes_after in let is_asked = goes.asked_for in let proceeds = goes.proceeds in
-    let xs = c.args.requests.now.items in let h = c.args.path in let clients = c.args.layout.now.parts.clients in let n = c.lay_out-end.ensures in
+    let xs = c.args.requests.now.items in let h = c.args.path.now in let clients = c.args.layout.now.parts.clients in let n = c.lay_out-end.ensures in
     let d = c.drop_parts.ensures.others in
     let none : c.lay_out-end.new.batches.items ≡ [] = empty_list c.lay_out-end.new.batches.items (sym c.lay_out-end.new.batches.ok.0 ∙ none_left _ (sym c.is_empty.ensures ∙ c.if-is_empty.true)) in
     let no_batches : batches_from h.last (commit_requests_of xs) ≡ [] = sym (batches_are h.last xs) ∙ ap (map (λ (b : Contents). b.records)) (sym n.batches ∙ none) in
-    let alive : fault_of h.log.value ≡ None = ap fault_of (sym c.deref.ensures) ∙ (sym c.fault.ensures ∙ none_is c.fault.result c.in_default.not-Some) in
+    let alive : fault_of h.log ≡ None = sym c.fault.ensures ∙ none_is c.fault.result c.in_default.not-Some in
     let replies = c.answer_layout.ensures.replies ∙ layout_written c.args.delay.now h.last c.lay_out-end.result xs c.drop_parts.new.self.numberings.items c.drop_parts.new.self.batches.items (ap (λ v. v.items) d.0 ∙ n.numberings) (ap (λ v. v.items) d.1 ∙ n.batches) in
-    subst (λ (z : ℕ × List _). Stands our_log as_is tt opened start clients gb went h.log.value published z.0 (hs ++ handled_with xs z.1)) (λ i. (sym n.reached i, sym (replies ∙ ap (λ m. replies_of c.args.delay.now h.last m xs) n.reached) i))
-    (stands_written our_log as_is tt opened start clients gb asked h.log.value published h.last hs s xs led.lawful led.whole c.args.delay.now numbers is_asked comes went proceeds alive h.log.value published s.our (inl (refl, inr no_batches)) (inl (no_versions h.last (commit_requests_of xs) no_batches, refl)))
+    subst (λ (z : ℕ × List _). Stands our_log as_is tt opened start clients gb went h.log published z.0 (hs ++ handled_with xs z.1)) (λ i. (sym n.reached i, sym (replies ∙ ap (λ m. replies_of c.args.delay.now h.last m xs) n.reached) i))
+    (stands_written our_log as_is tt opened start clients gb asked h.log published h.last hs s xs led.lawful led.whole c.args.delay.now numbers is_asked comes went proceeds alive h.log published s.our (inl (refl, inr no_batches)) (inl (no_versions h.last (commit_requests_of xs) no_batches, refl)))
 
 pub returns-then-is_empty-clause-replies : goal.returns-then-is_empty-clause-replies
 returns-then-is_empty-clause-replies g c =
-    let d = c.drop_parts.ensures.others in let n = c.lay_out-end.ensures in let h = c.args.path in let clients = c.args.layout.now.parts.clients in let xs = c.args.requests.now.items in
+    let d = c.drop_parts.ensures.others in let n = c.lay_out-end.ensures in let h = c.args.path.now in let clients = c.args.layout.now.parts.clients in let xs = c.args.requests.now.items in
     pays_written c.args.delay.now h.last c.lay_out-end.result xs c.answer_layout.new.replies.items (c.answer_layout.ensures.replies ∙ layout_written c.args.delay.now h.last c.lay_out-end.result xs c.drop_parts.new.self.numberings.items c.drop_parts.new.self.batches.items (ap (λ v. v.items) d.0 ∙ n.numberings) (ap (λ v. v.items) d.1 ∙ n.batches))
 
 pub log_group-requires-clause-counts : goal.log_group-requires-clause-counts
 log_group-requires-clause-counts g c =
-    let xs = c.args.requests.now.items in let s = are_small c.args.path.last xs in let e = ap counts_of (c.as_slice.ensures.value ∙ c.lay_out-end.ensures.batches) in let few = c.requires.few in
+    let xs = c.args.requests.now.items in let s = are_small c.args.path.now.last xs in let e = ap counts_of (c.as_slice.ensures.value ∙ c.lay_out-end.ensures.batches) in let few = c.requires.few in
     omega (arith, s.0, e, few)
 
 pub log_group-requires-clause-run : goal.log_group-requires-clause-run
 log_group-requires-clause-run g c =
-    let h = c.args.path in
+    let h = c.args.path.now in
     let r = counts_reach h.last c.args.requests.now.items c.requires.last in let e = ap counts_of (c.as_slice.ensures.value ∙ c.lay_out-end.ensures.batches) in
     omega (arith, r.0, r.1, e)
 
 pub log_group-requires-clause-lens : goal.log_group-requires-clause-lens
 log_group-requires-clause-lens g c =
-    let xs = c.args.requests.now.items in let s = are_small c.args.path.last xs in let e = ap body_lens_of (c.as_slice.ensures.value ∙ c.lay_out-end.ensures.batches) in let few = c.requires.few in
+    let xs = c.args.requests.now.items in let s = are_small c.args.path.now.last xs in let e = ap body_lens_of (c.as_slice.ensures.value ∙ c.lay_out-end.ensures.batches) in let few = c.requires.few in
     omega (arith, s.1, e, few)
 
 pub answer_layout-requires-in-Err-clause-enough : goal.answer_layout-requires-in-Err-clause-enough
 answer_layout-requires-in-Err-clause-enough g c =
     let d = c.drop_parts-in-Err.ensures.others in let n = c.lay_out-end.ensures in
-    layout_enough c.args.path.last c.args.requests.now.items c.drop_parts-in-Err.new.self.numberings.items c.drop_parts-in-Err.new.self.batches.items (ap (λ v. v.items) d.0 ∙ n.numberings) (ap (λ v. v.items) d.1 ∙ n.batches)
+    layout_enough c.args.path.now.last c.args.requests.now.items c.drop_parts-in-Err.new.self.numberings.items c.drop_parts-in-Err.new.self.batches.items (ap (λ v. v.items) d.0 ∙ n.numberings) (ap (λ v. v.items) d.1 ∙ n.batches)
 
 pub answer_layout-requires-in-Err-clause-room : goal.answer_layout-requires-in-Err-clause-room
 answer_layout-requires-in-Err-clause-room g c =
     let d = c.drop_parts-in-Err.ensures.others in let n = c.lay_out-end.ensures in
-    layout_room c.args.path.last (vec_capacity c.args.replies.now) c.args.requests.now.items c.drop_parts-in-Err.new.self.numberings.items (ap (λ v. v.items) d.0 ∙ n.numberings) c.requires.replies.1
+    layout_room c.args.path.now.last (vec_capacity c.args.replies.now) c.args.requests.now.items c.drop_parts-in-Err.new.self.numberings.items (ap (λ v. v.items) d.0 ∙ n.numberings) c.requires.replies.1
 
 pub returns-in-Err-clause-path : goal.returns-in-Err-clause-path
 returns-in-Err-clause-path g c past went goes s =
     let opened = past.opened in let start = past.start in let gb = past.group_bytes in let asked = past.asked in let published = past.published in let hs = past.handled in
     let led = goes.led in let numbers = goes.numbers in let comes = goes.comes_after in let is_asked = goes.asked_for in let proceeds = goes.proceeds in
-    let xs = c.args.requests.now.items in let h = c.args.path in let clients = c.args.layout.now.parts.clients in let n = c.lay_out-end.ensures in
+    let xs = c.args.requests.now.items in let h = c.args.path.now in let clients = c.args.layout.now.parts.clients in let n = c.lay_out-end.ensures in
     let d = c.drop_parts-in-Err.ensures.others in
-    let alive : fault_of h.log.value ≡ None = ap fault_of (sym c.deref.ensures) ∙ (sym c.fault.ensures ∙ none_is c.fault.result c.in_default.not-Some) in
+    let alive : fault_of h.log ≡ None = sym c.fault.ensures ∙ none_is c.fault.result c.in_default.not-Some in
     let are : c.as_slice.result.now ≡ batches_of h.last xs = c.as_slice.ensures.value ∙ n.batches in
     let some : 0 < length c.as_slice.result.now = subst (λ (m : ℕ). 0 < m) (c.lay_out-end.new.batches.ok.0 ∙ ap length (sym c.as_slice.ensures.value)) (some_of _ (sym c.is_empty.ensures ∙ c.if-is_empty.false)) in
-    let same : c.index.result.now.1.options ≡ led.first.1.options = ap (λ (x : ℕ × _). x.1.options) (c.index.ensures ∙ head_is xs led.rest led.first c.index.result.now led.leads) in
-    let boxed = c.deref_mut.ensures.value in
-    let log = to_log gb clients h.last xs led c.index.result.now.1.options same c.as_slice.result.now are some h.log.value c.log_group.new.log c.log_group.result (rw boxed at c.log_group.ensures.skipped) (rw boxed at c.log_group.ensures.adds) in
+    let same : c.as_request.result.now.options ≡ led.first.1.options = ap (λ (q : Request). q.options) c.as_request.ensures ∙ ap (λ (x : ℕ × _). x.1.options) (c.index.ensures ∙ head_is xs led.rest led.first c.index.result.now led.leads) in
+    let log = to_log gb clients h.last xs led c.as_request.result.now.options same c.as_slice.result.now are some h.log c.log_group.new.log c.log_group.result c.log_group.ensures.skipped c.log_group.ensures.adds in
     let off = log c.in-Err.field-0 c.in-Err.is in
-    let w = writes gb clients h.last xs led c.index.result.now.1.options same c.as_slice.result.now are some h.log.value c.log_group.new.log c.log_group.result (rw boxed at c.log_group.ensures.skipped) (rw boxed at c.log_group.ensures.adds) off in
+    let w = writes gb clients h.last xs led c.as_request.result.now.options same c.as_slice.result.now are some h.log c.log_group.new.log c.log_group.result c.log_group.ensures.skipped c.log_group.ensures.adds off in
     let replies = c.answer_layout-in-Err.ensures.replies ∙ layout_faulted c.args.delay.now h.last c.in-Err.field-0.count xs c.drop_parts-in-Err.new.self.numberings.items c.drop_parts-in-Err.new.self.batches.items (ap (λ v. v.items) d.0 ∙ n.numberings) (ap (λ v. v.items) d.1 ∙ n.batches) in
     subst (λ ys. Stands our_log as_is tt opened start clients gb went c.log_group.new.log published h.last (hs ++ handled_with xs ys)) (sym replies)
-    (stands_failed our_log as_is tt opened start clients gb asked h.log.value published h.last hs s xs led.lawful led.whole c.args.delay.now numbers is_asked comes went proceeds alive c.in-Err.field-0.count (call_of (h.last + 1) c.as_slice.result.now c.index.result.now.1.options.sync c.log_group.result) c.log_group.new.log ((rw boxed at c.log_group.ensures.adds) off) w (ap count_of_fault c.in-Err.is ∙ search rules))
+    (stands_failed our_log as_is tt opened start clients gb asked h.log published h.last hs s xs led.lawful led.whole c.args.delay.now numbers is_asked comes went proceeds alive c.in-Err.field-0.count (call_of (h.last + 1) c.as_slice.result.now c.as_request.result.now.options.sync c.log_group.result) c.log_group.new.log (c.log_group.ensures.adds off) w (ap count_of_fault c.in-Err.is ∙ search rules))
 
 pub returns-in-Err-clause-replies : goal.returns-in-Err-clause-replies
 returns-in-Err-clause-replies g c =
-    let d = c.drop_parts-in-Err.ensures.others in let n = c.lay_out-end.ensures in let h = c.args.path in let clients = c.args.layout.now.parts.clients in let xs = c.args.requests.now.items in
+    let d = c.drop_parts-in-Err.ensures.others in let n = c.lay_out-end.ensures in let h = c.args.path.now in let clients = c.args.layout.now.parts.clients in let xs = c.args.requests.now.items in
     pays_faulted c.args.delay.now c.in-Err.field-0.count xs c.answer_layout-in-Err.new.replies.items (c.answer_layout-in-Err.ensures.replies ∙ layout_faulted c.args.delay.now h.last c.in-Err.field-0.count xs c.drop_parts-in-Err.new.self.numberings.items c.drop_parts-in-Err.new.self.batches.items (ap (λ v. v.items) d.0 ∙ n.numberings) (ap (λ v. v.items) d.1 ∙ n.batches))
 
 pub answer_layout-requires-2-clause-enough : goal.answer_layout-requires-2-clause-enough
 answer_layout-requires-2-clause-enough g c =
     let n = c.lay_out-end.ensures in
-    layout_enough c.args.path.last c.args.requests.now.items c.lay_out-end.new.numberings.items c.lay_out-end.new.batches.items n.numberings n.batches
+    layout_enough c.args.path.now.last c.args.requests.now.items c.lay_out-end.new.numberings.items c.lay_out-end.new.batches.items n.numberings n.batches
 
 pub answer_layout-requires-2-clause-room : goal.answer_layout-requires-2-clause-room
-answer_layout-requires-2-clause-room g c = layout_room c.args.path.last (vec_capacity c.args.replies.now) c.args.requests.now.items c.lay_out-end.new.numberings.items c.lay_out-end.ensures.numberings c.requires.replies.1
+answer_layout-requires-2-clause-room g c = layout_room c.args.path.now.last (vec_capacity c.args.replies.now) c.args.requests.now.items c.lay_out-end.new.numberings.items c.lay_out-end.ensures.numberings c.requires.replies.1
 
 pub returns-clause-path : goal.returns-clause-path
 returns-clause-path g c past went goes s =
     let opened = past.opened in let start = past.start in let gb = past.group_bytes in let asked = past.asked in let published = past.published in let hs = past.handled in
     let led = goes.led in let numbers = goes.numbers in let comes = goes.comes_after in let is_asked = goes.asked_for in let proceeds = goes.proceeds in
-    let xs = c.args.requests.now.items in let h = c.args.path in let clients = c.args.layout.now.parts.clients in let n = c.lay_out-end.ensures in
-    let alive : fault_of h.log.value ≡ None = ap fault_of (sym c.deref.ensures) ∙ (sym c.fault.ensures ∙ none_is c.fault.result c.in_default.not-Some) in
+    let xs = c.args.requests.now.items in let h = c.args.path.now in let clients = c.args.layout.now.parts.clients in let n = c.lay_out-end.ensures in
+    let alive : fault_of h.log ≡ None = sym c.fault.ensures ∙ none_is c.fault.result c.in_default.not-Some in
     let are : c.as_slice.result.now ≡ batches_of h.last xs = c.as_slice.ensures.value ∙ n.batches in
     let some : 0 < length c.as_slice.result.now = subst (λ (m : ℕ). 0 < m) (c.lay_out-end.new.batches.ok.0 ∙ ap length (sym c.as_slice.ensures.value)) (some_of _ (sym c.is_empty.ensures ∙ c.if-is_empty.false)) in
-    let same : c.index.result.now.1.options ≡ led.first.1.options = ap (λ (x : ℕ × _). x.1.options) (c.index.ensures ∙ head_is xs led.rest led.first c.index.result.now led.leads) in
+    let same : c.as_request.result.now.options ≡ led.first.1.options = ap (λ (q : Request). q.options) c.as_request.ensures ∙ ap (λ (x : ℕ × _). x.1.options) (c.index.ensures ∙ head_is xs led.rest led.first c.index.result.now led.leads) in
     let ok = ok_is c.log_group.result c.in_default-log_group.not-Err in
-    let boxed = c.deref_mut.ensures.value in
-    let on = logs_on gb clients h.last xs led c.index.result.now.1.options same c.as_slice.result.now are some h.log.value c.log_group.new.log c.log_group.result (rw boxed at c.log_group.ensures.skipped) (rw boxed at c.log_group.ensures.adds) ok.0 ok.1 in
+    let on = logs_on gb clients h.last xs led c.as_request.result.now.options same c.as_slice.result.now are some h.log c.log_group.new.log c.log_group.result c.log_group.ensures.skipped c.log_group.ensures.adds ok.0 ok.1 in
     let from = ap (map (λ (b : Contents). b.records)) are ∙ batches_are h.last xs in
     let some_batches : 0 < length (batches_from h.last (commit_requests_of xs)) = subst (λ (m : ℕ). 0 < m) (same_length (λ (b : Contents). b.records) c.as_slice.result.now (batches_from h.last (commit_requests_of xs)) from) some in
     let vs = versions_from h.last (commit_requests_of xs) in
@@ -138,11 +137,11 @@ returns-clause-path g c past went goes s =
     let are_parts = n.parts.0 in let same_parts = c.answer_layout-2.ensures.taken.2 in
     let replies = c.answer_layout-2.ensures.replies ∙ layout_written c.args.delay.now h.last c.lay_out-end.result xs c.lay_out-end.new.numberings.items c.lay_out-end.new.batches.items n.numberings n.batches in
     subst (λ (z : ℕ × List _ × Members). Stands our_log as_is tt opened start clients gb went c.log_group.new.log (published ++ group_of z.2.parts ∷ []) z.0 (hs ++ handled_with xs z.1)) (λ i. (sym n.reached i, sym (replies ∙ ap (λ m. replies_of c.args.delay.now h.last m xs) n.reached) i, sym same_parts i))
-    (stands_written our_log as_is tt opened start clients gb asked h.log.value published h.last hs s xs led.lawful led.whole c.args.delay.now numbers is_asked comes went proceeds alive c.log_group.new.log (published ++ group_of c.lay_out-end.new.parts.parts ∷ []) tt on (inr (group_of c.lay_out-end.new.parts.parts, refl, are_parts.versions_are)))
+    (stands_written our_log as_is tt opened start clients gb asked h.log published h.last hs s xs led.lawful led.whole c.args.delay.now numbers is_asked comes went proceeds alive c.log_group.new.log (published ++ group_of c.lay_out-end.new.parts.parts ∷ []) tt on (inr (group_of c.lay_out-end.new.parts.parts, refl, are_parts.versions_are)))
 
 pub returns-clause-replies : goal.returns-clause-replies
 returns-clause-replies g c =
-    let n = c.lay_out-end.ensures in let h = c.args.path in let clients = c.args.layout.now.parts.clients in let xs = c.args.requests.now.items in
+    let n = c.lay_out-end.ensures in let h = c.args.path.now in let clients = c.args.layout.now.parts.clients in let xs = c.args.requests.now.items in
     pays_written c.args.delay.now h.last c.lay_out-end.result xs c.answer_layout-2.new.replies.items (c.answer_layout-2.ensures.replies ∙ layout_written c.args.delay.now h.last c.lay_out-end.result xs c.lay_out-end.new.numberings.items c.lay_out-end.new.batches.items n.numberings n.batches)
 
 pub returns-in-Some-clause-staged : goal.returns-in-Some-clause-staged
@@ -151,7 +150,7 @@ returns-in-Some-clause-staged g c =
 
 pub returns-then-is_empty-clause-staged : goal.returns-then-is_empty-clause-staged
 returns-then-is_empty-clause-staged g c =
-    let xs = c.args.requests.now.items in let h = c.args.path in let n = c.lay_out-end.ensures in let d = c.drop_parts.ensures in let a = c.answer_layout.ensures in
+    let xs = c.args.requests.now.items in let h = c.args.path.now in let n = c.lay_out-end.ensures in let d = c.drop_parts.ensures in let a = c.answer_layout.ensures in
     let none : c.lay_out-end.new.batches.items ≡ [] = empty_list c.lay_out-end.new.batches.items (sym c.lay_out-end.new.batches.ok.0 ∙ none_left _ (sym c.is_empty.ensures ∙ c.if-is_empty.true)) in
     let no_batches : batches_from h.last (commit_requests_of xs) ≡ [] = sym (batches_are h.last xs) ∙ ap (map (λ (b : Contents). b.records)) (sym n.batches ∙ none) in
     let replies = a.replies ∙ layout_written c.args.delay.now h.last c.lay_out-end.result xs c.drop_parts.new.self.numberings.items c.drop_parts.new.self.batches.items (ap (λ v. v.items) d.others.0 ∙ n.numberings) (ap (λ v. v.items) d.others.1 ∙ n.batches) in
@@ -159,13 +158,13 @@ returns-then-is_empty-clause-staged g c =
 
 pub returns-in-Err-clause-staged : goal.returns-in-Err-clause-staged
 returns-in-Err-clause-staged g c =
-    let xs = c.args.requests.now.items in let h = c.args.path in let n = c.lay_out-end.ensures in let d = c.drop_parts-in-Err.ensures in let a = c.answer_layout-in-Err.ensures in
+    let xs = c.args.requests.now.items in let h = c.args.path.now in let n = c.lay_out-end.ensures in let d = c.drop_parts-in-Err.ensures in let a = c.answer_layout-in-Err.ensures in
     let replies = a.replies ∙ layout_faulted c.args.delay.now h.last c.in-Err.field-0.count xs c.drop_parts-in-Err.new.self.numberings.items c.drop_parts-in-Err.new.self.batches.items (ap (λ v. v.items) d.others.0 ∙ n.numberings) (ap (λ v. v.items) d.others.1 ∙ n.batches) in
     (ap (λ (p : Members). p.parts) a.taken.2 ∙ d.parts.0, refl, subst HaveNoRuns (sym replies) (no_runs_failed c.args.delay.now c.in-Err.field-0.count xs))
 
 pub returns-clause-staged : goal.returns-clause-staged
 returns-clause-staged g c =
-    let xs = c.args.requests.now.items in let h = c.args.path in let n = c.lay_out-end.ensures in let led = c.requires.group.1 in let clients = c.args.layout.now.parts.clients in
+    let xs = c.args.requests.now.items in let h = c.args.path.now in let n = c.lay_out-end.ensures in let led = c.requires.group.1 in let clients = c.args.layout.now.parts.clients in
     let are : c.as_slice.result.now ≡ batches_of h.last xs = c.as_slice.ensures.value ∙ n.batches in
     let some : 0 < length c.as_slice.result.now = subst (λ (m : ℕ). 0 < m) (c.lay_out-end.new.batches.ok.0 ∙ ap length (sym c.as_slice.ensures.value)) (some_of _ (sym c.is_empty.ensures ∙ c.if-is_empty.false)) in
     let from = ap (map (λ (b : Contents). b.records)) are ∙ batches_are h.last xs in

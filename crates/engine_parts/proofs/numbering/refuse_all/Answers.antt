@@ -15,9 +15,9 @@ failed_more d count all now rest old new x y so_far was put is =
 pub loop-client-preserved : goal.loop-client-preserved
 loop-client-preserved c =
     let v = c.loop-client.invariant in let put = c.push_reserved.ensures.items in let d = c.args.delay.now in let count = c.args.count in
-    let x : ℕ × Request = (c.in-Some.client, c.in-Some.request) in let y : ℕ × Answer = (c.in-Some.client, c.refusal-reply.result) in
+    let x : ℕ × Request = (c.in-Some.client, c.in-Some.request) in let y : ℕ × Answer = (c.in-Some.client, c.tell.result) in
     let was : c.loop-client.requests.items ≡ x ∷ c.take_first.new.items.items = c.in-Some.ensures.first in
-    let is = c.refusal-reply.ensures ∙ ap (λ (b : Contents). reply_with d (Err (record { batch = b; why = LogFault count }))) c.batch_of.ensures in
+    let is = c.tell.ensures ∙ (c.refusal-answer.ensures ∙ ap (λ (b : Contents). reply_with d (Err (record { batch = b; why = LogFault count }))) c.batch_of-batch.ensures) in
     record {
       replies = failed_more d count c.args.requests.now.items c.loop-client.requests.items c.take_first.new.items.items c.loop-client.replies.items c.push_reserved.new.self.items x y v.replies was put (λ i. (c.in-Some.client, is i) ∷ []);
       count = (let a = ap length put in let l = length-append c.loop-client.replies.items (y ∷ []) in let b = ap length was in let k = v.count in omega (arith, a, l, b, k));

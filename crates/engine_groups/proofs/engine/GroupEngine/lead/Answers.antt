@@ -90,7 +90,7 @@ leave-requires-clause-leaves g c =
     let requests_room = served.requests_room ∙ c.group.ensures.room.1 in
     let own_at : seen_for t.own_reply ≡ served.known = own_reply_at served.known own t.own_reply t.gs (subst (AllByRecursion (IsReplyAt served.known)) t.pays_are served.of_delay) in
     let no_end : c.serve-leadership.result.1 ≡ None = none_is c.serve-leadership.result.1 c.in_default.not-Some in
-    let staged = subst (λ (o : Option ℕ). IsStaged v.number n c.args.leadership.path.last leadership.path.last o w.layout.members.items parts w.lists.replies.list.items) no_end c.serve-leadership.ensures.staged in
+    let staged = subst (λ (o : Option ℕ). IsStaged v.number n c.args.leadership.held.value.path.last leadership.held.value.path.last o w.layout.members.items parts w.lists.replies.list.items) no_end c.serve-leadership.ensures.staged in
     let leaves : IsToLeave g.Versions.Table e v.number v.start (answers_told v.writer) own L.1 w leadership = record {
       seats = served.seats;
       layout = served.layout;
@@ -142,7 +142,7 @@ returns-in_default-clause-answered g c own' seen' chosen =
     let requests_room = served.requests_room ∙ c.group.ensures.room.1 in
     let own_at : seen_for t.own_reply ≡ served.known = own_reply_at served.known own t.own_reply t.gs (subst (AllByRecursion (IsReplyAt served.known)) t.pays_are served.of_delay) in
     let no_end : c.serve-leadership.result.1 ≡ None = none_is c.serve-leadership.result.1 c.in_default.not-Some in
-    let staged = subst (λ (o : Option ℕ). IsStaged v.number n c.args.leadership.path.last leadership.path.last o w.layout.members.items parts w.lists.replies.list.items) no_end c.serve-leadership.ensures.staged in
+    let staged = subst (λ (o : Option ℕ). IsStaged v.number n c.args.leadership.held.value.path.last leadership.held.value.path.last o w.layout.members.items parts w.lists.replies.list.items) no_end c.serve-leadership.ensures.staged in
     let leaves : IsToLeave g.Versions.Table e v.number v.start (answers_told v.writer) own L.1 w leadership = record {
       seats = served.seats;
       layout = served.layout;
@@ -209,11 +209,11 @@ hand_on-requires-clause-leaves g c =
     let l = pays_length c.group.new.requests.list.items w.lists.replies.list.items served.in_order in
     let requests_room = served.requests_room ∙ c.group.ensures.room.1 in
     let own_at : seen_for t.own_reply ≡ served.known = own_reply_at served.known own t.own_reply t.gs (subst (AllByRecursion (IsReplyAt served.known)) t.pays_are served.of_delay) in
-    let staged = subst (λ (o : Option ℕ). IsStaged v.number n c.args.leadership.path.last leadership.path.last o w.layout.members.items parts w.lists.replies.list.items) c.in-Some.is c.serve-leadership.ensures.staged in
+    let staged = subst (λ (o : Option ℕ). IsStaged v.number n c.args.leadership.held.value.path.last leadership.held.value.path.last o w.layout.members.items parts w.lists.replies.list.items) c.in-Some.is c.serve-leadership.ensures.staged in
     let path = subst (λ (o : Option ℕ). LogIn about leadership (published_with o parts st.published) (L.1 ++ all)) c.in-Some.is led.path in
     let may = staged.1 in
     let piped = is_piped g.Versions.Table about.table.value about.pipelined st.published leadership.turn hs.turn c.in-None.is in
-    let leaves : IsToLeave g.Versions.Table e v.number v.start (answers_told v.writer) own L.1 w (record { path = leadership.path; turn = None; clock = leadership.clock; asked = leadership.asked }) = record {
+    let leaves : IsToLeave g.Versions.Table e v.number v.start (answers_told v.writer) own L.1 w (record { held = leadership.held; turn = None; asked = leadership.asked }) = record {
       seats = served.seats;
       layout = served.layout;
       number_is = served.number;
@@ -243,9 +243,9 @@ hand_on-requires-clause-leaves g c =
     } in
     let seat_number : v.number ≡ (g.Versions.Table.account w.seat).number = sym served.number ∙ sym served.seats.seat_number in
     let home = g.Versions.Table.opening e.table in
-    let last_is : c.args.leadership.path.last ≡ last_after_all home.start (map commit_of L.1) = st.path.consistent.last_is ∙ ap (λ (k : ℕ). last_after_all k (map commit_of L.1)) E.start in
+    let last_is : c.args.leadership.held.value.path.last ≡ last_after_all home.start (map commit_of L.1) = st.path.consistent.last_is ∙ ap (λ (k : ℕ). last_after_all k (map commit_of L.1)) E.start in
     let beside = subst (λ (o : Option ℕ). IfSome o (λ _. AreBeside (is_none c.args.leadership.turn) (others_in c.group.new.requests.list.items) w.layout.members.items)) c.in-Some.is c.serve-leadership.ensures.beside in
-    let hands : IsToHandOn g.Versions.Table e v.number v.start (answers_told v.writer) own L.1 w (record { path = leadership.path; turn = None; clock = leadership.clock; asked = leadership.asked }) c.in-Some.end = record {
+    let hands : IsToHandOn g.Versions.Table e v.number v.start (answers_told v.writer) own L.1 w (record { held = leadership.held; turn = None; asked = leadership.asked }) c.in-Some.end = record {
       leaves = leaves;
       may = subst (λ (z : ℕ × ℕ × ℕ). MayLaunch z.0 z.1 z.2 c.in-Some.end w.layout.members.items (group_of parts)) (λ i. (seat_number i, sym E.clients i, last_is i)) may;
       beside = are_members n own t.gs w.layout.members.items (subst (Within n) (sym t.heads_are) G.2.3) (subst (λ xs. AreIn (others_in xs) w.layout.members.items) (G.3 ∙ ap (asks own) (sym t.heads_are)) beside.of_group);
@@ -273,14 +273,14 @@ publish_alone-turn-requires-clause-may g c =
     let l = pays_length c.group.new.requests.list.items w.lists.replies.list.items served.in_order in
     let requests_room = served.requests_room ∙ c.group.ensures.room.1 in
     let own_at : seen_for t.own_reply ≡ served.known = own_reply_at served.known own t.own_reply t.gs (subst (AllByRecursion (IsReplyAt served.known)) t.pays_are served.of_delay) in
-    let staged = subst (λ (o : Option ℕ). IsStaged v.number n c.args.leadership.path.last leadership.path.last o w.layout.members.items parts w.lists.replies.list.items) c.in-Some.is c.serve-leadership.ensures.staged in
+    let staged = subst (λ (o : Option ℕ). IsStaged v.number n c.args.leadership.held.value.path.last leadership.held.value.path.last o w.layout.members.items parts w.lists.replies.list.items) c.in-Some.is c.serve-leadership.ensures.staged in
     let path = subst (λ (o : Option ℕ). LogIn about leadership (published_with o parts st.published) (L.1 ++ all)) c.in-Some.is led.path in
     let may = staged.1 in
     let one = single g.Versions.Table about.table.value about.pipelined st.published leadership.turn c.in-Some-turn.turn hs.turn c.in-Some-turn.is in
     let home = g.Versions.Table.opening e.table in
     let seat_number : v.number ≡ (g.Versions.Table.account w.seat).number = sym served.number ∙ sym served.seats.seat_number in
-    let ends : last_of about.start st.published ≡ c.args.leadership.path.last = history_end our_log as_is tt about.opened.value about.start about.clients about.group_bytes (seen_by_note c.args.leadership.asked) c.args.leadership.path.log.value st.published c.args.leadership.path.last L.1 st.path in
-    let last_is : c.args.leadership.path.last ≡ last_of home.start (g.Versions.Table.history c.in-Some-turn.turn) = sym ends ∙ (λ i. last_of (E.start i) (sym one.2 i)) in
+    let ends : last_of about.start st.published ≡ c.args.leadership.held.value.path.last = history_end our_log as_is tt about.opened.value about.start about.clients about.group_bytes (seen_by_note c.args.leadership.asked) c.args.leadership.held.value.path.log st.published c.args.leadership.held.value.path.last L.1 st.path in
+    let last_is : c.args.leadership.held.value.path.last ≡ last_of home.start (g.Versions.Table.history c.in-Some-turn.turn) = sym ends ∙ (λ i. last_of (E.start i) (sym one.2 i)) in
     let beside = subst (λ (o : Option ℕ). IfSome o (λ _. AreBeside (is_none c.args.leadership.turn) (others_in c.group.new.requests.list.items) w.layout.members.items)) c.in-Some.is c.serve-leadership.ensures.beside in
     let alone : w.layout.members.items ≡ [] = beside.alone (ap is_none (sym c.serve-leadership.ensures.turn ∙ c.in-Some-turn.is)) in
     subst (λ (z : ℕ × ℕ × ℕ × List ℕ). MayLaunch z.0 z.1 z.2 c.in-Some.end z.3 (group_of parts)) (λ i. (seat_number i, sym E.clients i, last_is i, alone i)) may
@@ -305,12 +305,12 @@ leave-requires-in-Some-turn-clause-leaves g c =
     let l = pays_length c.group.new.requests.list.items w.lists.replies.list.items served.in_order in
     let requests_room = served.requests_room ∙ c.group.ensures.room.1 in
     let own_at : seen_for t.own_reply ≡ served.known = own_reply_at served.known own t.own_reply t.gs (subst (AllByRecursion (IsReplyAt served.known)) t.pays_are served.of_delay) in
-    let staged = subst (λ (o : Option ℕ). IsStaged v.number n c.args.leadership.path.last leadership.path.last o w.layout.members.items parts w.lists.replies.list.items) c.in-Some.is c.serve-leadership.ensures.staged in
+    let staged = subst (λ (o : Option ℕ). IsStaged v.number n c.args.leadership.held.value.path.last leadership.held.value.path.last o w.layout.members.items parts w.lists.replies.list.items) c.in-Some.is c.serve-leadership.ensures.staged in
     let path = subst (λ (o : Option ℕ). LogIn about leadership (published_with o parts st.published) (L.1 ++ all)) c.in-Some.is led.path in
     let may = staged.1 in
     let one = single g.Versions.Table about.table.value about.pipelined st.published leadership.turn c.in-Some-turn.turn hs.turn c.in-Some-turn.is in
     let P = c.publish_alone-turn.ensures in let turn = c.publish_alone-turn.result in
-    let leaves : IsToLeave g.Versions.Table e v.number v.start (answers_told v.writer) own L.1 (record { number = w.number; start = w.start; table = w.table; writer = w.writer; seat = c.publish_alone-turn.new.seat; pass = w.pass; lists = w.lists; layout = record { numberings = w.layout.numberings; batches = w.layout.batches; members = w.layout.members; parts = c.publish_alone-turn.new.parts } }) (record { path = leadership.path; turn = Some turn; clock = leadership.clock; asked = leadership.asked }) = record {
+    let leaves : IsToLeave g.Versions.Table e v.number v.start (answers_told v.writer) own L.1 (record { number = w.number; start = w.start; table = w.table; writer = w.writer; seat = c.publish_alone-turn.new.seat; pass = w.pass; lists = w.lists; layout = record { numberings = w.layout.numberings; batches = w.layout.batches; members = w.layout.members; parts = c.publish_alone-turn.new.parts }; envelope = w.envelope }) (record { held = leadership.held; turn = Some turn; asked = leadership.asked }) = record {
       seats = record { is_engine = E; seat = P.ours.0; ready = P.ours.2; seat_number = P.seen.0 ∙ served.seats.seat_number; pass = served.seats.pass; pass_number = served.seats.pass_number; number = served.seats.number };
       layout = record { no_numberings = served.layout.no_numberings; no_batches = served.layout.no_batches; clients_are = P.emptied.1 ∙ served.layout.clients_are; numberings = served.layout.numberings; batches = served.layout.batches; members = served.layout.members };
       number_is = served.number;
@@ -360,11 +360,11 @@ returns-in-None-clause-answered g c own' seen' chosen =
     let l = pays_length c.group.new.requests.list.items w.lists.replies.list.items served.in_order in
     let requests_room = served.requests_room ∙ c.group.ensures.room.1 in
     let own_at : seen_for t.own_reply ≡ served.known = own_reply_at served.known own t.own_reply t.gs (subst (AllByRecursion (IsReplyAt served.known)) t.pays_are served.of_delay) in
-    let staged = subst (λ (o : Option ℕ). IsStaged v.number n c.args.leadership.path.last leadership.path.last o w.layout.members.items parts w.lists.replies.list.items) c.in-Some.is c.serve-leadership.ensures.staged in
+    let staged = subst (λ (o : Option ℕ). IsStaged v.number n c.args.leadership.held.value.path.last leadership.held.value.path.last o w.layout.members.items parts w.lists.replies.list.items) c.in-Some.is c.serve-leadership.ensures.staged in
     let path = subst (λ (o : Option ℕ). LogIn about leadership (published_with o parts st.published) (L.1 ++ all)) c.in-Some.is led.path in
     let may = staged.1 in
     let piped = is_piped g.Versions.Table about.table.value about.pipelined st.published leadership.turn hs.turn c.in-None.is in
-    let leaves : IsToLeave g.Versions.Table e v.number v.start (answers_told v.writer) own L.1 w (record { path = leadership.path; turn = None; clock = leadership.clock; asked = leadership.asked }) = record {
+    let leaves : IsToLeave g.Versions.Table e v.number v.start (answers_told v.writer) own L.1 w (record { held = leadership.held; turn = None; asked = leadership.asked }) = record {
       seats = served.seats;
       layout = served.layout;
       number_is = served.number;
@@ -394,9 +394,9 @@ returns-in-None-clause-answered g c own' seen' chosen =
     } in
     let seat_number : v.number ≡ (g.Versions.Table.account w.seat).number = sym served.number ∙ sym served.seats.seat_number in
     let home = g.Versions.Table.opening e.table in
-    let last_is : c.args.leadership.path.last ≡ last_after_all home.start (map commit_of L.1) = st.path.consistent.last_is ∙ ap (λ (k : ℕ). last_after_all k (map commit_of L.1)) E.start in
+    let last_is : c.args.leadership.held.value.path.last ≡ last_after_all home.start (map commit_of L.1) = st.path.consistent.last_is ∙ ap (λ (k : ℕ). last_after_all k (map commit_of L.1)) E.start in
     let beside = subst (λ (o : Option ℕ). IfSome o (λ _. AreBeside (is_none c.args.leadership.turn) (others_in c.group.new.requests.list.items) w.layout.members.items)) c.in-Some.is c.serve-leadership.ensures.beside in
-    let hands : IsToHandOn g.Versions.Table e v.number v.start (answers_told v.writer) own L.1 w (record { path = leadership.path; turn = None; clock = leadership.clock; asked = leadership.asked }) c.in-Some.end = record {
+    let hands : IsToHandOn g.Versions.Table e v.number v.start (answers_told v.writer) own L.1 w (record { held = leadership.held; turn = None; asked = leadership.asked }) c.in-Some.end = record {
       leaves = leaves;
       may = subst (λ (z : ℕ × ℕ × ℕ). MayLaunch z.0 z.1 z.2 c.in-Some.end w.layout.members.items (group_of parts)) (λ i. (seat_number i, sym E.clients i, last_is i)) may;
       beside = are_members n own t.gs w.layout.members.items (subst (Within n) (sym t.heads_are) G.2.3) (subst (λ xs. AreIn (others_in xs) w.layout.members.items) (G.3 ∙ ap (asks own) (sym t.heads_are)) beside.of_group);
@@ -435,12 +435,12 @@ returns-in-Some-turn-clause-answered g c own' seen' chosen =
     let l = pays_length c.group.new.requests.list.items w.lists.replies.list.items served.in_order in
     let requests_room = served.requests_room ∙ c.group.ensures.room.1 in
     let own_at : seen_for t.own_reply ≡ served.known = own_reply_at served.known own t.own_reply t.gs (subst (AllByRecursion (IsReplyAt served.known)) t.pays_are served.of_delay) in
-    let staged = subst (λ (o : Option ℕ). IsStaged v.number n c.args.leadership.path.last leadership.path.last o w.layout.members.items parts w.lists.replies.list.items) c.in-Some.is c.serve-leadership.ensures.staged in
+    let staged = subst (λ (o : Option ℕ). IsStaged v.number n c.args.leadership.held.value.path.last leadership.held.value.path.last o w.layout.members.items parts w.lists.replies.list.items) c.in-Some.is c.serve-leadership.ensures.staged in
     let path = subst (λ (o : Option ℕ). LogIn about leadership (published_with o parts st.published) (L.1 ++ all)) c.in-Some.is led.path in
     let may = staged.1 in
     let one = single g.Versions.Table about.table.value about.pipelined st.published leadership.turn c.in-Some-turn.turn hs.turn c.in-Some-turn.is in
     let P = c.publish_alone-turn.ensures in let turn = c.publish_alone-turn.result in
-    let leaves : IsToLeave g.Versions.Table e v.number v.start (answers_told v.writer) own L.1 (record { number = w.number; start = w.start; table = w.table; writer = w.writer; seat = c.publish_alone-turn.new.seat; pass = w.pass; lists = w.lists; layout = record { numberings = w.layout.numberings; batches = w.layout.batches; members = w.layout.members; parts = c.publish_alone-turn.new.parts } }) (record { path = leadership.path; turn = Some turn; clock = leadership.clock; asked = leadership.asked }) = record {
+    let leaves : IsToLeave g.Versions.Table e v.number v.start (answers_told v.writer) own L.1 (record { number = w.number; start = w.start; table = w.table; writer = w.writer; seat = c.publish_alone-turn.new.seat; pass = w.pass; lists = w.lists; layout = record { numberings = w.layout.numberings; batches = w.layout.batches; members = w.layout.members; parts = c.publish_alone-turn.new.parts }; envelope = w.envelope }) (record { held = leadership.held; turn = Some turn; asked = leadership.asked }) = record {
       seats = record { is_engine = E; seat = P.ours.0; ready = P.ours.2; seat_number = P.seen.0 ∙ served.seats.seat_number; pass = served.seats.pass; pass_number = served.seats.pass_number; number = served.seats.number };
       layout = record { no_numberings = served.layout.no_numberings; no_batches = served.layout.no_batches; clients_are = P.emptied.1 ∙ served.layout.clients_are; numberings = served.layout.numberings; batches = served.layout.batches; members = served.layout.members };
       number_is = served.number;

@@ -31,6 +31,12 @@ open_with-requires-clause-layouts g c =
     let layouts = c.in-Ok-for_all.layouts in let all = c.in-Ok-for_all.ensures in
     (subst (λ k. AreRoomy k layouts.items) count all.1, sym layouts.ok.0 ∙ (all.0 ∙ count))
 
+pub open_with-requires-clause-envelopes : goal.open_with-requires-clause-envelopes
+open_with-requires-clause-envelopes g c =
+    let n = seats_count g.Versions.Table c.args.table (g.Versions.Table.opening c.args.table).clients c.args.seats.clients c.requires.seats in
+    let envelopes = c.in-Ok-for_all-2.envelopes in
+    sym envelopes.ok.0 ∙ (c.in-Ok-for_all-2.ensures ∙ (c.len-count.ensures ∙ n))
+
 pub open_with-requires-clause-room : goal.open_with-requires-clause-room
 open_with-requires-clause-room g c =
     let n = seats_count g.Versions.Table c.args.table (g.Versions.Table.opening c.args.table).clients c.args.seats.clients c.requires.seats in

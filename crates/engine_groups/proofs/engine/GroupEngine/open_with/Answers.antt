@@ -1,4 +1,4 @@
-use Rattle.std.proofs.Common.{rules, ◌≡◌, ◌≤◌, ◌<◌, ◌+◌, List, [], Option, Some, None, ◌⊎◌, vec_capacity, refl, sym, ap, ◌∙◌, subst, arith}
+use Rattle.std.proofs.Common.{rules, ◌≡◌, ℕ, ◌≤◌, ◌<◌, ◌+◌, List, [], Option, Some, None, ◌⊎◌, vec_capacity, refl, sym, ap, ◌∙◌, subst, arith}
 use Rattle.model_base.specs.declared.limits.TheConstants.{MAX_CLIENTS}
 use Rattle.model_base.specs.History.{max_sequence}
 use Rattle.log_writer.specs.Words.{disk_of, fault_of}
@@ -13,6 +13,7 @@ use Rattle.table_rule.specs.declared.content.MemberVersions.{MemberVersions}
 use Rattle.engine_parts.specs.Layout.{AreRoomy}
 use Rattle.engine_groups.specs.AtStart.{AreSeatsAtStart}
 use Rattle.engine_groups.specs.Clients.{map_at_opening}
+use Rattle.engine_groups.specs.declared.leader.Held.{Held}
 use Rattle.engine_groups.proofs.First.{back_first, kept_first, place_first, stands_first, turn_first}
 use Rattle.engine_groups.proofs.Seating.{seats_count, newcomer_at, are_ours, passes_at_start}
 use Rattle.engine_groups.proofs.engine.GroupEngine.open_with.Goals as goal
@@ -46,14 +47,14 @@ pub open-requires-clause-log : goal.open-requires-clause-log
 open-requires-clause-log g c =
     let last = c.args.options.last in let about = c.start_with-start.result.about in let made = c.start_with-start.ensures in
     let first = c.groups_stay_consistent.ensures.first last about.clients about.group_bytes in let note = c.first_note.ensures.note in
-    let fresh = stands_first our_log as_is tt c.args.log.value last about.clients about.group_bytes [] (seen_by_note c.first_note.result) first tt refl c.requires.log note.1 in
+    let fresh = stands_first our_log as_is tt c.args.held.value.path.log last about.clients about.group_bytes [] (seen_by_note c.first_note.result) first tt refl c.requires.log.0 note.1 in
     let t = turn_first g.Versions.Table c.args.table c.args.seats.turn c.requires.turn.0 c.requires.turn.1 c.part_turn-with_log.result.0 c.part_turn-with_log.result.1 c.args.pipelined c.part_turn-with_log.ensures.single c.part_turn-with_log.ensures.piped in
-    let opened = subst (λ z. LogStandsFor z last about.clients about.group_bytes (seen_by_note c.first_note.result) c.args.log.value [] last []) (sym (made.engine.2 ∙ c.deref.ensures)) fresh in
+    let opened = subst (λ z. LogStandsFor z last about.clients about.group_bytes (seen_by_note c.first_note.result) c.args.held.value.path.log [] last []) (sym (made.engine.2 ∙ ap (λ (h : Held _ _ _). h.path.log) c.deref.ensures)) fresh in
     let staged = subst (λ b. TurnIs g.Versions.Table c.args.table b [] c.part_turn-with_log.result.0) (sym made.numbers.3) t.0 in (
       record {
         note = subst (λ k. IsNoteOf k c.first_note.result) (sym made.engine.1) note.0;
         published = [];
-        path = subst (λ k. LogStandsFor about.opened.value k about.clients about.group_bytes (seen_by_note c.first_note.result) c.args.log.value [] last []) (sym made.numbers.0) opened;
+        path = subst (λ (z : ℕ × ℕ). LogStandsFor about.opened.value z.0 about.clients about.group_bytes (seen_by_note c.first_note.result) c.args.held.value.path.log [] z.1 []) (λ i. (sym made.numbers.0 i, sym c.requires.log.1 i)) opened;
         turn = subst (λ k. TurnIs g.Versions.Table k about.pipelined [] c.part_turn-with_log.result.0) (sym made.engine.0) staged;
       },
       subst (λ k. AreHandled about.controller.value about.opened.value k []) (sym made.numbers.0) (kept_first _ _ last about.clients about.group_bytes first),
@@ -64,7 +65,7 @@ open-requires-clause-numbers g c =
     let about = c.start_with-start.result.about in let made = c.start_with-start.ensures in
     let t = turn_first g.Versions.Table c.args.table c.args.seats.turn c.requires.turn.0 c.requires.turn.1 c.part_turn-with_log.result.0 c.part_turn-with_log.result.1 c.args.pipelined c.part_turn-with_log.ensures.single c.part_turn-with_log.ensures.piped in
     let staged = subst (λ b. ServesIs g.Versions.Table c.args.table b [] c.part_turn-with_log.result.1) (sym made.numbers.3) t.1 in
-    (sym made.list.1, subst (λ k. ServesIs g.Versions.Table k about.pipelined [] c.part_turn-with_log.result.1) (sym made.engine.0) staged)
+    (c.requires.log.1 ∙ sym made.list.1, subst (λ k. ServesIs g.Versions.Table k about.pipelined [] c.part_turn-with_log.result.1) (sym made.engine.0) staged)
 
 pub seat_all-clients-requires-clause-engine : goal.seat_all-clients-requires-clause-engine
 seat_all-clients-requires-clause-engine g c =
@@ -85,7 +86,7 @@ seat_all-clients-requires-clause-engine g c =
         low = subst (λ k. k ≤ max_sequence) options.0 options.1;
         few = (let small : (g.Versions.Table.opening c.args.table).clients < 255 = omega (arith, few) in subst (λ k. k < 255) (sym count) small);
         batch_bytes = options.2;
-        no_fault = ap (λ a. fault_of a.opened.value) about ∙ (ap fault_of (made.engine.2 ∙ c.deref.ensures) ∙ c.requires.log);
+        no_fault = ap (λ a. fault_of a.opened.value) about ∙ (ap fault_of (made.engine.2 ∙ ap (λ (h : Held _ _ _). h.path.log) c.deref.ensures) ∙ c.requires.log.0);
       },
       options.0,
     )
@@ -113,8 +114,8 @@ returns-in-Err-clause-err g c =
     let err = c.in-Err.ensures.err in let p = c.part_turn-with_log in let back = c.given_back in let same = back.ensures.same in
     let at = subst (λ (z : Option _ × Option _). ((z.0 ≡ Some back.result.seats.turn) × (z.1 ≡ None)) ⊎ ((z.0 ≡ None) × (z.1 ≡ Some back.result.seats.turn))) (λ i. ((err.0 i).turn, (err.1 i).turn)) back.ensures.turn in
     let turn : back.result.seats.turn ≡ c.args.seats.turn = back_first c.args.seats.turn p.result.0 p.result.1 back.result.seats.turn c.args.pipelined p.ensures.single p.ensures.piped at in (
-      same.0 ∙ (λ i. (err.0 i).path.log.value),
-      same.1 ∙ (λ i. (err.0 i).clock),
+      same.0 ∙ (λ i. (err.0 i).held.value.path.log),
+      same.1 ∙ (λ i. (err.0 i).held.value.clock),
       same.2,
       (λ i. record { turn = turn i; clients = same.3 i }),
       same.4,
@@ -141,6 +142,13 @@ seat_all-clients-requires-clause-layouts g c =
     let count : clients_of c.in-Ok.list ≡ (g.Versions.Table.opening c.args.table).clients = ok.0 ∙ (c.start_with-start.ensures.list.0 ∙ (c.len-count.ensures ∙ n)) in
     (subst (λ k. AreRoomy k c.args.layouts.items) (sym count) layouts.0, layouts.1 ∙ sym count)
 
+pub seat_all-clients-requires-clause-envelopes : goal.seat_all-clients-requires-clause-envelopes
+seat_all-clients-requires-clause-envelopes g c =
+    let n = seats_count g.Versions.Table c.args.table (g.Versions.Table.opening c.args.table).clients c.args.seats.clients c.requires.seats in
+    let ok = c.in-Ok.ensures.ok.0 in
+    let count : clients_of c.in-Ok.list ≡ (g.Versions.Table.opening c.args.table).clients = ok.0 ∙ (c.start_with-start.ensures.list.0 ∙ (c.len-count.ensures ∙ n)) in
+    c.requires.envelopes ∙ sym count
+
 pub seat_all-clients-requires-clause-clients : goal.seat_all-clients-requires-clause-clients
 seat_all-clients-requires-clause-clients g c =
     let n = seats_count g.Versions.Table c.args.table (g.Versions.Table.opening c.args.table).clients c.args.seats.clients c.requires.seats in
@@ -153,7 +161,7 @@ returns-in-Ok-clause-engine g c =
     let n = seats_count g.Versions.Table c.args.table (g.Versions.Table.opening c.args.table).clients c.args.seats.clients c.requires.seats in
     let ok = c.in-Ok.ensures.ok.0 in let options = c.requires.options in let about = ok.2 in let made = c.start_with-start.ensures in
     let count : clients_of c.in-Ok.list ≡ (g.Versions.Table.opening c.args.table).clients = ok.0 ∙ (c.start_with-start.ensures.list.0 ∙ (c.len-count.ensures ∙ n)) in
-    let opened = ap (λ a. a.opened.value) about ∙ (made.engine.2 ∙ c.deref.ensures) in (
+    let opened = ap (λ a. a.opened.value) about ∙ (made.engine.2 ∙ ap (λ (h : Held _ _ _). h.path.log) c.deref.ensures) in (
       refl,
       opened,
       (λ i. record {

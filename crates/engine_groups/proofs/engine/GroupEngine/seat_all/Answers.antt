@@ -70,6 +70,7 @@ loop-writer-init g c =
       lists_count = L.1 ∙ sym many;
       layouts = Y.0;
       layouts_count = Y.1 ∙ sym many;
+      envelopes_count = c.requires.envelopes ∙ sym many;
       clients = subst (λ l. AreNewcomers meaning e (length ws + 1) (reverse l)) (sym C.0) tt;
       count = omega (arith, none, many);
       clients_room = C.1;
@@ -103,6 +104,7 @@ loop-writer-preserved g c =
       lists_count = (let a = length_last ls c.loop-writer.lists.items c.in-Some-pop-3.lists lists in let b = v.lists_count in omega (arith, a, b, was));
       layouts = (all_last (IsRoomy n) (AreRoomy n) tt (λ x xs all. all) (λ x xs one all. (one, all)) ys c.in-Some-pop-4.layout (subst (AreRoomy n) layout v.layouts)).0;
       layouts_count = (let a = length_last ys c.loop-writer.layouts.items c.in-Some-pop-4.layout layout in let b = v.layouts_count in omega (arith, a, b, was));
+      envelopes_count = (let a = length_last c.pop-in-Some-5.new.self.items c.loop-writer.envelopes.items c.in-Some-pop-5.envelope c.in-Some-pop-5.ensures.items in let b = v.envelopes_count in omega (arith, a, b, was));
       clients = subst (AreNewcomers meaning e (r + 1)) (sym all) (
         subst (λ k. IsNewcomer meaning e k made) number c.seat_one-client.ensures,
         subst (λ k. AreNewcomers meaning e k (reverse clients)) (let k : length c.loop-writer.writers.items + 1 ≡ r + 1 + 1 = omega (arith, was) in k) v.clients,

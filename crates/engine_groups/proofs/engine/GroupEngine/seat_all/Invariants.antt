@@ -19,6 +19,7 @@ invariant-loop-writer g l = record {
   lists_count : length l.lists.items ≡ length l.writers.items;
   layouts : AreRoomy (clients_of l.self.list) l.layouts.items;
   layouts_count : length l.layouts.items ≡ length l.writers.items;
+  envelopes_count : length l.envelopes.items ≡ length l.writers.items;
   clients : AreNewcomers g.Versions.Table l.self (length l.writers.items + 1) (reverse l.clients.items);
   count : length l.clients.items + length l.writers.items ≡ clients_of l.self.list;
   clients_room : clients_of l.self.list ≤ vec_capacity l.clients;

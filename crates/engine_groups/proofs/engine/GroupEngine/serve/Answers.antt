@@ -18,6 +18,8 @@ use Rattle.engine_parts.specs.LogLaw.{LogStandsFor, Past}
 use Rattle.engine_parts.specs.Led.{AreAlike, GoesOnWith, IsLedGroup}
 use Rattle.engine_parts.specs.Numbering.{AreBeside, others_in}
 use Rattle.engine_parts.specs.Staged.{published_with}
+use Rattle.engine_parts.specs.declared.logging.LogPath.{LogPath}
+use Rattle.engine_groups.specs.declared.leader.Held.{Held}
 use Rattle.engine_groups.proofs.Members.{beside_where, others_unnoted}
 use Rattle.engine_parts.proofs.Serves.{as_many, asked_after, asked_delays, asked_is, asked_sees, asked_shown, back_unnoted, first_flag, held_at, held_back, held_order, held_shown, led_unnoted, looks_sees, order_unnoted, proceeds, put_back, replies_at, replies_shown, stands_by, stands_held_up, stands_noted}
 use Rattle.engine_parts.proofs.Staging.{laid, no_runs_held}
@@ -40,7 +42,7 @@ returns-then-not-proceeds-clause-served g c =
     let asked : List ControllerCall = seen_by_note c.args.leadership.asked in
     let A = c.ask-look.ensures in let N = c.note.ensures in let R = c.refuse_stalled.ensures in let no = c.may_proceed-proceeds.ensures.refused c.if-not-proceeds.true in
     let n : Look = look_of c.ask-look.result in let known : List ControllerCall = seen_by c.ask-look.new.pass in
-    let L = v.lists.requests.list in let new : List (ℕ × Request) = c.ask-look.new.requests in let same = c.deref_mut.ensures.value in
+    let L = v.lists.requests.list in let new : List (ℕ × Request) = c.ask-look.new.requests in let same = c.deref_mut-2.ensures.value in
     let h : HasAskedFor k was asked xs n known = subst (λ (z : ℕ × List (ℕ × Request)). HasAskedFor z.0 was asked z.1 n known) (λ i. (q.pass_number i, same i)) A.asked in
     let left : List (ℕ × Request) = take L.len (new ++ drop (length new) L.items) in
     let left_is : left ≡ all_seen xs = put_back xs new L.len L.ok.0 (A.requests ∙ ap all_seen same) in
@@ -48,7 +50,7 @@ returns-then-not-proceeds-clause-served g c =
     let is : seen_at d ≡ known = ap seen_by c.of.ensures in
     let ys : List (ℕ × Answer) = c.refuse_stalled.new.replies.items in
     let zip : AllZip (IsHeldUp e.controller d n) (all_seen xs) ys = subst (λ l. AllZip (IsHeldUp e.controller d n) l ys) left_is R.replies in
-    let may : MayNotWait (commit_requests_of xs) = subst (λ (b : Bool). AreAlike b (commit_requests_of xs)) (ap (λ o. o.no_slowdown) (first_flag (bound_of e.list) (clients_of e.list) xs S.led left c.index.result.now left_is c.index.ensures) ∙ no.0) S.led.slowdown in
+    let may : MayNotWait (commit_requests_of xs) = subst (λ (b : Bool). AreAlike b (commit_requests_of xs)) (ap (λ o. o.no_slowdown) (first_flag (bound_of e.list) (clients_of e.list) xs S.led left c.index.result.now left_is c.index.ensures ∙ ap (λ (r : Request). r.options) (sym c.as_request.ensures)) ∙ no.0) S.led.slowdown in
     let still : seen_by c.note.new.pass ≡ known = N.seen ∙ no.2 in
     record {
       seats = record {
@@ -81,12 +83,12 @@ returns-then-not-proceeds-clause-served g c =
 
 pub returns-then-not-proceeds-clause-leadership : goal.returns-then-not-proceeds-clause-leadership
 returns-then-not-proceeds-clause-leadership g c hs st =
-    let S = c.requires.served in let q = S.seats in let e = c.args.self.now in let v = c.args.client.now in let about = about_of e.list in let path = c.args.leadership.path in
+    let S = c.requires.served in let q = S.seats in let e = c.args.self.now in let v = c.args.client.now in let about = about_of e.list in let path = c.args.leadership.held.value.path in
     let xs : List (ℕ × Request) = v.lists.requests.list.items in let k : ℕ = v.number in let was : List ControllerCall = seen_by v.pass in
     let asked : List ControllerCall = seen_by_note c.args.leadership.asked in
     let A = c.ask-look.ensures in let N = c.note.ensures in let R = c.refuse_stalled.ensures in let no = c.may_proceed-proceeds.ensures.refused c.if-not-proceeds.true in
     let n : Look = look_of c.ask-look.result in let known : List ControllerCall = seen_by c.ask-look.new.pass in
-    let L = v.lists.requests.list in let new : List (ℕ × Request) = c.ask-look.new.requests in let same = c.deref_mut.ensures.value in
+    let L = v.lists.requests.list in let new : List (ℕ × Request) = c.ask-look.new.requests in let same = c.deref_mut-2.ensures.value in
     let h : HasAskedFor k was asked xs n known = subst (λ (z : ℕ × List (ℕ × Request)). HasAskedFor z.0 was asked z.1 n known) (λ i. (q.pass_number i, same i)) A.asked in
     let left : List (ℕ × Request) = take L.len (new ++ drop (length new) L.items) in
     let left_is : left ≡ all_seen xs = put_back xs new L.len L.ok.0 (A.requests ∙ ap all_seen same) in
@@ -94,14 +96,15 @@ returns-then-not-proceeds-clause-leadership g c hs st =
     let is : seen_at d ≡ known = ap seen_by c.of.ensures in
     let ys : List (ℕ × Answer) = c.refuse_stalled.new.replies.items in
     let zip : AllZip (IsHeldUp e.controller d n) (all_seen xs) ys = subst (λ l. AllZip (IsHeldUp e.controller d n) l ys) left_is R.replies in
-    let may : MayNotWait (commit_requests_of xs) = subst (λ (b : Bool). AreAlike b (commit_requests_of xs)) (ap (λ o. o.no_slowdown) (first_flag (bound_of e.list) (clients_of e.list) xs S.led left c.index.result.now left_is c.index.ensures) ∙ no.0) S.led.slowdown in
+    let may : MayNotWait (commit_requests_of xs) = subst (λ (b : Bool). AreAlike b (commit_requests_of xs)) (ap (λ o. o.no_slowdown) (first_flag (bound_of e.list) (clients_of e.list) xs S.led left c.index.result.now left_is c.index.ensures ∙ ap (λ (r : Request). r.options) (sym c.as_request.ensures)) ∙ no.0) S.led.slowdown in
     let still : seen_by c.note.new.pass ≡ known = N.seen ∙ no.2 in
     let led : IsLedGroup about.group_bytes about.clients xs = subst (λ (z : ℕ × ℕ). IsLedGroup z.0 z.1 xs) (λ i. (sym q.is_engine.group_bytes i, sym q.is_engine.about_clients i)) S.led in
     record {
       turn = st.turn;
       note = subst (λ ctl. IsNoteOf ctl c.note.result) (sym q.is_engine.controller) N.note.0;
-      path = stands_by our_log as_is about.opened.value path.log.value st.published path.last tt tt about.start about.start about.clients about.clients about.group_bytes about.group_bytes known (seen_by_note c.note.result) (hs ++ handled_with xs ys) refl refl refl refl (sym (N.note.1 ∙ no.2))
-          (stands_held_up our_log as_is about.opened.value path.log.value st.published path.last e.controller d n tt about.start about.clients about.group_bytes asked known hs xs ys zip is led (asked_is k was asked known xs n h about.group_bytes about.clients led S.leads) (asked_after k was asked known xs n h) no.1 may st.path);
+      path = subst (λ (h : Held _ _ _). LogStandsFor about.opened.value about.start about.clients about.group_bytes (seen_by_note c.note.result) h.path.log st.published h.path.last (hs ++ handled_with xs ys)) (sym c.deref_mut.ensures.value)
+          (stands_by our_log as_is about.opened.value path.log st.published path.last tt tt about.start about.start about.clients about.clients about.group_bytes about.group_bytes known (seen_by_note c.note.result) (hs ++ handled_with xs ys) refl refl refl refl (sym (N.note.1 ∙ no.2))
+          (stands_held_up our_log as_is about.opened.value path.log st.published path.last e.controller d n tt about.start about.clients about.group_bytes asked known hs xs ys zip is led (asked_is k was asked known xs n h about.group_bytes about.clients led S.leads) (asked_after k was asked known xs n h) no.1 may st.path));
     }
 
 pub refuse_stalled-requires-clause-room : goal.refuse_stalled-requires-clause-room
@@ -110,7 +113,7 @@ refuse_stalled-requires-clause-room g c =
     let xs : List (ℕ × Request) = v.lists.requests.list.items in
     let L = v.lists.requests.list in let new : List (ℕ × Request) = c.ask-look.new.requests in
     let left : List (ℕ × Request) = take L.len (new ++ drop (length new) L.items) in
-    let left_is : left ≡ all_seen xs = put_back xs new L.len L.ok.0 (c.ask-look.ensures.requests ∙ ap all_seen c.deref_mut.ensures.value) in
+    let left_is : left ≡ all_seen xs = put_back xs new L.len L.ok.0 (c.ask-look.ensures.requests ∙ ap all_seen c.deref_mut-2.ensures.value) in
     let many = as_many xs left left_is in
     subst (λ (n : ℕ). n ≤ vec_capacity v.lists.replies.list) (sym many) S.room
 
@@ -118,28 +121,30 @@ pub returns-then-not-proceeds-clause-staged : goal.returns-then-not-proceeds-cla
 returns-then-not-proceeds-clause-staged g c =
     let S = c.requires.served in let q = S.seats in let e = c.args.self.now in let v = c.args.client.now in
     let xs : List (ℕ × Request) = v.lists.requests.list.items in
-    let n : Look = look_of c.ask-look.result in let same = c.deref_mut.ensures.value in
+    let n : Look = look_of c.ask-look.result in let same = c.deref_mut-2.ensures.value in
     let L = v.lists.requests.list in let new : List (ℕ × Request) = c.ask-look.new.requests in
     let left : List (ℕ × Request) = take L.len (new ++ drop (length new) L.items) in
     let left_is : left ≡ all_seen xs = put_back xs new L.len L.ok.0 (c.ask-look.ensures.requests ∙ ap all_seen same) in
     let d : Delay = record { pass = c.of.result } in
     let ys : List (ℕ × Answer) = c.refuse_stalled.new.replies.items in
     let zip : AllZip (IsHeldUp e.controller d n) (all_seen xs) ys = subst (λ l. AllZip (IsHeldUp e.controller d n) l ys) left_is c.refuse_stalled.ensures.replies in
-    (S.layout.clear.2, refl, no_runs_held e.controller d n (all_seen xs) ys zip)
+    (S.layout.clear.2, ap (λ (h : Held _ _ _). h.path.last) c.deref_mut.ensures.value, no_runs_held e.controller d n (all_seen xs) ys zip)
 
-pub log_phase-path-requires-clause-last : goal.log_phase-path-requires-clause-last
-log_phase-path-requires-clause-last g c =
-    let q = c.requires.served.seats in let e = c.args.self.now in let about = about_of e.list in let path = c.args.leadership.path in let st = c.requires.leadership.1 in
-    last_low our_log as_is tt about.opened.value about.start about.clients about.group_bytes (seen_by_note c.args.leadership.asked) path.log.value st.published path.last c.requires.leadership.0 st.path
-    (subst (λ (k : ℕ). k ≤ max_sequence) (sym q.is_engine.start) q.is_engine.low)
+pub log_phase-end-requires-clause-last : goal.log_phase-end-requires-clause-last
+log_phase-end-requires-clause-last g c =
+    let q = c.requires.served.seats in let e = c.args.self.now in let about = about_of e.list in let path = c.args.leadership.held.value.path in let st = c.requires.leadership.1 in
+    let path_is = ap (λ (h : Held _ _ _). h.path) c.deref_mut-3.ensures.value ∙ ap (λ (h : Held _ _ _). h.path) c.deref_mut.ensures.value in
+    subst (λ (p : LogPath _ _). p.last ≤ max_sequence) (sym path_is)
+    (last_low our_log as_is tt about.opened.value about.start about.clients about.group_bytes (seen_by_note c.args.leadership.asked) path.log st.published path.last c.requires.leadership.0 st.path
+    (subst (λ (k : ℕ). k ≤ max_sequence) (sym q.is_engine.start) q.is_engine.low))
 
-pub log_phase-path-requires-clause-group : goal.log_phase-path-requires-clause-group
-log_phase-path-requires-clause-group g c =
+pub log_phase-end-requires-clause-group : goal.log_phase-end-requires-clause-group
+log_phase-end-requires-clause-group g c =
     let S = c.requires.served in let q = S.seats in let e = c.args.self.now in let v = c.args.client.now in
     let xs : List (ℕ × Request) = v.lists.requests.list.items in
     let L = v.lists.requests.list in let new : List (ℕ × Request) = c.ask-look.new.requests in
     let left : List (ℕ × Request) = take L.len (new ++ drop (length new) L.items) in
-    let left_is : left ≡ all_seen xs = put_back xs new L.len L.ok.0 (c.ask-look.ensures.requests ∙ ap all_seen c.deref_mut.ensures.value) in
+    let left_is : left ≡ all_seen xs = put_back xs new L.len L.ok.0 (c.ask-look.ensures.requests ∙ ap all_seen c.deref_mut-2.ensures.value) in
     let led = subst (λ (z : ℕ × List (ℕ × Request)). IsLedGroup (bound_of e.list) z.0 z.1) (λ i. (sym S.layout.clear.3 i, sym left_is i)) (led_unnoted (bound_of e.list) (clients_of e.list) xs S.led) in
     ((bound_of e.list), led)
 
@@ -148,15 +153,15 @@ returns-clause-served g c =
     let S = c.requires.served in let q = S.seats in let e = c.args.self.now in let v = c.args.client.now in
     let xs : List (ℕ × Request) = v.lists.requests.list.items in let k : ℕ = v.number in let was : List ControllerCall = seen_by v.pass in
     let asked : List ControllerCall = seen_by_note c.args.leadership.asked in
-    let A = c.ask-look.ensures in let P = c.may_proceed-proceeds.ensures in let N = c.note.ensures in let H = c.log_phase-path.ensures in
+    let A = c.ask-look.ensures in let P = c.may_proceed-proceeds.ensures in let N = c.note.ensures in let H = c.log_phase-end.ensures in
     let n : Look = look_of c.ask-look.result in let known : List ControllerCall = seen_by c.ask-look.new.pass in
-    let L = v.lists.requests.list in let new : List (ℕ × Request) = c.ask-look.new.requests in let same = c.deref_mut.ensures.value in
+    let L = v.lists.requests.list in let new : List (ℕ × Request) = c.ask-look.new.requests in let same = c.deref_mut-2.ensures.value in
     let h : HasAskedFor k was asked xs n known = subst (λ (z : ℕ × List (ℕ × Request)). HasAskedFor z.0 was asked z.1 n known) (λ i. (q.pass_number i, same i)) A.asked in
     let left : List (ℕ × Request) = take L.len (new ++ drop (length new) L.items) in
     let left_is : left ≡ all_seen xs = put_back xs new L.len L.ok.0 (A.requests ∙ ap all_seen same) in
     let d : Delay = record { pass = c.of.result } in
     let is : seen_at d ≡ known = ap seen_by c.of.ensures in
-    let ys : List (ℕ × Answer) = c.log_phase-path.new.replies.items in
+    let ys : List (ℕ × Answer) = c.log_phase-end.new.replies.items in
     let own : client_of c.ask-look.new.pass ≡ k = A.pass.1 ∙ q.pass_number in
     let looks : OnlyLooks k known (seen_by c.note.new.pass) = subst (λ (z : ℕ × List ControllerCall). OnlyLooks z.0 known z.1) (λ i. (own i, sym N.seen i)) P.looks in
     record {
@@ -197,18 +202,18 @@ returns-clause-served g c =
 
 pub returns-clause-leadership : goal.returns-clause-leadership
 returns-clause-leadership g c hs st =
-    let S = c.requires.served in let q = S.seats in let E = q.is_engine in let e = c.args.self.now in let v = c.args.client.now in let about = about_of e.list in let path = c.args.leadership.path in
+    let S = c.requires.served in let q = S.seats in let E = q.is_engine in let e = c.args.self.now in let v = c.args.client.now in let about = about_of e.list in let path = c.args.leadership.held.value.path in
     let xs : List (ℕ × Request) = v.lists.requests.list.items in let k : ℕ = v.number in let was : List ControllerCall = seen_by v.pass in
     let asked : List ControllerCall = seen_by_note c.args.leadership.asked in
-    let A = c.ask-look.ensures in let P = c.may_proceed-proceeds.ensures in let N = c.note.ensures in let H = c.log_phase-path.ensures in
+    let A = c.ask-look.ensures in let P = c.may_proceed-proceeds.ensures in let N = c.note.ensures in let H = c.log_phase-end.ensures in
     let n : Look = look_of c.ask-look.result in let known : List ControllerCall = seen_by c.ask-look.new.pass in
-    let L = v.lists.requests.list in let new : List (ℕ × Request) = c.ask-look.new.requests in let same = c.deref_mut.ensures.value in
+    let L = v.lists.requests.list in let new : List (ℕ × Request) = c.ask-look.new.requests in let same = c.deref_mut-2.ensures.value in
     let h : HasAskedFor k was asked xs n known = subst (λ (z : ℕ × List (ℕ × Request)). HasAskedFor z.0 was asked z.1 n known) (λ i. (q.pass_number i, same i)) A.asked in
     let left : List (ℕ × Request) = take L.len (new ++ drop (length new) L.items) in
     let left_is : left ≡ all_seen xs = put_back xs new L.len L.ok.0 (A.requests ∙ ap all_seen same) in
     let d : Delay = record { pass = c.of.result } in
     let is : seen_at d ≡ known = ap seen_by c.of.ensures in
-    let ys : List (ℕ × Answer) = c.log_phase-path.new.replies.items in
+    let ys : List (ℕ × Answer) = c.log_phase-end.new.replies.items in
     let many : ℕ = v.layout.parts.clients in
     let led : IsLedGroup about.group_bytes many left = subst (λ (z : ℕ × ℕ × List (ℕ × Request)). IsLedGroup z.0 z.1 z.2) (λ i. (sym E.group_bytes i, sym S.layout.clear.3 i, sym left_is i)) (led_unnoted (bound_of e.list) (clients_of e.list) xs S.led) in
     let comes : ComesAfter asked (seen_at d) = subst (ComesAfter asked) (sym is) (asked_after k was asked known xs n h) in
@@ -216,13 +221,13 @@ returns-clause-leadership g c hs st =
     let is_for : IsAskedFor (commit_requests_of left) n (seen_at d) = subst (λ (z : List CommitRequest × List ControllerCall). IsAskedFor z.0 n z.1) (λ i. (sym alike i, sym is i)) (asked_is k was asked known xs n h (bound_of e.list) (clients_of e.list) S.led S.leads) in
     let went : List ControllerCall = seen_by c.may_proceed-proceeds.new.pass in
     let own : client_of c.ask-look.new.pass ≡ k = A.pass.1 ∙ q.pass_number in
-    let flag = ap (λ o. o.no_slowdown) (first_flag (bound_of e.list) (clients_of e.list) xs S.led left c.index.result.now left_is c.index.ensures) in
+    let flag = ap (λ o. o.no_slowdown) (first_flag (bound_of e.list) (clients_of e.list) xs S.led left c.index.result.now left_is c.index.ensures ∙ ap (λ (r : Request). r.options) (sym c.as_request.ensures)) in
     let lets : LetsProceed k n known went S.led.first.1.options.no_slowdown = subst (λ (z : ℕ × Bool). LetsProceed z.0 n known went z.1) (λ i. (own i, sym flag i)) (P.proceeds c.if-not-proceeds.false) in
     let on : ProceedsWith (commit_requests_of left) n (seen_at d) went = subst (λ (z : List CommitRequest × List ControllerCall). ProceedsWith z.0 n z.1 went) (λ i. (sym alike i, sym is i)) (proceeds k n known went (bound_of e.list) (clients_of e.list) xs S.led S.leads P.looks.begins lets) in
     let clients_are : about.clients ≡ many = E.about_clients ∙ sym S.layout.clear.3 in
-    let before : LogStandsFor about.opened.value about.start many about.group_bytes asked path.log.value st.published path.last hs = stands_by our_log as_is about.opened.value path.log.value st.published path.last tt tt about.start about.start about.clients many about.group_bytes about.group_bytes asked asked hs refl refl clients_are refl refl st.path in
-    let p = c.log_phase-path.result.0 in
-    let now = published_with c.log_phase-path.result.1 c.log_phase-path.new.layout.parts.parts st.published in
+    let before : LogStandsFor about.opened.value about.start many about.group_bytes asked path.log st.published path.last hs = stands_by our_log as_is about.opened.value path.log st.published path.last tt tt about.start about.start about.clients many about.group_bytes about.group_bytes asked asked hs refl refl clients_are refl refl st.path in
+    let p = c.log_phase-end.new.path in
+    let now = published_with c.log_phase-end.result c.log_phase-end.new.layout.parts.parts st.published in
     let past : Past _ = record {
       opened = about.opened.value;
       start = about.start;
@@ -232,12 +237,13 @@ returns-clause-leadership g c hs st =
       handled = hs;
     } in
     let goes_on : GoesOnWith about.group_bytes many asked left (seen_at d) went = record { led = led; numbers = n; comes_after = comes; asked_for = is_for; proceeds = on } in
-    let after = H.path past went goes_on before in
-    let unnoted = subst (λ l. LogStandsFor about.opened.value about.start many about.group_bytes went p.log.value now p.last (hs ++ handled_with l ys)) left_is after in
-    let as_was = stands_noted our_log as_is about.opened.value p.log.value now p.last tt about.start many about.group_bytes went hs xs ys unnoted in
+    let path_is = ap (λ (h : Held _ _ _). h.path) c.deref_mut-3.ensures.value ∙ ap (λ (h : Held _ _ _). h.path) c.deref_mut.ensures.value in
+    let after = H.path past went goes_on (subst (λ (p : LogPath _ _). LogStandsFor about.opened.value about.start many about.group_bytes asked p.log st.published p.last hs) (sym path_is) before) in
+    let unnoted = subst (λ l. LogStandsFor about.opened.value about.start many about.group_bytes went p.log now p.last (hs ++ handled_with l ys)) left_is after in
+    let as_was = stands_noted our_log as_is about.opened.value p.log now p.last tt about.start many about.group_bytes went hs xs ys unnoted in
     record {
       note = subst (λ ctl. IsNoteOf ctl c.note.result) (sym E.controller) N.note.0;
-      path = stands_by our_log as_is about.opened.value p.log.value now p.last tt tt about.start about.start many about.clients about.group_bytes about.group_bytes went (seen_by_note c.note.result) (hs ++ handled_with xs ys) refl refl (sym clients_are) refl (sym N.note.1) as_was;
+      path = stands_by our_log as_is about.opened.value p.log now p.last tt tt about.start about.start many about.clients about.group_bytes about.group_bytes went (seen_by_note c.note.result) (hs ++ handled_with xs ys) refl refl (sym clients_are) refl (sym N.note.1) as_was;
       turn = st.turn;
     }
 
@@ -247,8 +253,8 @@ returns-clause-beside g c =
     let xs : List (ℕ × Request) = v.lists.requests.list.items in
     let L = v.lists.requests.list in let new : List (ℕ × Request) = c.ask-look.new.requests in
     let left : List (ℕ × Request) = take L.len (new ++ drop (length new) L.items) in
-    let left_is : left ≡ all_seen xs = put_back xs new L.len L.ok.0 (c.ask-look.ensures.requests ∙ ap all_seen c.deref_mut.ensures.value) in
+    let left_is : left ≡ all_seen xs = put_back xs new L.len L.ok.0 (c.ask-look.ensures.requests ∙ ap all_seen c.deref_mut-2.ensures.value) in
     let others = ap others_in left_is ∙ others_unnoted xs in
     let staged = is_none_by c.is_none.result c.args.leadership.turn c.is_none.ensures in
-    let told = beside_where c.may_be_apart-apart.result c.is_none.result (others_in left) c.log_phase-path.new.layout.members.items c.log_phase-path.result.1 c.may_be_apart-apart.ensures c.log_phase-path.ensures.beside in
-    subst (λ (z : Bool × List ℕ). IfSome c.log_phase-path.result.1 (λ _. AreBeside z.0 z.1 c.log_phase-path.new.layout.members.items)) (λ i. (staged i, others i)) told
+    let told = beside_where c.may_be_apart-apart.result c.is_none.result (others_in left) c.log_phase-end.new.layout.members.items c.log_phase-end.result c.may_be_apart-apart.ensures c.log_phase-end.ensures.beside in
+    subst (λ (z : Bool × List ℕ). IfSome c.log_phase-end.result (λ _. AreBeside z.0 z.1 c.log_phase-end.new.layout.members.items)) (λ i. (staged i, others i)) told
