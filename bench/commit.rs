@@ -1,6 +1,6 @@
-//! What `commit_program` beside this file does, in plain Rust: the same bytes by the same steps, and nothing is proved.
+//! What `commit_program` in this folder does, in plain Rust: the same bytes by the same steps, and nothing is proved.
 //!
-//! The arguments are the same, and so is what is printed.
+//! The arguments and the output are those of `commit_program`.
 
 use std::env;
 use std::error::Error;
@@ -185,7 +185,7 @@ impl Tables {
         !register
     }
 
-    /// What four bytes come to, so many bytes after them.
+    /// What four bytes give when `far` bytes come after them.
     fn over(&self, far: usize, word: u32) -> u32 {
         self.0[far + 3][(word & 0xff) as usize]
             ^ self.0[far + 2][(word >> 8 & 0xff) as usize]

@@ -1,7 +1,7 @@
-//! The floor of a log without groups, for `engine_program` beside this file: threads that write the same batches, each
+//! The floor of a log without groups, for `engine_program` in this folder: threads that write the same batches, each
 //! with one call of the system under a mutex. It keeps no map and answers no reads, and nothing is proved.
 //!
-//! The arguments are the same, without the words for the stages and the table, and so is what is printed.
+//! The arguments are those of `engine_program`, without the words for the stages and the table, and so is the output.
 
 use std::env;
 use std::error::Error;
@@ -26,11 +26,11 @@ const VALUE: [u8; 1000] = [7; 1000];
 /// How far apart the ordered keys of two clients begin.
 const APART: u64 = 1 << 32;
 
-/// What is asked of all clients.
+/// What all clients should write.
 #[derive(Clone, Copy)]
 struct Work {
     clients: u64,
-    /// How many batches each writes.
+    /// How many batches each client writes.
     times: u64,
     sync: bool,
     /// How many additions are in a batch.
@@ -100,7 +100,7 @@ fn write_all<D: Disk>(log: &Mutex<Log<D>>, work: Work, seed: u64) -> io::Result<
     Ok(())
 }
 
-/// A batch of so many additions.
+/// A batch of `work.records` additions.
 fn fill(batch: &mut Vec<u8>, keys: &mut Keys, work: Work) {
     batch.clear();
     batch.resize(BATCH_HEADER_LEN, 0);
@@ -108,7 +108,7 @@ fn fill(batch: &mut Vec<u8>, keys: &mut Keys, work: Work) {
     // The additions so far are in the batch.
     for _ in 0..work.records {
         batch.push(1);
-        // First the key, then the value, each behind its length.
+        // First the key, then the value, each after its length.
         for string in [&keys.next()[..], &VALUE[..work.value]] {
             push_len(batch, string.len());
             batch.extend_from_slice(string);
@@ -126,7 +126,7 @@ fn push_len(batch: &mut Vec<u8>, mut len: usize) {
     batch.push(len as u8);
 }
 
-/// The keys of a client: numbers one after the other, or those of a linear congruential generator.
+/// The keys of a client: numbers in order, or those of a linear congruential generator.
 struct Keys {
     state: u64,
     ordered: bool,
@@ -194,7 +194,7 @@ struct Log<D> {
 }
 
 impl<D: Disk> Log<D> {
-    /// Writes a batch as a record of its own, under the next sequences.
+    /// Writes a batch as a record of its own, with the next sequences.
     fn write(&mut self, batch: &mut [u8], sync: bool) -> io::Result<u64> {
         let first = self.last + 1;
         batch[..8].copy_from_slice(&first.to_le_bytes());
@@ -270,7 +270,7 @@ impl Tables {
         !register
     }
 
-    /// What four bytes come to, so many bytes after them.
+    /// What four bytes give when `far` bytes come after them.
     fn over(&self, far: usize, word: u32) -> u32 {
         self.0[far + 3][(word & 0xff) as usize]
             ^ self.0[far + 2][(word >> 8 & 0xff) as usize]

@@ -1,11 +1,11 @@
-// What the script `library` beside this file measures the library with, beside LevelDB and RocksDB where the macros
-// LEVELDB and ROCKSDB say that they are there.
+// What the script `library` in this folder measures the library with, and compares it with LevelDB and RocksDB where
+// the macros LEVELDB and ROCKSDB say that they are installed.
 //
 //     library_peer LOG ROUNDS FOLDER
 //
-// LOG is a log of batches, and in memory for all of it but RocksDB's reading. Each is done ROUNDS times, one after the
-// other, and the best processor time counts. A line is printed for each: what was done, by whom, the microseconds, and
-// how many bytes.
+// LOG is a log of batches; it is in memory for all tasks but RocksDB's reading. Each task is done ROUNDS times, one
+// after the other, and the best processor time counts. A line is printed for each: what was done, by whom, the
+// microseconds, and how many bytes.
 //
 //   read     each record is read and its checksum compared. LevelDB's is its `log::Reader`, with which it recovers;
 //            RocksDB's are the updates of a database (`GetUpdatesSince`) in FOLDER, which isn't there and is made
@@ -13,7 +13,7 @@
 //   recover  the map of the log, with the time to free it
 //   batch    batches of a hundred puts, with a key of 16 bytes and a value of 100, are built
 //
-// LevelDB's reader and writer stand in its archive, but not in its headers. So they are declared here once more, with
+// LevelDB's reader and writer are in its archive, but not in its headers. So they are declared here once more, with
 // room for their fields.
 
 #include <sys/resource.h>
@@ -258,7 +258,7 @@ static std::unique_ptr<rocksdb::DB> opened(const std::string& folder) {
     return std::unique_ptr<rocksdb::DB>(database);
 }
 
-// A database that has this log, of which nothing is in a table.
+// A database that has this log, none of which is in a table.
 static std::unique_ptr<rocksdb::DB> opened_with(const std::string& folder, const std::string& log) {
     namespace fs = std::filesystem;
     opened(folder).reset();
@@ -317,7 +317,7 @@ int main(int argc, char** argv) try {
             size_t found = task.run();
             long long time = spent() - start;
             if (round == 0 || time < task.best) task.best = time;
-            // All that do the same have done the same.
+            // All that do the same task must have the same result.
             check(what != task.what || found == sum, task.what.c_str());
             what = task.what;
             sum = found;

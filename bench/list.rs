@@ -1,8 +1,9 @@
-//! Times a queue of writers under a mutex with a condition variable for each, on the plan of LevelDB's `DBImpl::Write`, as
-//! `list_program` beside this file times the list of writers: the same clients write the same sizes as often.
+//! Times a queue of writers under a mutex with a condition variable for each, on the plan of LevelDB's
+//! `DBImpl::Write`, as `list_program` in this folder times the list of writers: the same clients write the same sizes
+//! equally often.
 //!
-//! The arguments are how many clients, and how many times each of them writes. What is printed is the microseconds, and how
-//! many writes the log has counted.
+//! The arguments are how many clients there are, and how many times each of them writes. What is printed is the
+//! microseconds, and how many writes the log has counted.
 
 use std::collections::VecDeque;
 use std::env;
@@ -15,14 +16,14 @@ use std::time::Instant;
 /// The most bytes of a group.
 const MAX: u64 = 1_048_576;
 
-/// The log: how many were counted, and the sum of their sizes.
+/// The log: how many writes were counted, and the sum of their sizes.
 #[derive(Default)]
 struct Counter {
     count: u64,
     sum: u64,
 }
 
-/// What a client is answered: the counter's number, and its own size.
+/// What a client is answered: the counter's number, and the client's own size.
 #[derive(Clone, Copy)]
 struct Answer {
     number: u64,
@@ -35,7 +36,7 @@ struct Client {
     answer: Option<Answer>,
 }
 
-/// The clients that wait, in the order in which they came, the first of them the leader, and the log, which a leader takes.
+/// The clients that wait, in the order in which they came, the leader first, and the log, which a leader takes.
 struct Queue {
     waiting: VecDeque<usize>,
     clients: Vec<Client>,
@@ -59,8 +60,8 @@ impl Writers {
         }
     }
 
-    /// Waits until this client is done or the first; the first takes its group, handles it without the lock, answers its
-    /// members, and wakes the next. `group` and `answers` are room for that.
+    /// Waits until this client is done or is the first. The first takes its group, handles it without the lock,
+    /// answers its members, and wakes the next. `group` and `answers` are room for that.
     fn write(&self, client: usize, size: u64, group: &mut Vec<u64>, answers: &mut Vec<Answer>) -> Answer {
         let mut queue = self.queue.lock().unwrap_or_else(PoisonError::into_inner);
         queue.clients[client].size = size;
@@ -94,7 +95,7 @@ impl Writers {
 }
 
 impl Queue {
-    /// The sizes of the group: as many of those that wait as the leader's cap has room for.
+    /// The sizes of the group: as many of the waiting ones as the leader's cap has room for.
     fn gather(&self, leader: u64, group: &mut Vec<u64>) {
         let cap = if leader <= MAX / 8 { leader + MAX / 8 } else { MAX };
         let mut sum = 0;

@@ -1,15 +1,16 @@
-"""Charts of rates by clients, for the scripts beside this file."""
+"""Charts of rates by clients, for the scripts in this folder."""
 
 COLOURS = ["#1b6ca8", "#d1495b", "#b57d00", "#3f8a5f", "#7a4fa3", "#5c5c5c"]
 INK, GREY, PALE = "#222222", "#767676", "#d9d9d9"
-# A chart's columns and ticks stand in a field of this size, from its left edge on. Charts are so far from each other.
+# A chart's columns and ticks are in a field of this size, from its left edge on. GAP is the distance between two
+# charts.
 WIDTH, HEIGHT, LEFT, TOP, GAP = 380, 280, 80, 60, 24
-# About so wide is a letter of a name.
+# About how wide a letter of a name is.
 LETTER = 7
 
 
 def step_of(most):
-    """From tick to tick: 1, 2 or 5 times a power of ten, so that no more than five reach the greatest rate."""
+    """The step between two ticks: 1, 2 or 5 times a power of ten, so that at most five reach the greatest rate."""
     power = 1
     while True:
         for step in (power, 2 * power, 5 * power):
@@ -23,7 +24,7 @@ def text(x, y, words, fill=GREY, more=""):
 
 
 def axes(x0, title, clients, step, top):
-    """The parts of an empty chart up to this rate, and where its columns stand."""
+    """The parts of an empty chart up to this rate, and where its columns are."""
     bottom, middle, end = TOP + HEIGHT, ' text-anchor="middle"', ' text-anchor="end"'
     parts = [
         text(x0, 24, title, INK, ' font-size="14" font-weight="bold"'),

@@ -1,12 +1,12 @@
-//! What the script `recover` beside this file measures with.
+//! What the script `recover` in this folder measures with.
 //!
 //!     recover make LOG MIB
-//!         writes a log of about so many MiB
+//!         writes a log of about MIB MiB
 //!     recover measure LOG PROGRAM N [NAME PEER]..
 //!         times `PROGRAM LOG recover`, a plain pass of CRC-32C over the log, and how each PEER, a program built of
-//!         `recover_peer.cc` beside this file, opens a database with the log, each N times
+//!         `recover_peer.cc` in this folder, opens a database with the log, each N times
 //!     recover fill LOG KEYS
-//!         writes a log that puts so many keys
+//!         writes a log that puts KEYS keys
 //!     recover resume LOG PROGRAM N
 //!         times `PROGRAM LOG recover` and `PROGRAM LOG run --resume` of one small batch, each N times, and tells the
 //!         most memory that they had
@@ -51,7 +51,7 @@ fn main() -> Result<(), Failure> {
     }
 }
 
-/// CRC-32C, one byte a step by a table of 256 entries.
+/// CRC-32C, one byte a step, by a table of 256 entries.
 struct Checksum {
     table: [u32; 256],
 }
@@ -93,7 +93,7 @@ impl Random {
     }
 }
 
-/// Writes batches with rising sequences until the log has so many bytes.
+/// Writes batches with rising sequences until the log has `len` bytes or more.
 fn make(path: &Path, len: usize) -> Result<(), Failure> {
     let checksum = Checksum::new();
     let mut random = Random { state: 1 };
@@ -107,8 +107,8 @@ fn make(path: &Path, len: usize) -> Result<(), Failure> {
     Ok(())
 }
 
-/// A batch of 1 to 20 records, of which about one in ten deletes its key. Most values have 16 to 400 bytes, and one in a
-/// thousand has 100,000, so that its record stands in several blocks.
+/// A batch of 1 to 20 records, of which about one in ten deletes its key. Most values have 16 to 400 bytes, and one in
+/// a thousand has 100,000, so that its record lies in several blocks.
 fn batch(random: &mut Random, sequence: &mut u64) -> Vec<u8> {
     let count = 1 + random.below(20);
     let mut bytes = Vec::new();
@@ -137,10 +137,10 @@ fn batch(random: &mut Random, sequence: &mut u64) -> Vec<u8> {
 /// How many keys a batch of a filled log has.
 const BATCH_KEYS: u64 = 10;
 
-/// What the number of a key is multiplied with, so that keys come in another order. It is a prime.
+/// The factor for the number of a key, so that keys come in another order. It is a prime.
 const STEP: u64 = 611_953;
 
-/// Writes batches that put so many keys, each once, with values of 100 bytes.
+/// Writes batches that put `keys` keys, each once, with values of 100 bytes.
 fn fill(path: &Path, keys: u64) -> Result<(), Failure> {
     let checksum = Checksum::new();
     let (mut random, mut log) = (Random { state: 1 }, Vec::new());
@@ -160,7 +160,7 @@ fn fill(path: &Path, keys: u64) -> Result<(), Failure> {
     Ok(())
 }
 
-/// A string behind its length, a varint.
+/// A string after its length, a varint.
 fn put_string(bytes: &mut Vec<u8>, string: &[u8]) {
     let mut len = string.len();
     while len >= 0x80 {
@@ -171,7 +171,7 @@ fn put_string(bytes: &mut Vec<u8>, string: &[u8]) {
     bytes.extend_from_slice(string);
 }
 
-/// A record behind the log, in fragments of which none crosses the end of a block.
+/// Adds a record at the end of the log, in fragments none of which crosses the end of a block.
 fn put_record(checksum: &Checksum, log: &mut Vec<u8>, record: &[u8]) {
     let (mut rest, mut is_first) = (record, true);
     loop {
@@ -203,7 +203,8 @@ fn put_fragment(checksum: &Checksum, log: &mut Vec<u8>, kind: u8, part: &[u8]) {
     log.extend_from_slice(&checked);
 }
 
-/// Times all, and prints the best times, as rates too, and how often that of `recover` goes into each of the others.
+/// Times all of them, and prints the best times, as rates too, and how many times the time of `recover` each of the
+/// others takes.
 fn measure(log: &str, program: &str, rounds: usize, peers: &[&str]) -> Result<(), Failure> {
     let bytes = fs::read(log)?;
     let keys = recovered_keys(log, program, bytes.len())?;
@@ -244,17 +245,17 @@ fn measure(log: &str, program: &str, rounds: usize, peers: &[&str]) -> Result<()
     Ok(())
 }
 
-/// One that opens a database with the log.
+/// A program that opens a database with the log.
 struct Peer {
     name: String,
     program: String,
-    /// Where what it recovers stays.
+    /// Where what it recovers is kept.
     to: &'static str,
     best: Duration,
 }
 
 impl Peer {
-    /// The same program in both ways to open.
+    /// The same program in both ways of opening.
     fn of(name: &str, program: &str) -> [Peer; 2] {
         ["tables", "memory"].map(|to| Peer {
             name: name.to_string(),
@@ -264,7 +265,7 @@ impl Peer {
         })
     }
 
-    /// Opens a new database once, which must come to so many keys.
+    /// Opens a new database once, which must then have `keys` keys.
     fn open(&mut self, log: &str, keys: u64) -> Result<(), Failure> {
         let folder = format!("{log}.database");
         let output = Command::new(&self.program).args([&folder, log, self.to]).output()?;
@@ -282,12 +283,12 @@ impl Peer {
     }
 }
 
-/// Whose processor time `spent` tells: this program's, or that of those which it started and which have ended.
+/// Whose processor time `spent` tells: that of this program, or of those which it started and which have ended.
 const OWN: i32 = 0;
 const CHILDREN: i32 = -1;
 
 /// A `struct rusage` of Linux on x86-64: the time in the program and that in the system for it, each in seconds and
-/// microseconds; then the most KiB of memory, and what isn't looked at.
+/// microseconds; then the most KiB of memory, and fields that aren't used.
 #[repr(C)]
 #[derive(Default)]
 struct Usage {
@@ -335,7 +336,7 @@ fn recovered_keys(log: &str, program: &str, len: usize) -> Result<u64, Failure> 
 /// A script of one small batch.
 const SCRIPT: &[u8] = b"client 1\nget key:00000000\nput new 1\ncommit\n";
 
-/// Times the recovery of a log, and runs that go on behind it, and prints the best times and the most memory of each.
+/// Times the recovery of a log, and runs that resume it, and prints the best times and the most memory of each.
 fn resume(log: &str, program: &str, rounds: usize) -> Result<(), Failure> {
     let len = fs::metadata(log)?.len();
     println!("log                      {len} bytes");
@@ -363,8 +364,8 @@ fn called(program: &str, log: &str, words: &[&str]) -> Result<(Duration, i64), F
         .spawn()?;
     child.stdin.take().ok_or("no input")?.write_all(SCRIPT)?;
     let (mut status, mut usage) = (0, Usage::default());
-    // SAFETY: the system writes one number and one `struct rusage`, which is as large as `Usage`. Nobody else waits for
-    // this child.
+    // SAFETY: the system writes one number and one `struct rusage`, which is as large as `Usage`. Nobody else waits
+    // for this child.
     let ended = unsafe { wait4(child.id() as i32, &mut status, 0, &mut usage) };
     if ended < 0 || status != 0 {
         return Err(format!("{} ended with {status}", words.join(" ")).into());

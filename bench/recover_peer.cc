@@ -1,12 +1,12 @@
-// What the script `recover` beside this file measures LevelDB and RocksDB with: how long one of them takes to open a
-// database that has a given log to recover from, as after a crash. It is built against the one that the macro PEER
+// What the script `recover` in this folder measures LevelDB and RocksDB with: how long one of them takes to open a
+// database that has a given log to recover from, as after a crash. It is built against the library that the macro PEER
 // names, `leveldb` or `rocksdb`, whose calls are alike.
 //
 //     recover_peer FOLDER LOG tables    opens with the library's own settings: what it recovers goes into tables
 //     recover_peer FOLDER LOG memory    opens so that it stays in memory
 //
-// The folder is made, and must not be there. What is printed is the microseconds of the processor, of all the program's
-// threads and the system's for them, and how many keys the database then has.
+// The folder is made, and must not exist. What is printed is the microseconds of the processor, for all the program's
+// threads and for the system's work for them, and how many keys the database then has.
 
 #include <sys/resource.h>
 
@@ -45,7 +45,7 @@ void stay_in_memory(Options& options) {
     }
 }
 
-// Puts the log in the place of the one that a new database has left.
+// Puts the log in place of the one that a new database has left.
 void replace_log(const std::string& folder, const std::string& log) {
     for (const auto& file : fs::directory_iterator(folder)) {
         if (file.path().extension() == ".log") {

@@ -1,18 +1,18 @@
-// What the scripts `threads` and `engine` beside this file measure the write path with: threads that write the batches
+// What the scripts `threads` and `engine` in this folder measure the write path with: threads that write the batches
 // of a generated script at once, to LevelDB or RocksDB, or to a plain file.
 //
 //     threads_peer PATH SEED CLIENTS BATCHES sync|plain
 //         [RECORDS VALUE ordered|random single|pipelined serial|concurrent]
 //
-// With RECORDS each batch has so many additions of a key of 16 bytes, which SEED does not change, with a value of VALUE
-// bytes, and each client makes its next batch when the last one was written. A client's keys come in order, or are
-// those of a generator. The last two words are RocksDB's settings: `pipelined` is `enable_pipelined_write`, and
-// `concurrent` is `allow_concurrent_memtable_write`. `unordered_write` is off, and all else as the library has it.
+// With RECORDS each batch has this number of additions of a key of 16 bytes, which SEED does not change, with a value
+// of VALUE bytes, and each client makes its next batch when the last one was written. A client's keys come in order,
+// or are those of a generator. The last two words are RocksDB's settings: `pipelined` is `enable_pipelined_write`, and
+// `concurrent` is `allow_concurrent_memtable_write`. `unordered_write` is off, and all else is as the library sets it.
 //
-// It is built against the library that the macro PEER names, `leveldb` or `rocksdb`, whose calls are alike. Without the
-// macro it writes to a file: each batch by one call of `write` under a mutex, with a call of `fdatasync` behind it where
-// it is to be synced. That is a log without groups, and no write path. PATH is made, and must not be there. What is
-// printed is the microseconds from making the first batch to the last one written, and how many were written.
+// It is built against the library that the macro PEER names, `leveldb` or `rocksdb`, whose calls are alike. Without
+// the macro it writes to a file: each batch by one call of `write` under a mutex, with a call of `fdatasync` after it
+// where it should be synced. That is a log without groups, and no write path. PATH is made, and must not exist. What
+// is printed is the microseconds from making the first batch to the last one written, and how many were written.
 
 #include <fcntl.h>
 #include <unistd.h>
@@ -29,7 +29,7 @@
 #include <vector>
 
 // How RocksDB writes: whether groups go into the log and into the table in two stages, and whether the members of a
-// group put their batches into the table beside each other.
+// group put their batches into the table in parallel.
 struct Ways {
     bool pipelined;
     bool concurrent;
@@ -48,7 +48,7 @@ void check(const PEER::Status& status) {
     if (!status.ok()) throw std::runtime_error(status.ToString());
 }
 
-// Sets how RocksDB writes, where the options are its.
+// Sets how RocksDB writes, where the options are RocksDB's.
 template <class Options>
 void set_ways(Options& options, const Ways& ways) {
     if constexpr (requires { options.enable_pipelined_write; }) {
@@ -80,7 +80,7 @@ private:
     std::unique_ptr<PEER::DB> database_;
 };
 #else
-// The bytes of a batch as RocksDB lays them out, but for the header's numbers.
+// The bytes of a batch as RocksDB lays them out, without the header's numbers.
 class Batch {
 public:
     void Put(const std::string& key, const std::string& value) { add(1, {key, value}); }
@@ -152,14 +152,14 @@ std::vector<Batch> batches_of(std::uint64_t seed, int client, int count) {
     return batches;
 }
 
-// What each batch has, where a client makes it.
+// What each batch has, where a client makes its batches itself.
 struct Work {
     int records;
     std::size_t value;
     bool ordered;
 };
 
-// The keys of a client, each of 16 digits: the numbers that `engine_program` makes its keys of, in hexadecimal.
+// The keys of a client, each of 16 digits: the numbers from which `engine_program` makes its keys, in hexadecimal.
 class Keys {
 public:
     Keys(int client, bool ordered)
@@ -183,7 +183,7 @@ private:
     bool ordered_;
 };
 
-// Writes so many batches one after the other.
+// Writes `batches` batches one after another.
 void write_records(Target& target, int client, int batches, const Work& work, bool sync) {
     const std::string value(work.value, 'v');
     Keys keys(client, work.ordered);

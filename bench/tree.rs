@@ -1,9 +1,9 @@
-//! Times Rust's BTreeMap as `tree_program` beside this file times the memtable's tree: the same versions in the same order,
-//! and the same lookups.
+//! Times Rust's BTreeMap as `tree_program` in this folder times the memtable's tree: the same versions in the same
+//! order, and the same lookups.
 //!
-//! The arguments are how many thousand, and of how many keys, a quarter as many if left out; with a word more all lookups
-//! are at the last sequence, and not at random ones. What is printed is the microseconds of both, and how many lookups found
-//! a value.
+//! The arguments are how many thousand versions, and of how many keys, a quarter as many if left out; with one more
+//! word all lookups are at the last sequence, and not at random ones. What is printed is the microseconds of both, and
+//! how many lookups found a value.
 
 use std::cmp::Reverse;
 use std::collections::BTreeMap;
@@ -15,7 +15,7 @@ use std::time::{Duration, Instant};
 /// How many versions a batch makes.
 const BATCH: u64 = 1000;
 
-/// By key, and of one key the newer first.
+/// Versions are in the order of their keys, and those of one key with the newer first.
 type Version = (Vec<u8>, Reverse<u64>);
 
 type Versions = BTreeMap<Version, Option<Vec<u8>>>;

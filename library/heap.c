@@ -1,7 +1,7 @@
 /* The heap of the library: what its proved code asks for memory, over malloc, realloc and free.
 
    The proved code trusts this file. A block of n bytes is aligned to each power of two up to 16 that divides n, as
-   these three align it on x86-64. A block of no bytes has as many as it is to be aligned to, so that it can be freed
+   these three align it on x86-64. A block of no bytes gets as many bytes as its alignment, so that it can be freed
    like any other. Where there is no memory, `ok` is 0, `block` points to a byte that nobody uses, and the old block
    stays. */
 #include <stddef.h>

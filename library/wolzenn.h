@@ -2,24 +2,27 @@
    proved code.
 
    Answers. A function that can fail answers one of the codes WZ_DONE .. below. What it gives is written through the
-   pointers that it says, and only at the answers that it says; at any other what they point to is as it was.
+   pointers that it names, and only at the answers that it names; at any other answer what they point to stays as it
+   was.
 
    Handles. A wz_handle is the caller's own variable. It starts as WZ_HANDLE_INIT, and holds nothing then. What it
    holds is the library's memory: a reader, a recovery or a batch. A call that opens one of these first frees what the
    handle held, so that it holds nothing where that call fails. wz_close frees what it holds, and is fine for a handle
-   that holds nothing. A handle may be moved in memory between calls. It is never copied, and stays on one thread while
-   it holds something; threads may use different handles at once. Its fields are the library's own.
+   that holds nothing. A handle may be moved in memory between calls, after which only the new place is used. It is
+   never copied otherwise, and stays on one thread while it holds something; threads may use different handles at once.
+   Its fields are the library's own.
 
-   Bytes. A pointer with a length is that many bytes, to be read (const) or to be written, and fewer than 2^63. No
-   pointer is null, also where the length is 0. (malloc(0) and the data() of an empty std::vector may be null.) What
-   is written through a pointer that isn't const, a handle too, overlaps nothing else of the same call. The bytes stay
-   the caller's: no function keeps a pointer to them. No function locks, waits, starts a thread, calls back, or ends
-   the process. There is no global state.
+   Bytes. A pointer with a length means that many bytes, which are read (const) or written, and fewer than 2^63. No
+   pointer may be null, not even where the length is 0. (Beware: malloc(0) and the data() of an empty std::vector may
+   be null.) What a pointer that isn't const points to, a handle too, overlaps nothing else of the same call. The bytes
+   stay the caller's: no function keeps a pointer to them. No function locks, waits, starts a thread, calls back, or
+   ends the process. There is no global state.
 
-   Memory comes from malloc and realloc, and goes by free. Where these have none the answer is WZ_NO_MEMORY, and
-   nothing is lost.
+   Memory comes from malloc and realloc, and is freed by free. Where these find none the answer is WZ_NO_MEMORY, and no
+   memory is leaked.
 
-   What is promised below is proved, of the functions as they are called from Rattle. That pointers and lengths are as
+   What is promised below is proved, of the functions as they are called from Rattle. Two things are only tested: that
+   WZ_NO_MEMORY comes only where there was no memory, and that no memory is leaked. That pointers and lengths are as
    said above is up to the caller. docs/LIBRARY.md has more, and first programs. */
 #ifndef WOLZENN_H
 #define WOLZENN_H
@@ -33,7 +36,7 @@ extern "C" {
 #endif
 
 /* The version of this header, and that of the library that the program runs with. They are the same number unless the
-   header is another library's. */
+   header belongs to another version of the library. */
 #define WZ_VERSION 1u
 uint32_t wz_version(void);
 
@@ -50,9 +53,9 @@ enum {
   WZ_RANGE = 8      /* a number is none of those that the function takes */
 };
 
-/* Why reading or recovery ended, or why bytes are no batch: `why` of wz_end. The reason's own numbers stand in
-   `first` and `second`, which are 0 where it has none. `at` is the offset of the fragment or the record that is
-   meant. */
+/* Why reading or recovery ended, or why bytes are no batch: `why` of wz_end. The reason's own numbers are in `first`
+   and `second`, which are 0 where it has none. `at` is the offset of the fragment or the record that the reason is
+   about. */
 enum {
   WZ_CLEAN = 1,        /* the log ends after a whole record, or in or after the zeros that end its block, or is
                           empty: `at` is its length, which may be past `kept` of its recovery */
@@ -63,31 +66,31 @@ enum {
   WZ_BAD_CHECKSUM = 6, /* a fragment's checksum differs */
   WZ_BAD_TRAILER = 7,  /* bytes that aren't zeros where a block ends */
   WZ_OLD_LOG = 8,      /* a fragment of another log: first is that log's number */
-  WZ_BAD_ORDER = 9,    /* a fragment stands where none of its type may */
+  WZ_BAD_ORDER = 9,    /* a fragment is where none of its type may be */
   WZ_UNFINISHED = 10,  /* the log ends inside a record */
   WZ_SHORT = 11,       /* a batch whose header or record is cut off */
-  WZ_BAD_VARINT = 12,  /* a length in a batch isn't in its shortest spelling, or too long */
+  WZ_BAD_VARINT = 12,  /* a length in a batch isn't in its shortest spelling, or is too long */
   WZ_TAG = 13,         /* a record of a batch has a tag that isn't read: first is the tag */
   WZ_COUNT = 14,       /* a batch's header has another count (first) than its records (second) */
-  WZ_ORDER = 15,       /* a batch's run of sequences begins (first) no later than the last one before it (second) */
-  WZ_HIGH = 16         /* a batch's run of sequences passes 2^56 - 1: its first, and how many there are (second) */
+  WZ_ORDER = 15,       /* a batch's run of sequences begins (first) at or below the last one before it (second) */
+  WZ_HIGH = 16         /* a batch's run of sequences passes 2^56 - 1: its first one (first), and how many (second) */
 };
 
 /* Which ends of a log recovery accepts. */
 enum {
-  WZ_POINT = 0,   /* any: the records in front of it are recovered (kPointInTimeRecovery) */
+  WZ_POINT = 0,   /* any: the records before it are recovered (kPointInTimeRecovery) */
   WZ_TAIL = 1,    /* that of a whole log, and one where the last write was cut off */
   WZ_ABSOLUTE = 2 /* that of a whole log (kAbsoluteConsistency) */
 };
 /* After the end of a log that was written over an older one come the older bytes, and they may show as any of the
-   reasons: there only WZ_POINT is sure to accept the end. A log that is read by a wrong number ends at 0 with
-   WZ_OLD_LOG, which each mode accepts, and recovers nothing. */
+   reasons: there only WZ_POINT is sure to accept the end. A log that has a number and is read with another one (not 0)
+   ends at 0 with WZ_OLD_LOG, which each mode accepts, so that nothing is recovered. */
 
 /* What a record of a batch does. */
 enum {
   WZ_DELETION = 0,        /* takes a key out */
   WZ_VALUE = 1,           /* gives a key a value */
-  WZ_LOG_DATA = 3,        /* stands in the log alone, and takes no sequence: its bytes are the key of wz_op */
+  WZ_LOG_DATA = 3,        /* is in the log only, and takes no sequence: its bytes are the key of wz_op */
   WZ_SINGLE_DELETION = 7  /* takes a key out that was set at most once */
 };
 
@@ -101,11 +104,11 @@ typedef struct { bool full; void *at; } wz_handle;
 /* Where something ends, and why. */
 typedef struct { uint64_t at; uint32_t why; uint64_t first; uint64_t second; } wz_end;
 
-/* A record: the offset of its first fragment, the one after its last, and its bytes. */
+/* A record: the offset of its first fragment, the offset after its last one, and how many bytes the record has. */
 typedef struct { uint64_t start; uint64_t end; size_t len; } wz_record;
 
 /* A recovery: how many records are kept, each of which is one batch; how many pairs they leave; the last sequence and
-   the offset after the last record kept, both 0 where there is none; and where and why it ended. */
+   the offset after the last record kept, each 0 where there is none; and where and why it ended. */
 typedef struct { size_t groups; size_t pairs; uint64_t last; uint64_t kept; wz_end end; } wz_recovered;
 
 /* How many bytes a pair's key and value have. */
@@ -125,54 +128,55 @@ void wz_close(wz_handle *handle);
 /* The CRC-32C of the bytes. */
 uint32_t wz_crc32c(const uint8_t *bytes, size_t len);
 
-/* The CRC-32C of some bytes and these behind them, from that of the former. */
+/* The CRC-32C of some bytes followed by these bytes. `crc` is the CRC-32C of the first ones. */
 uint32_t wz_crc32c_extend(uint32_t crc, const uint8_t *bytes, size_t len);
 
-/* The form in which a checksum stands in a log. */
+/* The form that a checksum has in a log: it is masked. */
 uint32_t wz_crc32c_mask(uint32_t crc);
 
 /* ---- reading a log ----
    `number` is the log's number where its fragments have one (RocksDB's recycle_log_file_num): that of the file's name,
    4 for 000004.log. It is 0 where they have none, as in LevelDB's logs and most of RocksDB's. A log with a number that
-   is read by 0 ends at 0 with WZ_BAD_TYPE and 5 to 8. */
+   is read with 0 ends at 0 with WZ_BAD_TYPE and 5 to 8. */
 
 /* Opens a reader at the start of a log. WZ_DONE, WZ_NO_MEMORY. */
 uint32_t wz_reader_open(wz_handle *handle, uint32_t number);
 
-/* Reads the next record of the log, whose bytes are the same at each call of this reader: one that has grown is read
-   by a new reader, since this one has a copy of a block. WZ_DONE: record->start is
-   the offset of its first fragment, record->end the one behind its last, record->len its bytes; wz_reader_record has
-   it. WZ_END: *end says at which offset no more is read, and why. WZ_NO_MEMORY. After WZ_END and WZ_NO_MEMORY each
-   further call answers the same. WZ_CLOSED: it holds no reader. */
+/* Reads the next record of the log. The log's bytes must be the same at each call of this reader: a log that has grown
+   needs a new reader, since this one keeps a copy of a block. WZ_DONE: record->start is the offset of the record's
+   first fragment, record->end the offset after its last one, and record->len how many bytes the record has;
+   wz_reader_record copies it. WZ_END: *end says at which offset no more is read, and why. WZ_NO_MEMORY. After WZ_END
+   and WZ_NO_MEMORY each further call answers the same. WZ_CLOSED: the handle holds no reader. */
 uint32_t wz_reader_next(wz_handle *handle, const uint8_t *log, size_t log_len, wz_record *record, wz_end *end);
 
-/* Copies the record that the last wz_reader_next read to the start of the buffer, and touches nothing behind it.
-   WZ_DONE, WZ_SMALL, WZ_END: it read none, or there was no such call yet, WZ_CLOSED: it holds no reader. */
+/* Copies the record that the last wz_reader_next read to the start of the buffer, and touches nothing after it.
+   WZ_DONE. WZ_SMALL. WZ_END: that call read none, or there was no such call yet. WZ_CLOSED: the handle holds no
+   reader. */
 uint32_t wz_reader_record(wz_handle *handle, uint8_t *buffer, size_t buffer_len);
 
 /* ---- recovering a log ---- */
 
-/* Recovers a log: the batches in front of the first place that doesn't read, or where a record is no batch or its
-   sequences don't rise. Runs of sequences may leave gaps; a batch of which no record counts is kept whatever its
+/* Recovers a log: the batches before the first place that can't be read, or where a record is no batch or its
+   sequences don't rise. Runs of sequences may leave gaps; a batch none of whose records counts is kept whatever its
    sequence. WZ_DONE: *summary says what was recovered, and the handle holds the pairs of key and value. They are those
    of this log alone, over an empty map: a deletion leaves no pair, also of a key that a database has in its tables or
-   its other logs. Who needs deletions reads record by record. A log may go on at summary->kept. WZ_DAMAGE: the mode
-   doesn't accept the end; summary->end says where and why, the rest of *summary is 0, and the handle holds nothing.
-   WZ_RANGE: there is no such mode, and the handle holds nothing. WZ_NO_MEMORY. */
+   its other logs. A caller who needs deletions reads record by record. A log may be resumed at summary->kept.
+   WZ_DAMAGE: the mode doesn't accept the end; summary->end says where and why, and the rest of *summary is 0.
+   WZ_RANGE: there is no such mode. WZ_NO_MEMORY. At any answer but WZ_DONE the handle holds nothing. */
 uint32_t wz_recover(wz_handle *handle, uint32_t number, uint32_t mode, const uint8_t *log, size_t log_len,
                     wz_recovered *summary);
 
-/* How many bytes the key and the value have of the pair with this index, from 0 on, in the byte order of the keys.
-   WZ_DONE, WZ_END: there is no such pair, WZ_CLOSED: the handle holds no recovery. */
+/* How many bytes the key and the value of a pair have. The pairs are in the byte order of their keys, and have indices
+   from 0 on. WZ_DONE. WZ_END: there is no such pair. WZ_CLOSED: the handle holds no recovery. */
 uint32_t wz_pair_len(wz_handle *handle, size_t index, wz_pair_lens *lens);
 
-/* Copies the key and the value of this pair to the starts of the two buffers, and touches nothing behind them.
-   WZ_DONE, WZ_SMALL: one of the buffers is too small, and neither was written to, WZ_END, WZ_CLOSED. */
+/* Copies the key and the value of the pair with this index to the starts of the two buffers, and touches nothing after
+   them. WZ_DONE. WZ_SMALL: one of the buffers is too small, and neither was written to. WZ_END. WZ_CLOSED. */
 uint32_t wz_pair(wz_handle *handle, size_t index, uint8_t *key, size_t key_len, uint8_t *value, size_t value_len);
 
-/* How many pairs have a key before this one: the index of its own pair, if it has one, else where it would stand.
-   WZ_DONE: the key has a pair, and *index is its index. WZ_END: it has none, and *index is that of the next key's
-   pair, or how many there are. WZ_CLOSED: the handle holds no recovery. */
+/* How many pairs have a key before this one: the index of its own pair, if it has one, otherwise the index that it
+   would have. WZ_DONE: the key has a pair, and *index is its index. WZ_END: it has none, and *index is that of the
+   next key's pair, or how many pairs there are. WZ_CLOSED: the handle holds no recovery. */
 uint32_t wz_pair_find(wz_handle *handle, const uint8_t *key, size_t key_len, size_t *index);
 
 /* ---- building a batch ---- */
@@ -180,62 +184,62 @@ uint32_t wz_pair_find(wz_handle *handle, const uint8_t *key, size_t key_len, siz
 /* Opens a batch of no records, with the sequence 0. WZ_DONE, WZ_NO_MEMORY. */
 uint32_t wz_batch_new(wz_handle *handle);
 
-/* Adds a record behind the others. WZ_DONE; at any other answer the batch is as it was: WZ_TOO_LARGE, WZ_NO_MEMORY,
+/* Adds a record after the others. WZ_DONE. At any other answer the batch is as it was: WZ_TOO_LARGE. WZ_NO_MEMORY.
    WZ_CLOSED: the handle holds no batch. */
 uint32_t wz_batch_put(wz_handle *handle, const uint8_t *key, size_t key_len, const uint8_t *value, size_t value_len);
 uint32_t wz_batch_delete(wz_handle *handle, const uint8_t *key, size_t key_len);
 uint32_t wz_batch_single_delete(wz_handle *handle, const uint8_t *key, size_t key_len);
 uint32_t wz_batch_log_data(wz_handle *handle, const uint8_t *blob, size_t blob_len);
 
-/* Adds the records of another batch's bytes behind the others, so that several batches make one record of the log, a
-   group. Its sequence isn't looked at. As above, and before all others WZ_NO_BATCH: the bytes are no batch
-   (wz_batch_read says why). */
+/* Adds the records of another batch's bytes after the others, so that several batches make one record of the log, a
+   group. The other batch's sequence is ignored. WZ_NO_BATCH: the bytes are no batch (wz_batch_read says why), whatever
+   the handle holds, and nothing has changed. Otherwise it answers like wz_batch_put. */
 uint32_t wz_batch_append(wz_handle *handle, const uint8_t *bytes, size_t len);
 
 /* Takes all records out, and sets the sequence to 0. WZ_DONE, WZ_CLOSED. */
 uint32_t wz_batch_clear(wz_handle *handle);
 
-/* Gives it the sequence of its first record that counts. WZ_DONE, WZ_CLOSED. Any number is taken. Recovery keeps a
-   batch with such records only where its run begins above the last one, so at 1 or more, and ends at 2^56 - 1 or
-   below. */
+/* Sets the batch's sequence, which is that of its first record that counts. WZ_DONE, WZ_CLOSED. Any number is taken.
+   Recovery keeps a batch with such records only where its run begins above the last sequence before it, so at 1 or
+   more, and ends at 2^56 - 1 or below. */
 uint32_t wz_batch_set_sequence(wz_handle *handle, uint64_t sequence);
 
-/* Its sequence, and how many of its records count: each of these takes a sequence. WZ_DONE, WZ_CLOSED. */
+/* The batch's sequence, and how many of its records count: each of these takes a sequence. WZ_DONE, WZ_CLOSED. */
 uint32_t wz_batch_get(wz_handle *handle, wz_batch_head *head);
 
-/* How many bytes it has. WZ_DONE, WZ_CLOSED. */
+/* How many bytes the batch has. WZ_DONE, WZ_CLOSED. */
 uint32_t wz_batch_len(wz_handle *handle, size_t *len);
 
-/* Copies its bytes, which are those of RocksDB's WriteBatch::Data(), to the start of the buffer, and touches nothing
-   behind them. WZ_DONE, WZ_SMALL, WZ_CLOSED. */
+/* Copies the batch's bytes, which are those of RocksDB's WriteBatch::Data(), to the start of the buffer, and touches
+   nothing after them. WZ_DONE, WZ_SMALL, WZ_CLOSED. */
 uint32_t wz_batch_bytes(wz_handle *handle, uint8_t *buffer, size_t buffer_len);
 
 /* ---- reading a batch ---- */
 
-/* Looks through the bytes of a batch. WZ_DONE: they are one, and *head says its sequence and its count. WZ_NO_BATCH:
-   they are none, and *why says so: WZ_SHORT, WZ_BAD_VARINT, WZ_TAG or WZ_COUNT, with the offset 0; wz_batch_next finds
-   the place of a record that doesn't read. */
+/* Looks through the bytes of a batch. WZ_DONE: they are one, and *head has its sequence and its count. WZ_NO_BATCH:
+   they are none, and *why says why: WZ_SHORT, WZ_BAD_VARINT, WZ_TAG or WZ_COUNT, with the offset 0; wz_batch_next
+   finds the place of a record that can't be read. */
 uint32_t wz_batch_read(const uint8_t *bytes, size_t len, wz_batch_head *head, wz_end *why);
 
-/* The record at the place *at of a batch's bytes. *at starts as WZ_BATCH_HEADER_LEN; at any other place the bytes are
-   read as if a record began there. WZ_DONE: *op says what it does and where in the bytes its key and its value are,
-   and *at is the place behind it. WZ_END: the bytes end there. WZ_NO_BATCH: no record is there, and *why says why,
-   with this place as the offset. WZ_RANGE: *at is past the end. At these *at stays. Where a record has no value,
-   op->value_at and op->value_len are 0. Nothing is copied, and no memory is taken. */
+/* The record at the place *at of a batch's bytes. *at starts as WZ_BATCH_HEADER_LEN; at a place where no record begins
+   the bytes are read as if one did. WZ_DONE: *op says what the record does and where in the bytes its key and its
+   value are, and *at is moved to the place after it. WZ_END: the bytes end there. WZ_NO_BATCH: no record is there, and
+   *why says why, with this place as the offset. WZ_RANGE: *at is past the end. Except at WZ_DONE *at stays as it was.
+   Where a record has no value, op->value_at and op->value_len are 0. Nothing is copied, and no memory is taken. */
 uint32_t wz_batch_next(const uint8_t *bytes, size_t len, size_t *at, wz_op *op, wz_end *why);
 
 /* ---- writing a log ----
-   The file is the caller's, who writes what these give at its end, syncs it when it should be safe, and keeps the
-   offset. A log begins at the offset 0, also one with a number that is written over an older file: there each record
-   is written at its offset, and not at the file's end. One that is recovered goes on at `kept` of its summary, once
-   the file is cut there. `number` is as above. */
+   The file is the caller's. The caller writes what these functions give at the log's end, syncs the file when that
+   should be safe, and keeps the offset. A log begins at the offset 0. So does one with a number that is written over
+   an older file: there each record is written at its offset, and not at the file's end. A log that was recovered is
+   resumed at `kept` of its summary, once the file is cut there. `number` is as above. */
 
-/* How many bytes a record of len bytes takes in a log that has `offset` bytes so far: its fragments, each behind its
-   header, and the zeros that end a block. The greatest size_t where it would be more than that. */
+/* How many bytes a record of len bytes takes in a log that has `offset` bytes so far: its fragments, each after its
+   header, and the zeros that end a block. The answer is the greatest size_t where they are more than that. */
 size_t wz_log_record_len(uint32_t number, uint64_t offset, size_t len);
 
-/* Puts these bytes of the log to the start of the buffer, and touches nothing behind them. WZ_DONE: *len says how
-   many they are. WZ_SMALL. */
+/* Puts the bytes that a record takes at this offset of a log at the start of the buffer, and touches nothing after
+   them. WZ_DONE: *len says how many they are. WZ_SMALL. */
 uint32_t wz_log_record(uint32_t number, uint64_t offset, const uint8_t *record, size_t record_len, uint8_t *buffer,
                        size_t buffer_len, size_t *len);
 

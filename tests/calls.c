@@ -1,16 +1,16 @@
 // A library that is preloaded to the program. It notes calls of the system on one file and on its folder, and can make
-// one of them fail, or end the program in it; and one on the standard streams, one that starts a thread, or one that
-// asks for memory.
+// one of them fail, or end the program in it. It can also make a call fail on the standard streams, or one that starts
+// a thread, or one that asks for memory.
 //
 //     CALLS_FILE   the file's path, as the program is given it
 //     CALLS_NOTES  a file that is there, to which the notes are added, a line for each:
 //                  `open`, `folder`  the file, or its folder, was opened
 //                  `write AT N`      a write of N bytes begins there
-//                  `cut N`           the file is to be cut to N bytes
+//                  `cut N`           a cut of the file to N bytes begins
 //                  `synced N`        a sync has worked that began when the file had N bytes
 //                  `entry`           a sync of the folder has worked
 //                  `fails CALL`      this call fails, or ends the program
-//     CALLS_FAIL   `KIND NTH HOW`: what becomes of the NTH call of a kind, where there is one. The kinds are
+//     CALLS_FAIL   `KIND NTH HOW`: what happens to the NTH call of a kind, where there is one. The kinds are
 //                  `log`     a call on the file or its folder, also one that looks for it by its path
 //                  `in`      a read of standard input
 //                  `out`     a write to standard output
@@ -28,10 +28,10 @@
 //                            it is a write, or after it
 //
 // With `space` a start of a thread and an allocation fail as with `io`, and so does each later one. `signal` and all
-// that is said of writes is for files and streams alone, and what ends the program for the log.
+// that is said of writes hold for files and streams alone, and what ends the program holds for the log alone.
 //
-// A call that closes works always, and isn't counted. The library makes its calls of the system by `syscall`, and needs
-// no other one than the C library.
+// A call that closes always works, and isn't counted. The library makes its calls of the system by `syscall`, and
+// needs no other library than the C library.
 
 #define _GNU_SOURCE
 #include <dlfcn.h>
@@ -48,7 +48,7 @@
 #include <sys/syscall.h>
 #include <unistd.h>
 
-// What a number of an open file stands for.
+// What the number of an open file means.
 enum { OTHER, FILE_ITSELF, FOLDER };
 #define NUMBERS 1024
 static _Atomic char what[NUMBERS];
@@ -60,7 +60,7 @@ enum { LOG, IN, OUT, THREADS, MEMORY, KINDS };
 static const char *const kinds[KINDS] = {"log", "in", "out", "threads", "memory"};
 static atomic_long calls[KINDS];
 
-// The call that is to fail, by its kind and number, and how.
+// The call that should fail, by its kind and number, and how.
 static int kind_chosen = KINDS;
 static long chosen;
 static char how[16];
@@ -76,7 +76,7 @@ __attribute__((constructor)) static void begin(void) {
     strcpy(folder, path);
     char *slash = strrchr(folder, '/');
     if (slash != NULL) *slash = 0;
-    // Above the numbers that the program looks at.
+    // A number above those that the program looks at.
     int opened = syscall(SYS_openat, AT_FDCWD, to, O_WRONLY | O_APPEND | O_CLOEXEC);
     notes = fcntl(opened, F_DUPFD_CLOEXEC, 500);
     syscall(SYS_close, opened);
@@ -86,7 +86,7 @@ __attribute__((constructor)) static void begin(void) {
         if (strcmp(kind, kinds[at]) == 0) kind_chosen = at;
 }
 
-// One write of a whole line, so that notes stand in the order of what they tell.
+// One write of a whole line, so that the notes are in the order of the calls.
 __attribute__((format(printf, 1, 2))) static void note(const char *form, ...) {
     char line[128];
     va_list rest;
@@ -105,8 +105,8 @@ static void end_here(void) {
     for (;;) pause();
 }
 
-// Counts a call, and says whether it is to fail, with `errno` set. `nth` tells where it stands to the chosen one of its
-// kind, which has 0, and a later one more.
+// Counts a call, and says whether it should fail, with `errno` set. `nth` tells how many calls of its kind it comes
+// after the chosen one, which has 0.
 static int fails_of(int kind, const char *name, long *nth) {
     *nth = atomic_fetch_add(&calls[kind], 1) + 1 - chosen;
     if (kind != kind_chosen) *nth = -1;
@@ -120,7 +120,7 @@ static int fails_of(int kind, const char *name, long *nth) {
 
 static int fails(const char *name, long *nth) { return fails_of(LOG, name, nth); }
 
-// Ends the program behind a call, where that is asked.
+// Ends the program after a call, where that is asked.
 static long done(const char *name, long nth, long answer) {
     int error = errno;
     if (nth == 0 && (is("after") || is("within"))) {
@@ -131,7 +131,7 @@ static long done(const char *name, long nth, long answer) {
     return answer;
 }
 
-// How many of so many bytes a write takes, or none and an error, or a read gives at most.
+// How many of `length` bytes a write takes, or none and an error, or a read gives at most.
 static ssize_t taken(const char *name, long nth, size_t length) {
     if (nth < 0 || !(is("short") || is("full") || is("none"))) return length;
     if (!atomic_exchange(&was_short, 1)) {
@@ -226,7 +226,7 @@ int fdatasync(int number) {
     if (kind_of(number) == OTHER) return syscall(SYS_fdatasync, number);
     long nth;
     if (fails("sync", &nth)) return -1;
-    // By `lseek`, of which the program's own calls see nothing: they all name their place.
+    // By `lseek`, which the program's own calls don't notice: they all name their place.
     long length = syscall(SYS_lseek, number, 0, SEEK_END);
     int answer = syscall(SYS_fdatasync, number);
     if (answer == 0) note("synced %ld\n", length);
@@ -265,7 +265,8 @@ int pthread_create(pthread_t *restrict to, const pthread_attr_t *restrict like, 
     return fails_of(THREADS, "thread", &nth) ? EAGAIN : next(to, like, does, with);
 }
 
-// What the C library itself gives out, by names that it has for libraries like this one.
+// The functions with which the C library itself gives memory out, by the names that it has for libraries like this
+// one.
 void *__libc_malloc(size_t length);
 void *__libc_realloc(void *piece, size_t length);
 

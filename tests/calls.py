@@ -1,8 +1,8 @@
 """The program in a folder, and the calls of the system that a run of it makes on its log.
 
-`kill` and `faults` beside this file use it. The calls are seen, and made to fail, by `calls.c` beside it, which `cc`
-builds and which is preloaded: it works where the program calls the system by the symbols of the C library. `strace`
-makes calls fail too, those that the C library makes by itself among them; but it counts them for each thread anew.
+`kill` and `faults` in this folder use it. `calls.c`, also in this folder, notes the calls and makes them fail; `cc`
+builds it, and it is preloaded: it works where the program calls the system by the symbols of the C library. `strace`
+makes calls fail too, including those that the C library makes by itself; but it counts them for each thread anew.
 """
 
 import os
@@ -44,8 +44,8 @@ class Program:
         return [self.path, self.log, "run", *options]
 
     def environment(self, fail):
-        """The environment of a run whose calls are noted, if they can be, in which a call fails so, if one is to. Where
-        `fail` is none at all they aren't noted.
+        """The environment of a run whose calls are noted, if they can be, and in which a call fails this way, if one
+        should. Where `fail` is None they aren't noted.
         """
         with open(self.notes, "w"):
             pass
@@ -61,12 +61,12 @@ class Program:
         return done.returncode, done.stdout
 
     def told(self):
-        """The notes of the last run, each in words."""
+        """The notes of the last run, each as a list of words."""
         with open(self.notes) as file:
             return [line.split(" ") for line in file.read().split("\n")[:-1]]
 
     def left(self):
-        """What the log has, if there is one. It is removed."""
+        """What the log has, if there is one. The log is removed."""
         if not os.path.exists(self.log):
             return None
         with open(self.log, "rb") as file:
@@ -75,7 +75,7 @@ class Program:
         return content
 
     def recovered(self, content, number=None):
-        """What the program recovers of these bytes, as a log with this number or with none."""
+        """What the program recovers from these bytes, as a log with this number or without one."""
         with open(self.image, "wb") as file:
             file.write(content)
         line = [self.path, self.image, "recover", *([] if number is None else ["--number", str(number)])]

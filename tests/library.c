@@ -1,4 +1,4 @@
-// Calls the library, for `library` beside this file.
+// Calls the library, for `library` in this folder.
 //
 //     library answer   reads lines and prints what the library says to each:
 //                      `log NUMBER MODE HEX`         all that reading and recovering a log tells, and its batches
@@ -10,8 +10,8 @@
 //     library memory   reads one line `log ..`, and has each allocation of a reading, a recovery and a batch refused
 //                      in turn: the answer is WZ_NO_MEMORY, what was there stays, and nothing is lost
 //
-// Hexadecimal of no bytes is `-`. Each buffer has just the bytes that are asked for, and a mark behind them, so that
-// whatever passes its end is seen. `calls` and `memory` print nothing where all is well. It is linked with
+// `-` means no bytes, where hexadecimal is read. Each buffer has just the bytes that are asked for, and a mark after
+// them, so that a write past its end is seen. `calls` and `memory` print nothing where all is well. It is linked with
 // `-Wl,--wrap=malloc,--wrap=realloc,--wrap=free`, and counts the blocks that are held.
 
 #include "wolzenn.h"
@@ -25,7 +25,7 @@ void *__real_malloc(size_t len);
 void *__real_realloc(void *block, size_t len);
 void __real_free(void *block);
 
-// How many allocations are still granted, where that is counted, and how many blocks are held.
+// How many allocations are still granted, where these are counted, and how many blocks are held.
 static long granted = -1, held = 0;
 
 static int is_refused(void) {
@@ -57,7 +57,7 @@ static void wanted(int holds, int line, const char *what) {
 
 #define WANTED(holds) wanted((holds) != 0, __LINE__, #holds)
 
-// Bytes that are ours, with a mark behind them.
+// Bytes that are ours, with a mark after them.
 typedef struct {
     uint8_t *at;
     size_t len;
@@ -97,7 +97,8 @@ static void print_end(wz_end end) {
     printf("%" PRIu64 " %" PRIu32 " %" PRIu64 " %" PRIu64 "\n", end.at, end.why, end.first, end.second);
 }
 
-// What is said of the bytes of a batch, whatever they are: the whole, and each record up to where none stands.
+// What the library says of a batch's bytes, whatever they are: of all of them, and of each record up to where there is
+// none.
 static void print_batch(const uint8_t *at, size_t len) {
     wz_batch_head head = {0, 0};
     wz_end why = {0, 0, 0, 0};
@@ -119,7 +120,7 @@ static void answer_log(uint32_t number, uint32_t mode, bytes log) {
     wz_end end = {0, 0, 0, 0}, again = {0, 0, 0, 0};
     WANTED(wz_reader_open(&handle, number) == WZ_DONE);
     uint32_t code;
-    // No record is in hand before the first and after the last, also where the log ends inside one.
+    // The reader has no record before the first and after the last, also where the log ends inside one.
     bytes none = room_for(WZ_BLOCK_LEN);
     WANTED(wz_reader_record(&handle, none.at, none.len) == WZ_END && none.at[0] == MARK);
     while ((code = wz_reader_next(&handle, log.at, log.len, &record, &end)) == WZ_DONE) {
@@ -161,7 +162,7 @@ static void answer_log(uint32_t number, uint32_t mode, bytes log) {
         print_hex(key.at, key.len);
         printf(" ");
         print_hex(value.at, value.len);
-        // The next key that could be there, the same and a byte of zero, has no pair or the next one.
+        // The next key that could be there, this key and a byte of zero, has no pair or the next one.
         bytes next = room_for(key.len + 1);
         memcpy(next.at, key.at, key.len);
         next.at[key.len] = 0;
@@ -217,7 +218,7 @@ static void answer_batch(wz_handle *batch, const char *word, const char *one, co
     done_with(value);
 }
 
-// Cuts a line into four words, of which those that aren't there are `-`.
+// Cuts a line into four words. Words that aren't there are `-`.
 static void words_of(char *line, const char **words) {
     static const char none[] = "-";
     for (int i = 0; i < 4; i++) {
@@ -254,7 +255,7 @@ static int answer(void) {
         }
     }
     wz_close(&batch);
-    // The line that `getline` made isn't counted where it allocates inside of the C library.
+    // The line that `getline` made isn't counted, since that allocates inside of the C library.
     __real_free(line);
     return 0;
 }
@@ -307,7 +308,7 @@ static void check_no_pair(wz_handle *recovery, size_t pairs) {
     WANTED(wz_pair_find(recovery, last, sizeof last, &index) == WZ_END && index == pairs);
 }
 
-// A batch takes no more than it may, and stays as it is.
+// A batch takes no more bytes than it may, and stays as it is.
 static void check_large(wz_handle *batch) {
     static uint8_t large[WZ_MAX_BATCH + 1];
     bytes old = bytes_of_batch(batch);
@@ -359,7 +360,7 @@ static int calls(void) {
     WANTED(found.groups == 1 && found.pairs == 1 && found.last == 1 && found.kept == 24 && found.end.why == WZ_CLEAN);
     check_other_kinds(&handle, 0, 1, 0);
     check_no_pair(&handle, 1);
-    // What isn't accepted, or isn't there, leaves a handle that holds nothing.
+    // A call that fails, since a log isn't accepted or doesn't exist, leaves a handle that holds nothing.
     WANTED(wz_recover(&handle, 0, WZ_ABSOLUTE, log, len - 1, &found) == WZ_DAMAGE);
     WANTED(found.groups == 0 && found.pairs == 0 && found.last == 0 && found.kept == 0);
     WANTED(found.end.at == 0 && found.end.why == WZ_BAD_LENGTH);
@@ -400,7 +401,7 @@ static int calls(void) {
     return 0;
 }
 
-// What a call has left of a batch whose bytes were these.
+// Compares what a call has left of a batch whose bytes were these.
 static void check_batch_is(wz_handle *batch, bytes old) {
     long left = granted;
     granted = -1;
@@ -410,7 +411,7 @@ static void check_batch_is(wz_handle *batch, bytes old) {
     granted = left;
 }
 
-// A batch grows until an allocation fails. Its answer is given back.
+// A batch grows until an allocation fails. Gives back the library's answer.
 static uint32_t grow_batch(wz_handle *batch) {
     static const uint8_t blob[900];
     uint32_t code = wz_batch_new(batch);
@@ -467,7 +468,7 @@ static int memory(void) {
     for (int kind = 0; kind < 3; kind++) {
         long refused = 0;
         for (int is_all_granted = 0; !is_all_granted; refused++) {
-            // What the handle holds before is freed by a call that fails, too.
+            // What the handle held before is freed by a call that fails, too.
             wz_handle handle = WZ_HANDLE_INIT;
             granted = -1;
             WANTED(wz_batch_new(&handle) == WZ_DONE);
@@ -475,7 +476,7 @@ static int memory(void) {
             uint32_t code = kind == 0   ? read_all(&handle, number, log)
                             : kind == 1 ? recover_all(&handle, number, log)
                                         : grow_batch(&handle);
-            // One that was refused has counted to -1.
+            // A refused allocation has counted to -1.
             is_all_granted = granted > 0 || (granted == 0 && code == WZ_DONE);
             WANTED(code == (is_all_granted ? WZ_DONE : WZ_NO_MEMORY));
             granted = -1;

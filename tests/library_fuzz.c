@@ -4,11 +4,11 @@
 //
 // It makes a few small logs, without a number and with one, some of which pass the end of a block. COUNT times it
 // takes one of them, changes some bytes, or cuts it, or puts zeros in, and half of the time makes the checksums right
-// again. Of each the library must tell the same records, the same end, the same batches and operations, and the same
-// recovery in a drawn mode. It prints nothing where all is well, and else says of which log something differs and ends
-// with 1.
+// again. For each the library must tell the same records, end, batches and operations as the plain code, and the same
+// recovery in a drawn mode. It prints nothing where all is well; otherwise it says for which log something differs and
+// ends with 1.
 //
-// What is plain here is written by docs/FORMATS.md, and is nothing of the library's own.
+// The plain code here follows docs/FORMATS.md, and has nothing of the library's own.
 
 #include "wolzenn.h"
 
@@ -28,7 +28,7 @@ static uint64_t draw(uint64_t below) {
     return (drawn >> 11) % below;
 }
 
-// The log that is tried, its number, and what it was made of.
+// The log that is tried, its number, and the log that it was made of.
 static uint8_t log_bytes[MOST];
 static size_t log_len;
 static uint32_t number, mode;
@@ -84,7 +84,7 @@ static int is_zeros(const uint8_t *at, size_t len) {
 }
 
 // The fragment at a place from which its block has room for a header: its kind, 1 to 4, and where its data ends; or 0
-// and why none is there.
+// and why there is none.
 static int fragment_at(size_t at, size_t *data_end, wz_end *end) {
     const uint8_t *head = log_bytes + at;
     size_t size = header_len(), left = log_len - at, room = BLOCK - at % BLOCK;
@@ -101,7 +101,7 @@ static int fragment_at(size_t at, size_t *data_end, wz_end *end) {
     return kind;
 }
 
-// The records of the log: their bytes one behind another, and where each stands in the log and ends there.
+// The records of the log: their bytes one after another, and where each begins and ends in the log.
 enum { RECORDS = 4096 };
 static uint8_t content[MOST];
 static struct { size_t start, end, at, len; } records[RECORDS];
@@ -140,7 +140,7 @@ static wz_end read_plainly(void) {
 
 // The plain batch.
 
-// A string behind its length, from a place on, which moves behind it: 0, or the reason why none is there.
+// A string after its length, at a place, which then moves past it. Answers 0, or the reason why there is none.
 static uint32_t string_at(const uint8_t *at, size_t len, size_t *place, size_t *string, size_t *string_len) {
     uint64_t found = 0;
     for (int used = 0;; used++) {
@@ -157,7 +157,7 @@ static uint32_t string_at(const uint8_t *at, size_t len, size_t *place, size_t *
     }
 }
 
-// The operation at a place, which moves behind it; or why none is there.
+// The operation at a place, which then moves past it; or why there is none.
 static int op_at(const uint8_t *at, size_t len, size_t *place, wz_op *op, wz_end *why) {
     size_t next = *place + 1;
     wz_op found = {at[*place], 0, 0, 0, 0};
@@ -256,7 +256,7 @@ static int is_accepted(wz_end end) {
     return log_len < at + whole && whole <= BLOCK - at % BLOCK;
 }
 
-// The library beside that.
+// The library, compared with that.
 
 static int is_same_end(wz_end one, wz_end two) {
     return one.at == two.at && one.why == two.why && one.first == two.first && one.second == two.second;
@@ -351,7 +351,7 @@ static void append(wz_handle *batch) {
     }
 }
 
-// A log of a few batches; of every sixth the first leaves few bytes of its block.
+// A log of a few batches. In every sixth log the first batch leaves few bytes of its block.
 static void make_seed(int seed) {
     static uint8_t bytes[SEED_LEN];
     wz_handle batch = WZ_HANDLE_INIT;
@@ -378,7 +378,7 @@ static void make_seed(int seed) {
     wz_close(&batch);
 }
 
-// Makes the checksums right of the fragments from the first on, as long as their lengths lead on.
+// Makes the checksums of the fragments right, from the first on, as far as their lengths lead.
 static void mend(void) {
     for (size_t at = 0; at + header_len() <= log_len;) {
         size_t left = BLOCK - at % BLOCK;
@@ -395,7 +395,8 @@ static void mend(void) {
 }
 
 static size_t place(void) {
-    // Mostly near the start, where a change leads on, or near the end; a long log is mostly one value.
+    // Mostly near the start, where a change affects what comes after it, or near the end; a long log is mostly one
+    // value.
     size_t near = log_len < 200 ? log_len : 200;
     return draw(3) == 0 ? draw(log_len) : draw(2) ? draw(near) : log_len - 1 - draw(near);
 }
@@ -424,7 +425,7 @@ int main(int argc, char **argv) {
     make_steps();
     for (int seed = 0; seed < SEEDS; seed++) make_seed(seed);
     for (uint64_t i = 0; i < count; i++) {
-        // The long logs take more time, and come less often. New ones come now and then.
+        // The long logs take more time, so they are taken less often. New ones are made from time to time.
         int seed = draw(8) == 0 ? (int)draw(SEEDS) : (int)draw(SEEDS / 6) * 6 + (int)draw(5);
         if (draw(64) == 0) make_seed(seed);
         memcpy(log_bytes, seeds[seed].bytes, log_len = seeds[seed].len);

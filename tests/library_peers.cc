@@ -1,10 +1,10 @@
-// Has RocksDB or LevelDB write a log, for `library` beside this file, and prints what is written, as the example
-// print_log prints it. With RocksDB it also makes many batches by draws, and compares their bytes with those that the
-// library makes.
+// Has RocksDB or LevelDB write a log, for `library` in this folder, and prints what is written, in the form in which
+// the example print_log prints it. With RocksDB it also makes many batches by draws, and compares their bytes with
+// those that the library makes.
 //
 //     library_peers FOLDER
 //
-// It is built against the one that the macro PEER names, `leveldb` or `rocksdb`, whose calls are alike.
+// It is built against the library that the macro PEER names, `leveldb` or `rocksdb`, whose calls are alike.
 
 #include <cstdio>
 #include <memory>
@@ -47,7 +47,7 @@ static const uint8_t* bytes(const std::string& text) {
     return reinterpret_cast<const uint8_t*>(text.data());
 }
 
-// Adds an operation to both batches, and answers it as print_log prints it.
+// Adds an operation to both batches, and answers it in the form in which print_log prints it.
 template <class Batch>
 static std::string add(Batch& theirs, wz_handle* ours) {
     std::string key = text(), value = text();
@@ -78,7 +78,7 @@ static std::string add(Batch& theirs, wz_handle* ours) {
     return line + "\n";
 }
 
-// That the bytes of both are the same, where the peer shows its own.
+// Compares the bytes of both, where the peer shows its own.
 template <class Batch>
 static void compare(const Batch& theirs, wz_handle* ours) {
     if constexpr (requires { theirs.Data(); }) {
@@ -104,8 +104,8 @@ int main(int argc, char** argv) {
         check(wz_batch_new(&ours) == WZ_DONE, "a batch");
         for (auto count = 1 + draws() % 4; count > 0; count--) lines += add(theirs, &ours);
         compare(theirs, &ours);
-        // The log of the last fifty is read back; all of them would be more than a log may have before it goes on to
-        // another.
+        // The log of the last fifty batches is read back. All of them would be more than a log may have before the
+        // database begins another log.
         if (turn % 8 != 0) continue;
         check(database->Write(PEER::WriteOptions(), &theirs).ok(), "a write");
         std::fputs(lines.c_str(), stdout);

@@ -1,14 +1,14 @@
 """What the log of a run may have, however the run has ended: by its script, and by nothing of the program's own.
 
-`kill` and `faults` beside this file use it, with scripts whose batches are named by notes (`scripts.py`). It reads logs
-by `plain_log.py`. Of a log it asks:
+`kill` and `faults` in this folder use it, with scripts whose batches are named by notes (`scripts.py`). It reads logs
+by `plain_log.py`. Of a log these must hold:
 
-- each record is whole batches of different clients, one after another, of commits that were not to stay out of the log;
-- each client's are all of its own up to some commit, each once, in its order;
+- each record is whole batches of different clients, one after another, of commits that should not stay out of the log;
+- each client's batches are all of its own up to some commit, each once, in its order;
 - the runs ascend, and what is between them is the batches that stay out of the log: those that their clients had
   committed before, and perhaps those that come next.
 
-Of what may be left where the machine ends too, it asks that it is a front of the records, with all that was safe.
+What may be left where the machine crashes too must be a front of the records, with all that was safe.
 """
 
 from typing import NamedTuple
@@ -30,7 +30,7 @@ class Record(NamedTuple):
 
 
 def read_log(content, number=None):
-    """The records of a log with this number, or with none, and why it ends."""
+    """The records of a log with this number, or without one, and why it ends."""
     ends, records, why = [], [], "clean"
     try:
         for at, kind, data in fragments_of(content, number):
@@ -48,12 +48,13 @@ def read_log(content, number=None):
 
 
 def check_recovery_of(content, recovered, number=None):
-    """Checks what the program recovers of a log with this number, or with none; `recovered` says it of some bytes."""
+    """Checks what the program recovers from a log with this number, or without one. `recovered` answers it for some
+    bytes."""
     wanted(recovered(content) == recovery_of(content, number)[0], f"the recovery of {len(content)} bytes")
 
 
 def recovered_of(content, number=None):
-    """The last sequence and the map that a log of keys and values of text recovers."""
+    """The last sequence and the map that a log, whose keys and values are text, recovers."""
     pairs = {}
     last, _, _ = recover_into([], pairs, content, number)
     return last, {key.decode(): value.decode() for key, value in pairs.items()}
@@ -81,7 +82,7 @@ def logged_bytes(script):
 
 
 def members_of(clients, record):
-    """Whose batches a record has, each by its client and how many of the client's come before it."""
+    """The batches that a record has, each by its client and how many of the client's batches come before it."""
     members, rest = [], record.lines
     while rest:
         wanted(rest[0][0] == "note", f"a batch that begins with its name, not with {rest[0]}")
@@ -95,8 +96,7 @@ def members_of(clients, record):
 
 
 def check_records(script, records, last=0):
-    """Checks the records that a run has left in a log behind this sequence, and gives back those that were to be
-    synced.
+    """Checks the records that a run has left in a log after this sequence, and gives back those that should be synced.
     """
     clients, synced = batches_of(script), []
     counts = [[count_of(batch) for _, batch in batches] for batches in clients]
@@ -110,8 +110,8 @@ def check_records(script, records, last=0):
             wanted(set(passed) <= {"nolog"}, f"all logged batches of client {client} before {client}.{turn}")
             wanted(batches[turn][0] != "nolog", f"{client}.{turn} not in the log")
             taken[client - 1] = turn
-        # The sequences that are given out before this record: those of all that its members' clients have committed,
-        # and of what others have, with as many of their batches that stay out of the log as come next.
+        # The sequences that may be given out before this record: those of all that its members' clients have
+        # committed, and of what others have, with any number of their next batches that stay out of the log.
         sums = {last + sum(sum(count[:end]) for count, end in zip(counts, taken))}
         for client in set(range(1, len(clients) + 1)) - {client for client, _ in members}:
             end, more = taken[client - 1], [0]
@@ -128,10 +128,10 @@ def check_records(script, records, last=0):
 
 
 def check_notes(records, synced, notes):
-    """Checks the calls that a run has made on its log, of which `calls.c` beside this file tells, and gives back how
+    """Checks the calls that a run has made on its log, which `calls.c` in this folder has noted, and gives back how
     much of the log was safe.
 
-    Nothing is written behind a record that was to be synced until it is safe, and its entry in the folder. Each sync is
+    Nothing is written after a record that should be synced until it is safe, and its entry in the folder. Each sync is
     of whole records.
     """
     safe, synced_to, has_entry = 0, 0, False
@@ -149,7 +149,7 @@ def check_notes(records, synced, notes):
 
 
 def told_of_writes(notes):
-    """Notes of a run over an old log: each sync is of what was written before. The length tells nothing there."""
+    """Notes of a run over an old log: each sync is of what was written before. There the length tells nothing."""
     told, end = [], 0
     for words in notes:
         if words[0] == "write":
@@ -159,13 +159,13 @@ def told_of_writes(notes):
 
 
 def check_images(content, safe, draw, recovered, old=b"", number=None):
-    """Checks what a crash of the machine might leave, where so much of the log is safe: it has all records up to there,
-    and no others than were written. `recovered` says what the program recovers of some bytes. A log with a number may
-    be written over an old one, whose bytes stand wherever new ones are lost.
+    """Checks what a crash of the machine might leave, where this much of the log is safe: it has all records up to
+    there, and no others than were written. `recovered` answers what the program recovers from some bytes. A log with a
+    number may be written over an old one, whose bytes remain wherever new ones are lost.
     """
     records = read_log(content, number)[0]
     cut = draw.randint(safe, len(content))
-    # What isn't safe may be lost in pieces, of the size of a sector.
+    # What isn't safe may be lost in pieces of the size of a sector.
     torn, before = bytearray(content), old.ljust(len(content), b"\0")
     for at in range(safe // 512, len(torn) // 512 + 1):
         start, end = max(at * 512, safe), min(at * 512 + 512, len(torn))

@@ -1,15 +1,15 @@
 """An independent checker of printed outcomes: a plain map, plain batches, and nothing of the program's own.
 
-`race`, `schedules`, `kill` and `faults` beside this file use it, and `shown` as `outcomes.py SCRIPT <OUTCOME`, which says
-what is wrong with it. Of an outcome it asks:
+`race`, `schedules`, `kill` and `faults` in this folder use it, and `shown` as `outcomes.py SCRIPT <OUTCOME`, which
+says what is wrong with it. Of an outcome these must hold:
 
-- each client's accepted batches stand once in the history, in its order, each with just what the client put into it;
+- each client's accepted batches are once in the history, in its order, each with just what the client put into it;
 - the runs of the history follow each other without a gap;
-- each read is that of a plain map at its sequence, which is the end of a batch; it is not below what the client has
-  seen before, its own batches among it;
+- each read is that of a plain map at its sequence, which is the end of a batch; the sequence is not below what the
+  client has seen before, its own batches included;
 - the printed state is the map at the published sequence;
-- where the log has failed, each client is refused by that fault from some commit on, and one is at least;
-- who finds no memory is told so in its last line, and its call is not in the history.
+- where the log has failed, each client is refused by that fault from some commit on, and at least one client is;
+- a client that finds no memory learns it in its last line, and its call is not in the history.
 """
 
 import os
@@ -36,7 +36,7 @@ def wanted(holds, what):
 
 
 def text_of(script):
-    """The script as the program reads it."""
+    """The script in the form in which the program reads it."""
     lines = []
     for number, commands in enumerate(script, 1):
         lines.append(f"client {number}")
@@ -45,7 +45,7 @@ def text_of(script):
 
 
 def script_in(text):
-    """The script that a text is."""
+    """The script that a text has."""
     script = []
     for words in (line.split(" ") for line in text.split("\n") if line and not line.startswith("#")):
         script.append([]) if words[0] == "client" else script[-1].append(words)
@@ -122,11 +122,11 @@ def flag_of(words):
 
 
 def calls_of(commands, replies, whole, fault):
-    """A client's accepted batches by its replies, the one it waits for, its reads with what it had seen before each,
-    and whether a commit was refused by the log's fault, if there is one.
+    """A client's accepted batches by its replies, the one whose answer it waits for, its reads with what it had seen
+    before each, and whether a commit was refused by the log's fault, if there is one.
 
-    Where the run is not whole, the replies may end early. So they may where the last one is that there was no memory;
-    then nothing is waited for.
+    Where the run is not whole, the replies may end early. They may too where the last one is that there was no memory;
+    then the client waits for nothing.
     """
     replies, ended = list(replies), lacks_memory(replies)
     if ended:
@@ -169,8 +169,8 @@ def history_line(client, ordinal, first, flag, records):
 def check_outcome(script, text, whole=True, before=(0, {})):
     """Checks an outcome up to its state, and gives back the batches of its history, and the lines after the state.
 
-    Where the run is not whole, the history may have a batch more of each client, which it wasn't told of yet. `before`
-    is the last sequence and the map that the run went on from.
+    Where the run is not whole, the history may have one more batch of each client, whose answer the client hasn't got
+    yet. `before` is the last sequence and the map that the run went on from.
     """
     replies, rest = sections_of(text, len(script))
     fault = fault_of(rest)
@@ -212,7 +212,7 @@ def check_outcome(script, text, whole=True, before=(0, {})):
 
 
 def check_recovery(batches, text):
-    """The groups that are recovered are the logged batches, some in one, in their order."""
+    """The recovered groups are the logged batches in their order; one group may have several."""
     lines = text.split("\n")
     groups = int(lines.pop(0).split(" ")[1])
     logged = [(first, last) for first, last, line, _ in batches if " nolog " not in line]

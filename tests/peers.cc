@@ -1,5 +1,5 @@
-// Runs a script on RocksDB itself, and prints each reply as the program would, a refusal by its first word alone. The log of
-// the database at PATH is left as it was written.
+// Runs a script on RocksDB itself, and prints each reply as the program would, for a refusal its first word alone. The
+// log of the database at PATH is left as it was written.
 //
 //     peers script PATH < SCRIPT
 //
@@ -7,13 +7,13 @@
 //
 //     peers threads PATH
 //
-// Or writes logs over older ones, as `recycle_log_file_num` has it, and copies each into the folder COPIES as it stands
-// before its database goes on to another log. The copy has the log's own name.
+// Or writes logs over older ones, by the option `recycle_log_file_num`, and copies each into the folder COPIES as it
+// is before its database begins another log. The copy has the log's own name.
 //
 //     peers recycled PATH COPIES
 //
-// Or opens a database for reading alone, in the recovery mode `point`, `tail` or `absolute`, and says `yes` where it opens and
-// `no` where not.
+// Or opens a database for reading alone, in the recovery mode `point`, `tail` or `absolute`, and says `yes` where it
+// opens and `no` where it doesn't.
 //
 //     peers opens PATH MODE
 
@@ -80,8 +80,8 @@ static void run_threads(rocksdb::DB& db) {
     for (auto& thread : threads) thread.join();
 }
 
-// Each log has fewer batches than the one two before it, whose file it gets. In the first six all batches have the same
-// size, so that one ends where an older one did; in the others they haven't, and one takes several blocks.
+// Each log has fewer batches than the one two before it, whose file it gets. In the first six all batches have the
+// same size, so one log ends where an older one did. In the others they don't, and one batch takes several blocks.
 static bool write_over(rocksdb::DB& db, const std::filesystem::path& path, const std::filesystem::path& copies) {
     for (int log = 0; log < 14; log++) {
         bool mixed = log >= 6;
@@ -104,7 +104,7 @@ static bool write_over(rocksdb::DB& db, const std::filesystem::path& path, const
     return true;
 }
 
-// As the program names them.
+// A recovery mode by the name that the program has for it.
 static rocksdb::WALRecoveryMode mode_of(const std::string& word) {
     if (word == "tail") return rocksdb::WALRecoveryMode::kTolerateCorruptedTailRecords;
     if (word == "absolute") return rocksdb::WALRecoveryMode::kAbsoluteConsistency;
@@ -130,10 +130,10 @@ int main(int count, char** words) {
     bool recycles = count == 4 && words[1] == std::string("recycled");
     if (recycles) {
         options.recycle_log_file_num = 2;
-        // With another mode RocksDB uses no file again, and gives its logs no number.
+        // In another mode RocksDB writes over no old file, and gives its logs no number.
         options.wal_recovery_mode = rocksdb::WALRecoveryMode::kSkipAnyCorruptedRecords;
     }
-    // What stays out of the log would be flushed to a table at the end.
+    // Otherwise what stays out of the log would be flushed to a table at the end.
     options.avoid_flush_during_shutdown = true;
     rocksdb::DB* opened = nullptr;
     if ((count != 3 && !recycles) || !rocksdb::DB::Open(options, words[2], &opened).ok()) return 1;

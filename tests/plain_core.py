@@ -1,7 +1,7 @@
 """The core of the write path as a plain program: it takes events one by one, and knows what `replay` prints of them.
 
-`tools/diagram` draws its states. It goes by the table "The events of the core" of docs/ARCHITECTURE.md and by
-docs/FORMATS.md, and by nothing of the program's own. Clients are numbered from 1, and a line of a script is a list of
+`tools/diagram` draws its states. It follows the table "The events of the core" of docs/ARCHITECTURE.md and
+docs/FORMATS.md, and nothing of the program's own. Clients are numbered from 1, and a line of a script is a list of
 words.
 """
 
@@ -13,12 +13,12 @@ GREATEST = 2**56 - 1
 # A batch begins with its sequence and its count.
 BATCH_HEADER = 12
 
-# Events that are taken by a method of another name, since a part of the state has theirs.
+# Events that have methods of other names, since their own are taken by parts of the state.
 TAKEN_BY = {"log": "log_group", "second": "to_second"}
 
 
 def schedule_of(text):
-    """The script, and the events as pairs of a word and a client's number, of a text that `replay` takes."""
+    """The script, and the events as pairs of a word and a client's number, in a text for `replay`."""
     script, events = [], None
     for line in text.split("\n"):
         words = line.split(" ")
@@ -36,15 +36,15 @@ def schedule_of(text):
 
 
 class Client:
-    """Its lines that are left, the records of its batch, its calls that are answered with their replies, and whether it
-    waits for none.
+    """A client: its lines that are left, the records of its batch, its answered calls with their replies, and whether
+    it waits for no answer.
     """
 
     def __init__(self, lines):
         self.left, self.pending, self.calls, self.replies, self.is_idle = list(lines), [], [], [], True
 
     def next_call(self):
-        """Its next commit or read, if there is one. Lines that add to its batch, or empty it, are done on the way."""
+        """Its next commit or read, if there is one. Lines before it that add to its batch, or empty it, are done."""
         while self.left and self.left[0][0] not in ("commit", "get", "many", "scan"):
             words = self.left.pop(0)
             self.pending = [] if words[0] == "clear" else [*self.pending, words]
@@ -57,7 +57,7 @@ class Client:
 
 
 class Writer:
-    """A batch on its way: whose, how it is committed, its run of sequences once it has one, and its answer."""
+    """A batch on its way: its client, how it is committed, its run of sequences once it has one, and its answer."""
 
     def __init__(self, client, commit, records):
         self.client, self.flags, self.records = client, set(commit[1:]), records
@@ -66,7 +66,7 @@ class Writer:
 
 
 def goes_with(leader, writer):
-    """Whether a writer may be in this leader's group, but for the sizes."""
+    """Whether a writer may be in this leader's group, without a look at the sizes."""
     return not ("sync" in writer.flags and "sync" not in leader.flags) and all(
         (flag in writer.flags) == (flag in leader.flags) for flag in ("noslow", "nolog")
     )
@@ -86,7 +86,7 @@ def group_len(queue, group_bytes):
 
 
 class Core:
-    """The state. The log is `free`, `led`, `built`, `in log`, `marked` or `handed`, and all but free by a group; the
+    """The state. The log is `free`, or a group has it and it is `led`, `built`, `in log`, `marked` or `handed`. The
     table is `still`, `launched` or `published`.
     """
 
@@ -95,7 +95,7 @@ class Core:
         self.clients = [Client(lines) for lines in script]
         self.queue, self.log, self.in_hand, self.log_failed = [], "free", [], False
         self.second, self.table, self.inserted, self.finished = [], "still", [], []
-        # A logged or published batch is its last sequence, its client, its line of the history, and its records.
+        # A logged or published batch: its last sequence, its client, its line of the history, and its records.
         self.entries, self.given, self.published, self.groups, self.leaving = [], last, last, 0, []
 
     def take(self, event, number):
@@ -222,7 +222,7 @@ class Core:
     # The table.
 
     def table_group(self):
-        """The group that is in the table, or comes next."""
+        """The group that is in the table, or the next to come there."""
         if self.is_pipelined:
             return self.second[0] if self.second else []
         return self.in_hand if self.log == "in log" else []
@@ -281,7 +281,7 @@ class Core:
         return pairs
 
     def text(self, taken, skipped):
-        """What `replay` prints after so many events."""
+        """What `replay` prints after these numbers of events were taken and skipped."""
         lines, pairs = [f"events {taken} skipped {skipped}"], self.published_map()
         for number, client in enumerate(self.clients, 1):
             lines += [f"client {number}", *client.replies]

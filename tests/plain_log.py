@@ -1,8 +1,8 @@
 """An independent reader of logs and batches, by docs/FORMATS.md and RocksDB's wiki, and nothing of the program's own.
 
-`damage`, `kill` and `faults` beside this file use it. `recovery_of` says what `recover` should print of a log's bytes.
-A small writer is here too: `laid_out` makes a log of records, as the program should, or with records that are cut at
-other places. Where a function takes a log's number, none is a log whose headers have no number.
+`damage`, `kill` and `faults` in this folder use it. `recovery_of` says what `recover` should print for a log's bytes.
+There is also a small writer: `laid_out` makes a log of records, as the program should, or with records that are cut at
+other places. Where a function takes a log's number, None means a log whose headers have no number.
 """
 
 import functools
@@ -14,7 +14,7 @@ FULL, FIRST, MIDDLE, LAST = 1, 2, 3, 4
 # The greatest sequence.
 GREATEST = 2**56 - 1
 
-# How many strings stand behind a tag: of a deletion, a value, log data and a single deletion.
+# How many strings come after a tag: that of a deletion, a value, log data and a single deletion.
 STRINGS = {0: 1, 1: 2, 3: 1, 7: 1}
 VALUE, NOTE = 1, 3
 
@@ -22,7 +22,7 @@ MASK = 0xA282EAD8
 
 
 class End(Exception):
-    """Reading ends, at this offset and for this reason."""
+    """Reading ends at this offset, for this reason."""
 
 
 class NoBatch(Exception):
@@ -57,17 +57,17 @@ def header_len(number):
 
 
 def code_of(kind, number):
-    """How a kind stands in a header."""
+    """The code of a kind in a header."""
     return kind if number is None else kind + 4
 
 
 def number_bytes(number):
-    """What stands in a header behind the kind."""
+    """What a header has after the kind."""
     return b"" if number is None else number.to_bytes(4, "little")
 
 
 def fragment_at(log, at, number):
-    """The kind and the data of the fragment at this offset, from which its block has room for a header."""
+    """The kind and the data of the fragment at this offset. The rest of its block has room for a header."""
     size = header_len(number)
     head = log[at : at + size]
     if len(head) < size:
@@ -77,7 +77,7 @@ def fragment_at(log, at, number):
     length, code = number_of(head[4:6]), head[6]
     is_kind = code in [code_of(kind, number) for kind in (FULL, FIRST, MIDDLE, LAST)]
     is_within = size + length <= min(BLOCK - at % BLOCK, len(log) - at)
-    # The length of a header without a number is looked at before its kind, and that of one with a number last.
+    # The length of a header without a number is looked at before its kind, and in a header with a number last.
     if number is None and not is_within:
         raise End(at, "badlength")
     if not is_kind:
@@ -123,7 +123,7 @@ def records_of(log, number=None):
 
 
 def length_at(record, place):
-    """The number that a varint at this place spells, and the place behind it."""
+    """The number that a varint at this place spells, and the place after it."""
     number = 0
     for used in range(5):
         if place + used == len(record):
@@ -183,7 +183,7 @@ def recover_into(groups, pairs, log, number):
 
 
 def kept_of(log, count, number=None):
-    """Where the last of so many records ends, which are the first ones of a log."""
+    """Where the last of a log's first `count` records ends."""
     ends = [0]
     try:
         for at, kind, data in fragments_of(log, number):
@@ -194,7 +194,7 @@ def kept_of(log, count, number=None):
 
 
 def recovery_of(log, number=None):
-    """What `recover` should print of a log, and the first word of the reason."""
+    """What `recover` should print for a log, and the first word of the reason."""
     groups, pairs = [], {}
     last, at, why = recover_into(groups, pairs, log, number)
     rows = [f"{key.hex() or '-'} {pairs[key].hex() or '-'}" for key in sorted(pairs)]
@@ -203,7 +203,7 @@ def recovery_of(log, number=None):
 
 
 def is_cut_off(log, at, why, number=None):
-    """Whether the log's last write was cut off where reading ends, and nothing but zeros stands behind that."""
+    """Whether the log's last write was cut off where reading ends, and nothing but zeros comes after that."""
     size = header_len(number)
     if why == "badlength":
         length = size + number_of(log[at + 4 : at + 6])
@@ -222,7 +222,7 @@ def accepts(mode, log, at, why, number=None):
 
 
 def fragment_of_code(code, data, number=None):
-    """A fragment with this code of a kind, whatever it is."""
+    """A fragment with this code as its kind, whatever it is."""
     tail = bytes([code]) + number_bytes(number)
     return checksum(tail + data) + len(data).to_bytes(2, "little") + tail + data
 
@@ -232,8 +232,8 @@ def fragment(kind, data, number=None):
 
 
 def laid_out(records, draw=None, number=None, front=b""):
-    """A log of these records, which are cut where a block ends, and where there is `draw`, by draws elsewhere too. They
-    stand behind a front that ends with a record.
+    """A log of these records, which are cut where a block ends, and with `draw` at other drawn places too. They come
+    after a front that ends with a record.
     """
     log, size = bytearray(front), header_len(number)
     for record in records:

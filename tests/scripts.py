@@ -1,22 +1,23 @@
-"""Scripts of clients that write and read the same keys, as `race`, `kill` and `faults` beside this file draw them.
+"""Scripts of clients that write and read the same keys, as `race`, `kill` and `faults` in this folder draw them.
 
-`damage` has its options from here too.
+`damage` takes its options from here too.
 """
 
 from outcomes import KEYS
 
-# The options of a write path that come by turns: one tree and three shards, in one stage and in two.
+# The options of a write path, which alternate: one tree and three shards, in one stage and in two.
 THREE_SHARDS = ["--shards", "3", "--table", "shards"]
 PATHS = [[], THREE_SHARDS, ["--pipelined"], [*THREE_SHARDS, "--pipelined"]]
 
 
 def script_of(draw, is_named=False, count=None):
-    """A script of clients that write and read the same keys, mostly of 2 to 16 and else of up to 64, or of so many.
+    """A script of clients that write and read the same keys: of this number, or mostly of 2 to 16 and otherwise of up
+    to 64.
 
-    Where its batches are to be named, each begins with a note of its client and of how many of that client come before
-    it, as `3.0`, and some scripts have long values.
+    Where its batches should have names, each begins with a note of its client and of how many batches of that client
+    come before it, as `3.0`, and some scripts have long values.
     """
-    # Where a group has many records, its clients are woken in two stages over shards, each to put in its own.
+    # Where a group has many records, its clients are woken in two stages over shards, each to insert its own.
     least, most = draw.choice([(1, 4), (1, 4), (16, 40)])
     width = draw.choice([0, 0, 0, 400]) if is_named and most == 4 else 0
     clients = []

@@ -1,14 +1,14 @@
-"""Parts of a picture in SVG, for the scripts beside this file.
+"""Parts of a picture in SVG, for the scripts in this folder.
 
-Text stays text, in plain fonts. The ground is white, so that a picture can be read on dark pages too. The same calls
-make the same bytes.
+Text stays text, in plain fonts. The ground is white, so that a picture can be read on dark pages too. Equal calls make
+equal bytes.
 """
 
 from html import escape
 
 INK, GREY, PALE, GROUND = "#222222", "#767676", "#d9d9d9", "#ffffff"
 
-# A strong colour and a light one for each client, by turns.
+# A strong colour and a light one for each client, which alternate.
 CLIENT_COLOURS = [
     ("#0b62a4", "#cfe3f5"),
     ("#b8500b", "#fadfc9"),
@@ -17,7 +17,7 @@ CLIENT_COLOURS = [
     ("#8a6d00", "#f4e9b8"),
     ("#a3245c", "#f8d3e2"),
 ]
-# A strong colour for each layer of crates, by turns: enough of them that none comes twice.
+# A strong colour for each layer of crates, in turn: enough of them that none is used twice.
 LAYER_COLOURS = [strong for strong, _ in CLIENT_COLOURS] + [
     "#007d80",
     "#6d4630",
@@ -43,7 +43,7 @@ def colour_of_layer(number):
 
 
 def number(value):
-    """A length as text, of a tenth at most."""
+    """A length as text, with at most one decimal place."""
     return f"{round(value, 1):g}"
 
 
@@ -106,7 +106,7 @@ class Picture:
         self.text(x, y + 3.7, text, CHIP_SIZE, ink, "middle")
 
     def save(self, path, height):
-        """Writes the picture, which is so high."""
+        """Writes the picture, which has this height."""
         size = f"{number(self.width)} {number(height)}"
         lines = [
             f'<svg xmlns="http://www.w3.org/2000/svg" width="{number(self.width)}" height="{number(height)}"'

@@ -1,4 +1,4 @@
-"""What batches and replies say, in a few letters, for the scripts beside this file."""
+"""What batches and replies say, in a few letters, for the scripts in this folder."""
 
 
 def keys_of(records):

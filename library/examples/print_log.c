@@ -1,9 +1,9 @@
-/* Prints a log of RocksDB or LevelDB: where each record stands, and what the batch in it does.
+/* Prints a log of RocksDB or LevelDB: where each record is, and what the batch in it does.
 
    print_log LOG [NUMBER]
 
-   NUMBER is the log's own, where its fragments have one. Keys and values are printed in hexadecimal, `-` for none.
-   The last line says where reading ended, and by which of the reasons of wolzenn.h, with its two numbers. */
+   NUMBER is the log's own, where its fragments have one. Keys and values are printed in hexadecimal, `-` for none. The
+   last line says where reading ended, and for which of the reasons of wolzenn.h, with its two numbers. */
 #include "wolzenn.h"
 
 #include <inttypes.h>
@@ -21,7 +21,7 @@ static const char *name_of(uint32_t kind) {
     return kind == WZ_LOG_DATA ? "note" : "sdel";
 }
 
-/* Prints the operations of the batch that a record holds, up to the first that doesn't read. */
+/* Prints the operations of the batch that a record holds, up to the first that can't be read. */
 static void print_batch(const uint8_t *bytes, size_t len) {
     wz_batch_head head;
     wz_end why;

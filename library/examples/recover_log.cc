@@ -4,7 +4,7 @@
 //
 // NUMBER is the log's own, or 0 where it has none. It prints how many records are recovered, the last sequence and how
 // many pairs there are, each pair in hexadecimal, `-` for no bytes, and where recovery ended and why. Where the mode
-// doesn't accept the end, it prints `damage` with that, and the status is 8.
+// doesn't accept the end, it prints `damage` with the end, and the status is 8.
 
 #include "wolzenn.h"
 
@@ -14,7 +14,7 @@
 #include <iterator>
 #include <string>
 
-// A handle that is closed where its scope ends, and is neither copied nor moved.
+// A handle that is closed where its scope ends. It is neither copied nor moved.
 class Handle {
  public:
     Handle() = default;

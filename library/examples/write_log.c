@@ -98,7 +98,7 @@ int main(int argc, char **argv) {
     check(wz_batch_log_data(&batch, bytes_of("a note"), 6) == WZ_DONE, "a note");
     commit(&log, &batch);
 
-    /* A group: two batches, as two clients may have built them, that go into the log as one record. */
+    /* A group: two batches, as two clients may have built them, which go into the log as one record. */
     wz_handle first = WZ_HANDLE_INIT, second = WZ_HANDLE_INIT;
     check(wz_batch_new(&first) == WZ_DONE && wz_batch_new(&second) == WZ_DONE, "no memory");
     put(&first, "apple", "green");

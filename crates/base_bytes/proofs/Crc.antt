@@ -1,4 +1,4 @@
--- Why the checksum by a table is the remainder of long division.
+-- Why the checksum that is computed with tables is the remainder of long division.
 pub mod Register
 pub mod Division
 pub mod Message

@@ -1,4 +1,4 @@
--- What answers of reads say.
+-- What contracts see of the answers of reads.
 use Rattle.std.specs.Prelude.{ℕ, List, Option, Some, None}
 use Rattle.base_bytes.specs.declared.answers.Found.{Found}
 use Rattle.base_bytes.specs.declared.answers.Found.TheVariants.{Absent, Value}

@@ -8,27 +8,27 @@ use Rattle.model_base.specs.Checksum.{low_bits}
 abbrev pub low_divisor : ℕ
 low_divisor = 0x82F63B78
 
--- the bit as the lowest of a number
+-- the bit as the lowest bit of a number
 abbrev pub lowest : Bool → ℕ
 lowest true = 1
 lowest false = 0
 
--- the bit as the highest of 32
+-- the bit as the highest of 32 bits
 abbrev pub highest : Bool → ℕ
 highest true = 0x80000000
 highest false = 0
 
--- one step of the division: the register without its leading coefficient, less the divisor where that stands, and the
--- next coefficient at the low power
+-- one step of the division: the register without its leading coefficient, less the divisor if that coefficient is 1,
+-- and with b as its next coefficient, at the low power
 unfoldable pub step : ℕ → Bool → ℕ
 step n b = bit_xor (bit_xor (n / 2) (n % 2 * low_divisor)) (highest b)
 
--- k steps that take down zeros
+-- k steps whose next coefficients are all 0
 unfoldable pub shift : ℕ → ℕ → ℕ
 shift zero n = n
 shift (suc k) n = shift k (step n false)
 
--- a step that takes the bit in at the high power
+-- a step that takes in the bit at the high power
 unfoldable pub take_in : ℕ → Bool → ℕ
 take_in n b = step (bit_xor n (lowest b)) false
 

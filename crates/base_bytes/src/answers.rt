@@ -1,4 +1,4 @@
-//! What reads answer, the same in each layer.
+//! What reads answer. All layers use these types.
 
 ghost use Rattle.std.specs.Prelude.{◌≡◌, [], ◌∷◌, ◌++◌, length, map, OnOk, OnErr};
 ghost use Rattle.base_bytes.specs.Answers.{found_value};
@@ -8,7 +8,7 @@ use model_base::NoMemory;
 use std::alloc::Global;
 use std::marker::Model;
 
-/// What a look-up finds of a key. Contracts see a value or none, by `found_value`.
+/// What a look-up of a key finds. Contracts see a value or none, by `found_value`.
 #[derive(Debug, PartialEq, Eq, Drop)]
 pub enum Found {
     /// No value.
@@ -17,14 +17,14 @@ pub enum Found {
     Value(Bytes),
 }
 
-/// A look-up at a sequence: the sequence, and what was found there.
+/// What a look-up at a sequence answers: the sequence, and what was found there.
 #[derive(Debug, PartialEq, Eq, Drop)]
 pub struct Read {
     pub at: u64,
     pub value: Found,
 }
 
-/// Look-ups of several keys at one sequence, in the order in which the keys were asked.
+/// What look-ups of several keys at one sequence answer, in the order in which the keys were asked for.
 #[derive(Debug, Drop)]
 pub struct Reads {
     pub at: u64,
@@ -63,7 +63,7 @@ impl FoundList {
         }
     }
 
-    /// Those of a `Vec`, in its order. This takes no memory.
+    /// The look-ups of a `Vec`, in its order. This takes no memory.
     pub fn from_vec(items: Vec<Found>) -> FoundList
         ensures { result ≡ map found_value items.items }
     {
@@ -77,7 +77,7 @@ impl FoundList {
         self.items
     }
 
-    /// Puts a look-up behind the others.
+    /// Appends a look-up.
     pub fn push(&mut self, found: Found) -> Result<(), NoMemory>
         ensures ok { OnOk result (self.new ≡ self.old ++ found_value found ∷ []) }
         ensures err { OnErr result (self.new ≡ self.old) }
@@ -86,7 +86,7 @@ impl FoundList {
         Ok(())
     }
 
-    /// How many there are.
+    /// How many look-ups there are.
     pub fn len(&self) -> usize
         ensures { result ≡ length self.now }
     {
@@ -125,7 +125,7 @@ impl PairList {
         }
     }
 
-    /// Those of a `Vec`, in its order. This takes no memory.
+    /// The pairs of a `Vec`, in its order. This takes no memory.
     pub fn from_vec(items: Vec<(Bytes, Bytes)>) -> PairList
         ensures { result ≡ items.items }
     {
@@ -139,7 +139,7 @@ impl PairList {
         self.items
     }
 
-    /// Puts a key and its value behind the others.
+    /// Appends a key with its value.
     pub fn push(&mut self, key: Bytes, value: Bytes) -> Result<(), NoMemory>
         ensures ok { OnOk result (self.new ≡ self.old ++ (key, value) ∷ []) }
         ensures err { OnErr result (self.new ≡ self.old) }
@@ -148,7 +148,7 @@ impl PairList {
         Ok(())
     }
 
-    /// How many there are.
+    /// How many pairs there are.
     pub fn len(&self) -> usize
         ensures { result ≡ length self.now }
     {

@@ -30,7 +30,7 @@ impl Bytes {
         }
     }
 
-    /// The same bytes on the heap.
+    /// A copy of these bytes on the heap.
     pub fn copy(alloc: Global, bytes: &[u8]) -> Result<Bytes, NoMemory>
         ensures { IfOk result (λ copy. copy ≡ bytes.now) }
     {
@@ -46,14 +46,14 @@ impl Bytes {
         &self.items
     }
 
-    /// How many there are.
+    /// How many bytes there are.
     pub fn len(&self) -> usize
         ensures { result ≡ length self.now }
     {
         self.items.len()
     }
 
-    /// Puts bytes behind the others.
+    /// Appends bytes.
     pub fn append(&mut self, bytes: &[u8]) -> Result<(), NoMemory>
         ensures ok { OnOk result (self.new ≡ self.old ++ bytes.now) }
         ensures err { OnErr result (self.new ≡ self.old) }
@@ -62,7 +62,7 @@ impl Bytes {
         Ok(())
     }
 
-    /// Writes bytes over those from a place on.
+    /// Overwrites the bytes from a place on.
     pub fn overwrite(&mut self, at: usize, bytes: &[u8])
         requires { at + length bytes.now ≤ length self.old }
         ensures { self.new ≡ take at self.old ++ bytes.now ++ drop (at + length bytes.now) self.old }

@@ -9,7 +9,7 @@ ghost use Rattle.base_bytes.specs.Register.{shift, take_in_byte};
 use crate::tables::TABLES;
 use std::simd::{u8x16, u32x4};
 
-// Added to a checksum before it is kept, as `kMaskDelta` of RocksDB's util/crc32c.h.
+// `mask` adds this to a checksum. It is `kMaskDelta` of RocksDB's util/crc32c.h.
 const MASK_DELTA: u32 = 0xa282ead8;
 
 /// The CRC-32C of some bytes (polynomial 0x1EDC6F41), as RFC 3720 and the RocksDB wiki's "Write
@@ -20,7 +20,7 @@ pub fn crc32c(bytes: &[u8]) -> u32
     extend(0, bytes)
 }
 
-/// The CRC-32C of some bytes followed by these, from the checksum `crc` of the first alone.
+/// The CRC-32C of some earlier bytes followed by `bytes`, where `crc` is the checksum of the earlier bytes alone.
 ///
 /// The checksum of no bytes is 0.
 pub fn extend(crc: u32, bytes: &[u8]) -> u32
@@ -32,7 +32,7 @@ pub fn extend(crc: u32, bytes: &[u8]) -> u32
     !take_in_bytes(register, rest)
 }
 
-/// The register after some bytes, one a step.
+/// The register after it has taken in some bytes, one byte a step.
 fn take_in_bytes(first: u32, bytes: &[u8]) -> u32
     ensures { result ≡ fold take_in_byte first bytes.now }
 {
@@ -44,7 +44,7 @@ fn take_in_bytes(first: u32, bytes: &[u8]) -> u32
     register
 }
 
-/// The register after some chunks, one a step.
+/// The register after it has taken in some chunks, one chunk a step.
 fn take_in_chunks(first: u32, chunks: &[[u8; 16]]) -> u32
     ensures { result ≡ fold (fold take_in_byte) first chunks.now }
 {
@@ -55,9 +55,10 @@ fn take_in_chunks(first: u32, chunks: &[[u8; 16]]) -> u32
     register
 }
 
-/// The register after a chunk: what each of its bytes comes to by its end, looked up and added ("slicing").
+/// The register after it has taken in a chunk. What each byte of the chunk has become by the end of the chunk is
+/// looked up in a table, and these values are added ("slicing").
 ///
-/// What doesn't depend on the register is looked up first, so that the processor needn't wait for it.
+/// The look-ups that don't depend on the register come first, so that the processor needn't wait for the register.
 fn take_in_chunk(register: u32, chunk: &[u8; 16]) -> u32
     ensures { result ≡ fold take_in_byte register chunk.now }
 {
@@ -69,8 +70,8 @@ fn take_in_chunk(register: u32, chunk: &[u8; 16]) -> u32
 
 /// The words of a chunk, each with its lowest byte first.
 ///
-/// They are read at once, as a vector: to read each byte by itself is to wait for the reads. Nothing is known of the
-/// lanes of a vector, so it has to be said that they are bytes.
+/// They are read all at once, as a vector, since reading byte by byte would have to wait for each read. Nothing is
+/// known of the lanes of a vector, so `bytes` has to say that they are bytes.
 fn words_of(chunk: &[u8; 16]) -> [u32; 4]
     requires bytes { (i : ℕ) → slice_index chunk.now i < 2 ^ 8 }
     ensures { result ≡ map (from_le_bytes w32) (first_chunks 4 4 chunk.now) }
@@ -78,7 +79,7 @@ fn words_of(chunk: &[u8; 16]) -> [u32; 4]
     u32x4::from_le_bytes(u8x16::from_array(*chunk)).to_array()
 }
 
-/// What the register comes to after 32 steps, the length of 4 bytes.
+/// What the register becomes after 32 steps, the length of 4 bytes.
 fn over_4_bytes(register: u32) -> u32
     ensures { result ≡ shift 32 register }
 {
@@ -88,7 +89,7 @@ fn over_4_bytes(register: u32) -> u32
         ^ TABLES[0][(register >> 24) as usize]
 }
 
-/// The same for 8 bytes.
+/// What the register becomes after 64 steps, the length of 8 bytes.
 fn over_8_bytes(register: u32) -> u32
     ensures { result ≡ shift 64 register }
 {
@@ -98,7 +99,7 @@ fn over_8_bytes(register: u32) -> u32
         ^ TABLES[4][(register >> 24) as usize]
 }
 
-/// The same for 12 bytes.
+/// What the register becomes after 96 steps, the length of 12 bytes.
 fn over_12_bytes(register: u32) -> u32
     ensures { result ≡ shift 96 register }
 {
@@ -108,7 +109,7 @@ fn over_12_bytes(register: u32) -> u32
         ^ TABLES[8][(register >> 24) as usize]
 }
 
-/// The same for 16 bytes.
+/// What the register becomes after 128 steps, the length of 16 bytes.
 fn over_16_bytes(register: u32) -> u32
     ensures { result ≡ shift 128 register }
 {
@@ -118,8 +119,8 @@ fn over_16_bytes(register: u32) -> u32
         ^ TABLES[12][(register >> 24) as usize]
 }
 
-/// A checksum as it is kept in a log: turned right by 15 bits, plus a constant, so that a
-/// checksum of bytes that hold checksums keeps its strength (RocksDB's util/crc32c.h).
+/// A checksum as it is kept in a log: rotated right by 15 bits, plus a constant. So a checksum over bytes that contain
+/// checksums keeps its strength (RocksDB's util/crc32c.h).
 pub fn mask(crc: u32) -> u32
     ensures { result ≡ checksum.masked crc }
 {

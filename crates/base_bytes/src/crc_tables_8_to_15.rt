@@ -1,4 +1,4 @@
-//! The tables of CRC-32C for each byte with eight up to fifteen more after it, as in `tables`.
+//! The tables `TABLE_8` to `TABLE_15` of CRC-32C. `tables` says what they hold.
 
 pub const TABLE_8: [u32; 256] = [
     0x00000000, 0xf43ed648, 0xed91da61, 0x19af0c29, 0xdecfc233, 0x2af1147b, 0x335e1852, 0xc760ce1a,

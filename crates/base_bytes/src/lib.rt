@@ -1,9 +1,9 @@
-//! Bytes, the numbers that stand in them, their checksum, and what reads answer:
+//! Bytes, numbers encoded as bytes, checksums of bytes, and what reads answer:
 //!
 //! - `Bytes`, a list of bytes on the heap;
 //! - fixed and variable length numbers in bytes, as in LevelDB's `util/coding.h`;
 //! - CRC-32C by tables, and its mask, as in LevelDB's `util/crc32c.h`;
-//! - `Found`, `Read`, `Reads` and `Rows`, the answers of look-ups and scans, in the same words in each layer.
+//! - `Found`, `Read`, `Reads` and `Rows`, the answers of look-ups and scans, which all layers use.
 #![tactic(auto)]
 
 mod answers;

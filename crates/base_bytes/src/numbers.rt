@@ -1,4 +1,4 @@
-//! Numbers as they stand in bytes, as RocksDB's util/coding.cc writes them.
+//! Writes numbers as bytes, as RocksDB's util/coding.cc does.
 
 ghost use Rattle.std.specs.Prelude.{◌≡◌, ◌<◌, ◌≤◌, ◌^◌, ◌++◌, ℕ, List, length, OnOk, OnErr};
 ghost use Rattle.std.specs.Int.{w32, w64, to_le_bytes};
@@ -8,8 +8,8 @@ use crate::Bytes;
 use byteorder::{ByteOrder, LittleEndian};
 use model_base::NoMemory;
 
-/// Puts a number behind the bytes as a varint32: seven bits a byte, the low ones first, and the high
-/// bit set on each byte but the last.
+/// Appends a number to the bytes as a varint32: seven bits in each byte, the low ones first, and the high bit set on
+/// each byte but the last.
 pub fn put_varint32(bytes: &mut Bytes, n: u32) -> Result<(), NoMemory>
     ensures ok { OnOk result (bytes.new ≡ bytes.old ++ varint n) }
     ensures err { OnErr result (bytes.new ≡ bytes.old) }
@@ -26,8 +26,8 @@ pub fn put_varint32(bytes: &mut Bytes, n: u32) -> Result<(), NoMemory>
     bytes.append(&spelling[..len + 1])
 }
 
-/// How many bytes the varint32 of a number has. A number of 2^32 or more, which has none, counts as one
-/// of five bytes.
+/// How many bytes the varint32 of a number has. A number of 2^32 or more has no varint32, and counts as a number of
+/// five bytes.
 pub fn varint32_len(n: u64) -> u64
     ensures value { result ≡ length (varint n) }
     ensures few { result ≤ 5 }
@@ -41,7 +41,7 @@ pub fn varint32_len(n: u64) -> u64
     }
 }
 
-/// Puts a number behind the bytes in four bytes, the lowest first.
+/// Appends a number to the bytes as four bytes, the lowest first.
 pub fn put_fixed32(bytes: &mut Bytes, n: u32) -> Result<(), NoMemory>
     ensures ok { OnOk result (bytes.new ≡ bytes.old ++ to_le_bytes w32 n) }
     ensures err { OnErr result (bytes.new ≡ bytes.old) }
@@ -51,7 +51,7 @@ pub fn put_fixed32(bytes: &mut Bytes, n: u32) -> Result<(), NoMemory>
     bytes.append(&fixed)
 }
 
-/// Puts a number behind the bytes in eight bytes, the lowest first.
+/// Appends a number to the bytes as eight bytes, the lowest first.
 pub fn put_fixed64(bytes: &mut Bytes, n: u64) -> Result<(), NoMemory>
     ensures ok { OnOk result (bytes.new ≡ bytes.old ++ to_le_bytes w64 n) }
     ensures err { OnErr result (bytes.new ≡ bytes.old) }
@@ -61,8 +61,8 @@ pub fn put_fixed64(bytes: &mut Bytes, n: u64) -> Result<(), NoMemory>
     bytes.append(&fixed)
 }
 
-/// The varint of a number spells it, and no other spelling does. No spelling begins another, so each is
-/// of one number.
+/// The varint of a number below 2^32 spells it, and is its only spelling. No spelling is the beginning of another
+/// spelling, so each spells one number.
 pub fn one_spelling()
     ensures spelled { (n : ℕ) → n < 2 ^ 32 → IsVarint (varint n) n }
     ensures only { (a : List ℕ) (n : ℕ) → n < 2 ^ 32 → IsVarint a n → a ≡ varint n }

@@ -1,14 +1,16 @@
-//! The tables of CRC-32C for each byte with none up to fifteen more after it.
+//! The tables of CRC-32C: one for each number of bytes, from 0 to 15, that may follow a byte in a chunk.
 //!
-//! `TABLE_k` has what eight steps of the division make of each byte at the low end of the register, and eight steps
-//! more for each of the k bytes after it. The register has the coefficient of the highest power as its lowest bit, so
-//! the divisor stands in it as 0x82F63B78. Those for eight bytes and more stand in `crc_tables_8_to_15`.
+//! `TABLE_k` has, for each byte at the low end of the register, what the division makes of it in eight steps and in
+//! eight more for each of the k bytes that follow it. The register has the coefficient of the highest power as its
+//! lowest bit, so the divisor is written as 0x82F63B78. The tables for eight and more following bytes are in
+//! `crc_tables_8_to_15`.
 
 use crate::crc_tables_8_to_15::{
     TABLE_8, TABLE_9, TABLE_10, TABLE_11, TABLE_12, TABLE_13, TABLE_14, TABLE_15,
 };
 
-/// All of them, that for k bytes at the place k: in one static, so that one address in a register serves each look.
+/// All tables, `TABLE_k` at the index k. They are in one static, so that one address in a register serves each
+/// look-up.
 pub static TABLES: [[u32; 256]; 16] = [
     TABLE_0, TABLE_1, TABLE_2, TABLE_3, TABLE_4, TABLE_5, TABLE_6, TABLE_7, TABLE_8, TABLE_9,
     TABLE_10, TABLE_11, TABLE_12, TABLE_13, TABLE_14, TABLE_15,

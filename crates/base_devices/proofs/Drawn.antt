@@ -1,13 +1,13 @@
--- Bytes that are drawn over a list, from the front on.
+-- Drawn bytes that overwrite a list, from its first byte on.
 use Rattle.std.proofs.Common.{◌≡◌, ℕ, suc, ◌+◌, ◌-◌, ◌%◌, ◌<◌, List, [], ◌∷◌, ◌++◌, length, take, map, set, sym, ◌∙◌, ap, arith, append_assoc}
 use Rattle.std.proofs.lemmas.List.{take_more_set}
 use Rattle.model_base.specs.Generator.{next_state, number_at, numbers_from}
 
--- so many bytes from a state on
+-- n bytes that are drawn from a state on
 abbrev pub drawn_from : ℕ → ℕ → List ℕ
 drawn_from n state = map (λ number. number % 256) (numbers_from n state)
 
--- one more is drawn
+-- After one more draw, the bytes so far and those still to be drawn are still the whole.
 pub drawn_further : (bytes whole : List ℕ) (i n state next byte : ℕ) → i < length bytes → i < n → next ≡ next_state state → byte ≡ number_at next % 256
     → take i bytes ++ drawn_from (n - i) state ≡ whole → take (i + 1) (set bytes i byte) ++ drawn_from (n - (i + 1)) next ≡ whole
 drawn_further bytes whole i n state next byte lt more goes_on is so_far =

@@ -1,4 +1,4 @@
--- How what a disk in memory tells of crashes goes on: by an append, by a rewind or a cut, and by a sync that ends an era.
+-- How an append, a rewind or a cut, and a sync that ends an era change what a disk in memory tells of crashes.
 use Rattle.std.proofs.Common.{◌≡◌, ◌⊎◌, inl, inr, ⊎_elim, ℕ, zero, suc, ◌+◌, ◌-◌, ◌≤◌, min, Bool, true, false, List, [], ◌∷◌, ◌++◌, length, take, drop, map, Some, sym, ◌∙◌, ap, subst, arith, length-append, length-take, append_assoc, refl}
 use Rattle.std.proofs.Math.Seq.{take-append-add}
 use Rattle.std.proofs.lemmas.List.{take-take, take-append-le, drop-append-le, take-append-drop, drop-map, length-map}
@@ -7,12 +7,12 @@ use Rattle.base_devices.specs.declared.mem_disk.Era.{Era}
 use Rattle.base_devices.specs.Disk.{IsImage, Elapses, put_at}
 use Rattle.base_devices.specs.Eras.{disk_with, disk_in, WasImage, set_out_era, told_from}
 
--- what was told since the moment t, at a content, the one before the last rewind or cut, an era that goes on and those
--- that have ended
+-- what is told since the moment t by a disk with this content, the content at the last rewind or cut, the era that
+-- goes on and those that have ended
 abbrev pub Since : List ℕ → List ℕ → Era → List Era → ℕ → List ℕ → Type 0
 Since content before era eras t image = IsImage (disk_with content era) image ⊎ WasImage content before (drop t eras) image
 
--- the places of the eras are at most this one
+-- the place of each era is at most this one
 abbrev pub ArePlaced : ℕ → List Era → Type 0
 ArePlaced place eras = AllByRecursion (λ (era : Era). era.place ≤ place) eras
 
@@ -21,15 +21,15 @@ placed_drop place zero eras h = h
 placed_drop place (suc t) [] h = h
 placed_drop place (suc t) (era ∷ eras) h = placed_drop place t eras h.1
 
--- what is said of the images of a disk, it says by its safe bytes alone
+-- the images of a disk depend only on the safe ones of its bytes
 image_by_safe : (a b : List ℕ) (era : Era) (image : List ℕ) → take era.synced a ≡ take era.synced b → IsImage (disk_with a era) image → IsImage (disk_with b era) image
 image_by_safe a b era image e is = record { synced = is.synced ∙ e; no_shorter = is.no_shorter; no_longer = is.no_longer }
 
--- a shorter prefix of two lists that have one in common
+-- if two lists have a prefix in common, they have each shorter prefix in common
 take_fewer : (a b : List ℕ) (n m : ℕ) → n ≤ m → take m a ≡ take m b → take n a ≡ take n b
 take_fewer a b n m le e = sym (take-take n m a le) ∙ ap (λ (l : List ℕ). take n l) e ∙ take-take n m b le
 
--- where fewer bytes are safe, and writes came as far or farther, there are the same images and perhaps more
+-- if no more bytes are safe, and writes reached as far or farther, there are the same images and perhaps more
 image_more : (content new : List ℕ) (old now : Era) (image : List ℕ) → now.synced ≤ old.synced → old.reach ≤ now.reach → take now.synced new ≡ take now.synced content
     → IsImage (disk_with content old) image → IsImage (disk_with new now) image
 image_more content new old now image fewer farther e is = record {
@@ -38,14 +38,14 @@ image_more content new old now image fewer farther e is = record {
   no_longer = omega (arith, is.no_longer, farther);
 }
 
--- the images of the eras that have ended stay as long as the bytes before their places do
+-- the images of the eras that have ended stay the same, as long as the bytes before the eras' places do
 was_same : (content new before : List ℕ) (place : ℕ) (eras : List Era) (image : List ℕ) → take place content ≡ take place new → ArePlaced place eras → WasImage content before eras image → WasImage new before eras image
 was_same content new before place [] image e h was = was
 was_same content new before place (era ∷ eras) image e h (inl is) =
     inl (subst (λ (l : List ℕ). IsImage (disk_with (l ++ drop era.place before) era) image) (take_fewer content new era.place place h.0 e) is)
 was_same content new before place (era ∷ eras) image e h (inr was) = inr (was_same content new before place eras image e h.1 was)
 
--- an append, or one that failed
+-- an append, whether it works or fails
 pub elapses_append : (content new before : List ℕ) (old now : Era) (forgot : Bool) (eras : List Era) → take old.place content ≡ take old.place new → now.synced ≡ min old.synced old.place → old.reach ≤ now.reach → ArePlaced old.place eras
     → Elapses (length eras) (length eras) (told_from forgot eras) (told_from forgot eras) (Since content before old eras) (Since new before now eras) (Some (disk_with new now))
 elapses_append content new before old now forgot eras e fewer farther placed = record {
@@ -61,7 +61,7 @@ pub put_keeps : (content new piece : List ℕ) (place : ℕ) → new ≡ put_at 
 put_keeps content new piece place is le =
     sym (ap (λ (l : List ℕ). take place l) (is ∙ append_assoc (take place content) piece (drop (place + length piece) content)) ∙ take-append-le place (take place content) (piece ++ drop (place + length piece) content) (omega (arith, length-take place content, le)) ∙ take-take place place content (omega arith))
 
--- the safe bytes of eras are all before their places
+-- the safe bytes of each era are all before its place
 abbrev pub AreAhead : List Era → Type 0
 AreAhead eras = AllByRecursion (λ (era : Era). era.synced ≤ era.place) eras
 
@@ -70,14 +70,14 @@ ahead_drop zero eras h = h
 ahead_drop (suc t) [] h = h
 ahead_drop (suc t) (era ∷ eras) h = ahead_drop t eras h.1
 
--- the safe bytes of such an era are the first of the content
+-- the safe bytes of such an era are the first bytes of the content
 ahead_safe : (content before : List ℕ) (place : ℕ) (era : Era) → place ≤ length content → era.place ≤ place → era.synced ≤ era.place
     → take era.synced (take era.place content ++ drop era.place before) ≡ take era.synced content
 ahead_safe content before place era within placed ahead =
     take-append-le era.synced (take era.place content) (drop era.place before) (omega (arith, length-take era.place content, within, placed, ahead))
     ∙ take-take era.synced era.place content ahead
 
--- so the eras keep their images where the content is kept as what stands behind the place
+-- so the eras keep their images if the content is kept as the bytes after the place
 was_turned : (content new before : List ℕ) (place : ℕ) (eras : List Era) (image : List ℕ) → place ≤ length content → ArePlaced place eras → AreAhead eras
     → WasImage content before eras image → WasImage new content (map set_out_era eras) image
 was_turned content new before place [] image within placed ahead was = was
@@ -94,7 +94,7 @@ was_unturned content new before place (era ∷ eras) image within placed ahead (
     inl (record { synced = is.synced ∙ sym e; no_shorter = is.no_shorter; no_longer = is.no_longer })
 was_unturned content new before place (era ∷ eras) image within placed ahead (inr was) = inr (was_unturned content new before place eras image within placed.1 ahead.1 was)
 
--- a rewind or a cut, which keeps the content as what stands behind the place, or forgets
+-- a rewind or a cut, which keeps the content as the bytes after the place, or forgets the eras
 elapses_turn : (content new before : List ℕ) (old now : Era) (forgot forgets : Bool) (eras : List Era) → old.place ≤ length content → now.synced ≤ old.synced → old.reach ≤ now.reach
     → take now.synced new ≡ take now.synced content → ArePlaced old.place eras → (forgets ≡ false → (forgot ≡ false) × AreAhead eras)
     → Elapses (length eras) (length (map set_out_era eras)) (told_from forgot eras) (told_from forgets (map set_out_era eras)) (Since content before old eras) (Since new content now (map set_out_era eras)) (Some (disk_with new now))
@@ -119,7 +119,7 @@ elapses_turn content new before old now forgot false eras within fewer farther e
           (λ was. inr (subst (λ (l : List Era). WasImage new content l image) (sym (drop-map set_out_era t eras)) (was_turned content new before old.place (drop t eras) image within (placed_drop old.place t eras placed) (ahead_drop t eras ahead) was))) past;
     }
 
--- the same of what a turned disk holds
+-- `elapses_turn`, from what the disk has after the turn
 pub elapses_turned : (content new before kept : List ℕ) (old now : Era) (forgot forgets : Bool) (eras news : List Era) → kept ≡ content → news ≡ map set_out_era eras → old.place ≤ length content → now.synced ≤ old.synced → old.reach ≤ now.reach
     → take now.synced new ≡ take now.synced content → ArePlaced old.place eras → (forgets ≡ false → (forgot ≡ false) × AreAhead eras)
     → Elapses (length eras) (length news) (told_from forgot eras) (told_from forgets news) (Since content before old eras) (Since new kept now news) (Some (disk_with new now))
@@ -127,7 +127,7 @@ elapses_turned content new before kept old now forgot forgets eras news is_kept 
     let P : List ℕ → List Era → Type 0 = λ bytes list. Elapses (length eras) (length list) (told_from forgot eras) (told_from forgets list) (Since content before old eras) (Since new bytes now list) (Some (disk_with new now)) in
     subst (λ bytes. P bytes news) (sym is_kept) (subst (λ list. P content list) (sym out) (elapses_turn content new before old now forgot forgets eras within fewer farther e placed tells))
 
--- the images of the eras and of one more
+-- an image of these eras and one more is an image of these eras, or of that one
 was_split : (content before : List ℕ) (eras : List Era) (era : Era) (image : List ℕ) → WasImage content before (eras ++ era ∷ []) image → WasImage content before eras image ⊎ IsImage (disk_in content before era) image
 was_split content before [] era image (inl is) = inr is
 was_split content before [] era image (inr was) = inl was
@@ -143,7 +143,8 @@ was_last : (content before : List ℕ) (eras : List Era) (era : Era) (image : Li
 was_last content before [] era image is = inl is
 was_last content before (x ∷ eras) era image is = inr (was_last content before eras era image is)
 
--- where what stands behind the place stood there before, the content is the first of what an era has at its end
+-- if the bytes after the era's place are those of `before`, the safe bytes are those that the disk has at the era's
+-- end
 safe_at_end : (content before : List ℕ) (era : Era) → era.synced ≤ length content → era.place ≤ length content → drop era.place content ≡ take (length content - era.place) (drop era.place before)
     → take era.synced content ≡ take era.synced (take era.place content ++ drop era.place before)
 safe_at_end content before era safe placed behind =

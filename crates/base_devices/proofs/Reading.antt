@@ -11,7 +11,7 @@ front_copied rest copied buf n e le =
     let len : length copied ≡ n = omega (arith, ap length e, length-take n rest) in
     ap (λ (k : ℕ). take k (copied ++ drop n buf)) (sym len) ∙ take-append_seam copied (drop n buf) ∙ e
 
--- as many bytes as the rest, the buffer and a piece have
+-- a read gives as many bytes as are left, as the buffer holds and as a piece has: the least of the three
 pub reads_front : (bytes buf copied : List ℕ) (at n m piece : ℕ) → copied ≡ take n (drop at bytes) → m ≡ min (length (drop at bytes)) (length buf) → n ≡ min m piece → 0 < piece
     → Reads {E = Failed} (Some (drop at bytes)) (Some (drop (at + n) bytes)) (Ok n) (copied ++ drop n buf)
 reads_front bytes buf copied at n m piece copy most few some =

@@ -15,14 +15,14 @@ sink_capacity s = s.capacity
 abbrev pub sink_piece : MemSink → ℕ
 sink_piece s = s.piece
 
--- how many bytes it takes of a piece with so many
+-- how many bytes it takes of a piece with this number of bytes
 abbrev pub takes_of : MemSink → ℕ → ℕ
 takes_of s len = min (min len (sink_capacity s - length (taken_of s))) (sink_piece s)
 
--- it has no room for any of so many bytes
+-- there are bytes to take, and it has no room for any of them
 abbrev pub is_full_for : MemSink → ℕ → Bool
 is_full_for s len = nat_le (sink_capacity s) (length (taken_of s)) && nat_lt 0 len
 
--- the calls that are to fail, those made, and the faults
+-- the numbers of the calls that must fail, how many were made, and how many failed
 abbrev pub sink_calls : MemSink → Listed
 sink_calls s = s.calls

@@ -11,10 +11,10 @@ left_of s = drop s.at s.bytes.items
 abbrev pub source_piece : MemSource → ℕ
 source_piece s = s.piece
 
--- how many bytes it gives to a buffer with so many
+-- how many bytes it gives to a buffer of this length
 abbrev pub gives_of : MemSource → ℕ → ℕ
 gives_of s len = min (min (length (left_of s)) len) (source_piece s)
 
--- the calls that are to fail, those made, and the faults
+-- the numbers of the calls that must fail, how many were made, and how many failed
 abbrev pub source_calls : MemSource → Listed
 source_calls s = s.calls

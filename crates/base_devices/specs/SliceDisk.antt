@@ -11,7 +11,7 @@ slice_disk d = record { content = d.bytes.now; synced = d.synced; reach = d.reac
 abbrev pub slice_place : SliceDisk → ℕ
 slice_place d = d.place
 
--- how many of its calls have failed: none as long as all of its bytes are safe, and as far as writes came
+-- how many of its calls have failed: none as long as all of its bytes are safe and no write has reached past them
 abbrev pub slice_faults : SliceDisk → ℕ
 slice_faults d =
     if (d.synced == length d.bytes.now) && (d.reach == length d.bytes.now) then 0 else 2 ^ 64 - 1

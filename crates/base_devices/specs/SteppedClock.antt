@@ -2,7 +2,7 @@
 use Rattle.std.specs.Prelude.{ℕ, Option}
 use Rattle.base_devices.specs.declared.stepped_clock.SteppedClock.{SteppedClock}
 
--- the moment that it stands at
+-- the moment at which it is
 abbrev pub clock_at : SteppedClock → ℕ
 clock_at c = c.at
 

@@ -1,4 +1,4 @@
-//! The calls of a device in memory, some of which are to fail.
+//! The calls of a device in memory, some of which must fail.
 
 ghost use Rattle.std.specs.Prelude.{◌≡◌, ◌==◌, ◌+◌, ◌-◌, ◌^◌, ◌≤◌, min, is_err, IfOk};
 ghost use Rattle.std.specs.List.{list_any};
@@ -10,7 +10,7 @@ use model_base::NoMemory;
 use std::alloc::Global;
 use std::marker::Model;
 
-/// Numbers calls from 1, makes those of a list fail, and counts the faults. Each number stays at the greatest `u64`.
+/// Numbers calls from 1, makes those of a list fail, and counts the faults. Both counts stop at the greatest `u64`.
 #[derive(Drop)]
 pub(crate) struct Calls {
     fails: Vec<u64>,
@@ -25,7 +25,7 @@ impl Model for Calls {
 }
 
 impl Calls {
-    /// No call made yet. Those with a number in `fails` will fail.
+    /// No call made yet. The calls with a number in `fails` will fail.
     pub(crate) fn new(alloc: Global, fails: &[u64]) -> Result<Self, NoMemory>
         ensures { IfOk result (λ c. c ≡ fresh fails.now) }
     {
@@ -42,7 +42,7 @@ impl Calls {
         self.faults
     }
 
-    /// Gives the next call its number, and fails where that is listed.
+    /// Gives the next call its number, and fails if this number is listed.
     pub(crate) fn begin(&mut self) -> Result<(), Failed>
         ensures fails { self.new.fails ≡ self.old.fails }
         ensures numbered { self.new.calls ≡ min (self.old.calls + 1) (2 ^ 64 - 1) }
@@ -58,7 +58,7 @@ impl Calls {
         }
     }
 
-    /// Fails the call that has begun, for a reason of its own.
+    /// Makes the call that has begun fail, for a reason other than the list.
     pub(crate) fn fail(&mut self) -> Failed
         ensures counted { self.new ≡ record self.old { faults = min (self.old.faults + 1) (2 ^ 64 - 1) } }
         ensures later { self.old.faults ≤ self.new.faults }

@@ -13,28 +13,29 @@ use std::rt::Files;
 /// A file of the system as a disk. It tells nothing of its content. Each error of the system is a fault.
 ///
 /// Making one touches nothing. The first `len`, `read`, `rewind` or `sync` opens the file for reading, and the first
-/// `append` or `cut` opens it for writing; the `append` makes it where there is none. So a file that may only be read
-/// can be read, and no file is made before something is appended. Where there is no file `len` answers 0, and `rewind`
-/// and `cut` to 0 have nothing to do, but these three fail where there is no folder for one; `sync` has nothing to do,
-/// and `read` and another `cut` fail. A call that couldn't open it fails, and the next one tries again.
-/// Each call fails where the path is that of a folder, a pipe, a socket or a device; none waits for another program
-/// there.
+/// `append` or `cut` opens it for writing; the `append` makes the file if there is none. So a file that may only be
+/// read can be read, and no file is made before something is appended. Where there is no file, `len` answers 0, and
+/// `rewind` and `cut` to 0 have nothing to do, but these three fail where there is no folder for one; `sync` has
+/// nothing to do, and `read` and any other `cut` fail. A call that couldn't open the file fails, and the next call
+/// tries again. Each call fails if the path is that of a folder, a pipe, a socket or a device; none of them waits
+/// there for another program.
 ///
-/// It relies on being the only one that writes to the file, and keeps count of its length from the first call on. As
-/// it opens the file for writing it takes the exclusive lock of `flock`, which it keeps until it is dropped, and it
-/// fails where another one has the lock, or where the file hasn't the length any more that was told. A program that
-/// doesn't ask for the lock isn't kept out. An append writes at the place, over what stands there, also what a failed
-/// one may have left, in one call of the system unless that takes a part only. `cut` is the system's `ftruncate`, and
-/// fails where the file has fewer bytes.
+/// It relies on being the only writer of the file, and keeps count of the file's length from the first call on. When
+/// it opens the file for writing it takes the exclusive lock of `flock`, which it keeps until it is dropped. It fails
+/// there if another one has the lock, or if the file no longer has the length that an earlier call found. A program
+/// that doesn't ask for the lock isn't kept out. An append writes at the place, over the bytes there, also those that
+/// a failed append may have left. It does so in one call of the system, unless that call takes only a part. `cut` is
+/// the system's `ftruncate`, and fails if the file has fewer bytes.
 ///
 /// `sync` is the system's `fdatasync`: it makes the file's bytes and its length safe, also the length that a cut left;
-/// before it a crash may bring back what was cut off. The first one also syncs the folder that the file lies in, since
-/// its entry there may be new: where the path is a link, not the link's. It fails where that folder may not be read,
-/// since nothing else makes the entry safe. Once a sync of the bytes has failed each later one fails too: the system
-/// may have dropped what it couldn't write, and then a sync that works shows nothing.
+/// before it a crash may bring back what was cut off. The first sync, and the first one after the file was opened for
+/// writing, also sync the folder that the file lies in, since the file's entry there may be new. If the path is a
+/// link, this is the folder of the file, not of the link. They fail if that folder may not be read, since nothing else
+/// makes the entry safe. Once a sync of the bytes has failed, each later one fails too: the system may have dropped
+/// what it couldn't write, and then a sync that works shows nothing.
 ///
-/// It never has the number of a standard stream, also where the caller has closed one: what is meant for the stream
-/// can't come to the file.
+/// The file never gets the number of a standard stream, also where the caller has closed one: so what is meant for the
+/// stream can't get into the file.
 #[derive(Drop)]
 pub struct FileDisk<R: Drop> {
     file: SystemFile<R>,
@@ -44,7 +45,7 @@ pub struct FileDisk<R: Drop> {
 impl<R: Files<File = File> + Drop> FileDisk<R> {
     ghost use Rattle.base_devices.specs.FileDisk.{file_added, file_faults};
 
-    /// The file of this path as a disk. It touches nothing yet.
+    /// The file at this path as a disk. This touches nothing yet.
     pub fn new(runtime: R, path: String) -> Self
         ensures added { file_added result ≡ 0 }
         ensures faults { file_faults result ≡ 0 }
@@ -55,7 +56,7 @@ impl<R: Files<File = File> + Drop> FileDisk<R> {
         }
     }
 
-    /// Counts a fault where a call of the file failed.
+    /// Counts a fault if a call of the file failed.
     fn answer<T: Drop>(&mut self, done: io::Result<T>) -> Result<T, Failed>
         ensures answer { MatchResult done (λ answer. result ≡ Ok answer) (λ _. IsErr result) }
         ensures added { file_added self.new ≡ file_added self.old }
@@ -76,7 +77,7 @@ impl<R: Files<File = File> + Drop> Disk for FileDisk<R> {
 
     ghost added = { file_added };
 
-    // Nothing is told of crashes, so anything might have been left.
+    // It tells nothing of crashes, so a crash might have left anything.
     ghost moment = { λ _. 0 };
 
     ghost from = { λ _. 0 };

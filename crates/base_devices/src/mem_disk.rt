@@ -12,8 +12,8 @@ use base_draws::Draws;
 use model_base::NoMemory;
 use std::alloc::Global;
 
-/// The time between two syncs: how many bytes were safe in it, how far its writes came or tried to come, and the place
-/// at its end. Of one that ended before the last rewind or cut the place is 0.
+/// The time between two syncs: how many bytes were safe at its end, how far writes had reached or tried to reach by
+/// then, and the place then. The place is 0 for an era that ended before the last rewind or cut.
 #[derive(Clone, Copy)]
 struct Era {
     synced: u64,
@@ -21,15 +21,16 @@ struct Era {
     place: u64,
 }
 
-/// A disk in memory. Its calls, of all six kinds, are numbered together from 1, and those of a list fail. One that
-/// fails leaves it as it was; but an append that fails lets the bytes from the place on be safe no more, and may have
-/// come as far as it tried to.
+/// A disk in memory. Its calls, of all six kinds, are numbered together from 1, and those of a list fail. A call that
+/// fails leaves the disk as it was, with one exception: after an append that fails, the bytes from the place on are no
+/// longer safe, and its writes may have reached as far as it tried.
 ///
-/// It tells what a crash might have left at earlier moments too. For that it keeps, of each time between two syncs, how
-/// much was safe and how far writes came, and of the content the bytes as they stood at the last rewind or cut. So it
-/// forgets all moments before now where it has no room for one more such time, of which it keeps as many as it may have
-/// bytes; and at a rewind or a cut where bytes that were safe in such a time have been written over or cut off since,
-/// which is so of a second one at the earliest. Then it tells nothing of crashes any more until it begins anew.
+/// It also tells what a crash might have left at earlier moments. For this it keeps, of each time between two syncs,
+/// how much was safe and how far writes reached, and the bytes that the content had at the last rewind or cut. So in
+/// two cases it forgets all moments before now. One is that it has no room for one more such time; it keeps as many as
+/// the content may have bytes. The other is a rewind or a cut when in such a time bytes after its place were safe.
+/// This can be so at the second rewind or cut at the earliest, since the place of a time that ended before the last
+/// one counts as 0. From then on it tells nothing of crashes until it begins anew.
 #[derive(Drop)]
 pub struct MemDisk {
     content: Vec<u8>,
@@ -37,11 +38,12 @@ pub struct MemDisk {
     synced: u64,
     reach: u64,
     place: u64,
-    /// The content as it stood at the last rewind or cut. There is room for as many bytes as the content may have.
+    /// The content at the last rewind or cut. There is room for as many bytes as the content may have.
     before: Vec<u8>,
-    /// The eras that have ended. There is room for as many as the content may have bytes.
+    /// The eras that have ended. There is room for as many eras as the content may have bytes.
     past: Vec<Era>,
-    /// Whether there was no room for one, or the bytes of one are gone. Then nothing is told of crashes before now.
+    /// Whether there was no room for an era, or the safe bytes of one may be gone. Then it tells of no crash before
+    /// now.
     forgot: bool,
     calls: Calls,
     ghost within: { vec_len content ≤ capacity },
@@ -53,7 +55,7 @@ pub struct MemDisk {
     ghost room_for_past: { capacity ≤ vec_capacity past },
     ghost room_for_before: { capacity ≤ vec_capacity before },
     ghost past_placed: { All (λ era. era.place ≤ place) past.items },
-    // What stands behind the place stood there at the last rewind or cut.
+    // The bytes after the place are those that were there at the last rewind or cut.
     ghost behind: { drop place content.items ≡ take (length content.items - place) (drop place before.items) },
 }
 
@@ -64,7 +66,8 @@ impl MemDisk {
     ghost use Rattle.base_devices.specs.MemDisk.{with_byte, cut_to, torn_to, IsTurned};
 
     /// A disk with this content, all of it safe, which takes at most `capacity` bytes. Its place is the content's end.
-    /// Its calls with a number in `fails` fail. All its room is made here: it fails where there is no memory for it.
+    /// The calls with a number in `fails` fail. All its room is allocated here: this fails if there is no memory for
+    /// it.
     pub fn new(
         alloc: Global,
         capacity: usize,
@@ -92,14 +95,14 @@ impl MemDisk {
         })
     }
 
-    /// All the bytes that it has.
+    /// All the bytes of the content.
     pub fn content(&self) -> &[u8]
         ensures { result.now ≡ (disk_of self.now).content }
     {
         &self.content
     }
 
-    /// How many of them are safe.
+    /// How many of its bytes are safe.
     pub fn synced(&self) -> u64
         ensures { result ≡ (disk_of self.now).synced }
     {
@@ -113,7 +116,7 @@ impl MemDisk {
         self.place
     }
 
-    /// Puts another byte somewhere in the content, as a test's own damage. It counts as no call, and what the disk
+    /// Changes one byte of the content, as damage that a test makes. It doesn't count as a call, and what the disk
     /// tells of crashes begins anew. The place stays.
     pub fn set(&mut self, at: u64, byte: u8)
         requires { at < len_of self.old }
@@ -129,7 +132,7 @@ impl MemDisk {
     }
 
     /// The disk after a crash that left the first `len` bytes of the content. They are safe from then on, the place is
-    /// their end, and what the disk tells of crashes begins anew. The numbering of the calls goes on.
+    /// their end, and what the disk tells of crashes begins anew. The numbers of the calls go on.
     pub fn crashed(mut self, len: u64) -> MemDisk
         requires safe { (disk_of self).synced ≤ len }
         requires there { len ≤ len_of self }
@@ -148,14 +151,14 @@ impl MemDisk {
     }
 
     /// The disk after a crash that tore the writes since the last sync. It has `len` bytes: those that were safe, as
-    /// they were, and then bytes that are drawn from `seed`, whatever the content had there. A draw's byte is its
-    /// number modulo 256. All of them are safe from then on, the place is their end, and what the disk tells of crashes
-    /// begins anew. The numbering of the calls goes on. It takes no memory: the bytes are drawn over the content.
+    /// they were, and then bytes that are drawn from `seed`, whatever the content had there. The byte of a draw is its
+    /// number modulo 256. All of them are safe from then on, the place is their end, and what the disk tells of
+    /// crashes begins anew. The numbers of the calls go on. It takes no memory: the drawn bytes overwrite the content.
     pub fn torn(mut self, len: u64, seed: u64) -> MemDisk
         requires safe { (disk_of self).synced ≤ len }
         requires there { len ≤ len_of self }
         ensures disk { disk_of result ≡ torn_to len seed (disk_of self) }
-        // A crash may leave just this.
+        // A crash may leave just these bytes.
         ensures image { IsImage (disk_of self) (disk_of result).content }
         ensures capacity { capacity_of result ≡ capacity_of self }
         ensures calls { disk_calls result ≡ disk_calls self }
@@ -168,8 +171,8 @@ impl MemDisk {
         self.crashed(len)
     }
 
-    /// Keeps the content as what stands behind the place from then on, as the place is set anew. Eras that have ended
-    /// are told of by it, unless bytes that were safe in one are gone.
+    /// Sets the place anew, and keeps the content as the bytes after the place from then on. The disk still tells of
+    /// the eras that have ended, unless in one of them bytes after its place were safe.
     fn turn(&mut self)
         ensures turned { IsTurned self.old self.new }
         ensures disk { disk_of self.new ≡ rewound (disk_of self.old) }
@@ -177,14 +180,13 @@ impl MemDisk {
         ensures calls { disk_calls self.new ≡ disk_calls self.old }
     {
         self.place = 0;
-        if !set_out(&mut self.past) {
-            self.forgot = true;
-        }
+        let kept = set_out(&mut self.past);
+        self.forgot = self.forgot || !kept;
         copy_over(&mut self.before, &self.content);
     }
 }
 
-/// Makes a list that of the bytes of another one, for which it has room.
+/// Replaces the bytes of a list by those of another. The list has room for them.
 fn copy_over(to: &mut Vec<u8>, from: &[u8])
     requires room { length from.now ≤ vec_capacity to.old }
     ensures bytes { to.new.items ≡ from.now }
@@ -215,11 +217,11 @@ fn put(content: &mut Vec<u8>, place: usize, piece: &[u8])
     }
 }
 
-/// Sets the place of each era to 0. It answers whether the bytes that were safe in them were all before their places.
+/// Sets the place of each era to 0. It answers whether in each era all safe bytes were before the era's place.
 fn set_out(eras: &mut [Era]) -> bool
     ensures set { eras.new ≡ map set_out_era eras.old }
     ensures kept { IsTrue result → All (λ era. era.synced ≤ era.place) eras.old }
-    ensures none { length eras.old ≡ 0 → IsTrue result }
+    ensures all_kept { All (λ era. era.synced ≤ era.place) eras.old → IsTrue result }
 {
     let kept = eras.iter().all(|era| era.synced <= era.place);
     // The eras so far have the place 0, and the others are as they were.
@@ -237,7 +239,7 @@ fn draw_over(bytes: &mut [u8], seed: u64)
     ensures { bytes.new ≡ bytes_drawn (length bytes.old) seed }
 {
     let mut draws = Draws::of_seed(seed);
-    // The bytes so far and those that the next draws make are all that the seed's draws make.
+    // The bytes drawn so far, and those that the next draws make, are all that the draws of the seed make.
     for byte in bytes.iter_mut() {
         *byte = (draws.next() % BYTES) as u8;
     }
@@ -249,7 +251,7 @@ impl Disk for MemDisk {
     ghost use Rattle.base_devices.specs.Listed.{FailsAsListed};
     ghost use Rattle.base_devices.specs.MemDisk.{disk_of, told_of, len_of, place_of, capacity_of, has_no_room};
     ghost use Rattle.base_devices.specs.MemDisk.{disk_calls};
-    ghost use Rattle.base_devices.specs.MemDisk.{moment_of, from_of, since_of, SameEra};
+    ghost use Rattle.base_devices.specs.MemDisk.{moment_of, from_of, since_of, SameEra, HasKeptSafe};
     ghost use Rattle.base_devices.specs.MemDiskLaws.{mem_disk_is_disk, mem_disk_is_small, only_since_now};
     ghost use Rattle.std.proofs.Common.{inl};
 
@@ -277,7 +279,7 @@ impl Disk for MemDisk {
         self.calls.faults()
     }
 
-    // It fails just at the listed calls.
+    // This fails just at the listed calls.
     fn len(&mut self) -> Result<u64, Failed>
         ensures len { IfOk result (λ n. n ≡ len_of self.old) }
         ensures small { IfOk result (λ n. n < 2 ^ 63) }
@@ -293,7 +295,7 @@ impl Disk for MemDisk {
         Ok(self.content.len() as u64)
     }
 
-    // It fails just at the listed calls.
+    // This fails just at the listed calls.
     fn read(&mut self, at: u64, buf: &mut [u8]) -> Result<usize, Failed>
         ensures bytes { ReadsAt (disk_of self.old) at buf.new result }
         ensures at_most { IfOk result (λ n. n ≤ length buf.new) }
@@ -317,7 +319,7 @@ impl Disk for MemDisk {
         Ok(n)
     }
 
-    // It fails just at the listed calls, and where the capacity doesn't suffice. Then the content stays.
+    // This fails just at the listed calls, and where the capacity isn't enough. Then the content stays.
     fn append(&mut self, piece: &[u8]) -> Result<(), Failed>
         ensures appended { Appended (disk_of self.old) (disk_of self.new) piece.now result }
         ensures added { GrowsBy (place_of self.old) (place_of self.new) (length piece.now) result }
@@ -342,14 +344,15 @@ impl Disk for MemDisk {
         Ok(())
     }
 
-    // It fails just at the listed calls, and changes nothing then. Where no era has ended, it forgets none.
+    // This fails just at the listed calls, and then changes nothing. It forgets the eras that have ended only if in one
+    // of them bytes after its place were safe.
     fn rewind(&mut self) -> Result<(), Failed>
         ensures rewound { Rewound (disk_of self.old) (disk_of self.new) result }
         ensures kept { OnErr result (disk_of self.new ≡ disk_of self.old) }
         ensures counted { OnOk result (place_of self.new ≡ 0) }
         ensures time { TimePasses told_of moment_of from_of since_of self.old self.new }
         ensures moment { moment_of self.new ≡ moment_of self.old }
-        ensures remembers { moment_of self.old ≡ 0 → from_of self.new ≡ from_of self.old }
+        ensures remembers { HasKeptSafe self.old → from_of self.new ≡ from_of self.old }
         ensures capacity { capacity_of self.new ≡ capacity_of self.old }
         ensures listed { FailsAsListed (disk_calls self.old) (disk_calls self.new) false result }
         ensures cause { HasCause (disk_calls self.old).faults (disk_calls self.new).faults result }
@@ -359,7 +362,8 @@ impl Disk for MemDisk {
         Ok(())
     }
 
-    // It fails just at the listed calls, and changes nothing then. Where no era has ended, it forgets none.
+    // This fails just at the listed calls, and then changes nothing. It forgets the eras that have ended only if in one
+    // of them bytes after its place were safe.
     fn cut(&mut self, at: u64) -> Result<(), Failed>
         requires there { at ≤ len_of self.old }
         ensures cut { Cut (disk_of self.old) (disk_of self.new) at result }
@@ -367,7 +371,7 @@ impl Disk for MemDisk {
         ensures counted { OnOk result (place_of self.new ≡ at) }
         ensures time { TimePasses told_of moment_of from_of since_of self.old self.new }
         ensures moment { moment_of self.new ≡ moment_of self.old }
-        ensures remembers { moment_of self.old ≡ 0 → from_of self.new ≡ from_of self.old }
+        ensures remembers { HasKeptSafe self.old → from_of self.new ≡ from_of self.old }
         ensures capacity { capacity_of self.new ≡ capacity_of self.old }
         ensures listed { FailsAsListed (disk_calls self.old) (disk_calls self.new) false result }
         ensures cause { HasCause (disk_calls self.old).faults (disk_calls self.new).faults result }
@@ -380,8 +384,8 @@ impl Disk for MemDisk {
         Ok(())
     }
 
-    // It fails just at the listed calls. It remembers one era more at most, as long as it has room: as many as it may
-    // have bytes. Where it has nothing to do, and where it fails, no era ends.
+    // This fails just at the listed calls. It keeps at most one era more, as long as there is room; there is room for
+    // as many eras as the disk may have bytes. If it has nothing to do, or fails, no era ends.
     fn sync(&mut self) -> Result<(), Failed>
         ensures synced { Synced (disk_of self.old) (disk_of self.new) result }
         ensures adds_none { place_of self.new ≡ place_of self.old }

@@ -7,8 +7,8 @@ use crate::{Failed, Sink};
 use model_base::NoMemory;
 use std::alloc::Global;
 
-/// A sink that keeps what it takes, at most so many bytes a call and so many in all. Its writes are numbered from 1,
-/// and those of a list fail.
+/// A sink that keeps what it takes, up to a number of bytes for each call and up to another in all. Its writes are
+/// numbered from 1, and those of a list fail.
 #[derive(Drop)]
 pub struct MemSink {
     bytes: Vec<u8>,
@@ -25,7 +25,7 @@ impl MemSink {
     ghost use Rattle.base_devices.specs.MemSink.{taken_of, sink_capacity, sink_piece, sink_calls};
 
     /// A sink that takes at most `piece` bytes a call and `capacity` in all, and whose writes with a number in `fails`
-    /// fail. Its room is made here: it fails where there is no memory for it.
+    /// fail. Its room is allocated here: this fails if there is no memory for it.
     pub fn new(
         alloc: Global,
         capacity: usize,
@@ -68,7 +68,8 @@ impl Sink for MemSink {
         self.calls.faults()
     }
 
-    // It takes as many bytes as it may, and fails just at the listed calls and where it is full.
+    // It takes as many bytes as it may, and fails just at the listed calls, and when it is full and the piece isn't
+    // empty.
     fn write(&mut self, piece: &[u8]) -> Result<usize, Failed>
         ensures bytes { Writes (Some (taken_of self.old)) (Some (taken_of self.new)) result piece.now }
         ensures count { IfOk result (λ n. n ≡ takes_of self.old (length piece.now)) }

@@ -7,8 +7,8 @@ use crate::{Failed, Source};
 use model_base::NoMemory;
 use std::alloc::Global;
 
-/// A source of given bytes, which gives at most so many of them a call. Its reads are numbered from 1, and those of a
-/// list fail.
+/// A source of given bytes, which gives up to a number of them in each call. Its reads are numbered from 1, and those
+/// of a list fail.
 #[derive(Drop)]
 pub struct MemSource {
     bytes: Vec<u8>,
@@ -24,7 +24,7 @@ impl MemSource {
     ghost use Rattle.base_devices.specs.MemSource.{left_of, source_piece, source_calls};
 
     /// A source of `bytes` that gives at most `piece` of them a call, and whose reads with a number in `fails` fail.
-    /// It keeps copies of both, and fails where there is no memory for them.
+    /// It keeps copies of both, and fails if there is no memory for them.
     pub fn new(alloc: Global, bytes: &[u8], piece: usize, fails: &[u64]) -> Result<Self, NoMemory>
         requires { 0 < piece }
         ensures left { IfOk result (λ s. left_of s ≡ bytes.now) }

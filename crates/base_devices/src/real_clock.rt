@@ -6,8 +6,8 @@ use crate::Clock;
 use std::time::Duration;
 use std::{rt, thread};
 
-/// The system's monotonic clock, in microseconds from a start of the system's own. It tells no moment but those that it
-/// has answered.
+/// The system's monotonic clock, in microseconds from a start that the system chooses. It tells no moments but those
+/// that it has answered.
 #[derive(Drop)]
 pub struct RealClock<R: Drop> {
     runtime: R,
@@ -33,8 +33,8 @@ impl<R: rt::Clock + Drop> Clock for RealClock<R> {
 
     ghost last = { real_answered };
 
-    // Where the clock can't be read it answers the last moment again, and 0 where there is none. Past the greatest
-    // `u64` it stands still.
+    // If the clock can't be read, it answers the last moment again, and 0 if there is none. Past the greatest `u64` it
+    // doesn't move on.
     fn now(&mut self) -> u64 {
         let moment = match self.runtime.monotonic() {
             Ok(since_start) => u64::try_from(since_start.as_micros()).unwrap_or(u64::MAX),

@@ -6,9 +6,9 @@ use crate::{Disk, Failed};
 
 /// Bytes in memory as a disk to read: no read of it fails.
 ///
-/// Nothing is written to it. An append and a cut that would change its bytes fail. They, and a sync after one, are the
-/// only calls that do, and with the first of them the count of faults stands at the greatest `u64`. So whoever leaves
-/// it as it was has met no fault.
+/// Nothing is written to it. An append fails, except one of no bytes at the end, and a cut fails if it takes bytes
+/// off. These, and a sync after one of them, are the only calls that fail, and the first of them sets the count of
+/// faults to the greatest `u64`. So a caller that doesn't try to change it meets no fault.
 #[derive(Drop)]
 pub struct SliceDisk<'a> {
     bytes: &'a [u8],
@@ -91,7 +91,7 @@ impl<'a> Disk for SliceDisk<'a> {
         Ok(n)
     }
 
-    // To add nothing at the end is no change.
+    // Adding nothing at the end is no change.
     fn append(&mut self, piece: &[u8]) -> Result<(), Failed> {
         if piece.is_empty() && self.place == self.bytes.len() as u64 {
             return Ok(());
@@ -106,7 +106,7 @@ impl<'a> Disk for SliceDisk<'a> {
         Ok(())
     }
 
-    // To cut nothing off is no change.
+    // Cutting nothing off is no change.
     fn cut(&mut self, at: u64) -> Result<(), Failed> {
         self.place = at;
         if at == self.bytes.len() as u64 {

@@ -7,7 +7,7 @@ use crate::{Failed, Sink};
 use std::io::ErrorKind;
 use std::marker::Model;
 
-/// Standard output. It tells nothing of its bytes. It has no buffer: what was taken was handed to the system.
+/// Standard output. It tells nothing of its bytes. It has no buffer: the bytes that it took were handed to the system.
 #[derive(Drop)]
 pub struct StdSink<R: Print + Drop> {
     runtime: R,
@@ -41,8 +41,8 @@ impl<R: Print + Drop> Sink for StdSink<R> {
         self.faults
     }
 
-    // One write of the system, made again where a signal came in between. Each other error of it is a fault, and so is
-    // that it took no byte of some.
+    // One write of the system, made again if a signal interrupted it. Any other error is a fault, and so is a write of
+    // some bytes that took none of them.
     fn write(&mut self, piece: &[u8]) -> Result<usize, Failed> {
         for _ in 0..MAX_TRIES {
             match self.runtime.write_some(piece) {

@@ -44,7 +44,7 @@ impl<R: Input> Source for StdSource<R> {
         self.faults
     }
 
-    // Each error of the system is a fault.
+    // Each error of the system is a fault. A read that a signal interrupts is made again instead.
     fn read(&mut self, buf: &mut [u8]) -> Result<usize, Failed> {
         match read_again(&mut self.reader, buf) {
             Ok(n) => Ok(n),
@@ -53,7 +53,7 @@ impl<R: Input> Source for StdSource<R> {
     }
 }
 
-/// One read of the system, made again where a signal came in between.
+/// One read of the system, made again if a signal interrupted it.
 fn read_again<T: Read>(reader: &mut T, buf: &mut [u8]) -> io::Result<usize>
     ensures at_most { IfOk result (λ n. n ≤ length buf.new) }
 {

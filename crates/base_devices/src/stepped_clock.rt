@@ -1,10 +1,10 @@
-//! A clock that moves only as it is told.
+//! A clock that moves only when `pause` moves it.
 
 ghost use Rattle.std.specs.Prelude.{◌≡◌, ◌+◌, ◌^◌, ◌-◌, min, Some, None};
 
 use crate::Clock;
 
-/// A clock for tests: it stands at a moment until `pause` moves it on.
+/// A clock for tests: it stays at a moment until `pause` moves it on.
 #[derive(Clone, Copy, Debug, PartialEq, Eq)]
 pub struct SteppedClock {
     at: u64,
@@ -14,7 +14,7 @@ pub struct SteppedClock {
 impl SteppedClock {
     ghost use Rattle.base_devices.specs.SteppedClock.{clock_at, clock_answered};
 
-    /// A clock that stands at this moment, in microseconds, and has answered none.
+    /// A clock at this moment, in microseconds, that has answered none yet.
     pub fn new(at: u64) -> Self
         ensures at { clock_at result ≡ at }
         ensures answered { clock_answered result ≡ None }
@@ -37,7 +37,7 @@ impl Clock for SteppedClock {
         self.at
     }
 
-    // Past the greatest `u64` it stands still.
+    // Past the greatest `u64` it doesn't move on.
     fn pause(&mut self, micros: u64)
         ensures moves { clock_at self.new ≡ min (clock_at self.old + micros) (2 ^ 64 - 1) }
         ensures last { clock_answered self.new ≡ clock_answered self.old }

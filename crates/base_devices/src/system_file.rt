@@ -15,8 +15,8 @@ const MAX_LEN: u64 = (1 << 63) - 1;
 /// The number of standard error, the last of the standard streams.
 const LAST_STREAM: i32 = 2;
 
-/// A file of the system. It has `len` bytes, whatever a failed append may have left after them. The next append writes
-/// at `place`.
+/// A file of the system. It has `len` bytes; a failed append may have left more after them. The next append writes at
+/// `place`.
 #[derive(Drop)]
 pub(crate) struct SystemFile<R: Drop> {
     runtime: R,
@@ -25,9 +25,10 @@ pub(crate) struct SystemFile<R: Drop> {
     file: Option<File>,
     /// Whether it is open for writing too, and locked.
     writes: bool,
-    /// Whether its length was asked for.
+    /// Whether its length was measured.
     measured: bool,
-    /// Where the count of added bytes begins: the length that it had then, or 0 once it was rewound or cut.
+    /// Where the count of added bytes begins: the file's length when it was measured, or 0 once the file was rewound
+    /// or cut.
     start: u64,
     place: u64,
     len: u64,
@@ -46,7 +47,7 @@ impl<R: Files<File = File> + Drop> SystemFile<R> {
     ghost use Rattle.base_devices.specs.Disk.{GrowsBy};
     ghost use Rattle.base_devices.specs.FileDisk.{added_to};
 
-    /// The file of this path. It touches nothing yet.
+    /// The file at this path. This touches nothing yet.
     pub(crate) fn new(runtime: R, path: String) -> Self
         ensures { added_to result ≡ 0 }
     {
@@ -64,7 +65,7 @@ impl<R: Files<File = File> + Drop> SystemFile<R> {
         }
     }
 
-    /// How many bytes the file has. One that isn't there has none, where there is a folder to make it in.
+    /// How many bytes the file has: 0 if it isn't there, but there is a folder to make it in.
     pub(crate) fn len(&mut self) -> io::Result<u64>
         ensures small { IfOk result (λ n. n < 2 ^ 63) }
         ensures adds_none { added_to self.new ≡ added_to self.old }
@@ -73,7 +74,7 @@ impl<R: Files<File = File> + Drop> SystemFile<R> {
         Ok(self.len)
     }
 
-    /// Copies content from a place on to the start of the buffer.
+    /// Copies the content from a place on to the start of the buffer.
     pub(crate) fn read(&mut self, at: u64, buf: &mut [u8]) -> io::Result<usize>
         ensures at_most { IfOk result (λ n. n ≤ length buf.new) }
         ensures small { IfOk result (λ n. 0 < n → at + n < 2 ^ 63) }
@@ -86,7 +87,7 @@ impl<R: Files<File = File> + Drop> SystemFile<R> {
         Ok(n)
     }
 
-    /// Writes all of the piece at the place, which moves on behind it.
+    /// Writes all of the piece at the place, and moves the place to the piece's end.
     pub(crate) fn append(&mut self, piece: &[u8]) -> io::Result<()>
         ensures added { GrowsBy (added_to self.old) (added_to self.new) (length piece.now) result }
     {
@@ -111,8 +112,9 @@ impl<R: Files<File = File> + Drop> SystemFile<R> {
         Ok(())
     }
 
-    /// Cuts the file to its first bytes, and sets the place to their end. A file that isn't there has none, and isn't
-    /// made. Where it has fewer bytes that is an error. What a failed append left after the content is cut off too.
+    /// Cuts the file to its first `at` bytes, and sets the place to their end. A file that isn't there has no bytes,
+    /// and isn't made. It is an error if the file has fewer bytes. What a failed append left after the content is cut
+    /// off too.
     pub(crate) fn cut(&mut self, at: u64) -> io::Result<()>
         ensures counted { OnOk result (added_to self.new ≡ at) }
     {
@@ -131,7 +133,8 @@ impl<R: Files<File = File> + Drop> SystemFile<R> {
         Ok(())
     }
 
-    /// Makes the content safe, and with the first sync the entry in the folder. A file that isn't there has no content.
+    /// Makes the content safe, and also the entry in the folder, if it isn't safe yet. A file that isn't there has no
+    /// content.
     pub(crate) fn sync(&mut self) -> io::Result<()>
         ensures adds_none { added_to self.new ≡ added_to self.old }
     {
@@ -147,7 +150,7 @@ impl<R: Files<File = File> + Drop> SystemFile<R> {
         self.sync_entry()
     }
 
-    /// Makes the entry in the folder safe, where it isn't yet.
+    /// Makes the entry in the folder safe, if it isn't yet.
     fn sync_entry(&mut self) -> io::Result<()>
         ensures adds_none { added_to self.new ≡ added_to self.old }
     {
@@ -158,7 +161,7 @@ impl<R: Files<File = File> + Drop> SystemFile<R> {
         Ok(())
     }
 
-    /// Finds out the length, and says whether there is a file. Where there is none there is a folder to make it in.
+    /// Finds out the length, and answers whether there is a file. If there is none, there is a folder to make it in.
     fn look(&mut self) -> io::Result<bool>
         ensures adds_none { added_to self.new ≡ added_to self.old }
     {
@@ -170,7 +173,7 @@ impl<R: Files<File = File> + Drop> SystemFile<R> {
         Ok(there)
     }
 
-    /// Opens the file for reading, where it isn't open yet, and says whether there is one.
+    /// Opens the file for reading, if it isn't open yet, and answers whether there is one.
     fn is_there(&mut self) -> io::Result<bool>
         ensures adds_none { added_to self.new ≡ added_to self.old }
     {
@@ -181,7 +184,7 @@ impl<R: Files<File = File> + Drop> SystemFile<R> {
         }
     }
 
-    /// Opens the file for reading, where it isn't open yet.
+    /// Opens the file for reading, if it isn't open yet.
     fn open_to_read(&mut self) -> io::Result<()>
         ensures adds_none { added_to self.new ≡ added_to self.old }
     {
@@ -194,8 +197,8 @@ impl<R: Files<File = File> + Drop> SystemFile<R> {
         Ok(())
     }
 
-    /// Opens the file for writing too, where that wasn't done yet, and makes it where there is none. It is locked from
-    /// then on: no other program that asks for the lock has it.
+    /// Opens the file for writing too, if that wasn't done yet, and makes it if there is none. The file is locked from
+    /// then on: no other program that asks for the lock gets it.
     fn open_to_write(&mut self) -> io::Result<()>
         ensures ready { OnOk result (self.new.measured ≡ true) }
         ensures adds_none { added_to self.new ≡ added_to self.old }
@@ -218,9 +221,9 @@ impl<R: Files<File = File> + Drop> SystemFile<R> {
         Ok(file)
     }
 
-    /// Opens the file. What is there and is no regular file isn't opened, since that may wait for another program.
-    /// Where the caller has closed a standard stream the system gives out its number, and what is meant for the stream
-    /// would land in the file: then it takes a higher number.
+    /// Opens the file. If the path leads to something that is no regular file, it isn't opened, since opening it may
+    /// wait for another program. If the caller has closed a standard stream, the system may give the stream's number
+    /// to the file, and what is meant for the stream would get into the file. Then the file takes a higher number.
     fn open(&self, options: &OpenOptions) -> io::Result<File> {
         match self.runtime.metadata(self.path.as_str()) {
             Ok(found) if !found.is_file() => return Err(no_file()),
@@ -234,8 +237,8 @@ impl<R: Files<File = File> + Drop> SystemFile<R> {
         }
     }
 
-    /// Notes the length at first, and sets the place there. Later it must be the same: that is asked as the file is
-    /// opened for writing, before anything is written or cut.
+    /// The first time it notes the length, and sets the place there. Later the length must be the same: that is
+    /// checked when the file is opened for writing, before anything is written or cut.
     fn measure(&mut self, len: u64) -> io::Result<()>
         ensures measured { OnOk result (self.new.measured ≡ true) }
         ensures adds_none { added_to self.new ≡ added_to self.old }
@@ -264,8 +267,8 @@ impl<R: Files<File = File> + Drop> SystemFile<R> {
             .ok_or(io::Error::from(ErrorKind::NotFound))
     }
 
-    /// Opens the folder that the file lies in. Where the path is a link that is the one that the link leads to; to find
-    /// it takes memory, so that the want of it fails here.
+    /// Opens the folder that the file lies in. If the path is a link, that is the folder of the file that the link
+    /// leads to. Finding it takes memory, and this fails if there is none.
     fn open_folder(&self) -> io::Result<File> {
         let path = self.path.as_str();
         if !self.runtime.symlink_metadata(path)?.is_symlink() {
@@ -276,7 +279,7 @@ impl<R: Files<File = File> + Drop> SystemFile<R> {
     }
 }
 
-/// The folder of a path. One that has none is its own: the root, or an empty path, which nothing has.
+/// The folder of a path. A path without one is its own folder: the root, or the empty path, at which there is nothing.
 fn folder_of(path: &str) -> &str {
     match Path::new(path).parent() {
         Some(folder) if folder.as_str() == "" => ".",
@@ -285,7 +288,7 @@ fn folder_of(path: &str) -> &str {
     }
 }
 
-/// How many bytes an open file has. It is an error where it is no regular file.
+/// How many bytes an open file has. It is an error if it is no regular file.
 fn len_of(file: &File) -> io::Result<u64> {
     let found = file.metadata()?;
     if found.is_file() {
@@ -295,7 +298,7 @@ fn len_of(file: &File) -> io::Result<u64> {
     }
 }
 
-/// What is there is a folder, a pipe, a socket or a device.
+/// The error for a path that leads to a folder, a pipe, a socket or a device.
 fn no_file() -> io::Error {
     io::Error::from(ErrorKind::InvalidInput)
 }

@@ -1,5 +1,5 @@
-//! The numbers of a seed, by a linear congruential generator. From a state `x` on the first is that of the state
-//! `(x * 1103515245 + 12345) mod 2^31`, and a state's number is `x / 65536`, so it is below 32,768.
+//! The numbers of a seed, made by a linear congruential generator. The first number from a state `x` on is that of the
+//! state `(x * 1103515245 + 12345) mod 2^31`. The number of a state `x` is `x / 65536`, so it is below 32,768.
 
 ghost use Rattle.std.specs.Prelude.{◌<◌, ◌^◌};
 
@@ -10,13 +10,13 @@ const FACTOR: u64 = 1_103_515_245;
 
 const INCREMENT: u64 = 12_345;
 
-/// The low bits of a state, which are no part of its number, have so many values.
+/// How many values the low bits of a state have. They are no part of the state's number.
 const LOW: u64 = 65_536;
 
 /// The numbers that are drawn from some moment on.
 #[derive(Drop)]
 pub struct Draws {
-    /// The state, from which the next one is made before a number is drawn.
+    /// The state. A draw first makes the next state from it, and then gives that state's number.
     pub state: u64,
     ghost below: { state < 2 ^ 31 },
 }
@@ -25,7 +25,7 @@ impl Draws {
     ghost use Rattle.std.specs.Prelude.{◌≡◌, ◌%◌, ◌^◌};
     ghost use Rattle.model_base.specs.Generator.{next_state, number_at, first_state};
 
-    /// All draws of a seed.
+    /// All draws of a seed, from the first on.
     pub fn of_seed(seed: u64) -> Draws
         ensures { result.state ≡ seed % 2 ^ 31 }
     {
@@ -34,7 +34,7 @@ impl Draws {
         }
     }
 
-    /// All draws of a client.
+    /// All draws of a client, from the first on.
     pub fn of_client(seed: u64, client: u32) -> Draws
         ensures { result.state ≡ first_state seed client }
     {

@@ -1,4 +1,4 @@
--- Lists with the same first bytes: their lengths decide, or what is behind those bytes.
+-- Lists with the same front: their lengths decide, or the bytes after the first n do.
 use Rattle.std.proofs.Common.{◌≡◌, false, ℕ, zero, suc, ◌≤◌, List, [], ◌∷◌, length, drop, refl, sym, ◌∙◌, ap, arith}
 use Rattle.std.proofs.lemmas.Cmp.{ranked, tied_itself, nat_cmp_total, nat_list_cmp_total}
 use Rattle.std.specs.Cmp.{nat_cmp_is}
@@ -19,7 +19,7 @@ cmp_suc m n = go (nat_cmp m n) refl
     go Equal p = let h = ranked m n Equal (sym p) in p ∙ nat_cmp_is (suc m) (suc n) Equal (omega arith)
     go Greater p = let h = ranked m n Greater (sym p) in p ∙ nat_cmp_is (suc m) (suc n) Greater (omega arith)
 
--- where the first list has no more bytes, the lengths decide
+-- if the first list has at most n bytes, the lengths decide
 pub lengths_decide : (n : ℕ) (xs ys : List ℕ) → front_of n xs ≡ front_of n ys → length xs ≤ n → nat_cmp (length xs) (length ys) ≡ byte_order xs ys
 lengths_decide n [] [] e k = sym (nat_cmp_is 0 0 Equal refl)
 lengths_decide n [] (y ∷ ys) e k = sym (nat_cmp_is 0 (suc (length ys)) Less (omega arith))
@@ -30,12 +30,12 @@ lengths_decide (suc n) (x ∷ xs) (y ∷ ys) e k =
     let rest : front_of n xs ≡ front_of n ys = cc in
     sym (cmp_suc (length xs) (length ys)) ∙ lengths_decide n xs ys rest (omega arith) ∙ sym (same_first x y (byte_order xs ys) first)
 
--- and so where the second has no more
+-- and also if the second list has at most n bytes
 pub other_lengths_decide : (n : ℕ) (xs ys : List ℕ) → front_of n xs ≡ front_of n ys → length ys ≤ n → nat_cmp (length xs) (length ys) ≡ byte_order xs ys
 other_lengths_decide n xs ys e k =
     nat_cmp_total.antisymm (length xs) (length ys) ∙ ap ordering_reverse (lengths_decide n ys xs (sym e) k) ∙ sym (nat_list_cmp_total.antisymm xs ys)
 
--- where both have more, that decides
+-- if both have n bytes or more, the bytes after the first n decide
 pub others_decide : (n : ℕ) (xs ys : List ℕ) → front_of n xs ≡ front_of n ys → n ≤ length xs → n ≤ length ys → byte_order (drop n xs) (drop n ys) ≡ byte_order xs ys
 others_decide zero xs ys e k l = refl
 others_decide (suc n) [] ys e k l = absurd (omega arith)
@@ -62,6 +62,6 @@ equal_from_is_ne Less e = absurd (cc)
 equal_from_is_ne Equal e = refl
 equal_from_is_ne Greater e = absurd (cc)
 
--- Where the first bytes don't differ they are the same.
+-- If the fronts compare as equal, they are the same.
 pub same_fronts : (n : ℕ) (xs ys us vs : List ℕ) (r : Ordering) → front_of n xs ≡ us → front_of n ys ≡ vs → r ≡ byte_order us vs → is_ne r ≡ false → front_of n xs ≡ front_of n ys
 same_fronts n xs ys us vs r u v order ne = u ∙ same_lists us vs (sym order ∙ equal_from_is_ne r ne) ∙ sym v

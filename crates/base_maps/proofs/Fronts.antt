@@ -1,4 +1,4 @@
--- The first bytes of lists, with zeros behind those of a shorter one: where they differ the lists compare as they do.
+-- The first bytes of lists, filled up with zeros if a list is shorter: if these differ, the lists compare as they do.
 use Rattle.std.proofs.Common.{◌≡◌, ℕ, zero, suc, ◌<◌, List, [], ◌∷◌, refl, sym, ◌∙◌, ap, arith}
 use Rattle.std.specs.Cmp.{ranks}
 use Rattle.std.specs.Ordering.{nat_cmp, ordering_then, MatchOrdering}
@@ -20,25 +20,25 @@ same (x ∷ xs) = ap (λ (r : Ordering). ordering_then r (byte_order xs xs)) (nu
 abbrev Decide : Ordering → Ordering → Type 0
 Decide lists fronts = (fronts ≡ Equal → ⊥) → lists ≡ fronts
 
--- a byte more in front of both
+-- with one byte more before both lists
 more : (r lists fronts : Ordering) → Decide lists fronts → Decide (ordering_then r lists) (ordering_then r fronts)
 more Less lists fronts d = λ apart. refl
 more Equal lists fronts d = d
 more Greater lists fronts d = λ apart. refl
 
--- a zero for the byte that the first list lacks
+-- a zero takes the place of a byte that the first list doesn't have
 more_below : (y : ℕ) (r fronts : Ordering) → MatchOrdering r (0 < y) (0 ≡ y) (y < 0) → Decide Less fronts → Decide Less (ordering_then r fronts)
 more_below y Less fronts h d = λ apart. refl
 more_below y Equal fronts h d = d
 more_below y Greater fronts h d = absurd (omega (arith, h))
 
--- a zero for the byte that the second list lacks
+-- a zero takes the place of a byte that the second list doesn't have
 more_above : (x : ℕ) (r fronts : Ordering) → MatchOrdering r (x < 0) (x ≡ 0) (0 < x) → Decide Greater fronts → Decide Greater (ordering_then r fronts)
 more_above x Less fronts h d = absurd (omega (arith, h))
 more_above x Equal fronts h d = d
 more_above x Greater fronts h d = λ apart. refl
 
--- no list is below zeros
+-- no front is below a front of zeros
 least : (n : ℕ) (ys : List ℕ) → Decide Less (byte_order (front_of n []) (front_of n ys))
 least zero ys = λ apart. absurd (apart refl)
 least (suc n) [] = λ apart. absurd (apart (same (0 ∷ front_of n [])))
@@ -56,7 +56,7 @@ decide (suc n) [] (y ∷ ys) = least (suc n) (y ∷ ys)
 decide (suc n) (x ∷ xs) [] = greatest (suc n) (x ∷ xs)
 decide (suc n) (x ∷ xs) (y ∷ ys) = more (nat_cmp x y) (byte_order xs ys) (byte_order (front_of n xs) (front_of n ys)) (decide n xs ys)
 
--- Where the first bytes differ they order the lists.
+-- If the first bytes differ, they order the lists.
 pub ordered_by_fronts : (n : ℕ) (xs ys us vs : List ℕ) (r : Ordering) → front_of n xs ≡ us → front_of n ys ≡ vs → r ≡ byte_order us vs → (r ≡ Equal → ⊥) → r ≡ byte_order xs ys
 ordered_by_fronts n xs ys us vs r u v order differ =
     let fronts : r ≡ byte_order (front_of n xs) (front_of n ys) = order ∙ ap (byte_order us) (sym v) ∙ ap (λ (l : List ℕ). byte_order l (front_of n ys)) (sym u) in

@@ -1,4 +1,4 @@
--- A map whose keys are seen as lists of bytes, as the list of its pairs.
+-- A map as the list of its pairs, with the keys seen as lists of bytes.
 use Rattle.std.proofs.Common.{◌≡◌, ℕ, List, [], ◌∷◌, refl, ap, map, cond, true, false, Option, Some}
 use Rattle.std.specs.declared.cmp.Ordering.TheVariants.{Less, Equal, Greater}
 use Rattle.std.specs.Ordering.{match_ordering, is_eq}
@@ -7,11 +7,11 @@ use Rattle.std.specs.BTreeMap.{insert_entry, is_at}
 use Rattle.model_base.specs.Map.{Pairs, byte_order}
 
 module _ {K : Type 0} (seen : K → List ℕ) where
-  -- the pairs that are seen
+  -- the pairs of a map, with each key as its bytes
   abbrev pub pairs : List (K × List ℕ) → Pairs
   pairs es = map (λ (e : K × List ℕ). (seen e.0, e.1)) es
 
-  -- an insertion, as it is seen
+  -- inserting into the map is inserting into its pairs
   pub pairs-insert_entry : (es : List (K × List ℕ)) (k : K) (v : List ℕ)
       → pairs (insert_entry (λ i j. byte_order (seen i) (seen j)) es k v) ≡ insert_entry byte_order (pairs es) (seen k) v
   pairs-insert_entry [] k v = refl
@@ -23,12 +23,12 @@ module _ {K : Type 0} (seen : K → List ℕ) where
         | Greater ↦ ap (λ (l : Pairs). (seen e.0, e.1) ∷ l) (pairs-insert_entry es k v)
       ]
 
-  -- a look-up, as it is seen
+  -- a look-up in the map finds what one in its pairs finds
   pub lookup-pairs : (key : List ℕ) (es : List (K × List ℕ)) → lookup (is_at (λ k. byte_order key (seen k))) es ≡ lookup (is_at (byte_order key)) (pairs es)
   lookup-pairs key [] = refl
   lookup-pairs key (e ∷ es) = ap (λ (found : Option (List ℕ)). cond (is_eq (byte_order key (seen e.0))) (Some e.1) found) (lookup-pairs key es)
 
-  -- a removal, as it is seen
+  -- removing from the map is removing from its pairs
   pub pairs-remove_entry : (key : List ℕ) (es : List (K × List ℕ)) → pairs (remove_entry (is_at (λ k. byte_order key (seen k))) es) ≡ remove_entry (is_at (byte_order key)) (pairs es)
   pairs-remove_entry key [] = refl
   pairs-remove_entry key (e ∷ es) =

@@ -1,4 +1,4 @@
--- What changes one of two lists of pairs changes the list of both.
+-- A change of one of two lists of pairs is the same change of the merged list.
 use Rattle.std.proofs.Common.{◌≡◌, ℕ, Bool, List, [], ◌∷◌, refl, sym, ◌∙◌, ap, cond, true, false, Option, Some, None, length, ◌+◌, zero-add, arith}
 use Rattle.std.proofs.lemmas.Bool.{true≢false}
 use Rattle.std.specs.declared.cmp.Ordering.{Ordering}
@@ -18,7 +18,7 @@ module _ {K : Type 0} (R : K → K → Ordering) (o : IsTotalOrder R) where
   above : (x y z : K) → R x y ≡ Greater → R y z ≡ Greater → R x z ≡ Greater
   above x y z e f = o.antisymm x z ∙ ap ordering_reverse (o.trans z y x (turned y z Greater f) (turned x y Greater e))
 
-  -- what is above a key is above one below it
+  -- what is above y is also above an x below y
   all_past : (x y : K) (l : List K) → R x y ≡ Less → AllByRecursion (λ k. R y k ≡ Less) l → AllByRecursion (λ k. R x k ≡ Less) l
   all_past x y [] e a = tt
   all_past x y (k ∷ l) e a = (o.trans x y k e a.0, all_past x y l e a.1)
@@ -30,7 +30,7 @@ module _ {K : Type 0} (R : K → K → Ordering) (o : IsTotalOrder R) where
 
     -- ---- an insertion into the first list
 
-    -- a pair among the others alone
+    -- putting a pair in order among the others is inserting it
     alone-by : (k : K) (v : V) (q : K × V) (l : List (K × V)) (r : Ordering) → R k q.0 ≡ r → is_eq r ≡ false
         → put_in_order R (k, v) (λ m. m) l ≡ insert_entry R l k v
         → put_in_order R (k, v) (λ m. m) (q ∷ l) ≡ insert_entry R (q ∷ l) k v
@@ -42,7 +42,7 @@ module _ {K : Type 0} (R : K → K → Ordering) (o : IsTotalOrder R) where
     alone k v [] lacks = refl
     alone k v (q ∷ l) lacks = alone-by k v q l (R k q.0) refl lacks.0 (alone k v l lacks.1)
 
-    -- a pair in front of the first one
+    -- the inserted key is below that of the first pair
     before-below : (p : K × V) (k : K) (v : V) (rest : List (K × V) → List (K × V)) (q : K × V) (l : List (K × V)) (r : Ordering)
         → R p.0 q.0 ≡ r → R k p.0 ≡ Less → R k q.0 ≡ Less
         → put_in_order R (k, v) (put_in_order R p rest) (q ∷ l) ≡ insert_entry R (put_in_order R p rest (q ∷ l)) k v
@@ -64,7 +64,7 @@ module _ {K : Type 0} (R : K → K → Ordering) (o : IsTotalOrder R) where
     before p k v rest [] below lacks = rw below refl
     before p k v rest (q ∷ l) below lacks = before-by p k v rest q l (R k q.0) refl lacks.0 below (before p k v rest l below lacks.1)
 
-    -- a value for the first one's key
+    -- the inserted key is that of the first pair
     same_key-by : (p : K × V) (k : K) (v : V) (rest : List (K × V) → List (K × V)) (q : K × V) (l : List (K × V)) (r : Ordering)
         → R p.0 q.0 ≡ r → R k p.0 ≡ Equal
         → put_in_order R (p.0, v) rest l ≡ insert_entry R (put_in_order R p rest l) k v
@@ -79,7 +79,7 @@ module _ {K : Type 0} (R : K → K → Ordering) (o : IsTotalOrder R) where
     same_key p k v rest [] same = rw same refl
     same_key p k v rest (q ∷ l) same = same_key-by p k v rest q l (R p.0 q.0) refl same (same_key p k v rest l same)
 
-    -- a pair behind the first one
+    -- the inserted key is above that of the first pair
     behind-by : (p : K × V) (k : K) (v : V) (rest changed : List (K × V) → List (K × V)) (q : K × V) (l : List (K × V)) (r : Ordering)
         → R p.0 q.0 ≡ r → R k p.0 ≡ Greater
         → changed (q ∷ l) ≡ insert_entry R (rest (q ∷ l)) k v
@@ -115,7 +115,7 @@ module _ {K : Type 0} (R : K → K → Ordering) (o : IsTotalOrder R) where
     kept [] k lacks = refl
     kept (q ∷ l) k lacks = rw lacks.0 (ap (λ (m : List (K × V)). q ∷ m) (kept l k lacks.1))
 
-    -- another pair's key is taken out
+    -- the removed key is that of neither first pair
     passed-by : (p : K × V) (k : K) (rest changed : List (K × V) → List (K × V)) (q : K × V) (l : List (K × V)) (r : Ordering)
         → R p.0 q.0 ≡ r → is_eq (R k p.0) ≡ false → is_eq (R k q.0) ≡ false
         → changed (q ∷ l) ≡ remove_entry (is_at (R k)) (rest (q ∷ l))
@@ -132,13 +132,13 @@ module _ {K : Type 0} (R : K → K → Ordering) (o : IsTotalOrder R) where
     passed p k rest changed (q ∷ l) other lacks here =
         passed-by p k rest changed q l (R p.0 q.0) refl other lacks.0 (here (q ∷ l) lacks) (passed p k rest changed l other lacks.1 here)
 
-    -- one of the others is the first of all
+    -- if the first of the others is below p, it is the first of all
     first_other : (p : K × V) (s : List (K × V)) (q : K × V) (l : List (K × V)) → AllByRecursion (λ key. R p.0 key ≡ Less) (keys_of s) → R p.0 q.0 ≡ Greater
         → merge_pairs R s (q ∷ l) ≡ q ∷ merge_pairs R s l
     first_other p [] q l sorted f = refl
     first_other p (e ∷ s) q l sorted f = rw (above e.0 p.0 q.0 (turned p.0 e.0 Less sorted.0) f) refl
 
-    -- the first pair's key is taken out
+    -- the removed key is that of the first pair
     taken-by : (p : K × V) (s : List (K × V)) (k : K) (q : K × V) (l : List (K × V)) (r : Ordering)
         → R p.0 q.0 ≡ r → R k p.0 ≡ Equal → AllByRecursion (λ key. R p.0 key ≡ Less) (keys_of s)
         → merge_pairs R s l ≡ remove_entry (is_at (R k)) (put_in_order R p (merge_pairs R s) l)
@@ -194,18 +194,18 @@ module _ {K : Type 0} (R : K → K → Ordering) (o : IsTotalOrder R) where
     -- ---- both lists
 
     -- no key of the first list is one of the second
-    abbrev pub LacksAll : List (K × V) → List (K × V) → Type 0
-    LacksAll s l = AllByRecursion (Lacks l) (keys_of s)
+    abbrev pub HaveNoCommonKey : List (K × V) → List (K × V) → Type 0
+    HaveNoCommonKey s l = AllByRecursion (Lacks l) (keys_of s)
 
     first_only : (s : List (K × V)) → merge_pairs R s [] ≡ s
     first_only [] = refl
     first_only (p ∷ s) = ap (λ (m : List (K × V)). p ∷ m) (first_only s)
 
-    LacksAll-behind : (s : List (K × V)) (q : K × V) (l : List (K × V)) → LacksAll s (q ∷ l) → LacksAll s l
+    LacksAll-behind : (s : List (K × V)) (q : K × V) (l : List (K × V)) → HaveNoCommonKey s (q ∷ l) → HaveNoCommonKey s l
     LacksAll-behind [] q l all = all
     LacksAll-behind (p ∷ s) q l all = (all.0.1, LacksAll-behind s q l all.1)
 
-    -- a pair in front of all of the first list, or one of the second
+    -- merging gives the same in the other order, with p first in one list and q first in the other
     exchanged-by : (p : K × V) (s : List (K × V)) (q : K × V) (l : List (K × V)) (r : Ordering) → R p.0 q.0 ≡ r → is_eq r ≡ false
         → merge_pairs R s (q ∷ l) ≡ merge_pairs R (q ∷ l) s
         → merge_pairs R (p ∷ s) l ≡ merge_pairs R l (p ∷ s)
@@ -214,33 +214,33 @@ module _ {K : Type 0} (R : K → K → Ordering) (o : IsTotalOrder R) where
     exchanged-by p s q l Equal f lacks here more = absurd (true≢false lacks)
     exchanged-by p s q l Greater f lacks here more = rw f (rw (turned p.0 q.0 Greater f) (ap (λ (m : List (K × V)). q ∷ m) more))
 
-    exchanged-in : (p : K × V) (s l : List (K × V)) → Lacks l p.0 → LacksAll s l
-        → ((m : List (K × V)) → LacksAll s m → merge_pairs R s m ≡ merge_pairs R m s)
+    exchanged-in : (p : K × V) (s l : List (K × V)) → Lacks l p.0 → HaveNoCommonKey s l
+        → ((m : List (K × V)) → HaveNoCommonKey s m → merge_pairs R s m ≡ merge_pairs R m s)
         → merge_pairs R (p ∷ s) l ≡ merge_pairs R l (p ∷ s)
     exchanged-in p s [] lacks all here = ap (λ (m : List (K × V)). p ∷ m) (first_only s)
     exchanged-in p s (q ∷ l) lacks all here =
         exchanged-by p s q l (R p.0 q.0) refl lacks.0 (here (q ∷ l) all) (exchanged-in p s l lacks.1 (LacksAll-behind s q l all) here)
 
-    -- the lists in the other order
-    pub exchanged : (s l : List (K × V)) → LacksAll s l → merge_pairs R s l ≡ merge_pairs R l s
+    -- merging the lists in the other order gives the same, if they have no key in common
+    pub exchanged : (s l : List (K × V)) → HaveNoCommonKey s l → merge_pairs R s l ≡ merge_pairs R l s
     exchanged [] l all = sym (first_only l)
     exchanged (p ∷ s) l all = exchanged-in p s l all.0 all.1 (λ m b. exchanged s m b)
 
     -- ---- the second list
 
-    pub inserted_second : (s : List (K × V)) (k : K) (v : V) (l : List (K × V)) → Lacks s k → LacksAll s l → LacksAll s (insert_entry R l k v)
+    pub inserted_second : (s : List (K × V)) (k : K) (v : V) (l : List (K × V)) → Lacks s k → HaveNoCommonKey s l → HaveNoCommonKey s (insert_entry R l k v)
         → merge_pairs R s (insert_entry R l k v) ≡ insert_entry R (merge_pairs R s l) k v
     inserted_second s k v l lacks all all_new =
         exchanged s (insert_entry R l k v) all_new ∙ inserted l k v s lacks
         ∙ ap (λ (m : List (K × V)). insert_entry R m k v) (sym (exchanged s l all))
 
-    pub removed_second : (s : List (K × V)) (k : K) (l : List (K × V)) → Lacks s k → LacksAll s l → LacksAll s (remove_entry (is_at (R k)) l) → IsStrictlySortedBy R (keys_of l)
+    pub removed_second : (s : List (K × V)) (k : K) (l : List (K × V)) → Lacks s k → HaveNoCommonKey s l → HaveNoCommonKey s (remove_entry (is_at (R k)) l) → IsStrictlySortedBy R (keys_of l)
         → merge_pairs R s (remove_entry (is_at (R k)) l) ≡ remove_entry (is_at (R k)) (merge_pairs R s l)
     removed_second s k l lacks all all_new sorted =
         exchanged s (remove_entry (is_at (R k)) l) all_new ∙ removed l k s lacks sorted
         ∙ ap (remove_entry (is_at (R k))) (sym (exchanged s l all))
 
-    pub found_second : (s : List (K × V)) (k : K) (l : List (K × V)) → Lacks s k → LacksAll s l
+    pub found_second : (s : List (K × V)) (k : K) (l : List (K × V)) → Lacks s k → HaveNoCommonKey s l
         → lookup (is_at (R k)) (merge_pairs R s l) ≡ lookup (is_at (R k)) l
     found_second s k l lacks all = ap (lookup (is_at (R k))) (exchanged s l all) ∙ found l k s lacks
 
@@ -307,10 +307,10 @@ module _ {K : Type 0} (R : K → K → Ordering) (o : IsTotalOrder R) where
     all_merged P [] l a b = b
     all_merged P (p ∷ s) l a b = all_put P p (merge_pairs R s) l a.0 b (λ m c. all_merged P s m a.1 c)
 
-    -- a pair before those of both, where neither list has a key of the other
+    -- the merged list with one pair more is in order, if the two lists have no key in common
     ordered-in : (p : K × V) (s l : List (K × V)) → IsStrictlySortedBy R (keys_of (p ∷ s)) → IsStrictlySortedBy R (keys_of l) → Lacks l p.0
-        → ((m : List (K × V)) → IsStrictlySortedBy R (keys_of m) → LacksAll s m → IsStrictlySortedBy R (keys_of (merge_pairs R s m)))
-        → LacksAll s l → IsStrictlySortedBy R (keys_of (merge_pairs R (p ∷ s) l))
+        → ((m : List (K × V)) → IsStrictlySortedBy R (keys_of m) → HaveNoCommonKey s m → IsStrictlySortedBy R (keys_of (merge_pairs R s m)))
+        → HaveNoCommonKey s l → IsStrictlySortedBy R (keys_of (merge_pairs R (p ∷ s) l))
     unfolding IsStrictlySortedBy
     ordered-in p s [] below sorted lacks more all = (all_merged (λ k. R p.0 k ≡ Less) s [] below.0 tt, more [] tt all)
     ordered-in p s (q ∷ l) below sorted lacks more all = by (R p.0 q.0) refl (ordered-in p s l below sorted.1 lacks.1 more (LacksAll-behind s q l all))
@@ -323,7 +323,7 @@ module _ {K : Type 0} (R : K → K → Ordering) (o : IsTotalOrder R) where
             let less : R q.0 p.0 ≡ Less = turned p.0 q.0 Greater e in
             (all_merged (λ k. R q.0 k ≡ Less) (p ∷ s) l (less, all_past q.0 p.0 (keys_of s) less below.0) sorted.0, ih)
 
-    pub ordered : (s l : List (K × V)) → IsStrictlySortedBy R (keys_of s) → IsStrictlySortedBy R (keys_of l) → LacksAll s l → IsStrictlySortedBy R (keys_of (merge_pairs R s l))
+    pub ordered : (s l : List (K × V)) → IsStrictlySortedBy R (keys_of s) → IsStrictlySortedBy R (keys_of l) → HaveNoCommonKey s l → IsStrictlySortedBy R (keys_of (merge_pairs R s l))
     unfolding IsStrictlySortedBy
     ordered [] l a b all = b
     ordered (p ∷ s) l a b all = ordered-in p s l a b all.0 (λ m c d. ordered s m a.1 c d) all.1

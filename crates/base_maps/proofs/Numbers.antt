@@ -1,4 +1,4 @@
--- Bytes that are compared as numbers, the highest first.
+-- Bytes that are compared as numbers, the highest byte first.
 use Rattle.std.proofs.Common.{◌≡◌, ℕ, zero, suc, ◌+◌, ◌*◌, ◌<◌, ◌≤◌, List, [], ◌∷◌, length, get_or, take, drop, refl, sym, ◌∙◌, ap, subst, arith}
 use Rattle.std.proofs.lemmas.List.{get_or-drop, length-drop, drop_all}
 use Rattle.std.specs.Cmp.{ranks}
@@ -22,7 +22,7 @@ is_greater x y Less h l = absurd (omega (arith, h, l))
 is_greater x y Equal h l = absurd (omega (arith, h, l))
 is_greater x y Greater h l = refl
 
--- a higher first byte outweighs all bytes behind it
+-- a higher first byte outweighs all bytes after it
 rises : (n a b : ℕ) (us vs : List ℕ) → n ≤ length us → n ≤ length vs → Bytes us → a < b → big_endian a (take n us) < big_endian b (take n vs)
 rises zero a b us vs p q h l = l
 rises (suc n) a b [] vs p q h l = absurd (omega arith)
@@ -31,7 +31,7 @@ rises (suc n) a b (u ∷ us) (v ∷ vs) p q h l =
     let small : u < 256 = h 0 in
     rises n (a * 256 + u) (b * 256 + v) us vs (omega arith) (omega arith) (λ k. h (suc k)) (omega arith)
 
--- two numbers that n first bytes spell order the lists, if they differ, and else what is behind does
+-- the numbers x and y that the first n bytes spell order the lists, if they differ; else the bytes after these do
 pub record Spelled (n x y : ℕ) (us vs : List ℕ) : Type 0 where
   pub apart : (x ≡ y → ⊥) → byte_order us vs ≡ nat_cmp x y
   pub alike : x ≡ y → byte_order us vs ≡ byte_order (drop n us) (drop n vs)

@@ -1,4 +1,4 @@
--- The two parts of a map have no key in common, and what changes one of them changes the map.
+-- The two parts of a map have no key in common, and a change of one part is the same change of the map.
 use Rattle.std.proofs.Common.{◌≡◌, ℕ, ◌+◌, ◌≤◌, ◌<◌, false, List, [], ◌∷◌, length, refl, sym, ◌∙◌, ap, subst, Option, arith}
 use Rattle.std.proofs.lemmas.Bool.{true≢false}
 use Rattle.std.proofs.lemmas.Cmp.{nat_list_cmp_total}
@@ -13,7 +13,7 @@ use Rattle.model_base.specs.Map.{Pairs, byte_order, value_at}
 use Rattle.base_maps.specs.Merging.{merge_pairs}
 use Rattle.base_maps.specs.Parts.{AreParts}
 use Rattle.base_maps.proofs.MapPairs.{pairs, pairs-insert_entry, pairs-remove_entry, lookup-pairs}
-use Rattle.base_maps.proofs.Merging.{Lacks, LacksAll, inserted, inserted_second, removed, removed_second, found, found_second, counted, all_inserted, all_removed, ordered}
+use Rattle.base_maps.proofs.Merging.{Lacks, HaveNoCommonKey, inserted, inserted_second, removed, removed_second, found, found_second, counted, all_inserted, all_removed, ordered}
 
 same_behind : (r s : Ordering) → ordering_then r s ≡ Equal → s ≡ Equal
 same_behind Less s e = absurd (true≢false (ap is_lt e))
@@ -43,7 +43,7 @@ lacks_long (q ∷ l) key long short =
     let here : 16 < length q.0 = long.0 in
     (differ-by key q.0 (byte_order key q.0) refl (λ e. absurd (omega (arith, e, here, short))), lacks_long l key long.1 short)
 
-lacks_all : (s l : Pairs) → AllByRecursion (λ k. length k ≤ 16) (keys_of s) → AllByRecursion (λ k. 16 < length k) (keys_of l) → LacksAll byte_order nat_list_cmp_total s l
+lacks_all : (s l : Pairs) → AllByRecursion (λ k. length k ≤ 16) (keys_of s) → AllByRecursion (λ k. 16 < length k) (keys_of l) → HaveNoCommonKey byte_order nat_list_cmp_total s l
 lacks_all [] l short long = tt
 lacks_all (p ∷ s) l short long = (lacks_long l p.0 long short.0, lacks_all s l short.1 long)
 

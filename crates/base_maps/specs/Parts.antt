@@ -1,4 +1,4 @@
--- A map whose pairs stand in two: those of short keys, and those of long ones.
+-- A map whose pairs are kept in two maps: one for short keys, and one for long ones.
 use Rattle.std.specs.Prelude.{ℕ, ◌≤◌, ◌<◌, Bool, true, false, not, List, [], ◌∷◌, length, Option, Some, None}
 use Rattle.std.specs.Ordering.{is_gt}
 use Rattle.std.specs.List.{AllByRecursion}
@@ -13,12 +13,12 @@ pub record AreParts (short long : Pairs) : Type 0 where
   pub short_order : IsStrictlySortedBy byte_order (keys_of short)
   pub long_order : IsStrictlySortedBy byte_order (keys_of long)
 
--- the pair that comes next, and those behind it; none where none comes next
+-- the next pair and then the others; no pairs if there is no next one
 abbrev pub with_next : Option (List ℕ × List ℕ) → Pairs → Pairs
 with_next None behind = []
 with_next (Some p) behind = p ∷ behind
 
--- whether the next pair of the one part comes before that of the other
+-- whether the next pair of one part comes before that of the other
 abbrev pub comes_first : Option (List ℕ × List ℕ) → Option (List ℕ × List ℕ) → Bool
 comes_first None other = false
 comes_first (Some p) None = true

@@ -17,8 +17,8 @@ use std::marker::Model;
 
 /// A map of keys to values, both of bytes. Contracts see the list of its pairs, in the byte order of the keys.
 ///
-/// Keys of at most 16 bytes stand in the nodes of one tree. The longer ones stand in another, whose keys are compared
-/// with a slice, so that no look-up and no removal takes memory.
+/// Keys of at most 16 bytes are in the nodes of one tree. Longer keys are in another tree, whose keys are compared
+/// with a slice. So no look-up and no removal takes memory.
 #[derive(Debug, Drop)]
 pub struct ByteMap {
     alloc: Global,
@@ -51,7 +51,7 @@ impl ByteMap {
         }
     }
 
-    /// Gives a key a value, in the place of the one that it had.
+    /// Gives a key a value, which replaces the value that it had.
     pub fn insert(&mut self, key: &[u8], value: &[u8]) -> Result<(), NoMemory>
         ensures ok { OnOk result (self.new ≡ insert_entry byte_order self.old key.now value.now) }
         ensures err { OnErr result (self.new ≡ self.old) }
@@ -65,7 +65,7 @@ impl ByteMap {
         Ok(())
     }
 
-    /// Takes a key out, if it is there. This takes no memory.
+    /// Removes a key, if it is there. This takes no memory.
     pub fn remove(&mut self, key: &[u8])
         ensures { self.new ≡ remove_entry (is_at (byte_order key.now)) self.old }
     {
@@ -92,7 +92,7 @@ impl ByteMap {
         }
     }
 
-    /// No key comes twice, and each stands before those above it. At run time this does nothing.
+    /// No key occurs twice, and each comes before those above it. At run time this does nothing.
     pub fn in_order(&self)
         ensures { IsStrictlySortedBy byte_order (keys_of self.now) }
     {
@@ -123,14 +123,14 @@ impl ByteMap {
     }
 }
 
-/// The pairs of a [`ByteMap`] in order. Contracts see those that are left.
+/// The pairs of a [`ByteMap`] in order. Contracts see the pairs that are left.
 #[derive(Drop)]
 pub struct BytePairs<'a> {
     next_short: Option<(&'a [u8], &'a [u8])>,
-    /// The pairs of short keys behind the next one of them.
+    /// The pairs of short keys after `next_short`.
     short: btree_map::Iter<'a, ByteKey, Bytes>,
     next_long: Option<(&'a [u8], &'a [u8])>,
-    /// The pairs of long keys behind the next one of them.
+    /// The pairs of long keys after `next_long`.
     long: btree_map::Iter<'a, Vec<u8>, Bytes>,
 }
 
@@ -190,7 +190,7 @@ fn next_long_of<'a>(left: &mut btree_map::Iter<'a, Vec<u8>, Bytes>) -> Option<(&
     }
 }
 
-/// Whether the one pair comes before the other.
+/// Whether `pair` comes before `other`.
 fn is_before(pair: Option<(&[u8], &[u8])>, other: Option<(&[u8], &[u8])>) -> bool
     ensures { result ≡ comes_first
         (option_map (λ p. (p.0.now, p.1.now)) pair.entry) (option_map (λ p. (p.0.now, p.1.now)) other.entry) }

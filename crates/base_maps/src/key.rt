@@ -1,4 +1,4 @@
-//! A key, compared mostly by bytes that stand in place.
+//! A key. Most comparisons need only its first bytes, which are kept in place and not on the heap.
 
 ghost use Rattle.std.specs.Prelude.{◌≡◌, ◌+◌, ◌≤◌, length, IfOk};
 ghost use Rattle.std.specs.Slice.Scan.{big_endian};
@@ -11,10 +11,10 @@ use std::alloc::Global;
 use std::cmp::Ordering;
 use std::marker::Model;
 
-/// How many bytes of a key stand in place.
+/// How many bytes of a key are kept in place.
 pub(crate) const FRONT_LEN: usize = 16;
 
-/// The first bytes of a key, and zeros behind those of a shorter one. Contracts see these 16 bytes.
+/// The first bytes of a key, filled up with zeros if the key is shorter. Contracts see these 16 bytes.
 #[derive(Clone, Copy, Debug)]
 pub struct Front {
     bytes: [u8; FRONT_LEN],
@@ -44,7 +44,7 @@ impl Front {
         Front { bytes }
     }
 
-    /// How it compares to another in byte order.
+    /// How it compares with another front in byte order.
     fn order(&self, other: &Front) -> Ordering
         ensures { result ≡ byte_order self.now other.now }
     {
@@ -52,7 +52,7 @@ impl Front {
     }
 }
 
-/// The number that eight bytes from `at` on spell, the highest first.
+/// The number that eight bytes from `at` on spell, the highest byte first.
 fn number_at(bytes: &[u8; FRONT_LEN], at: usize) -> u64
     requires { at + 8 ≤ FRONT_LEN }
     ensures { result ≡ big_endian 0 (chunk at 8 bytes.now) }
@@ -69,7 +69,7 @@ fn number_at(bytes: &[u8; FRONT_LEN], at: usize) -> u64
     ])
 }
 
-/// How the bytes of two fronts compare, as two numbers.
+/// How the bytes of two fronts compare. Each front is read as two numbers.
 fn order_as_numbers(bytes: &[u8; FRONT_LEN], other: &[u8; FRONT_LEN]) -> Ordering
     ensures { result ≡ byte_order bytes.now other.now }
 {
@@ -80,7 +80,7 @@ fn order_as_numbers(bytes: &[u8; FRONT_LEN], other: &[u8; FRONT_LEN]) -> Orderin
     number_at(bytes, 8).cmp(&number_at(other, 8))
 }
 
-/// How two keys compare that have the same front.
+/// How two keys with the same front compare.
 fn order_behind(key: &[u8], other: &[u8]) -> Ordering
     requires { front_of 16 key.now ≡ front_of 16 other.now }
     ensures { result ≡ byte_order key.now other.now }
@@ -97,7 +97,7 @@ pub struct ByteKey {
     front: Front,
     /// How many bytes the key has.
     len: usize,
-    /// All bytes, where the front can't hold them.
+    /// All bytes of the key, if the front can't hold them.
     whole: Vec<u8>,
 }
 
@@ -113,7 +113,7 @@ impl Model for ByteKey {
 }
 
 impl ByteKey {
-    /// The key of these bytes. One of at most 16 takes no memory.
+    /// The key of these bytes. A key of at most 16 bytes takes no memory.
     pub fn copy(alloc: Global, bytes: &[u8]) -> Result<ByteKey, NoMemory>
         ensures { IfOk result (λ key. key ≡ bytes.now) }
     {
@@ -127,7 +127,7 @@ impl ByteKey {
         })
     }
 
-    /// The key of at most 16 bytes. This takes no memory.
+    /// The key of these bytes, of which there are at most 16. This takes no memory.
     pub(crate) fn short(alloc: Global, bytes: &[u8]) -> ByteKey
         requires { length bytes.now ≤ FRONT_LEN }
         ensures { result ≡ bytes.now }
@@ -139,7 +139,7 @@ impl ByteKey {
         }
     }
 
-    /// Its bytes.
+    /// The bytes of the key.
     pub fn as_slice(&self) -> &[u8]
         ensures { result.now ≡ self.now }
     {
@@ -150,7 +150,7 @@ impl ByteKey {
         }
     }
 
-    /// How it compares to another in byte order.
+    /// How it compares with another key in byte order.
     pub fn order(&self, other: &ByteKey) -> Ordering
         ensures { result ≡ byte_order self.now other.now }
     {
@@ -161,7 +161,8 @@ impl ByteKey {
         order_behind(self.as_slice(), other.as_slice())
     }
 
-    /// How a key whose front is told compares to it in byte order, so that a search makes that front once.
+    /// How another key compares with it in byte order. The caller gives that key's front too, so that a search makes
+    /// the front only once.
     pub fn order_of(&self, key: &[u8], front: Front) -> Ordering
         requires { front ≡ front_of 16 key.now }
         ensures { result ≡ byte_order key.now self.now }

@@ -1,13 +1,13 @@
-//! The keys of the maps, of the memtable's tree and of `ByteMap`, and that map. Keys are lists of bytes, and a search
-//! compares one with many others. Most of them differ in their first bytes:
+//! The keys of the memtable's tree and the short keys of `ByteMap`, and `ByteMap` itself. Keys are lists of bytes, and
+//! a search compares one key with many others. Most keys differ in their first bytes:
 //!
-//! - the first 16 bytes of a key, its front, stand in place, with zeros behind those of a shorter key, and are compared
-//!   as two numbers, the first byte of each counting most;
-//! - where the fronts are the same and one of the keys has no more bytes than that, the lengths decide;
-//! - else the bytes behind the first 16 do, for which alone the heap is looked at.
+//! - the first 16 bytes of a key, its front, are kept in place, filled up with zeros if the key is shorter; two fronts
+//!   are compared as two numbers each, in which the first byte counts most;
+//! - if the fronts are the same and one of the keys has at most 16 bytes, the lengths decide;
+//! - else the bytes after the first 16 decide; only then is the heap read.
 //!
-//! So a key of at most 16 bytes takes no memory beside that of its node. The order is byte order, as of RocksDB's
-//! `BytewiseComparator`.
+//! So a key of at most 16 bytes takes no memory besides that of its node. The order is byte order, as that of
+//! RocksDB's `BytewiseComparator`.
 #![tactic(auto)]
 
 mod byte_map;

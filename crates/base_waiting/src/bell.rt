@@ -1,4 +1,4 @@
-//! A bell.
+//! A bell, on which threads sleep until it is rung.
 
 use crate::pauses::Pauses;
 use std::sync::Wait;
@@ -10,31 +10,33 @@ use std::{hint, rt, thread};
 /// How many pauses of a wait spin, each twice as long as the one before.
 const SPINS: u32 = 7;
 
-/// How many pauses after these yield.
+/// How many pauses after the spinning ones yield the processor, at most.
 const YIELDS: u32 = 20;
 
-/// The microseconds of a slow yield: another thread wanted the processor, and had it for a slice of time.
+/// From this many microseconds on a yield is slow: another thread wanted the processor, and had it for a slice of
+/// time.
 const SLOW_YIELD: u64 = 200;
 
-/// How many waits sleep without a yield after a first slow one.
+/// How many waits sleep without a yield after the first slow yield.
 const FEWEST_SKIPS: u64 = 8;
 
-/// And after many slow ones, at most.
+/// How many waits sleep without a yield after many slow yields, at most.
 const MOST_SKIPS: u64 = 1024;
 
-/// What any number of threads sleep on.
+/// Any number of threads may sleep on a bell.
 #[derive(Drop)]
 pub struct Bell {
-    /// 1 where somebody sleeps or is about to, else 0.
+    /// 1 from when a thread is about to sleep until the bell is rung, else 0.
     set: AtomicU64,
     /// How many of the next waits sleep without a yield.
     skips: AtomicU64,
-    /// How many they were after the last slow yield, less the waits whose first yield was quick since.
+    /// What `skips` was set to at the last slow yield, less the number of waits since then whose first yield was
+    /// quick.
     learned: AtomicU64,
 }
 
 impl Bell {
-    /// A bell on which nobody sleeps.
+    /// A bell on which no thread sleeps.
     pub fn new() -> Bell {
         Bell {
             set: AtomicU64::new(0),
@@ -43,11 +45,11 @@ impl Bell {
         }
     }
 
-    /// Pauses between two looks of a wait.
+    /// Pauses between two checks of what a thread waits for.
     pub fn pause<R: Wait + rt::Clock>(&self, rt: &R, pauses: &Pauses) {
         let made = pauses.made.get();
         if made < SPINS {
-            // Each turn of the wait spins twice as long as the one before.
+            // Each of these pauses spins twice as long as the one before.
             for _ in 0..1u32 << made {
                 hint::spin_loop();
             }
@@ -68,7 +70,8 @@ impl Bell {
         }
     }
 
-    /// The first yield of a wait, where it isn't one of those that sleep without. The answer is whether it was quick.
+    /// The first yield of a wait, unless the wait is one of those that sleep without a yield. It answers whether there
+    /// was a yield that was quick.
     fn yield_first<R: rt::Clock>(&self, rt: &R) -> bool {
         let skips = self.skips.load(SeqCst);
         if skips > 0 {
@@ -83,8 +86,8 @@ impl Bell {
         quick
     }
 
-    /// Yields, and says whether that was quick. Where it was slow, others want the processors, and twice as many of the
-    /// next waits as the last time sleep without.
+    /// Yields, and answers whether that was quick. If it was slow, other threads want the processors, and the next
+    /// waits sleep without a yield: twice as many as `learned`, within the two limits.
     fn yield_again<R: rt::Clock>(&self, rt: &R) -> bool {
         let quick = is_quick_yield(rt);
         if !quick {
@@ -99,7 +102,7 @@ impl Bell {
         quick
     }
 
-    /// Wakes all who sleep on it.
+    /// Wakes all threads that sleep on it.
     pub fn ring(&self) {
         if self.set.load(SeqCst) == 1 {
             self.set.store(0, SeqCst);
@@ -108,7 +111,7 @@ impl Bell {
     }
 }
 
-/// Yields, and says whether that was quick. Where the clock can't be read it was not.
+/// Yields, and answers whether that was quick. If the clock can't be read, the answer is no.
 fn is_quick_yield<R: rt::Clock>(rt: &R) -> bool {
     let Ok(start) = Instant::now(rt) else {
         return false;

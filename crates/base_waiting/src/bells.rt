@@ -13,7 +13,7 @@ pub struct Bells {
 }
 
 impl Bells {
-    /// The bells of so many clients.
+    /// The bells of this number of clients.
     pub fn for_clients(alloc: Global, clients: u32) -> Result<Bells, AllocError> {
         let mut bells = Vec::new(alloc);
         for made in 0..clients {
@@ -26,7 +26,7 @@ impl Bells {
         self.bells.get((client as usize).checked_sub(1)?)
     }
 
-    /// Pauses between two looks of a client.
+    /// Pauses between two checks of what a client waits for.
     pub fn pause<R: Wait + rt::Clock>(&self, rt: &R, pauses: &Pauses, client: u64) {
         match self.of(client) {
             Some(bell) => bell.pause(rt, pauses),

@@ -1,13 +1,15 @@
-//! How a thread waits for what another one changes. It looks again and again, and pauses in between: at first it
-//! spins, then it yields, and from then on it sleeps on a bell.
+//! How a thread waits for a change that another thread makes. It checks again and again, and pauses in between: at
+//! first it spins, then it yields, and from then on it sleeps on a bell.
 //!
-//! It yields as long as yields are quick, as those who wait for a turn of RocksDB's line do (`AwaitState` in its
-//! db/write_thread.cc). Where one was slow, since other threads want the processors, the next waits on that bell sleep
-//! at once: eight of them, and twice as many after each further slow one.
+//! It yields as long as yields are quick, as threads do that wait for their turn in RocksDB's line (`AwaitState` in
+//! its db/write_thread.cc), but at most 20 times in one wait. After a slow yield, which means that other threads want
+//! the processors, the next waits on that bell sleep without a yield: eight of them, and after each further slow yield
+//! twice as many as the last time, up to 1024. Each wait since then whose first yield was quick lowers the number that
+//! is doubled by one.
 //!
-//! Who waits sets its bell, looks once more, and then sleeps until the bell is rung, for a millisecond at most. Who
-//! changes what is waited for does so first, and then rings. Nothing is claimed of bells: who doesn't hear one wakes by
-//! itself and looks.
+//! A waiting thread sets its bell, checks once more, and then sleeps until the bell is rung, for a millisecond at
+//! most. The thread that makes the change does so first, and then rings. Nothing is claimed of bells: a thread that
+//! misses a ring wakes by itself and checks.
 #![tactic(auto)]
 
 mod bell;

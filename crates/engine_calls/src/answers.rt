@@ -1,4 +1,4 @@
-//! What the calls answer. What a read answers is of `base_bytes`.
+//! What the calls answer. The answers of reads are in `base_bytes`.
 
 use log_batch::{Batch, Run};
 use model_base::Refusal;
@@ -7,7 +7,7 @@ use model_base::Refusal;
 #[derive(Drop)]
 pub struct Receipt {
     pub run: Run,
-    /// The last sequence of its group. Reads of this client see the group whole from now on.
+    /// The last sequence of its group. From now on, reads of this client see the whole group.
     pub group_last: u64,
     pub batch: Batch,
 }

@@ -1,4 +1,4 @@
-//! The calls.
+//! The calls of a write path.
 
 ghost use Rattle.std.specs.Prelude.{◌≡◌, ◌+◌, true, false, map, IfOk, IfErr, OnOk, OnErr};
 ghost use Rattle.model_base.specs.Batch as model;
@@ -19,7 +19,7 @@ use model_base::{NoMemory, WriteOptions};
 use std::rt;
 use std::sync::Wait;
 
-/// All clients of a write path, that of the number 1 first, and the room that closing it takes.
+/// All clients of a write path, client 1 first, and the room that is needed to close it.
 pub struct Clients<C, R> {
     pub clients: Vec<C>,
     pub room: R,
@@ -27,12 +27,12 @@ pub struct Clients<C, R> {
 
 /// A write path that many clients share.
 ///
-/// Each call moves its client's account, and no other's: `Wrote`, `Refuses`, `Reads`, `Asks`, `GivesBack` and `Keeps`
-/// say how. All accounts are parts of one trace, as the closing says.
+/// Each call changes its client's account, and no other account: `Wrote`, `Refuses`, `Reads`, `Asks`, `GivesBack` and
+/// `Keeps` say how. All accounts are parts of one trace, as the clause of `close` says.
 pub trait Engine {
     type Client;
 
-    /// The memory that closing takes.
+    /// The memory that is needed for closing.
     type Room;
 
     type Log;
@@ -42,19 +42,20 @@ pub trait Engine {
     ghost use Rattle.model_base.specs.Trace.{Settings};
     ghost use Rattle.model_accounts.specs.Accounts.{Account};
 
-    /// What it was opened for.
+    /// What the write path was opened for.
     ghost settings: { Self → Settings };
 
     /// What a client did and saw.
     ghost account: { Self.Client → Account };
 
-    /// It is one of its clients.
+    /// The client is one of the write path's clients.
     ghost belongs: { Self → Self.Client → Type 0 };
 
-    /// The room suffices to close it.
+    /// The room is enough to close the write path.
     ghost closes: { Self → Self.Room → Type 0 };
 
-    /// The log that it was opened with has become this one by these calls of the log writer, and none besides.
+    /// These calls of the log writer, and no others, have turned the log that the write path was opened with into this
+    /// log.
     ghost wrote: { Self → List GroupCall → Self.Log → Type 0 };
 
     /// The log's fault, and how many faults its disk has counted.
@@ -76,14 +77,15 @@ pub trait Engine {
             r.group_last (account client.new)) }
         ensures back { IfOk result (λ r. (r.batch ≡ record batch { sequence = r.run.first })
             × (r.run.last + 1 ≡ r.run.first + model.count_of batch.records)) }
-        // a batch that was to be synced was written by a call of the log writer that synced
+        // a batch that asked for a sync was written by a call of the log writer that synced
         ensures synced { IfOk result (λ r. options.sync ≡ true → (calls : List GroupCall) × (log : Self.Log)
             × wrote self.now calls log × IsSyncedBy r.run.first batch.records calls) }
         ensures err { IfErr result (λ e. Refuses (settings self.now) (account client.old) batch.records options e.why
             (account client.new)) }
         ensures unchanged { IfErr result (λ e. e.batch ≡ batch) };
 
-    /// A key's value at the end of what is published.
+    /// A key's value at the end of what is published. For this and the other reads the clauses say that it is the end
+    /// of what the client has then seen published; more may be published.
     fn get<R: Wait + rt::Clock>(
         &self,
         rt: &R,
@@ -96,7 +98,7 @@ pub trait Engine {
         ensures ok { IfOk result (λ read. ReadsAt read.at (λ m. found_value read.value ≡ value_at m key.now)
             (account client.new)) };
 
-    /// The values of keys, all at one end of what is published.
+    /// The values of several keys, all at one and the same end of what is published.
     fn get_many<R: Wait + rt::Clock>(
         &self,
         rt: &R,
@@ -109,7 +111,8 @@ pub trait Engine {
         ensures ok { IfOk result (λ reads. ReadsAt reads.at (λ m. reads.values ≡ map (value_at m) keys.now)
             (account client.new)) };
 
-    /// The keys from `lo` on and below `hi` with their values, all at one end of what is published, in byte order.
+    /// The keys from `lo` on and below `hi` with their values, in byte order, all at one and the same end of what is
+    /// published.
     fn scan<R: Wait + rt::Clock>(
         &self,
         rt: &R,
@@ -123,8 +126,9 @@ pub trait Engine {
         ensures ok { IfOk result (λ rows. ReadsAt rows.at (λ m. rows.rows ≡ rows_within lo.now hi.now m)
             (account client.new)) };
 
-    /// Takes the client's stop token. While anybody holds one, all writes wait, and those that may not are refused.
-    /// Where the client holds one already, nothing is called.
+    /// Takes the client's stop token. While any client holds one, all writes wait, except that those that may not
+    /// wait, and those of a client that holds one itself, are refused. Where the client already holds one, no call is
+    /// made.
     fn stop<R: Wait + rt::Clock>(&self, rt: &R, client: &mut Self::Client) -> Result<(), Held>
         requires { belongs self.now client.old }
         ensures belongs { belongs self.now client.new }
@@ -133,7 +137,7 @@ pub trait Engine {
         ensures held { OnErr result ((holds_stop (account client.old).asked ≡ true)
             × Keeps (account client.old) (account client.new)) };
 
-    /// Gives the client's stop token back. Where it holds none, nothing is called.
+    /// Gives the client's stop token back. Where it holds none, no call is made.
     fn unstop<R: Wait + rt::Clock>(&self, rt: &R, client: &mut Self::Client) -> Result<(), NotHeld>
         requires { belongs self.now client.old }
         ensures belongs { belongs self.now client.new }
@@ -142,8 +146,8 @@ pub trait Engine {
         ensures not_held { OnErr result ((holds_stop (account client.old).asked ≡ false)
             × Keeps (account client.old) (account client.new)) };
 
-    /// Takes the client's slow token, with a rate in bytes a second, of which 0 is 1. While anybody holds one, writes
-    /// are slowed down. Where the client holds one already, nothing is called.
+    /// Takes the client's slow token, with a rate in bytes a second; a rate of 0 counts as 1. While any client holds
+    /// one, writes are slowed down. Where the client already holds one, no call is made.
     fn slow<R: Wait + rt::Clock>(
         &self,
         rt: &R,
@@ -157,7 +161,7 @@ pub trait Engine {
         ensures held { OnErr result ((holds_slow (account client.old).asked ≡ true)
             × Keeps (account client.old) (account client.new)) };
 
-    /// Gives the client's slow token back. Where it holds none, nothing is called.
+    /// Gives the client's slow token back. Where it holds none, no call is made.
     fn unslow<R: Wait + rt::Clock>(&self, rt: &R, client: &mut Self::Client) -> Result<(), NotHeld>
         requires { belongs self.now client.old }
         ensures belongs { belongs self.now client.new }
@@ -166,15 +170,15 @@ pub trait Engine {
         ensures not_held { OnErr result ((holds_slow (account client.old).asked ≡ false)
             × Keeps (account client.old) (account client.new)) };
 
-    /// Gives back the tokens that the client holds. It has done its last call.
+    /// Gives back the tokens that the client holds. It is meant as the client's last call, but no clause demands that.
     fn end<R: Wait + rt::Clock>(&self, rt: &R, client: &mut Self::Client)
         requires { belongs self.now client.old }
         ensures belongs { belongs self.now client.new }
         ensures back { GivesBack (account client.old) (account client.new) };
 
-    /// Gives the log up. All clients are handed in. Of all that they did and saw there is one trace, in which each
-    /// batch's group ended where its receipt said, and the log was written by just the calls that wrote its history.
-    /// It takes no memory.
+    /// Takes all clients, and gives the log back. There is one trace of all that they did and saw, in which each
+    /// batch's group ended where its receipt said, and the log was written by exactly the calls that wrote its
+    /// history. It takes no memory.
     fn close<R: Wait + rt::Clock>(
         self,
         rt: &R,

@@ -1,21 +1,21 @@
-//! Who is told of what a write path does.
+//! A listener for the steps of a write path.
 
-/// Told of what happens in a run, in the thread in which it happens. It promises nothing, and nothing is promised of
-/// it: tests use one to hold a thread back.
+/// Hears what happens in a run, in the thread in which it happens. It promises nothing, and nothing is promised of it:
+/// tests use one to hold a thread back.
 pub trait Gate {
-    /// A write path was opened, whose table has so many locks.
+    /// A write path was opened, and its table has this number of locks.
     fn opened(&self, locks: u64);
 
     /// A client begins.
     fn started(&self, client: u32);
 
-    /// A client's write stands in the line of writers.
+    /// A client's write is in the line of writers.
     fn linked(&self, client: u32);
 
     /// A leader is about to launch its group.
     fn launching(&self, client: u32);
 
-    /// A client's call of this number, from 0 on, was answered.
+    /// The client's call with this number, counted from 0, was answered.
     fn answered(&self, client: u32, number: u64);
 }
 

@@ -1,8 +1,8 @@
 //! The calls of a write path that many clients share, whatever it is made of: what a client writes and reads, and how
-//! the whole is closed. What they promise is said of each client's account (`model_accounts`), and of all accounts at
-//! the closing.
+//! the whole is closed. What they promise is said for each client's account (`model_accounts`), and for all accounts
+//! at the closing.
 //!
-//! A client is one thread's at a time, and each call is made with the client. No call names another client.
+//! A client belongs to one thread at a time, and each call is made with a client. No call names another client.
 #![tactic(auto)]
 
 mod answers;

@@ -1,4 +1,4 @@
--- What follows from the clauses of the controller's calls, for who keeps a client's account.
+-- What follows from the clauses of the controller's calls, for a client that keeps an account of its own calls.
 use Rattle.std.proofs.Common.{◌≡◌, ℕ, Bool, true, false, List, [], ◌∷◌, ◌++◌, length, length-append, map, Option, Some, sym, ap, ◌∙◌, refl, subst, arith, append_assoc}
 use Rattle.std.specs.Prelude.{slice_get, if◌then◌else◌, Result, Ok, Err, OnOk, OnErr, None}
 use Rattle.std.proofs.lemmas.List.{append-nil}
@@ -76,7 +76,7 @@ slow_same : (asked : List Action) (holds : Bool) → holds_slow (asked ++ (if ho
 slow_same asked true = fold-append slow_after false asked (unstop ∷ [])
 slow_same asked false = ap holds_slow (append-nil asked)
 
--- whether the slow token is held doesn't change as the stop token goes back
+-- giving the stop token back doesn't change whether the slow token is held
 pub slow_stays : (c : ℕ) (seen middle : List ControllerCall) → GivesBack (holds_stop (tokens_of c seen)) c seen unstop middle
     → holds_slow (tokens_of c middle) ≡ holds_slow (tokens_of c seen)
 slow_stays c seen middle g =

@@ -1,4 +1,4 @@
--- What a client has asked for, and how many tokens are tokens_held.
+-- What a client has asked for, and how many tokens are held.
 use Rattle.std.proofs.Common.{◌≡◌, ◌≢◌, ℕ, ◌+◌, ◌≤◌, Bool, true, false, List, [], ◌∷◌, ◌++◌, map, ap, ◌∙◌, refl, subst, arith}
 use Rattle.std.specs.Prelude.{filter, ◌==◌, ◌&&◌}
 use Rattle.std.specs.List.{AllByRecursion}
@@ -38,7 +38,7 @@ tokens_append c ts us =
     ap (λ l. map (λ (t : ControllerCall). t.action) l) (filter-append (λ (t : ControllerCall). (t.client == c) && is_token t.action) ts us)
     ∙ map-append (λ (t : ControllerCall). t.action) (filter (λ (t : ControllerCall). (t.client == c) && is_token t.action) ts) (filter (λ (t : ControllerCall). (t.client == c) && is_token t.action) us)
 
--- nothing is asked by calls of others
+-- calls of others add nothing to what the client asked for
 none_of_others : (c : ℕ) (n : controller.Numbers) (rest : List Call) → AllByRecursion (IsNotOf c) rest → tokens_of c (history_from n rest) ≡ []
 none_of_others c n [] a = refl
 none_of_others c n (k ∷ rest) a = rw a.0 (none_of_others c (numbers_after n (action_of k.action)) rest a.1)
@@ -70,7 +70,7 @@ stop_more asked a = fold-append stop_after false asked (a ∷ [])
 slow_more : (asked : List controller.Action) (a : controller.Action) → holds_slow (asked ++ a ∷ []) ≡ slow_after (holds_slow asked) a
 slow_more asked a = fold-append slow_after false asked (a ∷ [])
 
--- whether a token is tokens_held after a call
+-- whether a token is held after a call
 pub stop_held : (a : Action) (asked : List controller.Action) → holds_stop (asked ++ token_in (action_of a)) ≡ stop_after (holds_stop asked) (action_of a)
 stop_held Stop asked = stop_more asked controller.stop
 stop_held Unstop asked = stop_more asked controller.unstop
@@ -87,7 +87,7 @@ slow_held Unslow asked = slow_more asked controller.unslow
 slow_held (Delay now bytes) asked = ap holds_slow (append-nil asked)
 slow_held Look asked = ap holds_slow (append-nil asked)
 
--- the counts follow the tokens
+-- the counts change as the tokens do
 pub stops_count : (a : Action) (n : controller.Numbers) (asked : List controller.Action) → MayCall a asked → weight (holds_stop asked) ≤ n.stops
     → (numbers_after n (action_of a)).stops + weight (holds_stop asked) ≡ n.stops + weight (stop_after (holds_stop asked) (action_of a))
 stops_count Stop n asked may le = rw may (omega arith)

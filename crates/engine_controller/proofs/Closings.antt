@@ -39,7 +39,7 @@ fits_of calls (x ∷ passes) zero p e a =
     front (v ∷ xs) ys b = (b.0, front xs ys b.1)
 fits_of calls (x ∷ passes) (suc i) p e a = fits_of calls passes i p e (all_back (Fits calls) (cell_view x.seat) (observers_of passes) a)
 
--- who is none of the others is a client
+-- a client's number that the others don't cover is from 1 to n
 client_within : (c n : ℕ) → covers (Others n) c ≡ false → (1 ≤ c) × (c ≤ n)
 client_within c n h = within (c == 0) (nat_lt n c) refl refl h
   where
@@ -69,19 +69,19 @@ module _ (passes : List Pass) (each : (i : ℕ) (p : Pass) → slice_get passes 
 
 -- One pass after another
 
--- the pass taken next is one of all
+-- the pass that is taken next is the one at its place in the whole list
 pub at_next : {A : Type 0} (front rest all next : List A) (x : A) → front ++ rest ≡ all → rest ≡ x ∷ next → slice_get all (length front) ≡ Some x
 at_next front rest all next x whole is = subst (λ l. slice_get l (length front) ≡ Some x) (ap (λ l. front ++ l) (sym is) ∙ whole) (get_behind front next x)
 
--- with it, those taken and those left are all
+-- the taken ones, with the next one added, and those that are left after it are all
 pub taken_next : {A : Type 0} (front rest all next : List A) (x : A) → front ++ rest ≡ all → rest ≡ x ∷ next → (front ++ x ∷ []) ++ next ≡ all
 taken_next front rest all next x whole is = append_assoc front (x ∷ []) next ∙ ap (λ l. front ++ l) (sym is) ∙ whole
 
--- where none is left, those taken are all
+-- where none is left, the taken ones are all
 pub taken_all : {A : Type 0} (front rest all : List A) → front ++ rest ≡ all → length rest ≡ 0 → front ≡ all
 taken_all front rest all whole none = sym (append-nil front) ∙ ap (λ l. front ++ l) (sym (none_of_length rest none)) ∙ whole
 
--- its observers stand behind those of the passes before
+-- its observers are added after those of the passes before it
 pub joins_next : (n : ℕ) (taken : List Pass) (p : Pass) (before own after : List Observer) → after ≡ before ++ own → before ≡ others n ++ observers_of taken → own ≡ cell_view p.seat
     → after ≡ others n ++ observers_of (taken ++ p ∷ [])
 joins_next n taken p before own after both is cut =

@@ -1,4 +1,4 @@
--- What the methods of the cell ask, at views that are known.
+-- What the methods of the cell require, shown for views that are known.
 use Rattle.std.proofs.Common.{◌≡◌, ℕ, zero, suc, ◌+◌, ◌^◌, ◌≤◌, ◌<◌, Bool, true, false, true≢false, List, [], ◌∷◌, ◌++◌, sym, ap, ◌∙◌, refl, subst, arith}
 use Rattle.std.specs.Prelude.{◌==◌, ◌||◌, ◌&&◌, nat_lt, if◌then◌else◌}
 use Rattle.std.specs.List.{AllByRecursion, sum_by}
@@ -94,7 +94,7 @@ begins x is = record {
     each zero v e = subst (AllByRecursion (Fits [])) (some-injective (others 0) v e) (record { rest = []; begins = refl; behind = tt; first = refl }, tt)
     each (suc i) v e = absurd (some-ne-none v (sym e))
 
--- which of the other clients is the next one
+-- a client that the others cover is the next client, or is still covered by the others once the next client is cut off
 cut_as : (c k : ℕ) (z l m e : Bool) → (c == 0) ≡ z → nat_lt k c ≡ l → nat_lt (k + 1) c ≡ m → (c == (k + 1)) ≡ e → weight (z || m) + weight e ≡ weight (z || l)
 cut_as c k true l m true p q r s = absurd (grind (arith, nat_tests))
 cut_as c k true l m false p q r s = refl

@@ -24,7 +24,7 @@ none_of_others : (c p : ℕ) (calls : List ControllerCall) → AreOfOthers c cal
 none_of_others c p [] a = refl
 none_of_others c p (t ∷ calls) a = rw (other_client t.client c a.0) (none_of_others c (p + 1) calls a.1)
 
--- calls of others are no delays of the client's
+-- calls of others add no delays of the client
 behind_others : (c : ℕ) (seen between : List ControllerCall) → AreOfOthers c between → delays_of c (seen ++ between) ≡ delays_of c seen
 behind_others c seen between a =
     delays_append c 0 seen between ∙ ap (λ l. delays_of c seen ++ l) (none_of_others c (0 + length seen) between a) ∙ append-nil (delays_of c seen)
@@ -35,7 +35,7 @@ goes_delays c seen after g = ap (delays_of c) g.is ∙ behind_others c seen g.be
 delays_of_one : (c : ℕ) (a : Action) (told : Option Look) (p n : ℕ) → p ≡ n → delays_from c p (record { client = c; action = a; told = told } ∷ []) ≡ place_if (is_delay a) n
 delays_of_one c a told p n e = rw (same_client c) (append-nil (place_if (is_delay a) p) ∙ ap (place_if (is_delay a)) e)
 
--- a delay of its own is one more, at the last place
+-- a delay of its own is one more, at the last place of the history
 pub ends_delays : (c : ℕ) (seen : List ControllerCall) (a : Action) (told : Option Look) (after : List ControllerCall) → EndsWith c seen a told after
     → delays_of c after ≡ delays_of c seen ++ place_if (is_delay a) (length after - 1)
 ends_delays c seen a told after e =

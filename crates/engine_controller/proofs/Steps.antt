@@ -92,7 +92,7 @@ module _ (x : Numbers) (views : Views) (id : ℕ) (v : List Observer) (r : Kept 
     few = omega (arith, sum_snoc (λ (u : List Observer). sum_by share u) (set views id left) right, sum_set (λ (u : List Observer). sum_by share u) views id v left at, shares, r.few);
   }
 
-  -- it takes in another's observers, who is left with none
+  -- it takes in the observers of another pass, which then has none
   pub merged : (other : ℕ) (w : List Observer) → ¬ (other ≡ id) → get_elem? (set views id (v ++ w)) other ≡ some w → Kept x (set (set views id (v ++ w)) other [])
   merged other w apart there =
       let here : get_elem? views other ≡ some w = ⊎_elim (λ (t : (other ≡ id) × ((v ++ w) ≡ w)). absurd (apart t.0)) (λ (t : (other ≢ id) × (get_elem? views other ≡ some w)). t.1) (at_set views id other (v ++ w) w there) in
@@ -120,7 +120,7 @@ module _ (x : Numbers) (views : Views) (id : ℕ) (v : List Observer) (r : Kept 
 
 -- Calls
 
--- those who don't cover a client fit its next call
+-- observers that don't cover a client still fit after that client's next call
 fits_more : (calls : List Call) (c : ℕ) (a : Action) (u : List Observer) → sum_by (coverage c) u ≡ 0 → AllByRecursion (Fits calls) u → AllByRecursion (Fits (calls ++ call c a ∷ [])) u
 fits_more calls c a [] none fits = tt
 fits_more calls c a (s ∷ u) none fits =
@@ -141,7 +141,7 @@ fits_whole c calls = record { rest = []; begins = append-nil calls; behind = tt;
 covers_once : (c : ℕ) (seen : List Call) → sum_by (coverage c) (client_view c seen) ≡ 1
 covers_once c seen = sum_single (coverage c) (observer (Client c) seen) ∙ ap weight (same_client c)
 
--- observers that cover nobody
+-- observers that cover no client
 pub record AreNotes (notes : List Observer) : Type 0 where
   pub cover : (c : ℕ) → sum_by (coverage c) notes ≡ 0
   pub stop : sum_by (tokens_held holds_stop) notes ≡ 0

@@ -1,4 +1,4 @@
--- What a step tells of a view, as the contracts say it.
+-- What a step shows to a view, in the words of the contracts.
 use Rattle.std.proofs.Common.{◌≡◌, ◌≢◌, ℕ, List, [], ◌∷◌, ◌++◌, sym, ap, ◌∙◌, refl, subst, append_assoc}
 use Rattle.std.specs.Prelude.{◌==◌, false, Some}
 use Rattle.std.specs.List.{AllByRecursion}
@@ -110,7 +110,7 @@ module _ (a : Action) (v : List Observer) (x : Numbers) (w : List Observer) (m :
       (subst (λ n. EndsWith (client_in v) (history_of (seen_in v)) (action_of a) (answer n (action_of a)) (history_of ((seen_in v ++ m.between) ++ call (client_in v) a ∷ []))) (sym m.numbers)
       (ends_with (client_in v) (seen_in v) m.between a m.others))
 
--- a call was told what it answers
+-- the answer that a call returns is the one that the history has for it
 pub ends_told : (c : ℕ) (seen : List ControllerCall) (a : controller.Action) (told answered : controller.Look) (after : List ControllerCall)
     → answered ≡ told → EndsWith c seen a (Some told) after → EndsWith c seen a (Some answered) after
 ends_told c seen a told answered after is e = subst (λ l. EndsWith c seen a (Some l) after) (sym is) e

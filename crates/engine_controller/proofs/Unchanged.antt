@@ -1,4 +1,4 @@
--- What no call of the controller changes.
+-- What a delay leaves as it was, how a slow token changes the counts, and that a rate stays at least 1.
 use Rattle.std.proofs.Common.{◌≡◌, ℕ, ◌+◌, ◌≤◌, Bool, true, false, true≢false, sym, refl, subst, arith}
 use Rattle.std.proofs.lemmas.Bool.Decides.{nat_tests}
 use Rattle.std.specs.Prelude.{if◌then◌else◌, ◌==◌, nat_le, nat_lt, ◌||◌}
@@ -8,7 +8,7 @@ on_if : {A : Type 0} (P : A → Type 0) (b : Bool) (x y : A) → P x → P y →
 on_if P true x y p q = p
 on_if P false x y p q = q
 
--- the stops, the delays and the rate are those before
+-- the stops, the delays and the rate are the same as before
 abbrev pub Leaves : Numbers → Numbers → Type 0
 Leaves n m = (m.stops ≡ n.stops) × (m.delays ≡ n.delays) × (m.rate ≡ n.rate)
 
@@ -34,7 +34,7 @@ if_either true b x y e = refl
 if_either false true x y e = refl
 if_either false false x y e = absurd (true≢false (sym e))
 
--- asking a controller that nobody slows changes nothing, and there is no wait
+-- where no client slows writes, asking for a delay changes nothing, and there is no wait
 pub unslowed : (n : Numbers) (now bytes : ℕ) → n.delays ≡ 0 → after_delay n now bytes ≡ record { numbers = n; wait = 0 }
 unslowed n now bytes none =
     let is : (n.delays == 0) ≡ true = grind (arith, nat_tests) in
@@ -46,7 +46,7 @@ slowed_stops n rate = on_if (λ (m : Numbers). m.stops ≡ n.stops) (n.delays ==
 pub slowed_delays : (n : Numbers) (rate : ℕ) → (after_slow n rate).delays ≡ n.delays + 1
 slowed_delays n rate = refl
 
--- a rate is at least 1
+-- a rate that is at least 1 stays so after a call
 pub rate_after : (n : Numbers) (a : Action) → 1 ≤ n.rate → 1 ≤ (numbers_after n a).rate
 rate_after n stop h = h
 rate_after n unstop h = h

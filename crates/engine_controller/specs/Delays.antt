@@ -1,4 +1,4 @@
--- Where a client's delays stand in the controller's history.
+-- Where a client's delays are in the controller's history.
 use Rattle.std.specs.Prelude.{ℕ, ◌+◌, Bool, List, [], ◌∷◌, ◌++◌, ◌==◌, ◌&&◌, if◌then◌else◌}
 use Rattle.model_base.specs.Controller.{ControllerCall}
 use Rattle.model_base.specs.Groups.{is_delay}
@@ -6,7 +6,7 @@ use Rattle.model_base.specs.Groups.{is_delay}
 abbrev pub place_if : Bool → ℕ → List ℕ
 place_if b place = if b then place ∷ [] else []
 
--- the places of a client's delays, from a place on
+-- the places of a client's delays, where the first of these calls is at this place
 abbrev pub delays_from : ℕ → ℕ → List ControllerCall → List ℕ
 delays_from client place [] = []
 delays_from client place (t ∷ calls) =

@@ -1,4 +1,4 @@
--- The five words as the numbers of the write controller's equations, and its calls.
+-- The five words as the numbers of the write controller's equations, and calls as the calls of those equations.
 use Rattle.std.specs.Prelude.{ℕ, List, [], ◌∷◌}
 use Rattle.model_base.specs.Controller as controller
 use Rattle.model_base.specs.Controller.{stop, unstop, slow, unslow, delay, look, after_delay}
@@ -21,7 +21,7 @@ action_of call.Unslow = unslow
 action_of (call.Delay now bytes) = delay now bytes
 action_of call.Look = look
 
--- the wait that a call answers: 0 but for a delay
+-- the wait that a call answers; only a delay may answer more than 0
 abbrev pub wait_after : controller.Numbers → controller.Action → ℕ
 wait_after n (delay now bytes) = (after_delay n now bytes).wait
 wait_after n other = 0

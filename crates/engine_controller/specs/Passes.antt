@@ -1,4 +1,4 @@
--- What the controller's calls say of a pass and of the controller's history.
+-- What the contracts of the controller's calls say of a pass and of the controller's history.
 use Rattle.std.specs.Prelude.{◌≡◌, ◌≢◌, ℕ, ◌+◌, ◌≤◌, Bool, true, false, List, [], ◌∷◌, ◌++◌, length, Option, None, Some, slice_get, if◌then◌else◌}
 use Rattle.std.specs.List.{AllByRecursion}
 use Rattle.crossbeam_utils.specs.Seq.{cell_view}
@@ -13,7 +13,7 @@ use Rattle.engine_controller.specs.declared.controller.Controller.{Controller}
 use Rattle.engine_controller.specs.Rule.{client_in, seen_in, history_of, IsClientView, observer, others}
 use Rattle.engine_controller.specs.declared.rule.Caller.TheVariants.{Nobody}
 
--- whose pass it is
+-- the client whose pass it is
 abbrev pub client_of : Pass → ℕ
 client_of pass = client_in (cell_view pass.seat)
 
@@ -28,7 +28,7 @@ seen_by_note note = history_of (seen_in (cell_view note.seat))
 abbrev pub asked_by : Pass → List Action
 asked_by pass = tokens_of (client_of pass) (seen_by pass)
 
--- for how many clients it was opened
+-- how many clients it was opened for
 abbrev pub clients_of : {C : Type 0} → Controller C → ℕ
 clients_of controller = controller.clients
 
@@ -39,7 +39,7 @@ pub record IsPassOf {C : Type 0} (controller : Controller C) (pass : Pass) : Typ
   pub stopping : pass.stopping ≡ holds_stop (asked_by pass)
   pub slowing : pass.slowing ≡ holds_slow (asked_by pass)
 
--- it is a note of this controller's
+-- it is a note that this controller gave
 pub record IsNoteOf {C : Type 0} (controller : Controller C) (note : Note) : Type 0 where
   pub cell : note.seat.table_id ≡ controller.cell.table.shared.table_id
   pub view : cell_view note.seat ≡ observer Nobody (seen_in (cell_view note.seat)) ∷ []
@@ -71,11 +71,11 @@ abbrev pub GivesBack : Bool → ℕ → List ControllerCall → Action → List 
 GivesBack true client seen action after = EndsWith client seen action None after
 GivesBack false client seen action after = after ≡ seen
 
--- a call as one of those that take a token or give one back
+-- a list with the call, where it takes a token or gives one back, and else an empty list
 abbrev pub token_in : Action → List Action
 token_in action = if is_token action then action ∷ [] else []
 
--- it is the last call, after all that was seen
+-- this call is the last one, after all that was seen
 pub record IsLast (client : ℕ) (seen : List ControllerCall) (action : Action) (told : Option Look)
     (after : List ControllerCall) : Type 0 where
   pub place : ℕ
@@ -84,12 +84,12 @@ pub record IsLast (client : ℕ) (seen : List ControllerCall) (action : Action) 
 
 -- Opening and closing
 
--- it covers all but this controller's clients
+-- it is the pass of all who are not this controller's clients
 pub record IsOthersOf {C : Type 0} (controller : Controller C) (rest : Others) : Type 0 where
   pub cell : rest.seat.table_id ≡ controller.cell.table.shared.table_id
   pub view : cell_view rest.seat ≡ others (clients_of controller)
 
--- these are the passes of a controller that was just opened for so many clients
+-- these are the passes of a controller that was just opened for this number of clients
 pub record AreNew {C : Type 0} (controller : Controller C) (clients : ℕ) (passes : Passes) : Type 0 where
   pub opened_for : clients_of controller ≡ clients
   pub number : length passes.clients.items ≡ clients
@@ -104,8 +104,8 @@ pub record AreAll {C : Type 0} (controller : Controller C) (passes : Passes) : T
       → IsPassOf controller pass × (client_of pass ≡ i + 1)
   pub others_are : IsOthersOf controller passes.others
 
--- the one history: it is legal, its calls are the clients', and each pass has seen a beginning of it, with all calls of
--- its own
+-- the one history: it is legal, all its calls are the clients', and each pass has seen a beginning of it, with all
+-- calls of its own
 pub record IsHistoryOf (passes : List Pass) (history : List ControllerCall) : Type 0 where
   pub legal : IsLegal history
   pub clients : AllByRecursion (λ (t : ControllerCall). (1 ≤ t.client) × (t.client ≤ length passes)) history

@@ -1,4 +1,4 @@
--- The rule of the controller's five words, and what each step on them tells.
+-- The rule of the controller's five words, and what each step on them shows.
 use Rattle.std.specs.Prelude.{◌≡◌, ◌≢◌, ℕ, ◌+◌, ◌-◌, ◌^◌, ◌≤◌, Bool, true, false, ◌||◌, List, [], ◌∷◌, ◌++◌, ◌==◌, nat_lt, ⊤, Option, IfSome}
 use Rattle.std.specs.List.{AllByRecursion, sum_by}
 use mathlib.Core.Option.{some}
@@ -18,12 +18,12 @@ use Rattle.engine_controller.specs.Numbers.{numbers_of, action_of}
 
 -- Calls
 
--- the numbers after calls
+-- the numbers after these calls, from `n` on
 abbrev pub numbers_from : controller.Numbers → List Call → controller.Numbers
 numbers_from n [] = n
 numbers_from n (c ∷ calls) = numbers_from (numbers_after n (action_of c.action)) calls
 
--- the same calls, each with what it was told
+-- the same calls, each with its answer
 abbrev pub history_from : controller.Numbers → List Call → List ControllerCall
 history_from n [] = []
 history_from n (c ∷ calls) =
@@ -54,7 +54,7 @@ client_view client seen = observer (Client client) seen ∷ []
 abbrev pub others : ℕ → List Observer
 others known = observer (Others known) [] ∷ []
 
--- a client's number, and 0 for who is none
+-- a client's number, or 0 for a caller that is no client
 abbrev pub number_of : Caller → ℕ
 number_of Nobody = 0
 number_of (Client client) = client
@@ -71,11 +71,11 @@ seen_in (v ∷ observers) = v.seen
 abbrev pub IsClientView : List Observer → Type 0
 IsClientView v = v ≡ client_view (client_in v) (seen_in v)
 
--- what the first observer has seen, as nobody's
+-- what the first observer has seen, as an observer that makes no calls
 abbrev pub note_of : List Observer → List Observer
 note_of observers = observer Nobody (seen_in observers) ∷ []
 
--- how many clients have a pass
+-- how many clients already have a pass, where the caller is the others; else 0
 abbrev pub known_to : Caller → ℕ
 known_to Nobody = 0
 known_to (Client client) = 0
@@ -85,7 +85,7 @@ abbrev pub known_in : List Observer → ℕ
 known_in [] = 0
 known_in (v ∷ observers) = known_to v.caller
 
--- the next client's pass is cut off the others'
+-- the next client's pass is cut off from the others': these two are what is left, and the new client's view
 abbrev pub fewer_others : List Observer → List Observer
 fewer_others observers = others (known_in observers + 1)
 
@@ -103,13 +103,14 @@ covers (Others known) client = (client == 0) || nat_lt known client
 abbrev pub IsOfOthers : Caller → Call → Type 0
 IsOfOthers caller c = covers caller c.client ≡ false
 
--- The others' observer has seen nothing. So every call comes after what it has seen, and at closing none is theirs.
+-- The others' observer has seen nothing. So every call comes after what it has seen, and at closing no call is the
+-- others'.
 abbrev pub SeesFirst : Caller → List Call → Type 0
 SeesFirst Nobody seen = ⊤
 SeesFirst (Client client) seen = ⊤
 SeesFirst (Others known) seen = seen ≡ []
 
--- what it has seen begins the history, and no call after that is its own
+-- the history begins with what the observer has seen, and no later call is the observer's own
 pub record Fits (calls : List Call) (v : Observer) : Type 0 where
   pub rest : List Call
   pub begins : v.seen ++ rest ≡ calls
@@ -120,7 +121,7 @@ abbrev pub weight : Bool → ℕ
 weight true = 1
 weight false = 0
 
--- 1 where it covers the client
+-- 1 where the observer covers the client, and else 0
 abbrev pub coverage : ℕ → Observer → ℕ
 coverage client v = weight (covers v.caller client)
 
@@ -128,7 +129,7 @@ coverage client v = weight (covers v.caller client)
 abbrev pub asked_in : ℕ → List Call → List controller.Action
 asked_in client seen = tokens_of client (history_of seen)
 
--- 1 where it is a client's that holds its token of that kind
+-- 1 where the caller is a client that holds its token of that kind, and else 0
 abbrev pub tokens_held_by : (List controller.Action → Bool) → List Call → Caller → ℕ
 tokens_held_by holds seen Nobody = 0
 tokens_held_by holds seen (Client client) = weight (holds (asked_in client seen))
@@ -137,7 +138,8 @@ tokens_held_by holds seen (Others known) = 0
 abbrev pub tokens_held : (List controller.Action → Bool) → Observer → ℕ
 tokens_held holds v = tokens_held_by holds v.seen v.caller
 
--- How many of 2 ^ 32 clients it covers. There are never more, so that a count of tokens, and one more, fits a word.
+-- How many of 2 ^ 32 clients the caller covers. There are never more, so that a count of tokens plus one fits into a
+-- word.
 abbrev pub share_of : Caller → ℕ
 share_of Nobody = 0
 share_of (Client client) = 1
@@ -149,9 +151,9 @@ share v = share_of v.caller
 abbrev pub total : (Observer → ℕ) → List (List Observer) → ℕ
 total f views = sum_by (λ (v : List Observer). sum_by f v) views
 
--- There is one history of calls. The words are the numbers after it, and each observer has seen a beginning of it,
--- after which no call is its own. One observer at most covers a client. Stops and delays are how many clients hold such
--- a token.
+-- There is one history of calls. The words are the numbers after it. Each observer has seen a beginning of it, and no
+-- later call is its own. At most one observer covers a client. The words `stops` and `delays` are how many clients hold
+-- a stop token and a slow token.
 pub record Kept (x : Numbers) (views : List (List Observer)) : Type 0 where
   pub calls : List Call
   pub numbers : numbers_of x ≡ numbers_at calls
@@ -168,13 +170,13 @@ pub record Kept (x : Numbers) (views : List (List Observer)) : Type 0 where
 abbrev pub AreNotOf : ℕ → List Call → Type 0
 AreNotOf client calls = AllByRecursion (λ (c : Call). c.client ≢ client) calls
 
--- numbers of which no call makes more than a word
+-- a rate of at least 1, and so few stops and delays that no call makes them more than fits into a word
 pub record IsInRange (x : Numbers) : Type 0 where
   pub rate : 1 ≤ x.rate
   pub stops : x.stops ≤ 2 ^ 32
   pub delays : x.delays ≤ 2 ^ 32
 
--- the client has seen the history so far, which begins with all that its pass knew
+-- the client has seen the history so far, which begins with what each observer of its pass had seen
 pub record Sees (v : List Observer) (x y : Numbers) (w : List Observer) : Type 0 where
   pub between : List Call
   pub view : w ≡ client_view (client_in v) (seen_in v ++ between)
@@ -183,37 +185,37 @@ pub record Sees (v : List Observer) (x y : Numbers) (w : List Observer) : Type 0
   pub numbers : numbers_of x ≡ numbers_at (seen_in v ++ between)
   pub range : IsInRange x
 
--- the client has made a call, which ends the history so far
+-- the client has made a call, which is the last one of the history so far
 pub record Makes (action : Action) (v : List Observer) (x : Numbers) (w : List Observer) : Type 0 where
   pub between : List Call
   pub view : w ≡ client_view (client_in v) ((seen_in v ++ between) ++ call (client_in v) action ∷ [])
   pub others : AreNotOf (client_in v) between
   pub numbers : numbers_of x ≡ numbers_at (seen_in v ++ between)
-  -- a stop token of its own is among the stops
+  -- where the client holds a stop token, `stops` counts it
   pub own_stop : holds_stop (asked_in (client_in v) (seen_in v)) ≡ true → 1 ≤ x.stops
 
--- an exchange makes the call where it finds what was found before, also where the call changes no number
+-- an exchange makes the call where the numbers are still those that were found, even where the call changes no number
 pub record Exchanges (action : Action) (found : Numbers) (v : List Observer) (x : Numbers) (w : List Observer) : Type 0
   where
     pub made : x ≡ found → Makes action v x w
     pub other : x ≢ found → Sees v x x w
 
--- a delay of so many bytes, at this moment where there is one, and else at any
+-- a delay for these bytes, at the last moment where there is one, and else at any moment
 abbrev pub IsDelayAt : Option ℕ → ℕ → Action → Type 0
 IsDelayAt last bytes action = (now : ℕ) × IfSome last (λ moment. moment ≡ now) × (action ≡ Delay now bytes)
 
--- a load that asks for a delay makes the call where nobody slows writes, since it changes no number there
+-- a load that asks for a delay makes the call where no client slows writes, since there the call changes no number
 pub record Asks (action : Action) (v : List Observer) (x : Numbers) (w : List Observer) : Type 0 where
   pub made : x.delays ≡ 0 → Makes action v x w
   pub other : x.delays ≢ 0 → Sees v x x w
 
--- there is a history that all the observers fit
+-- there is a history that fits all the observers
 pub record Closes (v w : List Observer) : Type 0 where
   pub view : w ≡ v
   pub calls : List Call
   pub fits : AllByRecursion (Fits calls) v
 
--- a client takes a token only while it holds none of that kind, and gives back only what it holds
+-- a client takes a token only while it holds none of that kind, and gives back only a token that it holds
 abbrev pub MayCall : Action → List controller.Action → Type 0
 MayCall Stop asked = holds_stop asked ≡ false
 MayCall Unstop asked = holds_stop asked ≡ true

@@ -1,4 +1,4 @@
-//! The calls of who writes, and how what one pass has seen comes to another.
+//! The calls of clients that write, and how one pass learns what another pass has seen.
 
 ghost use Rattle.std.specs.Prelude.{◌≡◌, ◌≤◌, ℕ, true, Some, IfSome};
 ghost use mathlib.Core.List.{IsPrefix};
@@ -19,9 +19,10 @@ use std::marker::Brand;
 use std::sync::Wait;
 
 impl<Time: Clock> Controller<Time> {
-    /// Asks how long a group of so many bytes has to wait. Where somebody slows writes the clock is asked once for its
-    /// moment, before the call. Where nobody does, no answer depends on the moment and the clock isn't asked: the call
-    /// is at the last moment that it had answered, where it tells one, or at any.
+    /// Asks how long a group of `bytes` bytes has to wait. Where some client slows writes, the clock is asked once,
+    /// before the call, and the call is at the moment that it answers. Where no client does, no answer depends on the
+    /// moment, and the clock isn't asked: the call is at the last moment that the clock had answered, where the clock
+    /// tells one, or else at any moment.
     pub fn delay<R: Wait>(&self, rt: &R, pass: &mut Pass, clock: &mut Time, bytes: u64) -> Look
         requires own { IsPassOf self.now pass.old }
         ensures own { IsPassOf self.now pass.new × (client_of pass.new ≡ client_of pass.old) }
@@ -29,7 +30,7 @@ impl<Time: Clock> Controller<Time> {
             × EndsWith (client_of pass.old) (seen_by pass.old) (delay now bytes) (Some (look_of result))
             (seen_by pass.new) }
     {
-        // Where nobody slows writes this load is the whole call, and no word is written.
+        // Where no client slows writes, this load is the whole call, and no word is written.
         let found = self.ask_unslowed::<Brand, R>(rt, &mut pass.seat, clock, bytes);
         if found.delays == 0 {
             return Look::new(found.stops, 0, 0);
@@ -38,7 +39,7 @@ impl<Time: Clock> Controller<Time> {
         self.call(rt, &mut pass.seat, Action::Delay { now, bytes })
     }
 
-    /// Reads how many clients stop and slow writes. A client that stops them itself is among these.
+    /// Reads how many clients stop writes, and how many slow them. A client that stops writes itself is counted too.
     pub fn look<R: Wait>(&self, rt: &R, pass: &mut Pass) -> Look
         requires own { IsPassOf self.now pass.old }
         ensures own { IsPassOf self.now pass.new × (client_of pass.new ≡ client_of pass.old) }
@@ -50,7 +51,7 @@ impl<Time: Clock> Controller<Time> {
         Look::new(found.stops, found.delays, 0)
     }
 
-    /// What the pass has seen, to be taken to another client's pass. It is no call, and the pass itself stays.
+    /// Copies what the pass has seen, for another client's pass. It is no call, and the pass itself stays as it is.
     pub fn note(&self, pass: &mut Pass) -> Note
         requires own { IsPassOf self.now pass.old }
         ensures own { IsPassOf self.now pass.new × (client_of pass.new ≡ client_of pass.old) }
@@ -62,7 +63,7 @@ impl<Time: Clock> Controller<Time> {
         }
     }
 
-    /// Lets the pass see what another has seen, and all of the history so far. It is no call.
+    /// Lets the pass see what another pass has seen, and all of the history so far. It is no call.
     pub fn learn<R: Wait>(&self, rt: &R, pass: &mut Pass, note: Note)
         requires own { IsPassOf self.now pass.old }
         requires note { IsNoteOf self.now note }
@@ -71,7 +72,7 @@ impl<Time: Clock> Controller<Time> {
         ensures noted { IsPrefix (seen_by_note note) (seen_by pass.new) }
     {
         join(&self.cell, &mut pass.seat, note.seat);
-        // Only a step tells that both are beginnings of one history.
+        // Only a step on the words shows that both are beginnings of one history.
         load::<Sight, R>(&self.cell, rt, &mut pass.seat);
     }
 }

@@ -1,4 +1,4 @@
-//! The controller: five words that change as one, and the step that makes a call.
+//! The controller: five words that change together, and the step that makes a call.
 
 ghost use Rattle.std.specs.Prelude.{◌≡◌};
 ghost use Rattle.crossbeam_utils.specs.Seq.{cell_view};
@@ -21,13 +21,14 @@ use std::sync::{Mutex, Wait};
 pub struct Controller<Time> {
     pub(crate) cell: Cell,
     pub(crate) clients: u32,
-    // No clock is kept. As a lock of it this may be shared by threads, also where the clock may only go to one.
+    // No clock is kept. `PhantomData` of a lock of it lets threads share the controller, even where only one thread
+    // may have the clock.
     pub(crate) clock: PhantomData<Mutex<Time>>,
 }
 
 impl<Time: Clock> Controller<Time> {
-    // Makes a call, and says what it was told. Between the load and the exchange others may have called: then it tries
-    // again with the numbers that the exchange found.
+    // Makes a call, and returns its answer. Between the load and the exchange other clients may have called: then it
+    // tries again with the numbers that the exchange found.
     pub(crate) fn call<R: Wait>(&self, rt: &R, seat: &mut Seat, action: Action) -> Look
         requires cell { seat.old.table_id ≡ self.now.cell.table.shared.table_id }
         requires view { IsClientView (cell_view seat.old) }
@@ -37,7 +38,8 @@ impl<Time: Clock> Controller<Time> {
             × (look_of result ≡ look_at (numbers_of found) (action_of action)) }
     {
         let mut found = load::<Sight, R>(&self.cell, rt, seat);
-        // No call was made so far, and the numbers found last are those of the history that the seat has seen.
+        // No call was made so far, and the numbers that were found last are numbers of the history that the seat has
+        // seen.
         for _ in rt.forever() {
             let (new, wait) = found.after(action);
             match exchange::<Brand, R>(&self.cell, rt, seat, action, found, new) {
@@ -48,9 +50,9 @@ impl<Time: Clock> Controller<Time> {
         unreachable!()
     }
 
-    // Reads the numbers, and has asked for a delay with that where nobody slows writes: there a load is the whole call,
-    // and no word is written. The clock isn't asked. It is here for the last moment that it answered, which only the
-    // clauses and proofs know.
+    // Reads the numbers. Where no client slows writes, this also asks for a delay: there a load is the whole call, and
+    // no word is written. The clock isn't asked. It is a parameter for the last moment that it answered, which only
+    // the clauses and proofs know.
     pub(crate) fn ask_unslowed<Picked: Asking, R: Wait>(
         &self,
         rt: &R,

@@ -1,4 +1,5 @@
-//! What the equations and the clauses of the calls come to: functions whose contracts are laws, and that have no code.
+//! What follows from the equations and from the clauses of the calls: functions whose contracts are laws, and that
+//! have no code.
 
 ghost use Rattle.std.specs.Prelude.{◌≡◌, ◌<◌, ℕ, ◌+◌, ◌-◌, List, ◌++◌, length, Option, Some, slice_get};
 ghost use Rattle.std.specs.List.{AllByRecursion};
@@ -10,14 +11,14 @@ ghost use Rattle.engine_controller.specs.declared.pass.Pass.{Pass};
 ghost use Rattle.engine_controller.specs.Delays.{delays_of, place_if};
 ghost use Rattle.engine_controller.specs.Passes.{seen_by, GoesOn, EndsWith, IsLast, IsHistoryOf, token_in};
 
-/// Who looks changes nothing, nor does who asks for a delay while writes are stopped.
+/// A `look` changes nothing, and neither does a `delay` while writes are stopped.
 pub fn asking_a_stopped_controller_changes_nothing()
     ensures look { (n : Numbers) → numbers_after n look ≡ n }
     ensures delay { (n : Numbers) (now bytes : ℕ) → 0 < n.stops → numbers_after n (delay now bytes) ≡ n }
 {}
 
-/// Where a history goes on by calls of others, what was seen begins it, and the client's tokens and delays are those
-/// before.
+/// Where a history goes on by calls of others, it begins with what was seen, and the client's tokens and delays are
+/// the same as before.
 pub fn calls_of_others()
     ensures begins { (client : ℕ) (seen after : List ControllerCall) → GoesOn client seen after
         → IsPrefix seen after }
@@ -27,9 +28,9 @@ pub fn calls_of_others()
         → delays_of client after ≡ delays_of client seen }
 {}
 
-/// Where a history goes on by calls of others and ends with one of the client's own, what was seen begins it. The
-/// client's tokens and delays are those before, and this call, if it is one. It stands at the last place, after all
-/// that was seen.
+/// Where a history goes on by calls of others and ends with one of the client's own, it begins with what was seen. The
+/// client's token calls and delays are those before, and then this call, if it is of that kind. The call is the last
+/// one of the history, after all that was seen.
 pub fn own_calls()
     ensures begins { (client : ℕ) (seen : List ControllerCall) (action : Action) (told : Option Look)
         (after : List ControllerCall) → EndsWith client seen action told after → IsPrefix seen after }
@@ -44,8 +45,8 @@ pub fn own_calls()
         → IsLast client seen action told after }
 {}
 
-/// At closing: where each client's delays, as its own pass has seen them, were asked for groups, all delays of the one
-/// history were.
+/// At closing: where the delays of each client, as far as its own pass has seen them, were asked for groups, all
+/// delays of the one history were asked for groups.
 pub fn delays_of_all_clients()
     ensures { (groups : List Group) (passes : List Pass) (history : List ControllerCall)
         → IsHistoryOf passes history

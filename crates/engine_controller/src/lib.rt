@@ -1,13 +1,14 @@
-//! The write controller: clients stop or slow all writes, and who writes asks how long to wait. It goes by the plan of
-//! RocksDB's `db/write_controller.cc` (RocksDB wiki, "Write Stalls"); the equations are those of `model_base`, in
-//! `specs/Controller.antt`.
+//! The write controller: clients stop or slow all writes, and a client that writes asks how long to wait. It follows
+//! the plan of RocksDB's `db/write_controller.cc` (RocksDB wiki, "Write Stalls"); the equations are those of
+//! `model_base`, in `specs/Controller.antt`.
 //!
-//! Each client may hold a stop token and a slow token. A slow token comes with a rate in bytes a second. While anybody
-//! holds a stop token, writes are stopped; while anybody holds a slow token, they are slowed down: who writes spends a
-//! credit of bytes, which is refilled with time at the rate of the token that was taken last, and waits where the
-//! credit doesn't suffice. The controller itself holds nobody up: it tells, and who writes waits.
+//! Each client may hold a stop token and a slow token. A slow token comes with a rate in bytes a second. While any
+//! client holds a stop token, writes are stopped; while any client holds a slow token, they are slowed down: a client
+//! that writes spends a credit of bytes, and waits where the credit isn't enough. The credit is refilled with time, at
+//! the rate of the token that was taken last. The controller itself makes no client wait: it answers how long, and the
+//! client that writes waits.
 //!
-//! The controller is five words, which change as one:
+//! The controller is five words, which change together:
 //!
 //! | word | what it is |
 //! |---|---|
@@ -23,15 +24,15 @@
 //! | `stop`, `unstop` | takes the client's stop token; gives it back |
 //! | `slow`, `unslow` | takes the client's slow token, with a rate; gives it back |
 //! | `end` | gives back the tokens that the client holds |
-//! | `delay` | asks for so many bytes: the counts of tokens, and how long to wait, by a clock while writes are slowed |
+//! | `delay` | how long a number of bytes has to wait, by a clock while writes are slowed; and the counts of tokens |
 //! | `look` | the counts of tokens |
 //! | `note`, `learn` | carry what one pass has seen to another, and make no call |
 //! | `close` | takes all passes back |
 //!
-//! Calls of several threads stand one after another in one history, and each call's answer is the one that the
-//! equations give at its place. A client makes its calls with its pass, which knows the history as far as it has seen
-//! it. What a call promises is how that history goes on: by calls of others, and then by this call. At closing there is
-//! one history, and what each pass has seen is a beginning of it, with all of its own calls.
+//! Calls of several threads follow one another in one history, and each call's answer is the one that the equations
+//! give at its place. A client makes its calls with its pass, which knows the history as far as it has seen it. What a
+//! call promises is how that history goes on: by calls of others, and then by this call. At closing there is one
+//! history, and what each pass has seen is a beginning of it, with all of the pass's own calls.
 #![tactic(auto)]
 
 mod asking;

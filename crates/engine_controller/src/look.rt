@@ -1,9 +1,9 @@
-//! What a caller is told.
+//! The answer that a caller gets.
 
 ghost use Rattle.std.specs.Prelude.{◌≡◌};
 ghost use Rattle.engine_controller.specs.Looks.{look_of};
 
-/// The controller's answer to `delay` and `look`. Only these make one.
+/// The controller's answer to `delay` and `look`. Only these two make one.
 #[derive(Clone, Copy, Debug, PartialEq, Eq)]
 pub struct Look {
     stops: u64,
@@ -36,7 +36,7 @@ impl Look {
         self.delays
     }
 
-    /// How long to wait, in microseconds. A `look` says 0.
+    /// How long to wait, in microseconds. For a `look` it is 0.
     pub fn wait(&self) -> u64
         ensures { result ≡ (look_of self.now).wait }
     {

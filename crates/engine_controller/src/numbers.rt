@@ -1,4 +1,4 @@
-//! The controller's five numbers, and what each call makes of them, by the equations of `model_base`.
+//! The controller's five numbers, and how each call changes them, by the equations of `model_base`.
 
 ghost use Rattle.std.specs.Prelude.{◌≡◌, ◌+◌, ◌<◌, ◌≤◌, ◌^◌};
 ghost use Rattle.model_base.specs.Controller.{numbers_after, slow, after_delay, after_debt, after_refill, after_payment, at_most_u64};
@@ -6,13 +6,13 @@ ghost use Rattle.engine_controller.specs.Numbers.{numbers_of, action_of, wait_af
 
 use crossbeam_utils::atomic::seq_cell::Words;
 
-/// Microseconds of a second, in which a rate's bytes are allowed.
+/// How many microseconds a second has. A rate is bytes a second.
 const SECOND: u64 = 1_000_000;
 
 /// The least wait, and the time between two refills, in microseconds.
 const MILLISECOND: u64 = 1_000;
 
-/// The numbers. Those of a controller that was just opened are 0, 0, 1, 0, 0.
+/// The numbers. For a controller that was just opened they are 0, 0, 1, 0, 0.
 #[derive(Clone, Copy, Debug, PartialEq, Eq)]
 pub struct Numbers {
     /// How many clients hold a stop token.
@@ -47,8 +47,8 @@ impl Words<5> for Numbers {
     }
 }
 
-/// A call of the controller: tokens are taken or given back, a group of so many bytes is to be written at a moment,
-/// or the numbers are read.
+/// A call of the controller: a token is taken or given back, a group of some bytes asks at some moment how long to
+/// wait, or the numbers are read.
 #[derive(Clone, Copy, Debug, PartialEq, Eq)]
 pub enum Action {
     Stop,
@@ -60,7 +60,7 @@ pub enum Action {
 }
 
 impl Numbers {
-    /// Those of a controller that was just opened.
+    /// The numbers of a controller that was just opened.
     pub const OPENING: Numbers = Numbers {
         stops: 0,
         delays: 0,
@@ -140,7 +140,7 @@ impl Numbers {
         }
     }
 
-    // A refill is due: the credit of the time since the last one, and of a millisecond.
+    // A refill is due: it adds the credit of the time since the moment `next`, and of a millisecond more.
     fn after_refill(self, now: u64) -> Numbers
         requires { self.next ≤ now }
         ensures numbers { numbers_of result ≡ after_refill (numbers_of self) now }
@@ -170,7 +170,7 @@ impl Numbers {
         (left, 0)
     }
 
-    // What the credit lacks is owed: the next refill moves on by the time of these bytes.
+    // The bytes that the credit doesn't cover are owed: the next refill is later by the time that these bytes take.
     fn after_debt(self, now: u64, bytes: u64) -> (Numbers, u64)
         requires { 1 ≤ self.rate }
         ensures numbers { numbers_of result.0 ≡ (after_debt (numbers_of self) now bytes).numbers }

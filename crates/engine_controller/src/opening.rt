@@ -16,14 +16,14 @@ use std::marker::PhantomData;
 use std::sync::Wait;
 
 impl<Time: Clock> Controller<Time> {
-    /// A controller for 1 to 64 clients, with a pass for each. Nobody holds a token.
+    /// A controller for 1 to 64 clients, with a pass for each. No client holds a token.
     pub fn open(alloc: Global, clients: u32) -> Result<(Controller<Time>, Passes), NoMemory>
         requires clients { (1 ≤ clients) × (clients ≤ MAX_CLIENTS) }
         ensures new { IfOk result (λ r. AreNew r.0 clients r.1) }
     {
         let mut passes = Vec::with_capacity(alloc, clients as usize)?;
         let (cell, mut rest) = Cell::ruled(alloc, Numbers::OPENING)?;
-        // Each client so far has a pass, and the others' seat covers the clients after it.
+        // Each client so far has a pass, and the seat of the others covers the clients that come next.
         for _known in 0..clients {
             let seat = split::<NextClient>(&cell, &mut rest);
             passes.push(Pass {
@@ -44,8 +44,8 @@ impl<Time: Clock> Controller<Time> {
         Ok((controller, passes))
     }
 
-    /// Takes all passes back. There is one history, which is legal. Its calls are the clients', and each pass has seen
-    /// a beginning of it, with all calls of its own.
+    /// Takes all passes back. There is one history, which is legal. All its calls are the clients', and each pass has
+    /// seen a beginning of it, with all calls of its own.
     pub fn close<R: Wait>(self, rt: &R, passes: Passes)
         requires all { AreAll self passes }
         ensures history { (history : List ControllerCall) × IsHistoryOf passes.clients.items history }
@@ -57,12 +57,12 @@ impl<Time: Clock> Controller<Time> {
         } = self;
         let Passes { clients, others } = passes;
         let mut rest = others.seat;
-        // The passes so far are joined into the others' seat.
+        // The passes so far are joined into the seat of the others.
         for mut pass in clients {
             let seat = split::<Moved>(&cell, &mut pass.seat);
             join(&cell, &mut rest, seat);
         }
-        // The history is told at a step, and no pass needs to be taken for that.
+        // Only a step shows the history. A load is enough for that, with this seat alone.
         load::<Closing, R>(&cell, rt, &mut rest);
     }
 }

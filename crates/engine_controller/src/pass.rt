@@ -1,4 +1,4 @@
-//! What a client calls the controller with.
+//! What a client needs to call the controller.
 
 use crate::rule::Seat;
 
@@ -11,8 +11,8 @@ pub struct Pass {
     pub(crate) slowing: bool,
 }
 
-/// What shows at closing that nobody but the clients made a call. It may not lie in what threads share, so one of the
-/// clients keeps it.
+/// What shows at closing that only the clients made calls. It must not be in what threads share, so it isn't a part of
+/// the controller.
 #[derive(Drop)]
 pub struct Others {
     pub(crate) seat: Seat,
@@ -23,11 +23,11 @@ pub struct Others {
 pub struct Passes {
     /// A pass for each client, in the order of their numbers from 1.
     pub clients: Vec<Pass>,
-    /// What stands for all others.
+    /// The pass of all others, who are no clients.
     pub others: Others,
 }
 
-/// What a pass has seen, to be taken to another client's.
+/// What a pass has seen, to be given to another client's pass.
 #[derive(Drop)]
 pub struct Note {
     pub(crate) seat: Seat,

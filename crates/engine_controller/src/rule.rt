@@ -1,6 +1,6 @@
 //! The rule of the five words: what they are, and what each pass knows of the calls so far.
 //!
-//! The history of calls exists in the proofs alone. Of the structs and enums here no value is made.
+//! The history of calls exists only in the proofs. No value is made of the structs and enums here.
 
 use crate::numbers::{Action, Numbers};
 use atomic_table::{Join, Split};
@@ -9,32 +9,32 @@ use crossbeam_utils::rule::{Outcome, Protocol};
 use std::collections::LinkedList;
 use std::marker::{Brand, PhantomData};
 
-/// A call in the controller's history: whose, and what.
+/// A call in the controller's history: which client made it, and what it was.
 pub struct Call {
     pub client: u64,
     pub action: Action,
 }
 
-/// Whose calls a pass makes.
+/// The clients whose calls a pass makes.
 pub enum Caller {
-    /// Nobody's: it only knows what was seen.
+    /// No client's: it only knows what was seen.
     Nobody,
     /// This client's.
     Client(u64),
-    /// Those of all but the clients from 1 to this one. Such a pass makes no call.
+    /// The calls of all except the clients from 1 to this one. Such a pass makes no call.
     Others(u64),
 }
 
-/// Whose calls a pass makes, and the beginning of the history that it has seen.
+/// Whose calls a pass makes, and the beginning of the history that the pass has seen.
 pub struct Observer {
     pub caller: Caller,
     pub seen: LinkedList<Call>,
 }
 
-/// What a pass knows: one observer, but several while it takes in another pass, and at closing.
+/// What a pass knows: one observer; several while it takes in another pass, and at closing.
 pub type ControllerView = LinkedList<Observer>;
 
-/// The words are the numbers after one history of calls.
+/// The rule: the words are the numbers after one history of calls.
 pub struct OneHistory;
 
 impl Protocol<Numbers, ControllerView> for OneHistory {
@@ -51,7 +51,7 @@ pub type Cell = RuledSeqCell<Numbers, ControllerView, OneHistory, 5>;
 /// A view of the five words.
 pub type Seat = Pass<Numbers, ControllerView>;
 
-/// A load that shows the history so far, and is no call.
+/// A load that shows the history so far, and isn't a call.
 pub struct Sight;
 
 impl Outcome<Numbers, ControllerView> for Sight {
@@ -60,7 +60,7 @@ impl Outcome<Numbers, ControllerView> for Sight {
     ghost then = { Sees };
 }
 
-/// A load that is a call itself: `look`.
+/// A load that is itself a call: `look`.
 pub struct Looking;
 
 impl Outcome<Numbers, ControllerView> for Looking {
@@ -79,7 +79,7 @@ impl Outcome<Numbers, ControllerView> for Closing {
     ghost then = { λ v _ _ w. Closes v w };
 }
 
-/// What is asked for by an exchange: this call, where the numbers are those that were found before.
+/// What an exchange asks for: this call, where the numbers are still those that were found before.
 pub trait Asking {
     ghost use Rattle.engine_controller.specs.declared.numbers.Action.{Action};
     ghost use Rattle.engine_controller.specs.declared.numbers.Numbers.{Numbers};
@@ -89,7 +89,7 @@ pub trait Asking {
     ghost found: { Numbers };
 }
 
-/// Each exchange picks its own. What stands here is only what a type must have.
+/// Each exchange picks its own. These values are only here because a type must have some.
 impl Asking for Brand {
     ghost use Rattle.engine_controller.specs.declared.numbers.Action.TheVariants.{Look};
 
@@ -98,8 +98,8 @@ impl Asking for Brand {
     ghost found = { record { stops = 0; delays = 0; rate = 1; credit = 0; next = 0 } };
 }
 
-/// An exchange that asks for this. That its outcome knows the call is why one step is enough for a call: it tells that
-/// the call was made also where the call changes no number.
+/// An exchange that asks for this call. Its outcome knows the call, so one step is enough for a call: it shows that
+/// the call was made, even where the call changes no number.
 pub struct Exchange<Picked: Asking> {
     asking: PhantomData<Picked>,
 }
@@ -110,7 +110,7 @@ impl<Picked: Asking> Outcome<Numbers, ControllerView> for Exchange<Picked> {
     ghost then = { λ v x _ w. Exchanges Picked.call Picked.found v x w };
 }
 
-/// A load that asks for a delay where nobody slows writes: there the call changes no number, so that it needs no
+/// A load that asks for a delay where no client slows writes. There the call changes no number, so that it needs no
 /// exchange, and the moment changes no answer, so that the proof may pick it.
 pub struct Unslowed<Picked: Asking> {
     asking: PhantomData<Picked>,
@@ -122,7 +122,7 @@ impl<Picked: Asking> Outcome<Numbers, ControllerView> for Unslowed<Picked> {
     ghost then = { λ v x _ w. Asks Picked.call v x w };
 }
 
-/// The next client's pass is cut off.
+/// Cuts off the pass of the next client.
 pub struct NextClient;
 
 impl Split<ControllerView> for NextClient {
@@ -133,7 +133,7 @@ impl Split<ControllerView> for NextClient {
     ghost right = { next_client };
 }
 
-/// What a pass has seen is copied.
+/// Copies what a pass has seen.
 pub struct Copied;
 
 impl Split<ControllerView> for Copied {
@@ -144,7 +144,7 @@ impl Split<ControllerView> for Copied {
     ghost right = { note_of };
 }
 
-/// A whole view goes to a new pass, since one that has made calls can't be joined itself.
+/// Moves a whole view to a new pass, since a pass that has made calls can't be joined itself.
 pub struct Moved;
 
 impl Split<ControllerView> for Moved {

@@ -21,8 +21,8 @@ impl<Time: Clock> Controller<Time> {
         pass.stopping
     }
 
-    /// Takes the client's stop token. While anybody holds one, writes are stopped. Where the client holds one already,
-    /// nothing is called.
+    /// Takes the client's stop token. While any client holds one, writes are stopped. Where the client already holds
+    /// one, no call is made.
     pub fn stop<R: Wait>(&self, rt: &R, pass: &mut Pass) -> Result<(), Held>
         requires own { IsPassOf self.now pass.old }
         ensures own { IsPassOf self.now pass.new × (client_of pass.new ≡ client_of pass.old) }
@@ -39,7 +39,7 @@ impl<Time: Clock> Controller<Time> {
         Ok(())
     }
 
-    /// Gives the client's stop token back. Where it holds none, nothing is called.
+    /// Gives the client's stop token back. Where it holds none, no call is made.
     pub fn unstop<R: Wait>(&self, rt: &R, pass: &mut Pass) -> Result<(), NotHeld>
         requires own { IsPassOf self.now pass.old }
         ensures own { IsPassOf self.now pass.new × (client_of pass.new ≡ client_of pass.old) }
@@ -56,8 +56,8 @@ impl<Time: Clock> Controller<Time> {
         Ok(())
     }
 
-    /// Takes the client's slow token, with a rate in bytes a second. A rate of 0 is 1. Where the client holds one
-    /// already, nothing is called.
+    /// Takes the client's slow token, with a rate in bytes a second. A rate of 0 counts as 1. Where the client already
+    /// holds one, no call is made.
     pub fn slow<R: Wait>(&self, rt: &R, pass: &mut Pass, rate: u64) -> Result<(), Held>
         requires own { IsPassOf self.now pass.old }
         ensures own { IsPassOf self.now pass.new × (client_of pass.new ≡ client_of pass.old) }
@@ -74,8 +74,8 @@ impl<Time: Clock> Controller<Time> {
         Ok(())
     }
 
-    /// Gives the client's slow token back. The rate, the credit and the next refill stay. Where the client holds none,
-    /// nothing is called.
+    /// Gives the client's slow token back. The rate, the credit and the next refill stay as they are. Where the client
+    /// holds none, no call is made.
     pub fn unslow<R: Wait>(&self, rt: &R, pass: &mut Pass) -> Result<(), NotHeld>
         requires own { IsPassOf self.now pass.old }
         ensures own { IsPassOf self.now pass.new × (client_of pass.new ≡ client_of pass.old) }

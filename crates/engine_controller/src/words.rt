@@ -1,5 +1,5 @@
-//! What is done with the five words and the passes, apart from the type of the clock: each function is one step of the
-//! cell under its rule.
+//! What is done with the five words and the passes, as far as it doesn't depend on the type of the clock: each
+//! function is one step of the cell under its rule.
 
 ghost use Rattle.std.specs.Prelude.{◌≡◌, ◌≢◌, ◌++◌, [], Bool, true, if◌then◌else◌, IfOk, IfErr};
 ghost use Rattle.crossbeam_utils.specs.Register.{Turns, Forks};
@@ -29,7 +29,7 @@ pub fn load<Picked: Outcome<Numbers, ControllerView>, R: Wait>(
     cell.load_as::<Picked, R>(rt, seat)
 }
 
-/// One exchange, which makes the call where the numbers are still those found before.
+/// One exchange. It makes the call where the numbers are still those that were found before.
 pub fn exchange<Picked: Asking, R: Wait>(
     cell: &Cell,
     rt: &R,
@@ -50,7 +50,8 @@ pub fn exchange<Picked: Asking, R: Wait>(
     exchange_as::<Exchange<Picked>, R>(cell, rt, seat, found, new)
 }
 
-// Puts new numbers in place of those found before, where they are still those, with an outcome that the caller picks.
+// Puts new numbers in place of those that were found before, where they are still the same. The caller picks the
+// outcome.
 fn exchange_as<Picked: Outcome<Numbers, ControllerView>, R: Wait>(
     cell: &Cell,
     rt: &R,
@@ -69,7 +70,7 @@ fn exchange_as<Picked: Outcome<Numbers, ControllerView>, R: Wait>(
     cell.compare_exchange_as::<Picked, R>(rt, seat, found, new)
 }
 
-/// Cuts a pass in two, as the caller picks.
+/// Cuts a pass in two. The caller picks how.
 pub fn split<Picked: Split<ControllerView>>(cell: &Cell, seat: &mut Seat) -> Seat
     requires cell { seat.old.table_id ≡ cell.now.table.shared.table_id }
     requires rule { Forks Kept seat.old.id (cell_view seat.old)
@@ -81,7 +82,7 @@ pub fn split<Picked: Split<ControllerView>>(cell: &Cell, seat: &mut Seat) -> Sea
     cell.split_pass::<Picked>(seat)
 }
 
-/// A pass takes in the observers of another, which has made no call.
+/// A pass takes in the observers of another pass, which has made no call.
 pub fn join(cell: &Cell, seat: &mut Seat, other: Seat)
     requires cell { seat.old.table_id ≡ cell.now.table.shared.table_id }
     requires other { (other.table_id ≡ seat.old.table_id) × (other.me.1 ≡ []) }

@@ -1,4 +1,4 @@
--- What a client concludes of its answer.
+-- What a client concludes from its answer.
 use Rattle.std.proofs.Common.{◌≡◌, inr, ℕ, ◌+◌, ◌-◌, ◌<◌, ◌≤◌, Bool, true, false, not, cond, ◌==◌, ◌&&◌, map, List, [], ◌∷◌, ◌++◌, Option, Some, None, MatchOption, IfSome, Result, Ok, Err, IfOk, IfErr, length, refl, ap, sym, ◌∙◌, subst, arith, append_assoc, append-nil, length-append}
 use Rattle.std.specs.Prelude.{if◌then◌else◌, nat_lt}
 use Rattle.std.specs.List.{AllByRecursion}
@@ -61,7 +61,7 @@ own_more k (t ∷ mine) q p = ap (λ l. commit k t.0 t.1 ∷ l) (own_more k mine
 one_pair : {A : Type 0} (x y : A) (xs ys : List A) → x ∷ xs ≡ y ∷ ys → (x ≡ y) × (xs ≡ ys)
 one_pair x y xs ys e = (cc, cc)
 
--- the newest of what was handled for a client
+-- the newest of the requests that were handled for a client
 back_by : (P : Handling Request Answer → Type 0) (k : ℕ) (h : Handling Request Answer) (hs : List (Handling Request Answer)) (mine : List (Request × Answer)) (q : Request) (p : Answer) (b : Bool) → cond b ((h.asked, h.reply) ∷ of k hs) (of k hs) ≡ mine ++ (q, p) ∷ [] → P h
     → ((m : List (Request × Answer)) → of k hs ≡ m ++ (q, p) ∷ [] → (by : ℕ) × P (record { by = by; asked = q; reply = p })) → (by : ℕ) × P (record { by = by; asked = q; reply = p })
 back_by P k h hs [] q p true e holds more = let t = (one_pair (h.asked, h.reply) (q, p) (of k hs) [] e).0 in (h.by, subst (λ (z : Request × Answer). P (record { by = h.by; asked = z.0; reply = z.1 })) t holds)
@@ -79,7 +79,8 @@ newest P k (h ∷ hs) mine q p e all = back_by P k h hs mine q p (h.by == k) e a
 pub last_back : (k : ℕ) (hs : List (Handling Request Answer)) (mine : List (Request × Answer)) (q : Request) (p : Answer) → of k hs ≡ mine ++ (q, p) ∷ [] → AllByRecursion HandsBack hs → ComesBack q.batch p.answer
 last_back k hs mine q p e handed_back = (newest HandsBack k hs mine q p e handed_back).1
 
--- what passed the early checks is logged where it is to be synced, and may not wait where its client stops writes
+-- a batch that passed the early checks is logged where it must be synced, and may not wait where its client stops
+-- writes
 logged_by : (empty large sync no_log : Bool) (a b c : Refusal) (rest : Option Refusal) → (if empty then Some a else if large then Some b else if sync && no_log then Some c else rest) ≡ None → sync ≡ true → no_log ≡ false
 logged_by true large sync no_log a b c rest e s = absurd (cc)
 logged_by false true sync no_log a b c rest e s = absurd (cc)
@@ -127,7 +128,7 @@ pub refuses_late : (settings : Settings) (v : Account) (records : List Record) (
 refuses_late settings v records how why w passed late =
     subst (λ (o : Option Refusal). MatchOption o (IsRefusedLate v records how why w) (λ (early : Refusal). (why ≡ early) × Keeps v w)) (sym passed) late
 
--- what a client concludes of an answer to this batch, where its account was the first and is the second
+-- what a client concludes from an answer to this batch, where its account was `v` and is now `w`
 pub record Concludes {D : Type 0} {ghosts : Ghosts D} (opened : LogWriter D ghosts) (settings : Settings) (v : Account) (batch : Contents) (how : WriteOptions) (answer : Result Receipt Refused) (w : Account) : Type 0 where
   pub accepted : IfOk answer (λ (r : Receipt). Wrote settings v batch.records how r.run.first r.group_last w)
   pub back : IfOk answer (λ (r : Receipt). (r.batch ≡ record batch { sequence = r.run.first }) × (r.run.last + 1 ≡ r.run.first + count_of batch.records))
@@ -154,7 +155,7 @@ module _ {C D : Type 0} {ghosts : Ghosts D} (controller : Controller C) (opened 
   answered_ok r ok reached = subst (Wrote settings old q.batch.records q.options r.run.first r.group_last) new_is
       (wrote start opening k (own_commits k mine) (commit k q p) seen now sees known after more (map commit_of handled) kept.answered is settings r.run.first r.group_last (ap answer_in ok) passed (subst (IsAbove (last_of start seen)) ok above) reached)
 
-  -- the note of a reply is seen, and so is the delay that it shows
+  -- the client has seen the note of a reply, and with it the delay that the note shows
   noted_after : (note : Option Note) → IfSome note (λ (n : Note). IsNoteOf controller n × (seen_by_note n ≡ seen_for p)) → IfSome note (λ (n : Note). IsPrefix (seen_by_note n) after) → (n : Note) → note ≡ Some n → IsPrefix (seen_for p) after
   noted_after None a b n e = absurd (cc)
   noted_after (Some m) a b n e = subst (λ (l : List ControllerCall). IsPrefix l after) a.1 b
@@ -187,7 +188,7 @@ module _ {C D : Type 0} {ghosts : Ghosts D} (controller : Controller C) (opened 
   pub answered_err : (e : Refused) → p.answer ≡ Err e → Refuses settings old q.batch.records q.options e.why new
   answered_err e err = refuses_late settings old q.batch.records q.options e.why new passed (inr (refused_by e.why e refl err (subst (ComesBack q.batch) err back).1))
 
-  -- a batch that was to be synced was, by one of the calls that wrote the log
+  -- a batch that had to be synced was synced, by one of the calls that wrote the log
   pub answered_synced : (r : Receipt) → p.answer ≡ Ok r → q.options.sync ≡ true → (calls : List GroupCall) × (log : LogWriter D ghosts) × LogWrote opened calls log × IsSyncedBy r.run.first q.batch.records calls
   answered_synced r ok sync =
       let w = kept.written in
@@ -204,7 +205,7 @@ pub note_of : {C : Type 0} (controller : Controller C) (note : Option Note) (see
 note_of controller None seen h = tt
 note_of controller (Some n) seen h = h.0
 
--- Going on
+-- What a client has seen grows
 
 pub sees_on : (k : ℕ) (a b c : List ControllerCall) → SeesMore k a b → SeesMore k b c → SeesMore k a c
 sees_on k a b c f g = record { begins = prefix_trans a b c f.begins g.begins; tokens = g.tokens ∙ f.tokens }
@@ -212,7 +213,7 @@ sees_on k a b c f g = record { begins = prefix_trans a b c f.begins g.begins; to
 pub begins_on : {A : Type 0} (xs ys zs : List A) → Begins xs ys → Begins ys zs → Begins xs zs
 begins_on xs ys zs a b = (a.0 ++ b.0, b.1 ∙ (ap (λ l. l ++ b.0) a.1 ∙ append_assoc xs a.0 b.0))
 
--- who has seen no less of what is published has seen it up to no lower sequence
+-- a client that has seen no less of what is published has seen it up to no lower sequence
 last_later : (start : ℕ) (xs ys : List (List MemberVersions)) → Begins xs ys → last_of start xs ≤ last_of start ys
 last_later start xs ys b = let e = ap (λ l. length (versions_of l)) b.1 ∙ (ap length (versions_append xs b.0) ∙ length-append (versions_of xs) (versions_of b.0)) in omega (arith, e)
 

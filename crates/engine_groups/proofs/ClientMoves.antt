@@ -1,4 +1,4 @@
--- A client whose seat or whose pass went on, and its meaning.account then.
+-- A client whose seat or pass has seen more, and its account then.
 use Rattle.std.proofs.Common.{◌≡◌, ℕ, ◌-◌, Bool, true, false, List, [], ◌∷◌, ◌++◌, Option, None, Result, Ok, Err, IfOk, OnOk, OnErr, length, refl, ap, sym, ◌∙◌, subst, append-nil}
 use Rattle.std.specs.List.{AllByRecursion}
 use mathlib.Core.List.{IsPrefix}
@@ -34,7 +34,7 @@ pub on_err : {A B : Type 0} {P Q : Type 0} (r : Result A B) → (P → Q) → On
 on_err (Ok x) f p = tt
 on_err (Err e) f p = f p
 
--- who gives back what it holds has seen no less then, and asked for no delay
+-- a client that gives back its tokens has seen no less after that, and asked for no delay
 back_begins : (b : Bool) (client : ℕ) (seen : List ControllerCall) (action : Action) (after : List ControllerCall) → GivesBackIn b client seen action after → IsPrefix seen after
 back_begins true client seen action after h = ends_begins client seen action None after h
 back_begins false client seen action after h = subst (λ (l : List ControllerCall). IsPrefix seen l) (sym h) (prefix_self seen)
@@ -43,7 +43,7 @@ back_no_delays : (b : Bool) (client : ℕ) (seen : List ControllerCall) (action 
 back_no_delays true client seen action after still h = ends_delays client seen action None after h ∙ (ap (λ (d : Bool). delays_of client seen ++ place_if d (length after - 1)) still ∙ append-nil (delays_of client seen))
 back_no_delays false client seen action after still h = ap (delays_of client) h
 
--- its envelope went, or came back
+-- its envelope went away, or came back
 pub envelope_moved : {D T C G S U P : Type 0} {ghosts : Ghosts D} (meaning : Meaning T S U P) (e : GroupEngine D T C G S U P ghosts) (c : EngineClient D T C S U P ghosts) (envelope : Option (Unit {0})) → IsIdle meaning e c → IsIdle meaning e (record c { envelope = envelope })
 envelope_moved meaning e c envelope idle = let s = idle.seated in record {
   seated = record {
@@ -97,7 +97,7 @@ module _ {D T C G S U P : Type 0} {ghosts : Ghosts D} (meaning : Meaning T S U P
     seen = record { start = refl; opening = refl; published = seen; controller_calls = prefix_self (seen_by c.pass) };
   }
 
-  -- what the seat read is so at the end of what the client has seen
+  -- what the seat read is true as of the end of what the client has seen
   pub seat_reads : {A B : Type 0} (r : Result A B) (at : A → ℕ) (answers : A → Pairs → Type 0) (seat : S) → IfOk r (λ x. at x ≡ last_of (meaning.opening e.table).start (meaning.account seat).seen)
       → IfOk r (λ x. answers x (map_after (meaning.opening e.table).base (meaning.account seat).seen)) → IfOk r (λ x. ReadsAtEnd (at x) (answers x) (account_in meaning (record c { seat = seat })))
   seat_reads (Ok x) at answers seat is answer = record {
@@ -133,7 +133,7 @@ module _ {D T C G S U P : Type 0} {ghosts : Ghosts D} (meaning : Meaning T S U P
   pub same_tokens : asked_by c.pass ≡ tokens_of c.number (seen_by c.pass)
   same_tokens = ap (λ (k : ℕ). tokens_of k (seen_by c.pass)) fits.idle.seated.pass_number
 
-  -- it saw and asked nothing
+  -- it saw nothing new and asked for nothing
   pub pass_keeps : (pass : Pass) → seen_by pass ≡ seen_by c.pass → Keeps (account_in meaning c) (account_in meaning (record c { pass = pass }))
   pass_keeps pass same = record {
     number = refl;
@@ -144,7 +144,7 @@ module _ {D T C G S U P : Type 0} {ghosts : Ghosts D} (meaning : Meaning T S U P
     seen = record { start = refl; opening = refl; published = begins_self (meaning.account c.seat).seen; controller_calls = subst (IsPrefix (seen_by c.pass)) (sym same) (prefix_self (seen_by c.pass)) };
   }
 
-  -- it made a call that is no delay
+  -- it made a call that isn't a delay
   pub no_delays : (pass : Pass) (action : Action) (told : Option Look) → EndsWith (pass_client c.pass) (seen_by c.pass) action told (seen_by pass) → is_delay action ≡ false → delays_of c.number (seen_by pass) ≡ delays_of c.number (seen_by c.pass)
   no_delays pass action told ends still =
       let own = subst (λ (k : ℕ). EndsWith k (seen_by c.pass) action told (seen_by pass)) fits.idle.seated.pass_number ends in
@@ -168,7 +168,7 @@ module _ {D T C G S U P : Type 0} {ghosts : Ghosts D} (meaning : Meaning T S U P
           is_later = last.is_later;
         }
 
-    -- with what the client held before
+    -- and what it says of the tokens that the client held before
     pub asks_if : (holds : List Action → Bool) (b : Bool) → token_in action ≡ action ∷ [] → holds (asked_by c.pass) ≡ b
         → (holds (account_in meaning c).asked ≡ b) × Asks (account_in meaning c) action (account_in meaning (record c { pass = pass }))
     asks_if holds b is held = (ap holds (sym same_tokens) ∙ held, pass_asks is)

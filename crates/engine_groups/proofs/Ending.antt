@@ -1,4 +1,4 @@
--- What the closed parts of an engine come to.
+-- What follows from the parts of an engine that are handed in when it is closed.
 use Rattle.std.proofs.Common.{◌≡◌, inl, inr, ℕ, zero, suc, ◌+◌, ◌-◌, map, slice_get, List, [], ◌∷◌, Option, Some, length, refl, ap, sym, ◌∙◌, subst, ⊎_elim, arith}
 use Rattle.std.specs.Option.{option_map}
 use Rattle.std.specs.List.{AllByRecursion}
@@ -27,7 +27,7 @@ use Rattle.engine_controller.specs.declared.pass.Pass.{Pass}
 use Rattle.engine_controller.specs.declared.pass.Passes.{Passes}
 use Rattle.engine_controller.specs.Passes.{seen_by, AreAll, IsHistoryOf, IsOthersOf, IsPassOf, client_of as pass_client}
 use Rattle.log_writer.specs.declared.writer.LogWriter.{LogWriter}
-use Rattle.engine_parts.specs.LogLaw.{StandsFor}
+use Rattle.engine_parts.specs.LogLaw.{Covers}
 use Rattle.engine_groups.specs.Clients.{IsClientOf, IsEngine, map_at_opening, opened_log, account_in, own_commits, pass_in, seat_in, writer_in}
 use Rattle.engine_parts.specs.Handled.{commit_of}
 use Rattle.engine_rule.specs.Asked.{HasAsked}
@@ -111,11 +111,11 @@ module _ {D T C G S U P : Type 0} {ghosts : Ghosts D} (meaning : Meaning T S U P
 
   -- the engine's numbers are those that the list's law is about
   pub stands_here : (our_turn : T → U → Type 0) (history : U → List (List MemberVersions)) (asked : List ControllerCall) (log : LogWriter D ghosts) (turn : U) (last : ℕ) (handled : List (Handling Request Answer))
-      → StandsFor our_turn history (about_of e.list).table.value (opened_log e) (about_of e.list).start (about_of e.list).clients (about_of e.list).group_bytes asked log turn last handled
-      → StandsFor our_turn history e.table (opened_log e) (meaning.opening e.table).start (clients_of e.list) (bound_of e.list) asked log turn last handled
+      → Covers our_turn history (about_of e.list).table.value (opened_log e) (about_of e.list).start (about_of e.list).clients (about_of e.list).group_bytes asked log turn last handled
+      → Covers our_turn history e.table (opened_log e) (meaning.opening e.table).start (clients_of e.list) (bound_of e.list) asked log turn last handled
   stands_here our_turn history asked log turn last handled s =
       let set = is_engine in
-      subst (λ (z : T × ℕ × ℕ × ℕ). StandsFor our_turn history z.0 (opened_log e) z.1 z.2 z.3 asked log turn last handled) (λ i. (set.table i, set.start i, set.about_clients i, set.group_bytes i)) s
+      subst (λ (z : T × ℕ × ℕ × ℕ). Covers our_turn history z.0 (opened_log e) z.1 z.2 z.3 asked log turn last handled) (λ i. (set.table i, set.start i, set.about_clients i, set.group_bytes i)) s
 
   merged_at : (handled : List (Handling Request Answer)) (xs : List (EngineClient D T C S U P ghosts)) → Merged handled (map writer_in xs) → (i : ℕ) (c : EngineClient D T C S U P ghosts) → slice_get xs i ≡ Some c → of c.writer.client handled ≡ answers_told c.writer
   merged_at handled [] m i c at = absurd (cc)
@@ -126,7 +126,7 @@ module _ {D T C G S U P : Type 0} {ghosts : Ghosts D} (meaning : Meaning T S U P
   accounts_number = length-map cs (account_in meaning) ∙ all.number_of
 
   module _ (calls : List ControllerCall) (whole : IsHistoryOf (map pass_in cs) calls) where
-    -- the controller's one meaning.history has the clients' calls alone
+    -- the controller's one history has only the clients' calls
     pub are_calls : AreCallsOf (clients_of e.list) calls
     are_calls = subst (λ n. AreCallsOf n calls) passes_number whole.clients
 
@@ -147,7 +147,7 @@ module _ {D T C G S U P : Type 0} {ghosts : Ghosts D} (meaning : Meaning T S U P
             is = (λ j. account_of (f.idle.seated.start j) (map_at_opening meaning (f.idle.seated.table j)) (number j) (own j) (meaning.account c.seat).seen (seen_by c.pass));
           }
 
-      -- each client's meaning.account is its part of all
+      -- each client's account is its part of the whole
       pub parts : (i : ℕ) (a : Account) → slice_get (map (account_in meaning) cs) i ≡ Some a → HasPart (meaning.opening e.table).start (map_at_opening meaning e.table) (map commit_of handled) published calls i a
       parts i a at = elim (slice_get_cases cs i).1 [
         | inl there ↦ (
@@ -156,7 +156,7 @@ module _ {D T C G S U P : Type 0} {ghosts : Ghosts D} (meaning : Meaning T S U P
         | inr gone ↦ absurd (cc (sym (slice_get-map (account_in meaning) cs i) ∙ at, ap (option_map (account_in meaning)) gone.1))
       ]
 
--- the law of the log speaks of these calls, of which more is known
+-- a log that was written by exactly these calls was written by calls for which `wrote` holds, since it holds for these
 pub written_by : (group_bytes : ℕ) (wrote : List GroupCall → Type 0) (calls : List GroupCall) (trace : Trace) (attempts : List (List Attempt)) (fault : Option ℕ)
     → wrote calls → WritesLog group_bytes (λ (made : List GroupCall). made ≡ calls) trace attempts fault → WritesLog group_bytes wrote trace attempts fault
 written_by group_bytes wrote calls trace attempts fault by w = record {

@@ -9,7 +9,7 @@ use Rattle.log_writer.specs.Adding.{GroupCall, answer_of, text_at_end, Grows, St
 use Rattle.log_writer.specs.Written.{Wrote, no_call, one_more, HasCauseSince}
 
 module _ {D : Type 0} {ghosts : Ghosts D} (disk : D) where
-  -- the disk's count rose to the fault since then, if there is one
+  -- if there is a fault, the disk's count of faults has risen to it since then
   abbrev RoseTo : LogWriter D ghosts → Option ℕ → Type 0
   RoseTo now fault = IfSome fault (λ count. Rose (ghosts.faults disk) count × (count ≤ ghosts.faults (disk_of now)))
 
@@ -37,7 +37,7 @@ module _ {D : Type 0} {ghosts : Ghosts D} (disk : D) where
   caused_calls old calls new first no_call = first
   caused_calls old calls new first (one_more {calls = before} {now = now} c wrote adds) = caused_call c now new (caused_calls old before now first wrote) adds
 
--- Where a log had no fault, one that it has since calls wrote it came in one of these.
+-- If a log had no fault before these calls wrote it, a fault that it has after them came in one of them.
 pub caused_since : {D : Type 0} {ghosts : Ghosts D} (old : LogWriter D ghosts) (calls : List GroupCall) (new : LogWriter D ghosts) → fault_of old ≡ None → Wrote old calls new → HasCauseSince (disk_of old) new
 caused_since old calls new alive wrote =
     caused_calls (disk_of old) old calls new (record {

@@ -1,4 +1,4 @@
--- At the end the right to launch is at one place, and what is published is what was handled.
+-- At the end the right to launch is in one place, and what is published is what was handled.
 use Rattle.std.proofs.Common.{◌≡◌, ◌⊎◌, inl, inr, ⊎_elim, Bool, true, false, map, List, [], Option, Some, None, refl, sym, ap, ◌∙◌, subst}
 use Rattle.base_devices.specs.declared.disk.Disk.{Ghosts}
 use Rattle.table_rule.specs.declared.content.MemberVersions.{MemberVersions}
@@ -15,7 +15,7 @@ use Rattle.engine_groups.specs.declared.leader.Right.{Right}
 use Rattle.engine_parts.specs.declared.requests.Request.{Request}
 use Rattle.engine_parts.specs.declared.requests.Answer.{Answer}
 use Rattle.engine_parts.specs.Handled.{AreHandled, commit_of}
-use Rattle.engine_groups.specs.Law.{LeadershipStandsFor, RightStandsFor, ServesIs, TurnIs}
+use Rattle.engine_groups.specs.Law.{LeadershipCovers, RightStandsFor, ServesIs, TurnIs}
 use Rattle.engine_parts.specs.Runs.{run_of}
 use Rattle.engine_groups.proofs.Leads.{LogIn}
 use Rattle.engine_groups.proofs.Onto.{given_accepted}
@@ -58,7 +58,7 @@ module _ {D T C S U P : Type 0} {ghosts : Ghosts D} (meaning : Meaning T S U P) 
         };
       }
 
-  pub ends_with : (right : Right T S U P) (piped : Bool) → about.pipelined ≡ piped → LeadershipStandsFor meaning about leadership handled → AreHandled about.controller.value about.opened.value about.start handled
+  pub ends_with : (right : Right T S U P) (piped : Bool) → about.pipelined ≡ piped → LeadershipCovers meaning about leadership handled → AreHandled about.controller.value about.opened.value about.start handled
       → (piped ≡ false → RightStandsFor meaning about right []) → (piped ≡ true → RightStandsFor meaning about right (given_runs run_of handled)) → Ends leadership.turn right.turn
   ends_with right piped same st kept none served = ends_by about.pipelined right.turn st.published st.path kept st.turn (λ is. none (sym same ∙ is)) (λ is. served (sym same ∙ is))
 

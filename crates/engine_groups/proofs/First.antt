@@ -1,4 +1,4 @@
--- What holds of the things that a leader holds when an engine is opened.
+-- What is true of the log, the note and the right of a leader when an engine is opened.
 use Rattle.std.proofs.Common.{◌≡◌, ◌⊎◌, inl, inr, ⊎_elim, ℕ, Bool, true, false, List, [], Option, None, Some, refl, sym, ap, ◌∙◌, subst}
 use Rattle.base_devices.specs.declared.disk.Disk.{Ghosts}
 use Rattle.model_base.specs.Controller.{ControllerCall}
@@ -11,13 +11,13 @@ use Rattle.engine_rule.specs.Consistent.{AreConsistent}
 use Rattle.engine_groups.specs.Meaning.{Meaning}
 use Rattle.engine_parts.specs.Handled.{AreHandled}
 use Rattle.engine_stage_laws.specs.Served.{AreServed}
-use Rattle.engine_parts.specs.LogLaw.{StandsFor}
+use Rattle.engine_parts.specs.LogLaw.{Covers}
 use Rattle.engine_groups.specs.Law.{ServesIs, TurnIs}
 
 -- an opened log, a table where nothing is published, its turn, and a controller that nobody has asked
 pub stands_first : {D : Type 0} {ghosts : Ghosts D} {T U : Type 0} (our_turn : T → U → Type 0) (history : U → List (List MemberVersions)) (table : T) (log : LogWriter D ghosts) (start clients group_bytes : ℕ) (turn : U) (asked : List ControllerCall)
     → AreConsistent start clients group_bytes [] [] start None [] [] → our_turn table turn → history turn ≡ [] → fault_of log ≡ None → asked ≡ []
-    → StandsFor our_turn history table log start clients group_bytes asked log turn start []
+    → Covers our_turn history table log start clients group_bytes asked log turn start []
 stands_first our_turn history table log start clients group_bytes turn asked first our none alive unasked = record {
   our = our;
   calls = [];
@@ -25,7 +25,7 @@ stands_first our_turn history table log start clients group_bytes turn asked fir
   consistent = subst (λ (z : List ControllerCall × Option ℕ × List (List MemberVersions)). AreConsistent start clients group_bytes z.0 [] start z.1 z.2 []) (λ i. (sym unasked i, sym alive i, sym none i)) first;
 }
 
--- nothing was handled
+-- nothing was handled yet
 pub kept_first : {C D : Type 0} {ghosts : Ghosts D} (controller : Controller C) (opened : LogWriter D ghosts) (start clients group_bytes : ℕ)
     → AreConsistent start clients group_bytes [] [] start None [] [] → AreHandled controller opened start []
 kept_first controller opened start clients group_bytes first = record {
@@ -51,7 +51,7 @@ some_same : {U : Type 0} (a b : U) → Some a ≡ Some b → a ≡ b
 unfolding some_or
 some_same a b e = ap (some_or a) e
 
--- The right to launch at the beginning
+-- Where the right to launch is at the beginning
 module _ {T S U P : Type 0} (meaning : Meaning T S U P) (table : T) (turn : U) (our : meaning.our_turn table turn) (none : meaning.history turn ≡ []) (with_log apart : Option U) where
   pub turn_first : (b : Bool) → (b ≡ false → (with_log ≡ Some turn) × (apart ≡ None)) → (b ≡ true → (with_log ≡ None) × (apart ≡ Some turn)) → TurnIs meaning table b [] with_log × ServesIs meaning table b [] apart
   turn_first false one two = let t = one refl in ((turn, t.0, our, none), t.1)

@@ -1,4 +1,4 @@
--- What the first client's pass does for all: it gives the first leader's note, and learns the last one's.
+-- What the first client's pass does for all: it gives the first leader's note, and learns the last leader's.
 use Rattle.std.proofs.Common.{◌≡◌, ℕ, zero, suc, ◌+◌, ◌<◌, slice_get, get_or, set, List, [], ◌∷◌, ◌++◌, Some, length, refl, ap, sym, ◌∙◌, subst, arith, append_assoc}
 use mathlib.Core.List.{IsPrefix}
 use Rattle.model_base.specs.Controller.{ControllerCall}
@@ -12,7 +12,7 @@ module _ {C : Type 0} (controller : Controller C) where
   first_pass number [] p some at h = absurd (omega arith)
   first_pass number (x ∷ xs) p some at h = subst (IsPassAtStart controller number) (sym at) h.0
 
-  -- where it gives a note, it has still seen nothing
+  -- after it gives a note, it has still seen nothing
   pub noted_first : (number : ℕ) (xs : List Pass) (p q : Pass) → 0 < length xs → p ≡ get_or xs 0 p → IsPassOf controller q → client_of q ≡ client_of p → seen_by q ≡ seen_by p
       → ArePassesAtStart controller number xs → ArePassesAtStart controller number (set xs 0 q)
   noted_first number [] p q some at own client seen h = absurd (omega arith)
@@ -22,14 +22,14 @@ pub first_at : {A : Type 0} (xs : List A) (p : A) → 0 < length xs → p ≡ ge
 first_at [] p some at = absurd (omega arith)
 first_at (x ∷ xs) p some at = ap Some (sym at)
 
--- what holds at each place, where the first item is another
+-- what holds at each place still holds after the first item was replaced by one for which it holds
 pub each_after : {A : Type 0} (P : ℕ → A → Type 0) (xs : List A) (q : A) → P 0 q → ((i : ℕ) (x : A) → slice_get xs i ≡ Some x → P i x)
     → (i : ℕ) (x : A) → slice_get (set xs 0 q) i ≡ Some x → P i x
 each_after P [] q own h i x at = absurd (cc)
 each_after P (y ∷ ys) q own h zero x at = let is : q ≡ x = cc in subst (P 0) is own
 each_after P (y ∷ ys) q own h (suc i) x at = h (suc i) x at
 
--- How the controller's meaning.history goes on
+-- How the controller's history goes on
 
 others_append : (client : ℕ) (a b : List ControllerCall) → AreOfOthers client a → AreOfOthers client b → AreOfOthers client (a ++ b)
 others_append client [] b h k = k
@@ -46,7 +46,7 @@ goes_further client a b c g h = record {
 pub begins_further : (client : ℕ) (a b c : List ControllerCall) → IsPrefix a b → GoesOn client b c → IsPrefix a c
 begins_further client a b c p g = (p.0 ++ g.between, sym (append_assoc a p.0 g.between) ∙ (ap (λ l. l ++ g.between) p.1 ∙ sym g.is))
 
--- the meaning.history is that of the passes as they were before the first one learned something
+-- a history of the passes is also one of the passes as they were before the first one learned something
 pub history_before : (xs : List Pass) (p q : Pass) (calls : List ControllerCall) → 0 < length xs → p ≡ get_or xs 0 p → GoesOn 1 (seen_by p) (seen_by q)
     → IsHistoryOf (set xs 0 q) calls → IsHistoryOf xs calls
 history_before [] p q calls some at g w = absurd (omega arith)

@@ -19,7 +19,8 @@ use Rattle.line_writers.specs.declared.line_writers.WriterList.{WriterList}
 use Rattle.line_writers.specs.Seats.{about_of, answers_told, told_in_first, Belongs, HasGroup}
 use Rattle.line_writers.specs.declared.writer.Task.{Task}
 use Rattle.line_writers.specs.declared.writer.Task.TheVariants.{Awaits, Leads as Leads_, Helps, Queues, Serves}
-use Rattle.line_writers.specs.Roles.{asks, pays, IsLinked, Becomes}
+use Rattle.line_rule.specs.Members.{asks, pays}
+use Rattle.line_writers.specs.Roles.{IsLinked, Becomes}
 use Rattle.engine_controller.specs.declared.controller.Controller.{Controller}
 use Rattle.engine_controller.specs.Delays.{delays_of}
 use Rattle.engine_rule.specs.Asked.{HasAsked, place_of}
@@ -34,7 +35,7 @@ use Rattle.engine_groups.specs.declared.leader.Right.{Right}
 use Rattle.engine_groups.specs.Clients.{opened_log, own_commits}
 use Rattle.engine_parts.specs.Handled.{AreHandled, HandsBack, InOrder, IsNoted, ShowsDelay, handled_with, seen_for}
 use Rattle.engine_parts.specs.Items.{item_with}
-use Rattle.engine_parts.specs.LogLaw.{LogStandsFor}
+use Rattle.engine_parts.specs.LogLaw.{LogCovers}
 use Rattle.engine_groups.specs.Law.{kept_in}
 use Rattle.engine_controller.specs.Passes.{seen_by_note}
 use Rattle.engine_parts.specs.Led.{LeadsBy}
@@ -50,15 +51,15 @@ all_front : {A : Type 0} (P : A → Type 0) (xs ys : List A) → AllByRecursion 
 all_front P [] ys h = tt
 all_front P (x ∷ xs) ys h = (h.0, all_front P xs ys h.1)
 
--- What the list's law is about, and what its leaders keep
+-- What the list's law is about
 module _ {D T C S U P : Type 0} {ghosts : Ghosts D} where
-  -- what is asked of a request and its code
+  -- what must hold of a request and its code
   abbrev pub wanted_in : WriterList Request Answer (Leadership D T C S U P ghosts) (Right T S U P) (EngineAtOpening D T C ghosts) → Request → ℕ → Type 0
   wanted_in list = asks_for (λ (q : Request). item_with q.batch.records q.options) (λ (a : EngineAtOpening D T C ghosts) (q : Request). IsNoted a.controller.value q) (about_of list)
 
-  -- the log, with the note, as it is leadership
+  -- what the leadership's log says of what was handled, with its note
   abbrev pub LogIn : EngineAtOpening D T C ghosts → Leadership D T C S U P ghosts → List (List MemberVersions) → List (Handling Request Answer) → Type 0
-  LogIn about leadership published handled = LogStandsFor about.opened.value about.start about.clients about.group_bytes (seen_by_note leadership.asked) leadership.held.value.path.log published leadership.held.value.path.last handled
+  LogIn about leadership published handled = LogCovers about.opened.value about.start about.clients about.group_bytes (seen_by_note leadership.asked) leadership.held.value.path.log published leadership.held.value.path.last handled
 
   module _ (about : EngineAtOpening D T C ghosts) (leadership : Leadership D T C S U P ghosts) (published : List (List MemberVersions)) where
     -- what holds once a leader has answered its group
@@ -101,7 +102,7 @@ module _ {D T C G S U P : Type 0} {ghosts : Ghosts D} (meaning : Meaning T S U P
   pub of_list : AreHandled e.controller (opened_log e) (meaning.opening e.table).start hs → kept_in e.list hs
   of_list h = subst (λ (z : Controller C × ℕ). AreHandled z.0 (opened_log e) z.1 hs) (λ i. (sym controller_is i, sym start_is i)) h
 
--- Its delays
+-- The delays that a client asked for
 
 in_front : {A : Type 0} (a : A) (xs : List A) (x : A) → In a xs → In a (xs ++ x ∷ [])
 in_front a [] x h = absurd h
@@ -116,12 +117,12 @@ asked_front : (own : List Commit) (c : Commit) (places : List ℕ) → AllByRecu
 asked_front own c [] h = tt
 asked_front own c (p ∷ places) h = ((h.0.0, in_front h.0.0 own c h.0.1, h.0.2), asked_front own c places h.1)
 
--- a client that has an answer more has asked for no delay
+-- a client that has one more answer, and asked for no delay
 pub asked_more : (k : ℕ) (mine now : List (Request × Answer)) (q : Request) (p : Answer) (known : List ControllerCall) → now ≡ mine ++ (q, p) ∷ [] → HasAsked k (own_commits k mine) known → HasAsked k (own_commits k now) known
 asked_more k mine now q p known is h =
     subst (λ (own : List Commit). HasAsked k own known) (sym (ap (own_commits k) is ∙ own_more k mine q p)) (asked_front (own_commits k mine) (commit k q p) (delays_of k known) h)
 
--- a leader has asked for one more, and has its own answer
+-- a leader that asked for one more delay, and has its own answer
 pub asked_own : (k : ℕ) (mine now : List (Request × Answer)) (q : Request) (p : Answer) (known after at : List ControllerCall) → now ≡ mine ++ (q, p) ∷ [] → HasAsked k (own_commits k mine) known
     → delays_of k after ≡ delays_of k known ++ (length at - 1) ∷ [] → seen_for p ≡ at → HasAsked k (own_commits k now) after
 asked_own k mine now q p known after at is h delays own =
@@ -142,7 +143,7 @@ noted_as {C} a b xs is h = subst (λ (z : Controller C). AllByRecursion (λ (x :
 pub shown_as : {C : Type 0} (a b : Controller C) (hs : List (Handling Request Answer)) → a ≡ b → AllByRecursion (ShowsDelay a) hs → AllByRecursion (ShowsDelay b) hs
 shown_as {C} a b hs is h = subst (λ (z : Controller C). AllByRecursion (ShowsDelay z) hs) is h
 
--- its own request stands first
+-- the leader's own request comes first
 pub leads_by : (own : QueuedWriter Request) (group : List (QueuedWriter Request)) → LeadsBy own.by (asks own group)
 leads_by own [] = refl
 leads_by own (e ∷ es) = still (asks own es) (e.by, e.asked) (leads_by own es)
@@ -175,14 +176,14 @@ distinct_last (e ∷ es) own h = ((λ is. last_absent e.by es own h.0 (sym is)),
     last_absent k [] o a = a.0
     last_absent k (f ∷ fs) o a = last_absent k fs o a.1
 
--- the leader's own among what its group has handled
+-- the leader's own request among those that its group handled
 pub own_now : (k : ℕ) (own : QueuedWriter Request) (group : List (QueuedWriter Request)) (ys : List (ℕ × Answer)) (t : Paid own group ys) (seen : List (Handling Request Answer)) (mine : List (Request × Answer)) → own.by ≡ k → Distinct (group ++ own ∷ []) → of k seen ≡ mine
     → of k (seen ++ all_answers own t.own_reply t.gs) ≡ mine ++ (own.asked, t.own_reply) ∷ []
 own_now k own group ys t seen mine is apart before =
     let new = all_answers own t.own_reply t.gs in
     of_append k seen new ∙ (λ i. before i ++ ((λ j. of (sym is j) new) ∙ of_own own t.own_reply t.gs (subst (Absent own.by) (sym t.heads_are) (distinct_last group own apart))) i)
 
--- a leader stands as one writer
+-- a leader leads as one writer only
 pub fresh_same : {Q P : Type 0} (c c' : ℕ) (own own' : QueuedWriter Q) (seen seen' : List (Handling Q P)) (mine mine' : List (Q × P)) → hold c (Fresh own seen) mine ∷ [] ≡ hold c' (Fresh own' seen') mine' ∷ [] → own ≡ own'
 fresh_same c c' own own' seen seen' mine mine' e =
     let h : hold c (Fresh own seen) mine ≡ hold c' (Fresh own' seen') mine' = cc in
@@ -199,7 +200,7 @@ module _ {L M : Type 0} where
   pub belongs_as : {K : Type 0} (list : WriterList Request Answer L M K) (w w' : Writer Request Answer L M) → w' ≡ w → Belongs list w → Belongs list w'
   belongs_as list w w' same h = subst (λ (x : Writer Request Answer L M). Belongs list x) (sym same) h
 
--- Where a writer stands
+-- Where a writer is in the line
 module _ {Q P L M : Type 0} where
   pub linked_told : (stood : L → List (Handling Q P) → Type 0) (c : ℕ) (task : Task) (q : Q) (mine : List (Q × P)) (m : Sat Q P L M) → IsLinked stood c task q mine m → told_in_first m.0 ≡ mine
   linked_told stood c Awaits q mine m h = ap told_in_first h.1

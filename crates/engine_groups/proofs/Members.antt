@@ -1,13 +1,14 @@
--- Who is to work beside a leader is another member of its group.
+-- A client that inserts in parallel with a leader is another member of its group.
 use Rattle.std.proofs.Common.{◌≡◌, ◌⊎◌, inl, inr, ⊎_elim, ℕ, ◌<◌, ◌≤◌, Bool, false, map, Option, Some, None, IfSome, List, [], ◌∷◌, ◌++◌, refl, ap, subst}
 use Rattle.table_rule.specs.Histories.{In}
 use Rattle.line_rule.specs.declared.view.QueuedWriter.{QueuedWriter}
 use Rattle.line_rule.specs.Chain.{heads, Within}
-use Rattle.line_writers.specs.Roles.{asks, IsMember, AreMembers}
+use Rattle.line_rule.specs.Members.{asks}
+use Rattle.line_writers.specs.Roles.{IsMember, AreMembers}
 use Rattle.engine_parts.specs.declared.requests.Request.{Request}
 use Rattle.engine_parts.specs.Asking.{all_seen}
 use Rattle.engine_parts.specs.Led.{LeadsBy}
-use Rattle.engine_parts.specs.Numbering.{AreBeside, others_in}
+use Rattle.engine_parts.specs.Numbering.{AreHelpers, others_in}
 use Rattle.engine_groups.proofs.Leads.{leads_by}
 use Rattle.engine_parts.proofs.Beside.{AreIn}
 use Rattle.engine_parts.proofs.Replies.{map_append}
@@ -32,7 +33,7 @@ module _ {P : Type 0} (n : ℕ) (own : QueuedWriter Request) where
   are_members gs [] within all = tt
   are_members gs (k ∷ ks) within all = (is_other gs k within all.0, are_members gs ks within all.1)
 
--- The leader takes notes out of the requests, and no client.
+-- The leader takes the notes out of the requests, and takes out no client.
 names_unnoted : (xs : List (ℕ × Request)) → map (λ (z : ℕ × Request). z.0) (all_seen xs) ≡ map (λ (z : ℕ × Request). z.0) xs
 names_unnoted [] = refl
 names_unnoted (x ∷ xs) = ap (λ l. x.0 ∷ l) (names_unnoted xs)
@@ -41,7 +42,7 @@ pub others_unnoted : (xs : List (ℕ × Request)) → others_in (all_seen xs) �
 others_unnoted [] = refl
 others_unnoted (x ∷ xs) = names_unnoted xs
 
--- where the parts are apart only if they may be
-pub beside_where : {A : Type 0} (apart staged : Bool) (others members : List ℕ) (end : Option A) → (staged ≡ false → apart ≡ false) → IfSome end (λ _. AreBeside apart others members) → IfSome end (λ _. AreBeside staged others members)
+-- the helpers allowed by `apart` are also allowed by `staged`, since parts may be apart only where there are two stages
+pub beside_where : {A : Type 0} (apart staged : Bool) (others members : List ℕ) (end : Option A) → (staged ≡ false → apart ≡ false) → IfSome end (λ _. AreHelpers apart others members) → IfSome end (λ _. AreHelpers staged others members)
 beside_where apart staged others members None only h = tt
 beside_where apart staged others members (Some x) only h = record { of_group = h.of_group; alone = λ alone. h.alone (only alone) }

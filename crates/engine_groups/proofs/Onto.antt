@@ -52,19 +52,19 @@ given_by h gs more last dead batch (Ok r) same back ok =
     ap (λ b. map commit_of (cond b gs (h ∷ gs))) (ne_eqb (r.run.last + 1 - r.run.first) 0 (λ e. omega (arith, e, end, some))) ∙ ap (λ l. commit_of h ∷ l) same
 given_by h gs more last dead batch (Err e) same back ok = same ∙ refused_has_none (commit_of h) e.why more
 
--- those of the handled that were given runs are those that were accepted
+-- the handled requests that got runs are those that were accepted
 pub given_accepted : (last : ℕ) (dead : Option ℕ) (hs : List (Handling Request Answer)) → AllByRecursion HandsBack hs → AreAnswered last dead (map commit_of hs) → map commit_of (given_runs run_of hs) ≡ accepted_of (map commit_of hs)
 given_accepted last dead [] back answered = refl
 given_accepted last dead (h ∷ hs) back answered =
     given_by h (given_runs run_of hs) (accepted_of (map commit_of hs)) last dead h.asked.batch h.reply.answer
     (given_accepted (last_after last (count_of h.asked.batch.records) (answer_in h.reply.answer)) (fault_after dead (answer_in h.reply.answer)) hs back.1 answered.1) back.0 answered.0
 
--- what is published ends with the last sequence given before the group
+-- what is published ends with the last sequence that was given before the group
 pub served_last : (start : ℕ) (seen : List (Handling Request Answer)) (published : List (List MemberVersions)) → AllByRecursion HandsBack seen → AreAnswered start None (map commit_of seen) → AreServed (map commit_of (given_runs run_of seen)) published
     → last_of start published ≡ last_after_all start (map commit_of seen)
 served_last start seen published back answered served = served_end start None (map commit_of seen) published answered (subst (λ cs. AreServed cs published) (given_accepted start None seen back answered) served)
 
--- and with the group, once it is published
+-- once the group is published, what is published was made by all that got runs, with those of the group
 pub served_now : (start : ℕ) (seen new : List (Handling Request Answer)) (published : List (List MemberVersions)) (g : List MemberVersions) → AllByRecursion HandsBack seen → AreAnswered start None (map commit_of seen) → AllByRecursion HandsBack (seen ++ new) → AreAnswered start None (map commit_of (seen ++ new))
     → versions_in g ≡ made_by versions_made (map commit_of new) → AreServed (map commit_of (given_runs run_of seen)) published → AreServed (map commit_of (given_runs run_of (seen ++ new))) (published ++ g ∷ [])
 served_now start seen new published g back answered back' answered' made served =
@@ -80,7 +80,7 @@ some_same : {U : Type 0} (a b : U) → Some a ≡ Some b → a ≡ b
 unfolding some_or
 some_same a b e = ap (some_or a) e
 
--- What a leader has that was given the right
+-- What a leader has that was given the right to launch
 module _ {D T C S U P L : Type 0} {ghosts : Ghosts D} (meaning : Meaning T S U P) (about : EngineAtOpening D T C ghosts) (n : ℕ) (d : Debt Request Answer) (from to : List (Handling Request Answer)) (mine : List (Request × Answer)) (w : Writer Request Answer L (Right T S U P)) where
   pub record HasTurn (role : PipelinedRole L (Right T S U P) Answer) : Type 0 where
     pub turn : U
@@ -99,7 +99,7 @@ module _ {D T C S U P L : Type 0} {ghosts : Ghosts D} (meaning : Meaning T S U P
   has_turn piped Parallel h = absurd h
   has_turn piped (Done p) h = absurd h
 
-  -- the turn that was taken out is that one
+  -- the turn that was taken out of the role is that one
   pub turn_out : (role : PipelinedRole L (Right T S U P) Answer) (u : U) → turn_of role ≡ Some u → HasTurn role → meaning.our_turn about.table.value u × AreServed (map commit_of from) (meaning.history u)
   turn_out role u is t = let same : t.turn ≡ u = some_same t.turn u (sym t.turn_is ∙ is) in subst (λ (x : U). meaning.our_turn about.table.value x × AreServed (map commit_of from) (meaning.history x)) same (t.our, t.served)
 

@@ -19,7 +19,7 @@ use Rattle.engine_groups.specs.declared.engine.EngineClient.{EngineClient}
 use Rattle.engine_groups.specs.Clients.{IsClientOf, account_in}
 use Rattle.engine_groups.specs.AtStart.{AreSeatsAtStart, ArePassesAtStart, IsPassAtStart, IsNewcomer, AreNewcomers}
 
--- a list that is popped
+-- a list whose last item is taken
 
 pub reverse_last : {A : Type 0} (xs : List A) (x : A) → reverse (xs ++ x ∷ []) ≡ x ∷ reverse xs
 reverse_last xs x = reverse-append xs (x ∷ [])
@@ -35,7 +35,7 @@ all_last P All none part join (y ∷ xs) x all =
     let t = part y (xs ++ x ∷ []) all in let rest = all_last P All none part join xs x t.1 in
     (join y xs t.0 rest.0, rest.1)
 
--- the last of the writers, turned round, is the first of them
+-- the last of the writers is the first of them in reverse order
 pub writers_split : {Request Reply Log Right : Type 0} (table : TableId) (all front : List (Writer Request Reply Log Right)) (w : Writer Request Reply Log Right)
     → all ≡ front ++ w ∷ [] → AreNew table (length all) (reverse all)
     → AreNew table (length front) (reverse front) × IsNew table (suc (length front)) w

@@ -1,4 +1,4 @@
--- A client's commits, among all and from what it was told.
+-- A client's commits among all are those that its own answers give.
 use Rattle.std.proofs.Common.{◌≡◌, ℕ, map, List, [], ◌∷◌, refl}
 use mathlib.Core.Logic.{dite}
 use native.Mathlib.Decide.{ℕ_discrete}

@@ -63,7 +63,7 @@ group_made seen new published g before after =
     let now = sym (made_append cs ds) ∙ (ap (made_by versions_made) (sym (map_append commit_of seen new)) ∙ (images_versions versions_made (map commit_of (seen ++ new)) (published ++ g ∷ []) after ∙ versions_snoc published g)) in
     append_cancel_left (versions_of published) (versions_in g) (made_by versions_made ds) (sym now ∙ ap (λ l. l ++ made_by versions_made ds) was)
 
--- who has no run is given none
+-- a request without a run isn't among those that got runs
 none_by : (h : Handling Request Answer) (gs : List (Handling Request Answer)) (r : Result Receipt Refused) → HasNoRun (answer_in r) → cond ((run_in r).1 == 0) gs (h ∷ gs) ≡ gs
 none_by h gs (Ok r) none = absurd none
 none_by h gs (Err e) none = refl

@@ -13,7 +13,7 @@ use Rattle.engine_groups.specs.declared.engine.GroupEngine.{GroupEngine}
 use Rattle.engine_groups.specs.declared.engine.EngineClient.{EngineClient}
 use Rattle.engine_groups.specs.Clients.{IsClientOf, map_at_opening, account_in}
 
--- the seats of a table's clients from 1 on, who have seen nothing yet and have nothing to do
+-- the seats of a table's clients, numbered from 1 on; these clients have seen nothing yet and have nothing to do
 pub record AreSeatsAtStart {Versions Seat Turn Part : Type 0} (meaning : Meaning Versions Seat Turn Part)
     (table : Versions) (count : ℕ)
     (seats : List Seat) : Type 0 where
@@ -21,13 +21,13 @@ pub record AreSeatsAtStart {Versions Seat Turn Part : Type 0} (meaning : Meaning
   pub each : (s : Seat) → In s seats → meaning.ours table s × IsReady (meaning.account s)
       × ((meaning.account s).seen ≡ [])
 
--- it is this client's pass of the controller, of which it has seen nothing
+-- it is this client's pass at the controller, and has seen nothing of it
 pub record IsPassAtStart {Time : Type 0} (controller : Controller Time) (number : ℕ) (pass : Pass) : Type 0 where
   pub own : IsPassOf controller pass
   pub client : client_of pass ≡ number
   pub unseen : seen_by pass ≡ []
 
--- the same for the clients' passes from a number on
+-- they are such passes, of the clients from this number on
 abbrev pub ArePassesAtStart : {Time : Type 0} → Controller Time → ℕ → List Pass → Type 0
 ArePassesAtStart controller number [] = ⊤
 ArePassesAtStart controller number (pass ∷ passes) = IsPassAtStart controller number pass
@@ -36,13 +36,13 @@ ArePassesAtStart controller number (pass ∷ passes) = IsPassAtStart controller 
 module _ {Device Versions Time Watch Seat Turn Part : Type 0} {ghosts : Ghosts Device}
     (meaning : Meaning Versions Seat Turn Part) (e : GroupEngine Device Versions Time Watch Seat Turn Part ghosts)
   where
-    -- it is a client of the engine with this number, that has done and seen nothing
+    -- it is the client of the engine with this number, and has done and seen nothing
     pub record IsNewcomer (number : ℕ) (c : EngineClient Device Versions Time Seat Turn Part ghosts) : Type 0 where
       pub is_client : IsClientOf meaning e c
       pub new : account_in meaning c
           ≡ newcomer (meaning.opening e.table).start (map_at_opening meaning e.table) number
 
-    -- they have the numbers from one on
+    -- they are newcomers with the numbers from this one on
     abbrev pub AreNewcomers : ℕ → List (EngineClient Device Versions Time Seat Turn Part ghosts) → Type 0
     AreNewcomers number [] = ⊤
     AreNewcomers number (c ∷ clients) = IsNewcomer number c × AreNewcomers (number + 1) clients

@@ -32,7 +32,7 @@ use Rattle.engine_groups.specs.declared.leader.Right.{Right}
 use Rattle.engine_parts.specs.Handled.{commit_of, AreHandled}
 use Rattle.engine_parts.specs.Layout.{IsRoomy}
 
--- a client's commits, from what it asked and was told
+-- a client's commits, from its requests and their answers
 abbrev pub own_commits : ℕ → List (Request × Answer) → List Commit
 own_commits client [] = []
 own_commits client (t ∷ ts) = commit_of (record { by = client; asked = t.0; reply = t.1 }) ∷ own_commits client ts
@@ -73,7 +73,7 @@ module _ {Device Versions Time Seat Turn Part : Type 0} {ghosts : Ghosts Device}
         pub batch_bytes : e.batch_bytes ≤ MAX_SIZE
         pub no_fault : fault_of (opened_log e) ≡ None
 
-    -- it is a client of the engine, but for where its writer and its pass stand
+    -- it is a client of the engine; whether its writer is in the list, and what its pass has seen, is left open
     pub record IsSeated {Watch : Type 0} (e : GroupEngine Device Versions Time Watch Seat Turn Part ghosts)
         (c : EngineClient Device Versions Time Seat Turn Part ghosts) : Type 0
       where
@@ -89,7 +89,7 @@ module _ {Device Versions Time Seat Turn Part : Type 0} {ghosts : Ghosts Device}
         pub pass_number : pass_client c.pass ≡ c.number
         pub can_lead : CanLead (clients_of e.list) c
 
-    -- it is a client of the engine that stands in no list, wherever its envelope is
+    -- it is a client of the engine that is in no list, wherever its envelope is
     pub record IsIdle {Watch : Type 0} (e : GroupEngine Device Versions Time Watch Seat Turn Part ghosts)
         (c : EngineClient Device Versions Time Seat Turn Part ghosts) : Type 0
       where
@@ -118,7 +118,7 @@ module _ {Device Versions Time Seat Turn Part : Type 0} {ghosts : Ghosts Device}
       opened = ghosts.faults (disk_of (opened_log e));
     }
 
-  -- the room to close with is empty, and enough for all clients of a controller
+  -- the room for closing is empty and large enough for all clients, and its `others` is the controller's
   pub record HasRoomToClose (controller : Controller Time) (clients : ℕ)
       (room : ClosingRoom Device Versions Time Seat Turn Part ghosts) : Type 0 where
     pub no_writers : room.writers.items ≡ []
@@ -129,7 +129,8 @@ module _ {Device Versions Time Seat Turn Part : Type 0} {ghosts : Ghosts Device}
     pub passes : clients ≤ vec_capacity room.passes
     pub others : IsOthersOf controller room.others
 
-  -- A request was answered, and there is a list of all that was handled by then, with the client's own.
+  -- A request was answered, and there is a list of all that was handled by then, in which the client's own requests are
+  -- exactly those that it has answers to, with this one.
   pub record IsAnswered (controller : Controller Time) (opened : LogWriter Device ghosts) (start : ℕ) (q : Request)
       (p : Answer)
       (v w : EngineClient Device Versions Time Seat Turn Part ghosts) : Type 0 where

@@ -1,4 +1,4 @@
--- What the things that a leader holds stand for.
+-- What the log, the note and the right of a leader say of all that was handled.
 use Rattle.std.specs.Prelude.{◌≡◌, ℕ, Bool, true, false, List, Option, Some, None, map}
 use Rattle.base_devices.specs.declared.disk.Disk.{Ghosts}
 use Rattle.engine_controller.specs.Passes.{seen_by_note, IsNoteOf}
@@ -16,7 +16,7 @@ use Rattle.line_writers.specs.declared.line_writers.WriterList.{WriterList}
 use Rattle.line_writers.specs.Seats.{about_of, start_of}
 use Rattle.line_rule.specs.Laws.{logs_from}
 use Rattle.engine_parts.specs.Runs.{run_of}
-use Rattle.engine_parts.specs.LogLaw.{LogStandsFor}
+use Rattle.engine_parts.specs.LogLaw.{LogCovers}
 use Rattle.engine_parts.specs.Handled.{AreHandled, commit_of}
 use Rattle.engine_parts.specs.Staged.{published_with}
 
@@ -28,7 +28,7 @@ TurnIs {Versions} {Seat} {Turn} meaning table false published turn = (u : Turn) 
     × (meaning.history u ≡ published)
 TurnIs {Versions} {Seat} {Turn} meaning table true published turn = turn ≡ None
 
--- Where there are two it is apart, and what is published was made by just the groups that were served.
+-- Where there are two stages the right is apart, and what is published was made by exactly the groups that were served.
 abbrev pub ServesIs : {Versions Seat Turn Part : Type 0} → Meaning Versions Seat Turn Part → Versions → Bool
     → List (Handling Request Answer) → Option Turn → Type 0
 ServesIs {Versions} {Seat} {Turn} meaning table false served turn = turn ≡ None
@@ -36,15 +36,15 @@ ServesIs {Versions} {Seat} {Turn} meaning table true served turn = (u : Turn) ×
     × meaning.our_turn table u
     × AreServed (map commit_of served) (meaning.history u)
 
--- The log stands for all that was handled, where these groups are published, or are to be. The note is the
--- controller's, and shows what the last leader had seen.
-pub record LeadershipStandsFor {Device Versions Time Seat Turn Part : Type 0} {ghosts : Ghosts Device}
+-- The log represents all that was handled (`LogCovers`), where the groups in `published` are published or will be.
+-- The note is the controller's, and shows what the last leader had seen.
+pub record LeadershipCovers {Device Versions Time Seat Turn Part : Type 0} {ghosts : Ghosts Device}
     (meaning : Meaning Versions Seat Turn Part) (about : EngineAtOpening Device Versions Time ghosts)
     (leadership : Leadership Device Versions Time Seat Turn Part ghosts)
     (handled : List (Handling Request Answer)) : Type 0 where
   pub note : IsNoteOf about.controller.value leadership.asked
   pub published : List (List MemberVersions)
-  pub path : LogStandsFor about.opened.value about.start about.clients about.group_bytes (seen_by_note leadership.asked)
+  pub path : LogCovers about.opened.value about.start about.clients about.group_bytes (seen_by_note leadership.asked)
       leadership.held.value.path.log published leadership.held.value.path.last handled
   pub turn : TurnIs meaning about.table.value about.pipelined published leadership.turn
 
@@ -54,18 +54,18 @@ abbrev pub RightStandsFor : {Device Versions Time Seat Turn Part : Type 0} {ghos
 RightStandsFor meaning about right served =
     ServesIs meaning about.table.value about.pipelined served right.turn
 
--- The same where the parts of the leader's group, if there are any, are still to be published.
+-- As `LeadershipCovers`, where the parts of the leader's group, if there are any, must still be published.
 pub record LeadershipIsStaged {Device Versions Time Seat Turn Part : Type 0} {ghosts : Ghosts Device}
     (meaning : Meaning Versions Seat Turn Part) (about : EngineAtOpening Device Versions Time ghosts)
     (leadership : Leadership Device Versions Time Seat Turn Part ghosts)
     (end : Option ℕ) (parts : List MemberNodes) (published : List (List MemberVersions))
     (handled : List (Handling Request Answer)) : Type 0 where
   pub note : IsNoteOf about.controller.value leadership.asked
-  pub path : LogStandsFor about.opened.value about.start about.clients about.group_bytes (seen_by_note leadership.asked)
+  pub path : LogCovers about.opened.value about.start about.clients about.group_bytes (seen_by_note leadership.asked)
       leadership.held.value.path.log (published_with end parts published) leadership.held.value.path.last handled
   pub turn : TurnIs meaning about.table.value about.pipelined published leadership.turn
 
--- What the list's law is about, and what its leaders keep
+-- What every answered group keeps true (`kept_in`), and the law of a list's leaders (`law_in`).
 module _ {Device Versions Time Seat Turn Part : Type 0} {ghosts : Ghosts Device} where
   abbrev pub kept_in : WriterList Request Answer (Leadership Device Versions Time Seat Turn Part ghosts)
       (Right Versions Seat Turn Part) (EngineAtOpening Device Versions Time ghosts)
@@ -76,5 +76,5 @@ module _ {Device Versions Time Seat Turn Part : Type 0} {ghosts : Ghosts Device}
       → WriterList Request Answer (Leadership Device Versions Time Seat Turn Part ghosts)
       (Right Versions Seat Turn Part) (EngineAtOpening Device Versions Time ghosts)
       → Leadership Device Versions Time Seat Turn Part ghosts → List (Handling Request Answer) → Type 0
-  law_in meaning list = logs_from (λ l hs. LeadershipStandsFor meaning (about_of list) l hs) (kept_in list)
+  law_in meaning list = logs_from (λ l hs. LeadershipCovers meaning (about_of list) l hs) (kept_in list)
       (λ l. l.held.value.path.last) run_of (start_of list)

@@ -8,7 +8,8 @@ use Rattle.line_rule.specs.declared.view.QueuedWriter.{QueuedWriter}
 use Rattle.line_rule.specs.declared.view.Handling.{Handling}
 use Rattle.line_rule.specs.Chain.{heads, all_answers, of}
 use Rattle.line_rule.specs.Laws.{asks_for, last_run}
-use Rattle.line_writers.specs.Roles.{AreMembers, pays}
+use Rattle.line_rule.specs.Members.{pays}
+use Rattle.line_writers.specs.Roles.{AreMembers}
 use Rattle.line_writers.specs.Rooms.{HasRoom, TakesRequests}
 use Rattle.line_writers.specs.Seats.{bound_of, about_of, client_of, clients_of, flat_of, start_of, answers_told, Belongs, HasGroup}
 use Rattle.engine_controller.specs.declared.controller.Controller.{Controller}
@@ -27,7 +28,7 @@ use Rattle.engine_groups.specs.Clients.{own_commits}
 use Rattle.engine_parts.specs.Handled.{AreHandled, IsNoted, commit_of}
 use Rattle.engine_parts.specs.Items.{item_with}
 use Rattle.engine_parts.specs.Runs.{run_of}
-use Rattle.engine_groups.specs.Law.{LeadershipStandsFor}
+use Rattle.engine_groups.specs.Law.{LeadershipCovers}
 use Rattle.engine_parts.specs.Layout.{IsLaid}
 use Rattle.engine_groups.specs.Serving.{HasSeats}
 use Rattle.engine_parts.specs.Staged.{MayLaunch}
@@ -35,8 +36,8 @@ use Rattle.engine_parts.specs.Staged.{MayLaunch}
 module _ {Device Versions Time Watch Seat Turn Part : Type 0} {ghosts : Ghosts Device}
     (meaning : Meaning Versions Seat Turn Part)
     (e : GroupEngine Device Versions Time Watch Seat Turn Part ghosts) where
-  -- The client has answered the group that it leads as `own`, after these were handled. With this number and start, and
-  -- these answers of its own before, it came to lead.
+  -- The client has answered the group that it leads as `own`; the requests in `seen` were handled before that group.
+  -- When it began to lead it had this number and this start, and `mine` were its own requests and answers.
   pub record IsToLeave (number start : ℕ) (mine : List (Request × Answer)) (own : QueuedWriter Request)
       (seen : List (Handling Request Answer)) (w : EngineClient Device Versions Time Seat Turn Part ghosts)
       (leadership : Leadership Device Versions Time Seat Turn Part ghosts) : Type 0
@@ -60,7 +61,7 @@ module _ {Device Versions Time Watch Seat Turn Part : Type 0} {ghosts : Ghosts D
       pub told_is : answers_told w.writer ≡ mine
       pub heads_are : heads gs ≡ group
       pub pays_are : w.lists.replies.list.items ≡ pays own p gs
-      pub stands : LeadershipStandsFor meaning (about_of e.list) leadership (seen ++ all_answers own p gs)
+      pub stands : LeadershipCovers meaning (about_of e.list) leadership (seen ++ all_answers own p gs)
       pub before : AreHandled (about_of e.list).controller.value (about_of e.list).opened.value (about_of e.list).start
           seen
       pub kept : AreHandled (about_of e.list).controller.value (about_of e.list).opened.value (about_of e.list).start
@@ -73,15 +74,15 @@ module _ {Device Versions Time Watch Seat Turn Part : Type 0} {ghosts : Ghosts D
       pub room : HasRoom (clients_of e.list) w.lists.room
       pub has_asked : HasAsked number (own_commits number (mine ++ (own.asked, p) ∷ [])) (seen_by w.pass)
 
-  -- its members were given no runs, or the list has one stage
+  -- the group's members got no runs, or the list has one stage
   abbrev pub IsFlat : (number start : ℕ) (mine : List (Request × Answer)) (own : QueuedWriter Request)
       (seen : List (Handling Request Answer)) (w : EngineClient Device Versions Time Seat Turn Part ghosts)
       (leadership : Leadership Device Versions Time Seat Turn Part ghosts)
       → IsToLeave number start mine own seen w leadership → Type 0
   IsFlat number start mine own seen w leadership l = flat_of run_of e.list seen (seen ++ all_answers own l.p l.gs)
 
-  -- the parts that it laid out are those of its group, and go behind all that was given runs before; who is to work
-  -- beside it is another member of the group
+  -- the parts that it laid out are those of its group, and come after all that got runs before; those who insert in
+  -- parallel with it are other members of the group
   pub record IsToHandOn (number start : ℕ) (mine : List (Request × Answer)) (own : QueuedWriter Request)
       (seen : List (Handling Request Answer)) (w : EngineClient Device Versions Time Seat Turn Part ghosts)
       (leadership : Leadership Device Versions Time Seat Turn Part ghosts)
@@ -94,7 +95,8 @@ module _ {Device Versions Time Watch Seat Turn Part : Type 0} {ghosts : Ghosts D
     pub made : versions_in (group_of w.layout.parts.parts)
         ≡ made_by versions_made (map commit_of (all_answers own leaves.p leaves.gs))
 
--- the request was answered, and there is a list of all that was handled by then, with the client's own
+-- the request was answered, and there is a list of all that was handled by then, in which the client's own requests are
+-- exactly those that it has answers to, with this one
 pub record HasAnswered {Time Device : Type 0} {ghosts : Ghosts Device} (controller : Controller Time)
     (opened : LogWriter Device ghosts)
     (from number : ℕ) (mine : List (Request × Answer)) (q : Request) (p : Answer)

@@ -1,8 +1,8 @@
--- What is said of a table.
+-- What contracts say of a table.
 use Rattle.table_calls.specs.declared.table.Table.{Ghosts}
 use Rattle.table_tree.specs.declared.node.Nodes.{Nodes}
 use Rattle.table_tree.specs.declared.parts.Parts.{Parts}
 
--- what it was opened for, which seats and turns are its own, and what each of these shows
+-- what the table was opened with, which seats and turns are its own, and what each of these shows
 abbrev pub Meaning : Type 0 → Type 0 → Type 0 → Type 0 → Type 1
 Meaning Versions Seat Turn Part = Ghosts Versions Nodes Parts Seat Turn Part

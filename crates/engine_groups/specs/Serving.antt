@@ -20,7 +20,7 @@ use Rattle.engine_groups.specs.Clients.{IsEngine}
 module _ {Device Versions Time Watch Seat Turn Part : Type 0} {ghosts : Ghosts Device}
     (meaning : Meaning Versions Seat Turn Part) (e : GroupEngine Device Versions Time Watch Seat Turn Part ghosts)
   where
-    -- its seat and its pass are the engine's
+    -- the client's seat and pass are the engine's
     pub record HasSeats (c : EngineClient Device Versions Time Seat Turn Part ghosts) : Type 0 where
       pub is_engine : IsEngine meaning e
       pub seat : meaning.ours e.table c.seat

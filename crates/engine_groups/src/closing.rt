@@ -20,7 +20,7 @@ use std::sync::Wait;
 use table_calls::{Seats, Table};
 use table_tree::{Nodes, Parts};
 
-/// Takes the clients apart.
+/// Takes the clients apart into their writers, seats and passes.
 pub(crate) fn part_all<Device: Disk, Versions: Table<Nodes, Parts>, Time>(
     clients: &mut Vec<EngineClient<Device, Versions, Time>>,
     writers: &mut Vec<
@@ -38,7 +38,7 @@ pub(crate) fn part_all<Device: Disk, Versions: Table<Nodes, Parts>, Time>(
     ensures passes { passes.new.items ≡ map pass_in clients.old.items }
     ensures parted { clients.new.items ≡ [] }
 {
-    // The parts so far, with those of the clients that are left, are all.
+    // The parts that were taken so far, with those of the clients that are left, are the parts of all clients.
     while let Some(client) = take_first(clients) {
         let EngineClient {
             number: _,
@@ -57,7 +57,7 @@ pub(crate) fn part_all<Device: Disk, Versions: Table<Nodes, Parts>, Time>(
     }
 }
 
-/// Ends a controller. Its first pass learns what a note shows, so that this begins the one history too.
+/// Ends a controller. Its first pass learns what a note shows, so that the one history begins with that too.
 fn end_controller<Time: Clock, R: Wait + rt::Clock>(
     rt: &R,
     controller: Controller<Time>,
@@ -94,8 +94,8 @@ impl<
     ghost use Rattle.line_writers.specs.Seats.{clients_of};
     ghost use Rattle.engine_groups.specs.Clients.{IsClientOf, account_in, settings_of, opened_log, HasRoomToClose};
 
-    /// Gives the log up. All clients are handed in. Of all that they wrote and read there is one trace, and the log was
-    /// written by just the calls that wrote its history.
+    /// Closes the engine, and gives its log back. All clients are handed in. There is one trace of all that they wrote
+    /// and read, and the log was written by exactly the calls that wrote the trace's history.
     pub fn close<R: Wait + rt::Clock>(
         self,
         rt: &R,

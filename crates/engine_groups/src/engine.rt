@@ -25,11 +25,11 @@ pub struct GroupEngine<Device: Disk, Versions: Table<Nodes, Parts>, Time, Watch>
     pub(crate) batch_bytes: u64,
 }
 
-/// One of its clients.
+/// A client of the engine.
 pub struct EngineClient<Device: Disk, Versions: Table<Nodes, Parts>, Time> {
     pub(crate) number: u32,
     pub(crate) start: u64,
-    /// The table as it was when the client was made. Its opening says over which map the client reads.
+    /// The table as it was when the client was made. The table's opening says over which map the client reads.
     pub(crate) table: Snapshot<Versions>,
     pub(crate) writer: Writer<
         SealedRequest,
@@ -41,12 +41,12 @@ pub struct EngineClient<Device: Disk, Versions: Table<Nodes, Parts>, Time> {
     pub(crate) pass: Pass,
     pub(crate) lists: Lists<SealedRequest, SealedAnswer>,
     pub(crate) layout: Layout,
-    /// It is here between the client's writes, and away with the request until the answer comes.
+    /// It is here between the client's writes. During a write it is away with the request, until the answer comes.
     pub(crate) envelope: Option<Envelope>,
 }
 
-/// The room that closing takes, and what shows there that nobody but the clients called the controller. No seat can be
-/// shared by threads, so that the room isn't the engine's.
+/// The room that closing needs, and `others`, which shows there that only the clients called the controller. Seats
+/// can't be shared by threads, so the room isn't a part of the engine.
 pub struct ClosingRoom<Device: Disk, Versions: Table<Nodes, Parts>, Time> {
     pub(crate) writers: Vec<
         Writer<SealedRequest, SealedAnswer, Leadership<Device, Versions, Time>, Right<Versions>>,

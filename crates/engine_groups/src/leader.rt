@@ -26,9 +26,10 @@ pub struct EngineAtOpening<Device: Disk, Versions, Time> {
     pub pipelined: bool,
 }
 
-/// What a leader takes over from the one before: the path of its group with the clock, the right to launch it where
-/// there is one stage, and what the one before had seen of the write controller. Path and clock lie in a box: a slot of
-/// the line is as large as the largest that it may hold, and each client's request and answer go through one.
+/// What a leader takes over from the leader before it: the path (the log and its last sequence) with the clock, the
+/// right to launch its group where there is one stage, and what the leader before it had seen of the write controller.
+/// Path and clock are in a box: a slot of the line is as large as the largest value that it may hold, and each
+/// client's request and answer go through a slot.
 pub struct Leadership<Device: Disk, Versions: Table<Nodes, Parts>, Time> {
     pub held: Box<Held<Device, Time>>,
     pub turn: Option<Versions::Turn>,
@@ -46,7 +47,7 @@ pub struct Right<Versions: Table<Nodes, Parts>> {
     pub turn: Option<Versions::Turn>,
 }
 
-/// The right to launch, which a leader of the second list was given.
+/// The right to launch that a leader of the second list was given.
 pub(crate) fn turn_in<Device: Disk, Versions: Table<Nodes, Parts>, Time>(
     role: PipelinedRole<Leadership<Device, Versions, Time>, Right<Versions>, SealedAnswer>,
 ) -> Versions::Turn
@@ -59,7 +60,7 @@ pub(crate) fn turn_in<Device: Disk, Versions: Table<Nodes, Parts>, Time>(
     }
 }
 
-/// The right to launch, which is at one of the two places.
+/// The right to launch, which is in exactly one of the two places.
 pub(crate) fn one_turn<Turn>(with_log: Option<Turn>, apart: Option<Turn>) -> Turn
     requires { ((u : Turn) × (with_log ≡ Some u) × (apart ≡ None))
         ⊎ ((u : Turn) × (with_log ≡ None) × (apart ≡ Some u)) }
@@ -80,9 +81,9 @@ impl<Device: Disk, Versions: Table<Nodes, Parts>, Time> LogOfGroups<
     type About = EngineAtOpening<Device, Versions, Time>;
 
     ghost use Rattle.engine_parts.specs.Handled.{AreHandled, IsNoted};
-    ghost use Rattle.engine_groups.specs.Law.{LeadershipStandsFor, RightStandsFor};
+    ghost use Rattle.engine_groups.specs.Law.{LeadershipCovers, RightStandsFor};
 
-    ghost stands = { λ a l handled. LeadershipStandsFor Versions.Table a l handled };
+    ghost stands = { λ a l handled. LeadershipCovers Versions.Table a l handled };
 
     ghost kept = { λ a handled. AreHandled a.controller.value a.opened.value a.start handled };
 

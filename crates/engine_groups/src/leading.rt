@@ -1,4 +1,4 @@
-//! How a leader puts its group into the table alone, where that is no stage of its own.
+//! How a leader alone puts its group into the table, where that isn't a stage of its own.
 
 ghost use Rattle.std.specs.Prelude.{◌≡◌, [], ◌∷◌, ◌++◌};
 ghost use Rattle.table_rule.specs.Histories.{last_of, Begins};

@@ -27,7 +27,7 @@ impl<
     Time: Clock + Drop,
     Watch: Gate + Drop,
 > GroupEngine<Device, Versions, Time, Watch> {
-    /// Gives the log back or on, and tells the members of the group their replies.
+    /// Gives the log on to the next leader, or back to the list, and gives the members of the group their replies.
     pub(crate) fn leave(
         &self,
         client: &mut EngineClient<Device, Versions, Time>,
@@ -48,8 +48,8 @@ impl<
             × (client.new.seat ≡ client.old.seat) × (client.new.pass ≡ client.old.pass)
             × (client.new.table ≡ client.old.table) }
     {
-        // Each reply lies in its member's slot before the log goes on, so that who is told has it at once. The log goes
-        // on before any member is told: the next leader works while they wake.
+        // Each reply is in its member's slot before the log goes on, so that a member has it as soon as it is
+        // notified. The log goes on before any member is notified: the next leader works while they wake.
         self.list.exit(
             &mut client.writer,
             leadership,
@@ -58,7 +58,7 @@ impl<
         )
     }
 
-    /// Gives the log on, and puts the group into the table once it is the first of those that are logged. Then it tells
+    /// Gives the log on, and puts the group into the table once it is the first of the logged groups. Then it gives
     /// the members of the group their replies.
     pub(crate) fn hand_on<R: Wait + rt::Clock>(
         &self,
@@ -81,7 +81,7 @@ impl<
             × (client.new.pass ≡ client.old.pass) × (client.new.table ≡ client.old.table) }
         ensures seen { Begins (Versions.account client.old.seat).seen (Versions.account client.new.seat).seen }
     {
-        // The group stands in the second list before the log goes on, so that this list is in the order of the log.
+        // The group is in the second list before the log goes on, so that this list is in the order of the log.
         self.list.exit_pipelined(
             rt,
             &mut client.writer,
@@ -102,7 +102,7 @@ impl<
             &mut client.layout.parts,
             end,
         );
-        // Members are told once their group is published, so that each sees its own write.
+        // Members get their replies only once their group is published, so that each sees its own write.
         let right = Right { turn: Some(turn) };
         self.list
             .exit_memtable(&mut client.writer, right, &mut client.lists.room)

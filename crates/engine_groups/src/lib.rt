@@ -1,22 +1,23 @@
-//! A write path whose clients write in groups, over any published table and any disk. A write goes into a lock-free
-//! list of writers. The oldest writer leads: it takes the group of the grouping rule from the list, asks the write
-//! controller how long the group has to wait, and waits, or refuses a group that may not. Then it gives its members
-//! runs of sequences, writes their batches to the log as one record, and puts their versions into the table, which
-//! publishes them as one group. Then it answers each member, and gives the log on.
+//! A write path whose clients write in groups, over any table (`table_calls`) and any disk. A write goes into a
+//! lock-free list of writers. The oldest writer leads: it takes from the list the group that the grouping rule gives,
+//! asks the write controller how long the group has to wait, and waits, or refuses a group that may not wait. Then it
+//! gives its members runs of sequences, writes their batches to the log as one record, and puts their versions into
+//! the table, which publishes them as one group. Then it answers each member, and gives the log on to the next leader.
 //!
-//! In two stages it gives the log on first, and its group waits in a second list for its turn at the table, in the
-//! order of the log (`leaving`, `engine_memtable`). Which of the two it is, is where the right to launch is: with the
-//! log, or apart.
+//! With two stages the leader gives the log on first, and its group waits in a second list for its turn at the table,
+//! in the order of the log (`leaving`, `engine_memtable`). Where the right to launch is shows whether there are two:
+//! with one stage it is with the log, with two it is apart.
 //!
-//! What a leader does that knows no engine is in `engine_parts`. A client's write is read from the outside in in
-//! `writing`.
+//! What a leader does without knowing the engine is in `engine_parts`. `writing` has a client's write, from the
+//! outside in.
 //!
-//! - `specs/Meaning`: what is said of a table.
-//! - `specs/Law`: what the things that a leader holds stand for.
+//! - `specs/Meaning`: what contracts say of a table.
+//! - `specs/Law`: what the log, the note and the right of a leader say of all that was handled.
 //! - `specs/Clients`: an engine and its clients, and a client's account.
 //! - `specs/Serving`: a leader before and after its group is handled.
 //! - `specs/Leaving`: a leader that leaves or hands its group on.
 //! - `specs/AtStart`: what an engine is opened with.
+//! - `specs/Turns`: the right that a leader of the second list was given.
 #![tactic(auto)]
 
 mod calls;

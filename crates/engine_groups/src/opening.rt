@@ -31,7 +31,7 @@ use std::snapshot::Snapshot;
 use table_calls::{Seats, Table};
 use table_tree::{Nodes, Parts};
 
-/// What an engine was to be opened with, as it was.
+/// What an engine should have been opened with, handed back as it was.
 pub struct OpenRefused<Device: Disk, Versions: Table<Nodes, Parts>, Time, Watch> {
     pub log: LogWriter<Device>,
     pub clock: Time,
@@ -65,7 +65,7 @@ impl<Device: Disk, Versions: Table<Nodes, Parts>, Time, Watch> OpenRefused<
     }
 }
 
-/// A note for the first leader, of a pass that has seen nothing.
+/// A note for the first leader, made from a pass that has seen nothing.
 fn first_note<Time: Clock>(controller: &Controller<Time>, passes: &mut Vec<Pass>) -> Note
     requires passes { ArePassesAtStart controller.now 1 passes.old.items × (0 < length passes.old.items) }
     ensures passes { ArePassesAtStart controller.now 1 passes.new.items
@@ -120,7 +120,8 @@ fn start_with<Device: Disk, Versions, Time>(
     }
 }
 
-/// What was to be opened, from the leadership and the right that the list was to begin with.
+/// What the engine should have been opened with, taken back out of the leadership and the right that the list should
+/// have begun with.
 fn given_back<Device: Disk, Versions: Table<Nodes, Parts>, Time: Drop, Watch>(
     leadership: Leadership<Device, Versions, Time>,
     right: Right<Versions>,
@@ -164,9 +165,9 @@ impl<
     Time: Clock + Drop,
     Watch: Gate + Drop,
 > GroupEngine<Device, Versions, Time, Watch> {
-    /// An engine over a log that has no fault and a table of which nothing is published, with a client for each of its
-    /// seats. Where memory is short, all is handed back. Where it is pipelined a group goes into the table while later
-    /// ones are logged, and its members may put their own parts in.
+    /// Opens an engine over a log that has no fault and a table in which nothing is published, with a client for each
+    /// of the table's seats. Where memory is short, all is handed back. Where the engine is pipelined, a group goes
+    /// into the table while later ones are logged, and its members may put in their own parts.
     pub fn open(
         alloc: Global,
         log: LogWriter<Device>,
@@ -234,7 +235,7 @@ impl<
         )
     }
 
-    /// An engine with all that it needs but the list, and its clients.
+    /// Opens an engine and its clients, where all that it needs is there except the list of writers.
     fn open_with(
         alloc: Global,
         held: Box<Held<Device, Time>>,
@@ -325,8 +326,8 @@ impl<
         }
     }
 
-    /// Makes a client of each writer, seat and pass. The writers come by falling numbers; seats, passes and clients
-    /// stand by rising ones. What they stood in is the room for closing.
+    /// Makes a client of each writer, seat and pass. The writers come in falling order of their numbers; seats, passes
+    /// and clients are in rising order. The vectors that they were in become the room for closing.
     fn seat_all(
         &self,
         start: u64,
@@ -366,7 +367,8 @@ impl<
             others,
         } = passes;
         writers.reverse();
-        // The clients so far are newcomers, greatest number first, with the numbers above those of the writers left.
+        // The clients that were made so far are newcomers, the greatest number first. Their numbers are above those of
+        // the writers that are left.
         while let Some(writer) = writers.pop() {
             let Some(seat) = seats.pop() else {
                 unreachable!()
@@ -397,7 +399,7 @@ impl<
         Clients { clients, room }
     }
 
-    /// A client with its seats at list and table, its lists, and its envelope.
+    /// A client, made of its writer, its seat at the table, its pass, its lists, its layout and its envelope.
     fn seat_one(
         &self,
         number: u32,

@@ -1,6 +1,6 @@
-//! How a leader lets others link before it closes its group.
+//! How a leader lets other writers link before it closes its group.
 
-ghost use Rattle.line_writers.specs.Seats.{Belongs, StandsStill};
+ghost use Rattle.line_writers.specs.Seats.{Belongs, IsUnchanged};
 
 use crate::engine::GroupEngine;
 use crate::leader::{Leadership, Right};
@@ -12,16 +12,16 @@ use line_writers::Writer;
 use table_calls::Table;
 use table_tree::{Nodes, Parts};
 
-/// How many times a leader pauses before it closes a group that is to be synced.
+/// How many times a leader pauses before it closes a group that must be synced.
 const PAUSES: u32 = 12;
 
-/// How many times at most it pauses while groups before its own are on their way into the table.
+/// How many times at most a leader pauses while groups before its own are on their way into the table.
 const PAUSES_BEHIND: u32 = 200;
 
-/// Pauses some times.
+/// Pauses `PAUSES` times.
 fn pause_for_sync() {
     let backoff = Backoff::new();
-    // Nothing passes but time.
+    // A pause changes nothing.
     for _ in 0..PAUSES {
         backoff.snooze();
     }
@@ -33,9 +33,10 @@ impl<
     Time: Clock + Drop,
     Watch: Gate + Drop,
 > GroupEngine<Device, Versions, Time, Watch> {
-    /// Lets others link before the leader closes its group. Where its batch is to be synced those who were told their
-    /// replies a moment ago may come: a sync takes no longer for more batches. Where there are two stages it pauses too
-    /// while groups before it are on their way into the table, behind which its own would wait.
+    /// Lets other writers link before the leader closes its group. Where the leader's batch must be synced, clients
+    /// that got their replies a moment ago may come: a sync takes no longer for more batches. Where there are two
+    /// stages, the leader also pauses while groups before its own are on their way into the table, since its group
+    /// would have to wait for them.
     pub(crate) fn let_others_link(
         &self,
         writer: &mut Writer<
@@ -48,7 +49,7 @@ impl<
         staged: bool,
     )
         requires { Belongs self.now.list writer.old }
-        ensures { StandsStill writer.new writer.old }
+        ensures { IsUnchanged writer.new writer.old }
     {
         if sync {
             pause_for_sync();
@@ -58,7 +59,7 @@ impl<
         }
     }
 
-    /// Pauses while a group stands in the second list, some times at most.
+    /// Pauses while a group is in the second list, at most `PAUSES_BEHIND` times.
     fn pause_behind(
         &self,
         writer: &mut Writer<
@@ -69,10 +70,10 @@ impl<
         >,
     )
         requires { Belongs self.now.list writer.old }
-        ensures { StandsStill writer.new writer.old }
+        ensures { IsUnchanged writer.new writer.old }
     {
         let backoff = Backoff::new();
-        // A look moves nothing: the writer is where it was.
+        // A look changes nothing: the writer is where it was.
         for _ in 0..PAUSES_BEHIND {
             if !self.list.has_groups(writer) {
                 return;

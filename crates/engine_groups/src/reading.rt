@@ -23,7 +23,7 @@ impl<
     ghost use Rattle.model_accounts.specs.Accounts.{Keeps, Reads as ReadsAtEnd};
     ghost use Rattle.engine_groups.specs.Clients.{IsClientOf, account_in};
 
-    /// A key's value at the end of what is published.
+    /// A key's value as of the end of what is published.
     pub fn get<R: Wait + rt::Clock>(
         &self,
         rt: &R,
@@ -39,7 +39,7 @@ impl<
         self.table.read(self.alloc, rt, &mut client.seat, key)
     }
 
-    /// The values of keys, all at one end of what is published.
+    /// The values of keys, all as of the same end of what is published.
     pub fn get_many<R: Wait + rt::Clock>(
         &self,
         rt: &R,
@@ -55,7 +55,8 @@ impl<
         self.table.read_many(self.alloc, rt, &mut client.seat, keys)
     }
 
-    /// The keys from `lo` on and below `hi` with their values, all at one end of what is published, in byte order.
+    /// The keys from `lo` on and below `hi` with their values, all as of the same end of what is published, in byte
+    /// order.
     pub fn scan<R: Wait + rt::Clock>(
         &self,
         rt: &R,

@@ -25,8 +25,8 @@ impl<
     Time: Clock + Drop,
     Watch: Gate + Drop,
 > GroupEngine<Device, Versions, Time, Watch> {
-    /// Waits until the client leads a group, or has its reply. Until then it works beside its leader, where it is told
-    /// to.
+    /// Waits until the client leads a group, or has its reply. Until then it puts its own part into the table, in
+    /// parallel with its leader, where it is asked to.
     pub(crate) fn await_own_role<R: Wait + rt::Clock>(
         &self,
         rt: &R,

@@ -19,12 +19,13 @@ use std::sync::Wait;
 use table_calls::Table;
 use table_tree::{Nodes, Parts};
 
-/// Waits until an answer speaks of sequences above `shown`, up to which its client had seen what is published when it
-/// made the call.
+/// Waits until an answer speaks of sequences above `shown`. Up to `shown` the client had seen what is published when
+/// it made the call.
 ///
-/// It never waits: runs are given one behind the other, and what is published was given runs before. But where groups
-/// go into the table in a stage of their own, no rule speaks of the log and of the table at one moment, and so it isn't
-/// proved that an answer is above. Where it weren't, the call wouldn't return, and no client would be told of it.
+/// It never waits: runs are given one after the other, and what is published got its runs before. But where groups go
+/// into the table in a stage of their own, no rule speaks of the log and of the table at the same moment, so it isn't
+/// proved that an answer is above `shown`. If an answer weren't, the call wouldn't return, and no client would get
+/// that answer.
 pub(crate) fn await_above<R: Wait + rt::Clock>(
     rt: &R,
     shown: u64,
@@ -43,7 +44,8 @@ pub(crate) fn await_above<R: Wait + rt::Clock>(
     unreachable!()
 }
 
-/// Whether a run is above a sequence, or the sequence behind which there was no room isn't below it.
+/// Whether an answer's run is above a sequence, or, where no sequences were left for it, the sequence after which
+/// there was no room isn't below it. It is true of any other refusal.
 fn is_above(shown: u64, answer: &Result<Receipt, Refused>) -> bool
     ensures { result ≡ true → IsAbove shown answer.now }
 {
@@ -62,7 +64,8 @@ impl<
     Time: Clock + Drop,
     Watch: Gate + Drop,
 > GroupEngine<Device, Versions, Time, Watch> {
-    /// Lets the client see what its answer speaks of: its group published, or the delay that it was refused by.
+    /// Lets the client see what its answer speaks of: its published group, or the delay because of which it was
+    /// refused.
     pub(crate) fn see<R: Wait + rt::Clock>(
         &self,
         rt: &R,

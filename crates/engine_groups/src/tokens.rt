@@ -20,7 +20,8 @@ impl<
     Time: Clock + Drop,
     Watch: Gate + Drop,
 > GroupEngine<Device, Versions, Time, Watch> {
-    /// Takes the client's stop token. While anybody holds one, all writes wait, and those that may not are refused.
+    /// Takes the client's stop token. While anybody holds one, all writes wait, except that those that may not wait,
+    /// and those of a client that holds one itself, are refused.
     pub fn stop<R: Wait + rt::Clock>(
         &self,
         rt: &R,

@@ -1,6 +1,6 @@
-//! A client's write, from the outside in: `write` checks it and takes its memory, `submit` waits in the line, and who
-//! comes to lead there (`lead`) serves its group: it asks the write controller, and has the group logged (`serve`,
-//! `log_phase`), has it put into the table, and gives the log on (`leave`, `hand_on`).
+//! A client's write, from the outside in: `write` checks it and takes its memory, `submit` waits in the line, and a
+//! client that becomes a leader there (`lead`) serves its group: it asks the write controller and has the group logged
+//! (`serve`, `log_phase`), has it put into the table, and gives the log on (`leave`, `hand_on`).
 
 ghost use Rattle.std.specs.Prelude.{◌≡◌, ◌+◌, true, false, ℕ, List, [], ◌∷◌, ◌++◌, Ok, Err, IfOk, IfErr, IfSome, is_none};
 ghost use Rattle.table_rule.specs.Histories.{Begins};
@@ -14,8 +14,8 @@ ghost use Rattle.engine_rule.specs.Asked.{HasAsked};
 ghost use Rattle.engine_rule.specs.Entries.{SeesMore};
 ghost use Rattle.engine_parts.specs.declared.requests.Request.{Request as Asked};
 ghost use Rattle.engine_parts.specs.declared.requests.Answer.{Answer as Told};
-ghost use Rattle.engine_groups.specs.Law.{LeadershipIsStaged, LeadershipStandsFor};
-ghost use Rattle.engine_parts.specs.Numbering.{AreBeside, others_in};
+ghost use Rattle.engine_groups.specs.Law.{LeadershipIsStaged, LeadershipCovers};
+ghost use Rattle.engine_parts.specs.Numbering.{AreHelpers, others_in};
 ghost use Rattle.engine_parts.specs.Staged.{IsStaged};
 ghost use Rattle.engine_parts.specs.Handled.{AreHandled, IsNoted, handled_with};
 ghost use Rattle.engine_groups.specs.Clients.{IsClientOf, IsIdle, IsSeated, IsAnswered, told_of, own_commits, opened_log};
@@ -70,7 +70,7 @@ impl<
             (account_in Versions.Table client.new)) }
         ensures back { IfOk result (λ r. (r.batch ≡ record batch { sequence = r.run.first })
             × (r.run.last + 1 ≡ r.run.first + model.count_of batch.records)) }
-        // a batch that was to be synced was written by a call of the log writer that synced
+        // a batch that had to be synced was written by a call of the log writer that synced
         ensures synced { IfOk result (λ r. options.sync ≡ true → (calls : List GroupCall)
             × (log : Log Device ⟦<Device as Disk>⟧)
             × WroteLog (opened_log self.now) calls log × IsSyncedBy r.run.first batch.records calls) }
@@ -81,12 +81,12 @@ impl<
     {
         let measure = Measure::of(&batch);
         let stopping = self.controller.is_stopping(&client.pass);
-        // What needs no memory, no device and no other client is refused first.
+        // The refusals that need no memory, no device and no other client come first.
         if let Some(why) = refusal_at_once(measure, options, self.batch_bytes, stopping) {
             return Err(Refused { batch, why });
         }
-        // All memory is taken before the line: nothing can lack it once the batch is in the log, else a batch could be
-        // in the log and not in the table.
+        // All memory is taken before the client joins the line, so that nothing can run out of memory once the batch
+        // is in the log. Else a batch could be in the log and not in the table.
         let Ok(nodes) = Nodes::make(self.alloc, &batch) else {
             return Err(Refused {
                 batch,
@@ -94,8 +94,8 @@ impl<
             });
         };
         if stopping {
-            // Who holds a stop token never waits in the line, where it would wait for itself. It may not wait, or else
-            // it was refused above.
+            // A client that holds a stop token never waits in the line, since it would wait for itself. This batch may
+            // not wait (`no_slowdown`), or else it was refused above.
             let look = self.controller.look(rt, &mut client.pass);
             return Err(refused_by(look, batch));
         }
@@ -107,6 +107,7 @@ impl<
             options,
             note: Some(self.controller.note(&mut client.pass)),
         };
+        // It is there between two calls, and comes back with the answer.
         let Some(envelope) = client.envelope.take() else {
             unreachable!()
         };
@@ -118,7 +119,7 @@ impl<
             note,
         } = told;
         await_above(rt, shown, &answer);
-        // The client is answered once its own reads see the group whole.
+        // The client gets its answer only once its own reads see the whole group.
         self.see(rt, client, &answer, note);
         answer
     }
@@ -132,7 +133,7 @@ impl<
     ) -> SealedAnswer
         requires client { IsIdle Versions.Table self.now client.old }
         requires note { IsNoted self.now.controller request }
-        // who holds a stop token never waits in the list
+        // a client that holds a stop token never waits in the list
         requires free { holds_stop (asked_by client.old.pass) ≡ false }
         ensures fits { IsIdle Versions.Table self.now client.new }
         ensures answered { IsAnswered self.now.controller (opened_log self.now) (Versions.opening self.now.table).start
@@ -150,14 +151,15 @@ impl<
             Role::Done(reply) => reply,
             Role::LogLeader(leadership) => {
                 let staged = leadership.turn.is_none();
-                // A sync takes no longer for more batches, and those of the group before may be on their way.
+                // A sync takes no longer for more batches, and those of the previous group's clients may be on their
+                // way.
                 self.let_others_link(&mut client.writer, item.options.sync, staged);
                 self.lead(rt, client, leadership)
             }
         }
     }
 
-    /// Leads a group, and answers the leader's own reply.
+    /// Leads a group, and returns the leader's own reply.
     fn lead<R: Wait + rt::Clock>(
         &self,
         rt: &R,
@@ -171,7 +173,7 @@ impl<
             × IsChosen own seen (told_of client.old) client.old.writer
             × (of client.old.number seen ≡ told_of client.old)
             × AreHandled self.now.controller (opened_log self.now) (Versions.opening self.now.table).start seen
-            × LeadershipStandsFor Versions.Table (about_of self.now.list) leadership seen }
+            × LeadershipCovers Versions.Table (about_of self.now.list) leadership seen }
         ensures fits { IsIdle Versions.Table self.now client.new }
         ensures answered { (own : QueuedWriter Asked) (seen : List (Handling Asked Told))
             → IsChosen own seen (told_of client.old) client.old.writer
@@ -187,19 +189,19 @@ impl<
             &mut client.lists.room,
         );
         let (mut leadership, end) = self.serve(rt, client, leadership);
-        // Nobody has a run: no member goes into the table.
+        // No member got a run, so none goes into the table.
         let Some(end) = end else {
             return self.leave(client, leadership);
         };
         let turn = leadership.turn;
         match turn {
-            // The right to launch is apart: the log goes on first, so that the next group is logged while this one goes
-            // into the table.
+            // The right to launch is apart: the log goes on first, so that the next group is logged while this one
+            // goes into the table.
             None => {
                 leadership.turn = None;
                 self.hand_on(rt, client, leadership, end)
             }
-            // It is here: the group goes into the table before the log goes on.
+            // The right is here: the group goes into the table before the log goes on.
             Some(turn) => {
                 let turn = publish_alone(
                     rt,
@@ -217,8 +219,8 @@ impl<
         }
     }
 
-    /// Asks the write controller for the leader's group, and writes it, as soon as writes aren't stalled. Members that
-    /// may not wait are refused where they are.
+    /// Asks the write controller about the leader's group, and writes the group to the log as soon as writes aren't
+    /// stalled. Where they are stalled, a group that may not wait is refused as a whole.
     fn serve<R: Wait + rt::Clock>(
         &self,
         rt: &R,
@@ -227,10 +229,10 @@ impl<
     ) -> (Leadership<Device, Versions, Time>, Option<u64>)
         requires served { IsToServe Versions.Table self.now client.old }
         requires leadership { (handled : List (Handling Asked Told))
-            × LeadershipStandsFor Versions.Table (about_of self.now.list) leadership handled }
+            × LeadershipCovers Versions.Table (about_of self.now.list) leadership handled }
         ensures served { IsServed Versions.Table self.now client.old client.new }
         ensures leadership { (handled : List (Handling Asked Told))
-            (st : LeadershipStandsFor Versions.Table (about_of self.now.list) leadership handled)
+            (st : LeadershipCovers Versions.Table (about_of self.now.list) leadership handled)
             → LeadershipIsStaged Versions.Table (about_of self.now.list) result.0 result.1
             client.new.layout.parts.parts st.published
             (handled ++ handled_with client.old.lists.requests.list.items client.new.lists.replies.list.items) }
@@ -238,7 +240,7 @@ impl<
         ensures staged { IsStaged client.old.number (clients_of self.now.list) leadership.held.value.path.last
             result.0.held.value.path.last result.1
             client.new.layout.members.items client.new.layout.parts.parts client.new.lists.replies.list.items }
-        ensures beside { IfSome result.1 (λ _. AreBeside (is_none leadership.turn)
+        ensures beside { IfSome result.1 (λ _. AreHelpers (is_none leadership.turn)
             (others_in client.old.lists.requests.list.items) client.new.layout.members.items) }
     {
         let requests = &mut client.lists.requests.list;
@@ -247,14 +249,14 @@ impl<
         let pass = &mut client.pass;
         let asked = leadership.asked;
         let clock = &mut leadership.held.clock;
-        // The leader learns what those before it and its members have seen, so that its delay stands after theirs.
+        // The leader learns what those before it and its members have seen, so that its delay comes after theirs.
         let look = ask(rt, controller, pass, clock, asked, requests);
         let delay = Delay {
             pass: Snapshot::of(pass),
         };
         let no_slowdown = requests[0].1.as_request().options.no_slowdown;
         let proceeds = may_proceed(rt, controller, pass, clock, look, no_slowdown);
-        // The next leader is told what this one has seen after its wait, so that no two groups have one delay.
+        // The next leader learns what this one has seen after its wait, so that no two groups share a delay.
         leadership.asked = controller.note(pass);
         if !proceeds {
             refuse_stalled(controller, pass, look, &delay, requests, replies);

@@ -1,5 +1,5 @@
--- Threads may share the write path over a disk that may go to one, and its clients may go to them. The check finds this by
--- itself for a struct whose fields are few: here it gives up.
+-- Threads may share a write path over a disk that may be moved to a thread, and its clients may be moved to threads.
+-- For a struct with few fields the check finds this by itself; here it gives up.
 use denote.RattleType.{RattleType}
 use denote.Struct.Declared.{shape, fields}
 use denote.Enum.Declared.{shape as variants}

@@ -20,9 +20,10 @@ use std::alloc::Global;
 use table_memory::MemoryTable;
 use table_rule::maps_as_bases;
 
-/// An engine over a log that has no fault and a table of so many shards, at least one, which holds this map at its last
-/// sequence, with so many clients, of which none has done anything. Where memory is short, log, clock and gate come
-/// back. Its groups go into the table in a stage of their own where it is pipelined.
+/// Opens an engine over a log that has no fault, with a table of `shards` shards, at least one, which holds `map` at
+/// the map's last sequence, and with `clients` clients, none of which has done anything. Where memory is short, log,
+/// clock and gate are handed back. Where the engine is pipelined, its groups go into the table in a stage of their
+/// own.
 pub fn open_engine<Device: Disk, Time: Clock + Drop, Watch: Gate + Drop>(
     alloc: Global,
     log: LogWriter<Device>,

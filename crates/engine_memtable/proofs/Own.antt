@@ -5,7 +5,7 @@ use Rattle.table_rule.specs.Histories.{In}
 use Rattle.table_rule.specs.Events.{IsMember}
 use Rattle.table_calls.specs.Account.{Account, Launches}
 use Rattle.engine_memtable.specs.Working.{HasLaunched}
-use Rattle.engine_memtable.specs.Parts.{HaveParts}
+use Rattle.engine_rule.specs.Parts.{HaveParts}
 
 head_or : ℕ → List ℕ → ℕ
 head_or d [] = d

@@ -5,7 +5,7 @@ ghost use Rattle.table_rule.specs.declared.content.MemberVersions.{MemberVersion
 ghost use Rattle.table_rule.specs.Histories.{Begins, last_of};
 ghost use Rattle.table_rule.specs.Rule.{end_of};
 ghost use Rattle.table_rule.specs.Steps.{IsNext};
-ghost use Rattle.engine_memtable.specs.Parts.{HaveParts};
+ghost use Rattle.engine_rule.specs.Parts.{HaveParts};
 ghost use Rattle.engine_memtable.specs.Working.{HasLaunched};
 ghost use Rattle.table_calls.specs.Account.{IsReady};
 ghost use Rattle.line_rule.specs.declared.view.Debt.{Debt};
@@ -46,10 +46,11 @@ pub fn await_group<
     table.await_published(rt, seat, end)
 }
 
-/// Leads a group of the second list, whose leader has the right: launches its parts, tells its members to work beside
-/// it, works on its own part, and waits until the group is published. `members` are just those that have a part beside
-/// the leader, since who is told without a part waits for one forever, and the leader waits forever for one who has a
-/// part and isn't told. `end` is the group's last sequence.
+/// Leads a group of the second list, whose leader has the right: launches the group's parts, asks its members to work
+/// in parallel with the leader, works on the leader's own part, and waits until the group is published. `members` must
+/// be exactly those that have a part, without the leader: a member that is asked but has no part waits for one
+/// forever, and the leader waits forever for a member that has a part and isn't asked. `end` is the group's last
+/// sequence.
 pub fn lead<
     Request: HasGroupingItem,
     Reply: GivesRun,

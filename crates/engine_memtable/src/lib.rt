@@ -1,7 +1,7 @@
-//! The second stage of a pipelined write path: a group that is logged goes into the table. The group's leader launches
-//! it, with its own part and perhaps one for each other member that has a run, and tells these to work beside it. Each
-//! takes its own part by its own seat, puts it into the table, and finishes; who finishes last publishes the group,
-//! whole. The leader waits for that, and has the right to launch again.
+//! The second stage of a pipelined write path: a logged group goes into the table. The group's leader launches the
+//! group, with its own part and perhaps one for each other member that has a run, and asks these members to work in
+//! parallel with it. Each of them takes its own part with its own seat, puts it into the table, and finishes. The one
+//! that finishes last publishes the whole group. The leader waits for that, and then has the right to launch again.
 #![tactic(auto)]
 
 mod leading;

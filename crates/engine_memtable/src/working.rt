@@ -11,8 +11,8 @@ use std::sync::Wait;
 use table_calls::{Finished, GroupParts, Table};
 use table_rule::Versioned;
 
-/// Waits until the member's own part of a launched group is handed to it, puts it into the table, and finishes. Who
-/// finishes last publishes the group.
+/// Waits until the member gets its own part of a launched group, puts the part into the table, and finishes. The
+/// member that finishes last publishes the group.
 pub fn work<
     NodeList: Versioned,
     GroupList: GroupParts<NodeList>,
@@ -29,7 +29,7 @@ pub fn work<
     finish::<NodeList, GroupList, Versions>(table, seat);
 }
 
-/// The member's part is finished. Who finishes last publishes the group.
+/// Finishes the member's part. The member that finishes last publishes the group.
 fn finish<
     NodeList: Versioned,
     GroupList: GroupParts<NodeList>,

@@ -14,7 +14,7 @@ use Rattle.table_rule.specs.Batches.{new_versions, number_from}
 use Rattle.table_rule.specs.Histories.{Apart, Members, versions_in}
 use Rattle.table_tree.specs.declared.parts.MemberNodes.{MemberNodes}
 use Rattle.table_tree.specs.Parts.{group_of, with_part}
-use Rattle.engine_memtable.specs.Parts.{HaveParts, members_of}
+use Rattle.engine_rule.specs.Parts.{HaveParts, members_of}
 use Rattle.engine_rule.specs.Plans.{AreLawful, CommitRequest, last_with, versions_from}
 use Rattle.engine_stage_laws.specs.Served.{part_at, parts_from}
 use Rattle.engine_stage_laws.proofs.Parts.{parts_members, parts_versions}
@@ -24,12 +24,12 @@ use Rattle.engine_parts.specs.Led.{IsLedGroup, LeadsBy}
 use Rattle.engine_parts.specs.Numbering.{AreParts, HasVersions, others_than, parts_with}
 use Rattle.engine_parts.proofs.Replies.{map_append}
 
--- a run that there is fits
+-- where there is a run, it fits
 pub run_fits : (last count : ℕ) (r : Result Run Refusal) → is_ok r ≡ true → IfOk r (λ (run : Run). run.last ≡ last + count) → IfOk r (λ (run : Run). run.last ≤ max_sequence) → last + count ≤ max_sequence
 run_fits last count (Ok run) ok end fits = let e : run.last ≡ last + count = end in let f : run.last ≤ max_sequence = fits in omega (arith, e, f)
 run_fits last count (Err why) ok end fits = absurd (cc ok)
 
--- a member that has no part yet gets one behind the others
+-- a member that has no part yet gets one after the others
 with_new : (parts : List MemberNodes) (m : ℕ) (vs : List Version) → Apart m (group_of parts) → group_of (with_part parts m vs) ≡ group_of parts ++ record { member = m; versions = vs } ∷ []
 with_new [] m vs out = refl
 with_new (p ∷ ps) m vs out = rw (ne_eqb p.member m out.0) (ap (λ l. record { member = p.member; versions = p.nodes } ∷ l) (with_new ps m vs out.1))
@@ -68,7 +68,7 @@ pub none_has : (rest : List CommitRequest) → AreLeft [] rest
 none_has [] = tt
 none_has (r ∷ rest) = (tt, none_has rest)
 
--- Those are noted that have a part beside the leader.
+-- The members that have a part are noted, except the leader.
 pub grew : (at : ℕ) (records : List Record) → 1 ≤ count_of records → nat_lt at (last_with at records) ≡ nat_le (at + count_of records) max_sequence
 grew at records some = by (nat_le (at + count_of records) max_sequence) refl
   where
@@ -103,7 +103,7 @@ noted_most leader client members noted b are =
     let one = most_one leader client b in
     omega (arith, l, one)
 
--- the others are all but the leader's, where it has one
+-- the others are all members of the parts, without the leader, where it has a part
 others_all : (leader : ℕ) (ps : List MemberVersions) → Apart leader ps → others_than leader (members_of ps) ≡ members_of ps
 others_all leader [] out = refl
 others_all leader (p ∷ ps) out = rw (ne_eqb p.member leader out.0) (ap (λ l. p.member ∷ l) (others_all leader ps out.1))
@@ -133,7 +133,7 @@ apart_parts group_bytes clients leader last xs led parts noted leads fits is are
       each = λ some. each_from clients leader last xs led.first led.rest led.leads leads fits members;
     })
 
--- the leader has all
+-- the leader has everything in one part
 pub one_part : (leader clients : ℕ) (vs : List Version) (parts : List MemberNodes) (noted : List ℕ) → 1 ≤ leader → leader ≤ clients → HasVersions leader vs parts → noted ≡ [] → AreParts leader clients noted vs (group_of parts)
 one_part leader clients vs parts noted low high h none = ⊎_elim
     (λ (t : (vs ≡ []) × (parts ≡ [])). record {

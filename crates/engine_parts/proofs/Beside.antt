@@ -1,4 +1,4 @@
--- Who is to work beside a leader is a client of its group.
+-- The members that should work in parallel with a leader are clients of its group.
 use Rattle.std.proofs.Common.{◌≡◌, inl, inr, ⊎_elim, ℕ, ◌+◌, Bool, true, false, nat_le, map, List, [], ◌∷◌, ◌++◌, refl, sym, ap, subst}
 use mathlib.Core.Logic.{dite}
 use native.Mathlib.Decide.{ℕ_discrete}
@@ -6,7 +6,7 @@ use Rattle.std.specs.List.{AllByRecursion}
 use Rattle.std.proofs.lemmas.Bool.{ne_eqb, eq-eqb}
 use Rattle.table_rule.specs.declared.content.MemberVersions.{MemberVersions}
 use Rattle.table_rule.specs.Histories.{In}
-use Rattle.engine_memtable.specs.Parts.{members_of}
+use Rattle.engine_rule.specs.Parts.{members_of}
 use Rattle.model_base.specs.Batch.{count_of}
 use Rattle.model_base.specs.History.{max_sequence}
 use Rattle.engine_rule.specs.Plans.{last_with}
@@ -16,7 +16,7 @@ use Rattle.engine_parts.specs.Handled.{commit_request_of, commit_requests_of}
 use Rattle.engine_parts.specs.Led.{LeadsBy}
 use Rattle.engine_parts.specs.Numbering.{others_in, others_than}
 
--- these are among those
+-- each of these clients is in the list `names`
 abbrev pub AreIn : List ℕ → List ℕ → Type 0
 AreIn names ks = AllByRecursion (λ (k : ℕ). In k names) ks
 

@@ -1,11 +1,11 @@
--- The request that is known to lie in an envelope.
+-- The request that is known to be in an envelope.
 use Rattle.std.proofs.Common.{◌≡◌, true}
 use Rattle.engine_parts.specs.declared.requests.Request.{Request}
 use Rattle.engine_parts.specs.declared.envelope.Letter.{Letter}
 use Rattle.engine_parts.specs.declared.envelope.Letter.TheVariants.{Nothing, Asked, Told}
-use Rattle.engine_parts.specs.Letters.{is_asked, request_in}
+use Rattle.engine_parts.specs.Letters.{is_asked, asked_in}
 
-pub request_is : (letter : Letter) (asked : is_asked letter ≡ true) (q : Request) → letter ≡ Asked q → request_in letter asked ≡ q
+pub request_is : (letter : Letter) (asked : is_asked letter ≡ true) (q : Request) → letter ≡ Asked q → asked_in letter asked ≡ q
 request_is Nothing asked q is = absurd (cc)
 request_is (Asked p) asked q is = cc
 request_is (Told p) asked q is = absurd (cc)

@@ -1,4 +1,4 @@
--- What a leader's steps come to.
+-- What a leader's steps result in.
 use Rattle.std.proofs.Common.{rules, ◌≡◌, inl, inr, ℕ, zero, suc, ◌==◌, ◌+◌, ◌<◌, ◌≤◌, Bool, true, false, cond, nat_le, map, List, [], ◌∷◌, ◌++◌, Option, Some, None, Result, Ok, Err, length, get_or, refl, ap, sym, ◌∙◌, subst, ⊎_elim, arith, length-append}
 use Rattle.std.specs.List.{AllByRecursion}
 use Rattle.base_devices.specs.declared.disk.Disk.{Ghosts}
@@ -83,7 +83,7 @@ pub empty_list : {A : Type 0} (xs : List A) → length xs ≡ 0 → xs ≡ []
 empty_list [] e = refl
 empty_list (x ∷ xs) e = absurd (omega arith)
 
--- whether it is empty was tested
+-- what a test for an empty list shows
 pub some_of : (n : ℕ) → (n == 0) ≡ false → 0 < n
 some_of zero e = absurd (cc)
 some_of (suc n) e = omega arith
@@ -134,7 +134,7 @@ module _ (delay : Delay) where
   pub layout_faulted : (last n : ℕ) (xs : List (ℕ × Request)) (numberings : List Numbering) (batches : List Contents) → numberings ≡ numberings_of last xs → batches ≡ batches_of last xs → answers (Faulted n) delay numberings batches ≡ failures delay n xs
   layout_faulted last n xs numberings batches p b = (λ i. answers (Faulted n) delay (p i) (b i)) ∙ answers_faulted delay last n xs
 
-  -- what a leader owes of its replies
+  -- what a leader's replies must be: in order, with the batches back, and for this delay
   abbrev Pays : List (ℕ × Request) → List (ℕ × Answer) → Type 0
   Pays xs ys = InOrder xs ys × AllByRecursion HandsBack (handled_with xs ys) × AllByRecursion (IsReplyOf delay) ys
 

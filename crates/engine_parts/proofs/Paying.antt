@@ -1,4 +1,4 @@
--- A leader's replies as those that the list is given, and the law's number.
+-- A leader's replies in the form in which the list gets them, and the number of the log's law.
 use Rattle.std.proofs.Common.{◌≡◌, ℕ, suc, ◌+◌, ◌-◌, ◌≤◌, cond, ◌==◌, map, List, [], ◌∷◌, ◌++◌, Option, Result, Ok, Err, length, refl, ap, sym, ◌∙◌, arith}
 use Rattle.std.specs.List.{AllByRecursion}
 use Rattle.std.proofs.lemmas.Bool.{ne_eqb}
@@ -10,7 +10,7 @@ use Rattle.line_rule.specs.declared.view.QueuedWriter.{QueuedWriter}
 use Rattle.line_rule.specs.declared.view.Handling.{Handling}
 use Rattle.line_rule.specs.Chain.{heads, handling, all_answers}
 use Rattle.line_rule.specs.Rule.{last_run}
-use Rattle.line_writers.specs.Roles.{asks, pays}
+use Rattle.line_rule.specs.Members.{asks, pays}
 use Rattle.engine_parts.specs.declared.requests.Request.{Request}
 use Rattle.engine_calls.specs.declared.answers.Receipt.{Receipt}
 use Rattle.engine_calls.specs.declared.answers.Refused.{Refused}
@@ -57,7 +57,7 @@ paid own (e ∷ es) ys h =
       answers_are = ap (λ l. l ++ handling e s.last ∷ []) t.answers_are ∙ sym s.handled_is;
     }
 
--- the number of the list is the sequence given last
+-- the number that the list has for its log is the last sequence given
 abbrev pub run : Answer → ℕ × ℕ
 run p = run_in p.answer
 

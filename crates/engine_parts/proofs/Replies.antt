@@ -1,4 +1,4 @@
--- What the leader's answers are as commits.
+-- What the leader's answers are for the commits.
 use Rattle.std.proofs.Common.{◌≡◌, ℕ, suc, ◌+◌, ◌≤◌, Bool, true, false, cond, nat_le, map, List, [], ◌∷◌, ◌++◌, length, refl, ap, arith}
 use Rattle.std.specs.List.{AllByRecursion}
 use Rattle.model_base.specs.declared.write.Refusal.TheVariants.{LogFault, SequenceFull}
@@ -15,7 +15,7 @@ use Rattle.engine_parts.specs.Numbering.{AreEnough, answers, batch_at, batches_o
 use Rattle.engine_rule.specs.Commits.{accepted, failed, no_room}
 use Rattle.engine_rule.specs.Plans.{all_failed, commit_of_request, batches_from, last_with, commits_of_plan}
 
--- a snapshot is known by its value
+-- a snapshot is determined by its value
 pub is_remembered : {X : Type 0} (s : Snapshot X) (x : X) → s.value ≡ x → s ≡ snapshot_of x
 is_remembered s x e = ap snapshot_of e
 
@@ -101,7 +101,7 @@ module _ (delay : Delay) where
   backs_failed n [] = tt
   backs_failed n (x ∷ xs) = ((refl, tt), backs_failed n xs)
 
-  -- the replies are the delay's
+  -- the replies are for this delay
   reply_by : (last end : ℕ) (x : ℕ × Request) (b : Bool) → IsReplyOf delay (x.0, cond b (accepted_reply delay last end x.1) (refused_reply delay (SequenceFull last) x.1))
   reply_by last end x true = (refl, refl, tt)
   reply_by last end x false = (refl, refl, tt)

@@ -1,4 +1,4 @@
--- One more layout with room for all.
+-- One more layout with room for all clients.
 use Rattle.std.proofs.Common.{ℕ, List, [], ◌∷◌, ◌++◌}
 use Rattle.engine_parts.specs.declared.layout.Layout.{Layout}
 use Rattle.engine_parts.specs.Layout.{IsRoomy, AreRoomy}

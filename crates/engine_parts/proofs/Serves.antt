@@ -1,4 +1,4 @@
--- What a leader that has asked for its group comes to, once its group is refused or written.
+-- What holds once the group of a leader that has asked for its delay is refused or written.
 use Rattle.std.proofs.Common.{◌≡◌, ℕ, ◌+◌, ◌-◌, Bool, true, get_or, take, drop, map, slice_get, Option, Some, IfSome, List, [], ◌∷◌, ◌++◌, length, refl, sym, ap, ◌∙◌, subst, arith, append-nil, length-append}
 use Rattle.std.specs.List.{AllByRecursion, AllZip}
 use Rattle.std.proofs.lemmas.List.{map-append, length-map, drop_all, take_all}
@@ -30,7 +30,7 @@ use Rattle.engine_parts.specs.declared.requests.Request.{Request}
 use Rattle.engine_parts.specs.declared.requests.Answer.{Answer}
 use Rattle.engine_parts.specs.Asking.{HasAskedFor, OnlyLooks, all_seen}
 use Rattle.engine_parts.specs.Handled.{ComesBack, HandsBack, InOrder, IsDelayed, IsHeldUp, IsNotHeldUp, IsReplyOf, ShowsDelay, answer_in, commit_of, commit_request_of, commit_requests_of, handled_with, noted_in, seen_at, seen_for}
-use Rattle.engine_parts.specs.LogLaw.{StandsFor}
+use Rattle.engine_parts.specs.LogLaw.{Covers}
 use Rattle.engine_parts.specs.Led.{AreAlike, IsLedGroup, LeadsBy}
 use Rattle.engine_parts.specs.Handled.{IsReplyAt}
 use Rattle.engine_parts.proofs.Views.{Saw, unnoted, unseen_commits}
@@ -95,18 +95,18 @@ module _ (k : ℕ) (seen asked after : List ControllerCall) (requests : List (�
     };
   }
 
--- and after it only looks
+-- what a client has seen also goes on where only looks follow
 pub looks_sees : (k : ℕ) (seen middle after : List ControllerCall) → SeesMore k seen middle → OnlyLooks k middle after → SeesMore k seen after
 looks_sees k seen middle after s o = record { begins = prefix_trans seen middle after s.begins o.begins; tokens = o.tokens ∙ s.tokens }
 
--- What lets the leader go on
+-- What allows the leader to go on
 
 lets_all : (k : ℕ) (numbers : Look) (known went : List ControllerCall) (b : Bool) (asks : List CommitRequest) → LetsProceed k numbers known went b → AreAlike b asks
     → AllByRecursion (λ (a : CommitRequest). LetsProceed k numbers known went a.options.no_slowdown) asks
 lets_all k numbers known went b [] lets same = tt
 lets_all k numbers known went b (a ∷ asks) lets same = (subst (LetsProceed k numbers known went) (sym same.0) lets, lets_all k numbers known went b asks lets same.1)
 
--- lets all of its group
+-- what allows the leader to go on allows all of its group
 pub proceeds : (k : ℕ) (numbers : Look) (known went : List ControllerCall) (group_bytes clients : ℕ) (requests : List (ℕ × Request)) (led : IsLedGroup group_bytes clients requests) → LeadsBy k requests → IsPrefix known went
     → LetsProceed k numbers known went led.first.1.options.no_slowdown → ProceedsWith (commit_requests_of requests) numbers known went
 proceeds k numbers known went group_bytes clients requests led leads begins lets =
@@ -136,14 +136,14 @@ led_unnoted group_bytes clients requests led =
       slowdown = subst (AreAlike led.first.1.options.no_slowdown) same led.slowdown;
     }
 
--- the first, as it is read
+-- the options of the first request, as it is read, are the leader's
 pub first_flag : (group_bytes clients : ℕ) (requests : List (ℕ × Request)) (led : IsLedGroup group_bytes clients requests) (new : List (ℕ × Request)) (x : ℕ × Request) → new ≡ all_seen requests → x ≡ get_or new 0 x
     → led.first.1.options ≡ x.1.options
 first_flag group_bytes clients requests led new x is at =
     let one : x ≡ unnoted led.first = at ∙ ap (λ (l : List (ℕ × Request)). get_or l 0 x) (is ∙ ap all_seen led.leads) in
     sym (ap (λ (y : ℕ × Request). y.1.options) one)
 
--- the list that they were taken from has them again
+-- once the requests without their notes are put back, the list is all of them
 pub put_back : (xs new : List (ℕ × Request)) (len : ℕ) → len ≡ length xs → new ≡ all_seen xs → take len (new ++ drop (length new) xs) ≡ all_seen xs
 put_back xs new len l is =
     let n : length (all_seen xs) ≡ length xs = length-map xs unnoted in
@@ -244,20 +244,20 @@ module _ {C : Type 0} (controller : Controller C) (d : Delay) (numbers : Look) w
   held_shown known before is hold f (x ∷ requests) (y ∷ replies) h may saw =
       (one_shown known is hold x y h.0 may.0 (f x saw.0), held_shown known before is hold f requests replies h.1 may.1 saw.1)
 
--- What stands
+-- The law of log and table
 
 module _ {D : Type 0} {ghosts : Ghosts D} {T U : Type 0} (our_turn : T → U → Type 0) (history : U → List (List MemberVersions)) (opened : LogWriter D ghosts) (log : LogWriter D ghosts) (turn : U) (last : ℕ) where
-  -- the numbers by other names
+  -- the law holds for equal numbers under other names
   pub stands_by : (table table' : T) (start start' clients clients' group_bytes group_bytes' : ℕ) (asked asked' : List ControllerCall) (hs : List (Handling Request Answer))
       → table ≡ table' → start ≡ start' → clients ≡ clients' → group_bytes ≡ group_bytes' → asked ≡ asked'
-      → StandsFor our_turn history table opened start clients group_bytes asked log turn last hs → StandsFor our_turn history table' opened start' clients' group_bytes' asked' log turn last hs
+      → Covers our_turn history table opened start clients group_bytes asked log turn last hs → Covers our_turn history table' opened start' clients' group_bytes' asked' log turn last hs
   stands_by table table' start start' clients clients' group_bytes group_bytes' asked asked' hs a b c d e s =
-      subst (λ (z : T × ℕ × ℕ × ℕ × List ControllerCall). StandsFor our_turn history z.0 opened z.1 z.2 z.3 z.4 log turn last hs) (λ i. (a i, b i, c i, d i, e i)) s
+      subst (λ (z : T × ℕ × ℕ × ℕ × List ControllerCall). Covers our_turn history z.0 opened z.1 z.2 z.3 z.4 log turn last hs) (λ i. (a i, b i, c i, d i, e i)) s
 
-  -- the requests as they were
+  -- the law holds for the requests as they were, with their notes
   pub stands_noted : (table : T) (start clients group_bytes : ℕ) (asked : List ControllerCall) (hs : List (Handling Request Answer)) (requests : List (ℕ × Request)) (replies : List (ℕ × Answer))
-      → StandsFor our_turn history table opened start clients group_bytes asked log turn last (hs ++ handled_with (all_seen requests) replies)
-      → StandsFor our_turn history table opened start clients group_bytes asked log turn last (hs ++ handled_with requests replies)
+      → Covers our_turn history table opened start clients group_bytes asked log turn last (hs ++ handled_with (all_seen requests) replies)
+      → Covers our_turn history table opened start clients group_bytes asked log turn last (hs ++ handled_with requests replies)
   stands_noted table start clients group_bytes asked hs requests replies s =
       let same : map commit_of (hs ++ handled_with (all_seen requests) replies) ≡ map commit_of (hs ++ handled_with requests replies) =
       map-append commit_of hs (handled_with (all_seen requests) replies) ∙ (ap (λ (l : List Commit). map commit_of hs ++ l) (commits_unnoted requests replies) ∙ sym (map-append commit_of hs (handled_with requests replies))) in
@@ -268,11 +268,11 @@ module _ {D : Type 0} {ghosts : Ghosts D} {T U : Type 0} (our_turn : T → U →
         consistent = subst (λ (cs : List Commit). AreConsistent start clients group_bytes asked cs last (fault_of log) (history turn) s.calls) same s.consistent;
       }
 
-  -- the group is refused
+  -- the law holds after the group is refused
   pub stands_held_up : {C : Type 0} (controller : Controller C) (d : Delay) (numbers : Look) (table : T) (start clients group_bytes : ℕ) (asked known : List ControllerCall) (hs : List (Handling Request Answer)) (requests : List (ℕ × Request)) (replies : List (ℕ × Answer))
       → AllZip (IsHeldUp controller d numbers) (all_seen requests) replies → seen_at d ≡ known → IsLedGroup group_bytes clients requests → IsAskedFor (commit_requests_of requests) numbers known → ComesAfter asked known → HoldUp numbers
-      → MayNotWait (commit_requests_of requests) → StandsFor our_turn history table opened start clients group_bytes asked log turn last hs
-      → StandsFor our_turn history table opened start clients group_bytes known log turn last (hs ++ handled_with requests replies)
+      → MayNotWait (commit_requests_of requests) → Covers our_turn history table opened start clients group_bytes asked log turn last hs
+      → Covers our_turn history table opened start clients group_bytes known log turn last (hs ++ handled_with requests replies)
   stands_held_up controller d numbers table start clients group_bytes asked known hs requests replies zip is led is_asked comes hold may s =
       let same : map commit_of hs ++ all_held_up known numbers (commit_requests_of requests) ≡ map commit_of (hs ++ handled_with requests replies) =
       ap (λ (l : List Commit). map commit_of hs ++ l) (sym (held_commits controller d numbers known is requests replies zip)) ∙ sym (map-append commit_of hs (handled_with requests replies)) in

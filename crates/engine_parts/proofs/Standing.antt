@@ -1,4 +1,4 @@
--- The law is kept by each end of a leader's work.
+-- Each way in which a leader's work may end keeps the law of log and table.
 use Rattle.std.proofs.Common.{◌≡◌, ◌⊎◌, inl, inr, ℕ, ◌+◌, ◌≤◌, map, List, [], ◌∷◌, ◌++◌, Option, Some, None, MatchOption, length, refl, ap, sym, ◌∙◌, subst, ⊎_elim}
 use Rattle.base_devices.specs.declared.disk.Disk.{Ghosts}
 use Rattle.model_base.specs.History.{max_sequence}
@@ -16,7 +16,7 @@ use Rattle.engine_parts.specs.declared.requests.Request.{Request}
 use Rattle.engine_parts.specs.declared.requests.Delay.{Delay}
 use Rattle.engine_parts.specs.declared.requests.Answer.{Answer}
 use Rattle.engine_parts.specs.Handled.{commit_of, commit_requests_of, failures, handled_with, replies_of, seen_at}
-use Rattle.engine_parts.specs.LogLaw.{StandsFor}
+use Rattle.engine_parts.specs.LogLaw.{Covers}
 use Rattle.engine_rule.specs.Commits.{Commit}
 use Rattle.engine_rule.specs.Consistent.{AreConsistent, Publishes}
 use Rattle.engine_rule.specs.Entries.{versions_made}
@@ -26,13 +26,13 @@ use Rattle.engine_parts.proofs.Replies.{commits_failed, commits_planned, map_app
 use Rattle.engine_rule.proofs.Reaching.{last_bound, versions_length}
 use Rattle.engine_rule.proofs.Steps.{consistent_accepted, consistent_after_fault, consistent_with_fault}
 
--- the log was written on, or not at all
+-- the log stays as it was, since there was nothing to write; or one call that worked wrote the batches
 abbrev pub LogsOn : {D : Type 0} {ghosts : Ghosts D} → ℕ → List CommitRequest → LogWriter D ghosts → LogWriter D ghosts → Type 0
 LogsOn last asks old new = ((new ≡ old) × (AreUnlogged asks ⊎ (batches_from last asks ≡ []))) ⊎ ((c : GroupCall) × Adds c old new × WritesBatches last asks c × SyncsFor asks c.sync × (c.failed ≡ None))
 
 module _ {D : Type 0} {ghosts : Ghosts D} {T U : Type 0} (our_turn : T → U → Type 0) (history : U → List (List MemberVersions)) (table : T) (opened : LogWriter D ghosts) (start clients group_bytes : ℕ) where
   abbrev pub Stands : List ControllerCall → LogWriter D ghosts → U → ℕ → List (Handling Request Answer) → Type 0
-  Stands asked log turn last hs = StandsFor our_turn history table opened start clients group_bytes asked log turn last hs
+  Stands asked log turn last hs = Covers our_turn history table opened start clients group_bytes asked log turn last hs
 
   module _ (asked : List ControllerCall) (log : LogWriter D ghosts) (turn : U) (last : ℕ) (hs : List (Handling Request Answer)) (s : Stands asked log turn last hs) where
     pub last_low : start ≤ max_sequence → last ≤ max_sequence
@@ -42,7 +42,8 @@ module _ {D : Type 0} {ghosts : Ghosts D} {T U : Type 0} (our_turn : T → U →
     pub history_end : last_of start (history turn) ≡ last
     history_end = ap (λ vs. start + length vs) (sym (images_versions versions_made (map commit_of hs) (history turn) s.consistent.images)) ∙ (versions_length start None (map commit_of hs) s.consistent.answered ∙ sym s.consistent.last_is)
 
-    -- a whole group, for which the delay was asked after those before, and which goes on with what the leader has seen
+    -- a whole group, whose leader asked for its delay after the leaders before it, and which goes on with what the
+    -- leader has seen
     module _ (xs : List (ℕ × Request)) (lawful : AreLawful clients (commit_requests_of xs)) (whole : IsWholeGroup group_bytes (commit_requests_of xs)) (delay : Delay) (numbers : Look)
         (is_asked : IsAskedFor (commit_requests_of xs) numbers (seen_at delay)) (comes : ComesAfter asked (seen_at delay)) (went : List ControllerCall) (proceeds : ProceedsWith (commit_requests_of xs) numbers (seen_at delay) went) where
       pub stands_dead : (n : ℕ) → fault_of log ≡ Some n → Stands went log turn last (hs ++ handled_with xs (failures delay n xs))

@@ -1,4 +1,4 @@
--- What a leader's view of the write controller comes to while it asks for its group.
+-- What a leader's pass has seen of the write controller while the leader asks for its group.
 use Rattle.std.proofs.Common.{◌≡◌, ◌≢◌, inr, ℕ, zero, suc, ◌<◌, ◌≤◌, false, List, [], ◌∷◌, ◌++◌, map, take, drop, reverse, get_or, Option, Some, None, IfSome, length, refl, sym, ap, ◌∙◌, subst, arith, append_assoc, append-nil, length-append}
 use Rattle.std.specs.List.{AllByRecursion, AllZip}
 use Rattle.std.proofs.Props.{props}
@@ -76,7 +76,7 @@ learned_more client seen middle after requests x l g saw = record {
   members = all_append (Saw after) requests (x ∷ []) (members_on middle after (g.between, sym g.is) requests l.members) (saw, tt);
 }
 
--- the member at a place has no note
+-- a member without a note adds nothing to learn
 pub learned_nothing : (client : ℕ) (seen middle : List ControllerCall) (requests : List (ℕ × Request)) (x : ℕ × Request) → HasLearned client seen requests middle → x.1.note ≡ None
     → HasLearned client seen (requests ++ x ∷ []) middle
 learned_nothing client seen middle requests x l none = record {
@@ -84,11 +84,11 @@ learned_nothing client seen middle requests x l none = record {
   members = all_append (Saw middle) requests (x ∷ []) l.members (subst (λ (o : Option Note). IsPrefix (noted_in o) middle) (sym none) (middle, refl), tt);
 }
 
--- a request, whose note was taken
+-- a request after its note was taken
 abbrev pub unnoted : ℕ × Request → ℕ × Request
 unnoted x = (x.0, record x.1 { note = None })
 
--- a request that has these proofs of what holds of it is the same
+-- a request stays the same whichever proofs it has of its own facts
 versions_prop : (a b : List Version) → IsProp (a ≡ b)
 versions_prop a b = hlevel props
 
@@ -161,7 +161,7 @@ only_more client seen middle after told o e = record {
   delays = ends_delays client middle look told after e ∙ (append-nil (delays_of client middle) ∙ o.delays);
 }
 
--- a look that tells of no stop lets a group that may wait go on
+-- a look that shows no stop lets a group that may wait go on
 pub looked_free : (client : ℕ) (known middle after : List ControllerCall) (first numbers : Look) → IsPrefix known middle → EndsWith client middle look (Some numbers) after → numbers.stops ≡ 0 → LetsProceed client first known after false
 looked_free client known middle after first numbers p e free =
     let last = ends_last client middle look (Some numbers) after e in
@@ -180,7 +180,7 @@ zip_snoc R [] (z ∷ ys) x y h r = absurd h
 zip_snoc R (w ∷ xs) [] x y h r = absurd h
 zip_snoc R (w ∷ xs) (z ∷ ys) x y h r = (h.0, zip_snoc R xs ys x y h.1 r)
 
--- one member more is refused
+-- one more member is refused
 pub held_more : {C : Type 0} (controller : Controller C) (d : Delay) (n : Look) (all requests left : List (ℕ × Request)) (replies now : List (ℕ × Answer)) (x : ℕ × Request) (y : ℕ × Answer)
     → (taken : List (ℕ × Request)) × (taken ++ requests ≡ all) × AllZip (IsHeldUp controller d n) taken replies
     → requests ≡ x ∷ left → now ≡ replies ++ y ∷ [] → IsHeldUp controller d n x y → (taken : List (ℕ × Request)) × (taken ++ left ≡ all) × AllZip (IsHeldUp controller d n) taken now

@@ -10,7 +10,7 @@ use Rattle.model_accounts.proofs.Wholes.{whole_of_queue}
 use Rattle.line_rule.specs.declared.view.QueuedWriter.{QueuedWriter}
 use Rattle.line_rule.specs.Chain.{Absent, Distinct, Within, AllCoded}
 use Rattle.line_rule.specs.Grouping.{code_of, code_by, item_of, codes, items, IsWhole}
-use Rattle.line_writers.specs.Roles.{asks}
+use Rattle.line_rule.specs.Members.{asks}
 use Rattle.engine_rule.specs.Plans.{CommitRequest, item_of_request, AreLawful, HaveOwnClients}
 use Rattle.engine_parts.specs.declared.requests.Request.{Request}
 use Rattle.engine_parts.specs.Items.{item_with}
@@ -53,7 +53,7 @@ asks_size : (own : QueuedWriter Request) (group : List (QueuedWriter Request)) �
 asks_size own [] = refl
 asks_size own (e ∷ es) = ap length (map_snoc item_at (asks own es) (e.by, e.asked)) ∙ (length-append (map item_at (asks own es)) (item_at (e.by, e.asked) ∷ []) ∙ (let h = asks_size own es in omega (arith, h)))
 
--- where each code that is asked for is that of the request's item
+-- provided that each code that is asked for is the code of the request's item
 module _ (law : (item : Item) → item_of (code_of item) ≡ item) {wanted : Request → ℕ → Type 0} (coded : (q : Request) (code : ℕ) → wanted q code → code ≡ code_by item_in q) where
   -- the items of a group, from its codes
   items_are : (own : QueuedWriter Request) (group : List (QueuedWriter Request)) → AllCoded wanted (group ++ own ∷ []) → items (group ++ own ∷ []) ≡ map item_at (asks own group)
@@ -63,7 +63,7 @@ module _ (law : (item : Item) → item_of (code_of item) ≡ item) {wanted : Req
       ap (map item_of) (reverse-append (e.code ∷ []) (codes (es ++ own ∷ [])))
       ∙ (map_snoc item_of (reverse (codes (es ++ own ∷ []))) e.code ∙ ((λ i. items_are own es h.1 i ++ one i ∷ []) ∙ sym (map_snoc item_at (asks own es) (e.by, e.asked))))
 
-  -- they are a whole group by themselves
+  -- the members are a whole group by themselves
   whole_group : (max : ℕ) (own : QueuedWriter Request) (group left : List (QueuedWriter Request)) → IsWhole wanted max own group left → group_len max (map item_at (asks own group)) ≡ length (map item_at (asks own group))
   whole_group max own group left whole =
       let mine : List Item = map item_at (asks own group) in
@@ -76,7 +76,7 @@ module _ (law : (item : Item) → item_of (code_of item) ≡ item) {wanted : Req
       let some : 0 < length queue = (let l = ap length is ∙ length-append mine (items left) in let s = asks_size own group in let g = length-append group (own ∷ []) in omega (arith, l, s, g)) in
       subst (λ l. group_len max l ≡ length l) cut (whole_of_queue max queue some)
 
--- Each member is as its leader asks
+-- Each member's options agree with its leader's
 
 get_in : {A : Type 0} (xs : List A) (k : ℕ) (x : A) → slice_get xs k ≡ Some x → k < length xs
 get_in [] k x e = absurd (cc)
@@ -93,7 +93,7 @@ joins max leader behind len =
     all_each (λ (i : Item). (i.options.no_log ≡ leader.options.no_log) × (i.options.sync ≡ true → leader.options.sync ≡ true) × (i.options.no_slowdown ≡ leader.options.no_slowdown)) behind
     (λ k i e. let j = l.joined (suc k) i (omega arith) (let h = get_in behind k i e in omega (arith, h, len)) e in (j.no_log, j.sync, j.no_slowdown))
 
--- the same of the requests
+-- and so do the options of the requests
 of_requests : (leader : Item) (ts : List (ℕ × Request)) → AllByRecursion (λ (i : Item). (i.options.no_log ≡ leader.options.no_log) × (i.options.sync ≡ true → leader.options.sync ≡ true) × (i.options.no_slowdown ≡ leader.options.no_slowdown)) (map item_at ts)
     → AllByRecursion (λ (a : CommitRequest). (a.options.no_log ≡ leader.options.no_log) × (a.options.sync ≡ true → leader.options.sync ≡ true) × (a.options.no_slowdown ≡ leader.options.no_slowdown)) (commit_requests_of ts)
 of_requests leader [] h = tt
@@ -103,7 +103,7 @@ weaker : {A : Type 0} (P Q : A → Type 0) → ((x : A) → P x → Q x) → (xs
 weaker P Q f [] h = tt
 weaker P Q f (x ∷ xs) h = (f x h.0, weaker P Q f xs h.1)
 
--- Names
+-- No two requests are of the same client
 
 all_snoc : {A : Type 0} (P : A → Type 0) (xs : List A) (x : A) → AllByRecursion P xs → P x → AllByRecursion P (xs ++ x ∷ [])
 all_snoc P [] x h p = (p, tt)

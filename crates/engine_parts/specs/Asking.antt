@@ -1,4 +1,4 @@
--- How a leader's pass goes on while its group is handled.
+-- How a leader's pass sees more while the leader handles its group.
 use Rattle.std.specs.Prelude.{◌≡◌, ℕ, List, [], ◌∷◌, ◌++◌, map, None, Some}
 use Rattle.std.specs.List.{AllByRecursion}
 use mathlib.Core.List.{IsPrefix}
@@ -11,18 +11,18 @@ use Rattle.engine_rule.specs.Plans.{item_of_request}
 use Rattle.engine_parts.specs.declared.requests.Request.{Request}
 use Rattle.engine_parts.specs.Handled.{commit_requests_of, noted_in}
 
--- the requests, whose notes the leader took
+-- the requests once the leader has taken their notes
 abbrev pub all_seen : List (ℕ × Request) → List (ℕ × Request)
 all_seen requests = map (λ (x : ℕ × Request). (x.0, record x.1 { note = None })) requests
 
--- others' calls were seen, and with them all that the members had seen
+-- the client has seen more calls of others, and so all that the members had seen
 pub record HasLearned (client : ℕ) (seen : List ControllerCall) (requests : List (ℕ × Request))
     (after : List ControllerCall) : Type 0 where
   pub goes_on : GoesOn client seen after
   pub members : AllByRecursion (λ (x : ℕ × Request). IsPrefix (noted_in x.1.note) after) requests
 
--- Of what the leader has seen, the last call is its own delay of the sum of the sizes, which was told these numbers.
--- Before it stands all that it, the leaders before it, and the members had seen.
+-- The last call that the leader has seen is its own delay, with the sum of the group's sizes, with these numbers as its
+-- answer. Before it comes all that the leader, the leaders before it, and the members had seen.
 pub record HasAskedFor (client : ℕ) (seen asked : List ControllerCall) (requests : List (ℕ × Request)) (numbers : Look)
     (after : List ControllerCall) : Type 0 where
   pub before : List ControllerCall
@@ -37,7 +37,7 @@ pub record HasAskedFor (client : ℕ) (seen asked : List ControllerCall) (reques
   pub members : AllByRecursion (λ (x : ℕ × Request). IsPrefix (noted_in x.1.note) before) requests
   pub legal : IsLegal after
 
--- the history went on, by calls of others and the client's looks
+-- the history went on by calls of others and looks of the client
 pub record OnlyLooks (client : ℕ) (seen after : List ControllerCall) : Type 0 where
   pub begins : IsPrefix seen after
   pub tokens : tokens_of client after ≡ tokens_of client seen

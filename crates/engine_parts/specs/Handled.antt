@@ -29,7 +29,7 @@ use Rattle.engine_calls.specs.declared.answers.Receipt.{Receipt}
 use Rattle.engine_calls.specs.declared.answers.Refused.{Refused}
 use Rattle.engine_parts.specs.declared.requests.Answer.{Answer}
 
--- The answer as one to a commit. A leader gives only the first three refusals.
+-- A refusal as the answer to a commit. A leader gives only the first three.
 abbrev pub answer_of_refusal : Refusal → CommitAnswer
 answer_of_refusal (LogFault count) = failed count
 answer_of_refusal (SequenceFull last) = no_room last
@@ -80,7 +80,7 @@ IsLate SyncWithoutLog = ⊥
 IsLate SelfStop = ⊥
 IsLate NoMemory = ⊥
 
--- the batch comes back, with its sequence where it was accepted, and else as it was
+-- an accepted batch comes back with its sequence set, and a refused one as it was
 abbrev pub ComesBack : Contents → Result Receipt Refused → Type 0
 ComesBack batch (Ok receipt) = (receipt.batch ≡ record batch { sequence = receipt.run.first })
     × (receipt.run.last + 1 ≡ receipt.run.first + count_of batch.records)
@@ -89,7 +89,7 @@ ComesBack batch (Err refused) = (refused.batch ≡ batch) × IsLate refused.why
 abbrev pub HandsBack : Handling Request Answer → Type 0
 HandsBack h = ComesBack h.asked.batch h.reply.answer
 
--- a delay, told these numbers, is the last call that was seen, after all that the asker had seen
+-- the last call that was seen is a delay with these numbers as its answer, and comes after all of `seen_by_note`
 pub record IsDelayed (seen_by_note seen : List ControllerCall) (numbers : Look) : Type 0 where
   pub by : ℕ
   pub now : ℕ
@@ -97,15 +97,16 @@ pub record IsDelayed (seen_by_note seen : List ControllerCall) (numbers : Look) 
   pub is_later : IsLater seen (length seen_by_note) (length seen - 1)
       (record { client = by; action = calls.delay now bytes; told = Some numbers })
 
--- The note of a reply is the controller's, and shows what the leader had seen. Who is refused since writes are held up
--- may not wait, has such a note, and was told the numbers of the group's delay.
+-- The note of a reply, if it has one, is the controller's, and shows what the leader had seen. A client that is refused
+-- because writes are held up may not wait, and has such a note. Its answer has the numbers of the group's delay, which
+-- say that writes are held up.
 pub record ShowsDelay {Time : Type 0} (controller : Controller Time) (h : Handling Request Answer) : Type 0 where
   pub note : IfSome h.reply.note (λ note. IsNoteOf controller note × (seen_by_note note ≡ seen_for h.reply))
   pub held_up : (numbers : Look) → answer_in h.reply.answer ≡ held_up numbers
       → (h.asked.options.no_slowdown ≡ true) × HoldUp numbers × ((note : Note) × (h.reply.note ≡ Some note))
       × IsDelayed (noted_in h.asked.note) (seen_for h.reply) numbers
 
--- The log that was opened so was written by calls that wrote the history of these commits, and no others worked.
+-- Calls have written a log from the opened one, and the first of them (`worked`) wrote the history of these commits.
 pub record HasWritten {Device : Type 0} {ghosts : Ghosts Device} (opened : LogWriter Device ghosts)
     (commits : List Commit) : Type 0
   where
@@ -117,8 +118,8 @@ pub record HasWritten {Device : Type 0} {ghosts : Ghosts Device} (opened : LogWr
     pub both : calls ≡ worked ++ lost
     pub parts : WroteParts (entries_of commits) worked
 
--- What holds of all that was handled, wherever the log is: the answers are right, hand the batches back, and the log
--- has what was accepted.
+-- What holds of all that was handled, wherever the log is: the answers are right, hand the batches back, and show the
+-- delay where writes are held up; and the log has what was accepted and should be logged.
 pub record AreHandled {Time Device : Type 0} {ghosts : Ghosts Device} (controller : Controller Time)
     (opened : LogWriter Device ghosts)
     (start : ℕ) (handled : List (Handling Request Answer)) : Type 0 where
@@ -178,7 +179,7 @@ IsNotHeldUp (held_up numbers) = ⊥
 IsNotHeldUp (failed count) = ⊤
 IsNotHeldUp (no_room at) = ⊤
 
--- a reply in a group of this delay, without a note
+-- a reply in a group of this delay, without a note; it isn't that writes are held up
 abbrev pub IsReplyOf : Delay → ℕ × Answer → Type 0
 IsReplyOf delay y = (y.1.delay.value ≡ delay) × (y.1.note ≡ None) × IsNotHeldUp (answer_in y.1.answer)
 
@@ -186,27 +187,27 @@ abbrev pub held_up_with : Look → Contents → Refused
 held_up_with numbers batch =
     record { batch = batch; why = Incomplete numbers.stops numbers.delays numbers.wait }
 
--- each is refused since writes are held up, and has a note of what the leader has seen
+-- the request is refused because writes are held up, and its reply has a note of what the leader has seen
 abbrev pub IsHeldUp : {Time : Type 0} → Controller Time → Delay → Look → ℕ × Request → ℕ × Answer → Type 0
 IsHeldUp controller delay numbers x y = (y.0 ≡ x.0)
     × (y.1.answer ≡ Err (held_up_with numbers x.1.batch))
     × (y.1.delay.value ≡ delay)
     × ((note : Note) × (y.1.note ≡ Some note) × IsNoteOf controller note × (seen_by_note note ≡ seen_at delay))
 
--- requests with their replies, which stand in the same order
+-- requests with their replies, which are in the same order
 abbrev pub handled_with : List (ℕ × Request) → List (ℕ × Answer) → List (Handling Request Answer)
 handled_with [] replies = []
 handled_with (x ∷ requests) [] = []
 handled_with (x ∷ requests) (y ∷ replies) = record { by = x.0; asked = x.1; reply = y.1 } ∷ handled_with requests
     replies
 
--- each client's reply stands where its request stood
+-- each client's reply is at the place of its request
 abbrev pub InOrder : List (ℕ × Request) → List (ℕ × Answer) → Type 0
 InOrder [] [] = ⊤
 InOrder [] (y ∷ replies) = ⊥
 InOrder (x ∷ requests) [] = ⊥
 InOrder (x ∷ requests) (y ∷ replies) = (y.0 ≡ x.0) × InOrder requests replies
 
--- the reply's delay is the last call that the client saw then
+-- `known` is the controller's history up to the delay of the reply's group
 abbrev pub IsReplyAt : List ControllerCall → ℕ × Answer → Type 0
 IsReplyAt known y = seen_for y.1 ≡ known

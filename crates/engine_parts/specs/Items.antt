@@ -10,7 +10,7 @@ use Rattle.engine_calls.specs.declared.answers.Refused.{Refused}
 abbrev pub item_with : List Record → WriteOptions → Item
 item_with records options = record { size = size_of_batch records; options = options }
 
--- the first sequence and the count of a run, and the count 0 where there is none
+-- the first sequence and the count of a run; the count is 0 where there is none
 abbrev pub run_in : Result Receipt Refused → ℕ × ℕ
 run_in (Ok receipt) = (receipt.run.first, receipt.run.last + 1 - receipt.run.first)
 run_in (Err refused) = (0, 0)

@@ -2,12 +2,12 @@
 use Rattle.std.specs.Prelude.{◌≡◌, ℕ, ◌≤◌, List, [], ◌∷◌, vec_capacity, ⊤}
 use Rattle.engine_parts.specs.declared.layout.Layout.{Layout}
 
--- nothing, and there is room for the parts of so many clients
+-- no numberings, batches or parts are laid out, and there is room for the parts of this number of clients
 abbrev pub IsClear : ℕ → Layout → Type 0
 IsClear clients layout = (layout.numberings.items ≡ []) × (layout.batches.items ≡ []) × (layout.parts.parts ≡ [])
     × (layout.parts.clients ≡ clients)
 
--- nothing but parts, with room for so many
+-- no numberings or batches are laid out (parts may be), and all lists have room for this number of clients
 pub record IsLaid (clients : ℕ) (layout : Layout) : Type 0 where
   pub no_numberings : layout.numberings.items ≡ []
   pub no_batches : layout.batches.items ≡ []
@@ -16,7 +16,7 @@ pub record IsLaid (clients : ℕ) (layout : Layout) : Type 0 where
   pub batches : clients ≤ vec_capacity layout.batches
   pub members : clients ≤ vec_capacity layout.members
 
--- the same, with room for the batches of so many
+-- no numberings, batches or parts are laid out, and all lists have room for this number of clients
 pub record IsRoomy (clients : ℕ) (layout : Layout) : Type 0 where
   pub clear : IsClear clients layout
   pub numberings : clients ≤ vec_capacity layout.numberings

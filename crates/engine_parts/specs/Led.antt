@@ -7,12 +7,12 @@ use Rattle.engine_rule.specs.LogCalls.{SyncsFor}
 use Rattle.engine_parts.specs.declared.requests.Request.{Request}
 use Rattle.engine_parts.specs.Handled.{commit_requests_of}
 
--- all may not wait, or all may
+-- none of the requests may wait, or all of them may
 abbrev pub AreAlike : Bool → List CommitRequest → Type 0
 AreAlike no_slowdown requests = AllByRecursion (λ (q : CommitRequest). q.options.no_slowdown ≡ no_slowdown) requests
 
--- The requests of a whole group, its leader's first. All are logged or none is, where one asks for a sync its leader
--- does, and all may wait or none may.
+-- The requests of a whole group, its leader's first. Either all are logged, or none is. Where one asks for a sync, its
+-- leader does too. Either all may wait, or none may.
 pub record IsLedGroup (group_bytes clients : ℕ) (requests : List (ℕ × Request)) : Type 0 where
   pub first : ℕ × Request
   pub rest : List (ℕ × Request)
@@ -24,14 +24,14 @@ pub record IsLedGroup (group_bytes clients : ℕ) (requests : List (ℕ × Reque
   pub syncs : SyncsFor (commit_requests_of requests) first.1.options.sync
   pub slowdown : AreAlike first.1.options.no_slowdown (commit_requests_of requests)
 
--- the first is the client's own
+-- the first request is this client's own
 abbrev pub LeadsBy : ℕ → List (ℕ × Request) → Type 0
 LeadsBy number [] = ⊥
 LeadsBy number (x ∷ requests) = x.0 ≡ number
 
--- A leader has this group in hand, has asked for it after all that the leaders before it had seen (`asked`), and goes
--- on with it. It has seen the controller's history up to the delay that it asked for (`known`), and as far as `went`
--- when the group goes on.
+-- A leader has this group in hand, has asked for its delay after all that the leaders before it had seen (`asked`), and
+-- goes on with it. It has seen the controller's history up to the delay (`known`), and up to `went` when the group goes
+-- on.
 pub record GoesOnWith (group_bytes clients : ℕ) (asked : List ControllerCall) (requests : List (ℕ × Request))
     (known went : List ControllerCall) : Type 0 where
   pub led : IsLedGroup group_bytes clients requests

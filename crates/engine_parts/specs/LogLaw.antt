@@ -1,4 +1,4 @@
--- What a log stands for, with what it was written for.
+-- What a log covers, and what it was opened for.
 use Rattle.std.specs.Prelude.{ℕ, List, ◌++◌, map, Option, ⊤}
 use Rattle.base_devices.specs.declared.disk.Disk.{Ghosts}
 use Rattle.log_writer.specs.declared.writer.LogWriter.{LogWriter}
@@ -15,10 +15,10 @@ use Rattle.engine_parts.specs.declared.requests.Answer.{Answer}
 use Rattle.engine_parts.specs.Handled.{commit_of, handled_with}
 use Rattle.engine_parts.specs.Staged.{published_with}
 
--- The right to launch is the table's, calls have written the log since it was opened, and log, table and the last
--- sequence given are what the requests that were handled made. `asked` is the controller's history as the last leader
--- had seen it when its group went on or was refused.
-pub record StandsFor {Device : Type 0} {ghosts : Ghosts Device} {Versions Turn : Type 0}
+-- The right to launch is the table's. Calls have written the log since it was opened. Log, table and the last sequence
+-- given are what the handled requests have made. `asked` is the controller's history as the last leader had seen it
+-- when its group went on or was refused.
+pub record Covers {Device : Type 0} {ghosts : Ghosts Device} {Versions Turn : Type 0}
     (our_turn : Versions → Turn → Type 0) (history : Turn → List (List MemberVersions)) (table : Versions)
     (opened : LogWriter Device ghosts)
     (start clients group_bytes : ℕ) (asked : List ControllerCall) (log : LogWriter Device ghosts) (turn : Turn)
@@ -30,16 +30,16 @@ pub record StandsFor {Device : Type 0} {ghosts : Ghosts Device} {Versions Turn :
   pub consistent : AreConsistent start clients group_bytes asked (map commit_of handled) last (fault_of log)
       (history turn) calls
 
--- The same of the log alone, where these groups are published, or are to be.
-abbrev pub LogStandsFor : {Device : Type 0} {ghosts : Ghosts Device} → LogWriter Device ghosts → ℕ → ℕ → ℕ
+-- What `Covers` says, for the log alone, where these groups are published or will be.
+abbrev pub LogCovers : {Device : Type 0} {ghosts : Ghosts Device} → LogWriter Device ghosts → ℕ → ℕ → ℕ
     → List ControllerCall
     → LogWriter Device ghosts → List (List MemberVersions) → ℕ → List (Handling Request Answer) → Type 0
-LogStandsFor opened start clients group_bytes asked log published last handled =
-    StandsFor (λ (t : ⊤) (u : List (List MemberVersions)). ⊤) (λ u. u) tt opened start clients group_bytes asked log
+LogCovers opened start clients group_bytes asked log published last handled =
+    Covers (λ (t : ⊤) (u : List (List MemberVersions)). ⊤) (λ u. u) tt opened start clients group_bytes asked log
     published last handled
 
--- What a log was opened as and for, and what came of it so far: the controller's history as the last leader had seen
--- it, what is published, and what was handled.
+-- How a log was opened, and what happened to it so far: the controller's history as the last leader had seen it, what
+-- is published, and what was handled.
 pub record Past (Log : Type 0) : Type 0 where
   pub opened : Log
   pub start : ℕ
@@ -48,14 +48,14 @@ pub record Past (Log : Type 0) : Type 0 where
   pub published : List (List MemberVersions)
   pub handled : List (Handling Request Answer)
 
--- the log and the last sequence given stand for that, in a write path of so many clients
+-- the log and the last sequence given are what this past has made, in a write path with this number of clients
 abbrev pub StandsForPast : {Device : Type 0} {ghosts : Ghosts Device} → ℕ → Past (LogWriter Device ghosts)
     → LogWriter Device ghosts → ℕ → Type 0
 StandsForPast clients p log last =
-    LogStandsFor p.opened p.start clients p.group_bytes p.asked log p.published last p.handled
+    LogCovers p.opened p.start clients p.group_bytes p.asked log p.published last p.handled
 
--- The same with a group more: its leader has seen so much of the controller, its parts are published, if it has any,
--- and its requests have these replies.
+-- The past with one more group: the group's leader has seen this much of the controller, the group's parts are
+-- published, if it has any, and its requests have these replies.
 abbrev pub with_group : {Log : Type 0} → Past Log → List ControllerCall → Option ℕ → List MemberNodes
     → List (ℕ × Request) → List (ℕ × Answer) → Past Log
 with_group p seen end parts requests replies = record p {

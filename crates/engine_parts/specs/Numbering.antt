@@ -12,7 +12,7 @@ use Rattle.table_rule.specs.Batches.{new_versions, number_from}
 use Rattle.table_rule.specs.Histories.{In, Members, versions_in}
 use Rattle.table_tree.specs.Parts.{with_part}
 use Rattle.table_tree.specs.declared.parts.MemberNodes.{MemberNodes}
-use Rattle.engine_memtable.specs.Parts.{HaveParts}
+use Rattle.engine_rule.specs.Parts.{HaveParts}
 use Rattle.engine_rule.specs.Plans.{last_with}
 use Rattle.engine_parts.specs.declared.requests.Request.{Request}
 use Rattle.engine_parts.specs.declared.numbering.Numbering.{Numbering}
@@ -23,7 +23,8 @@ use Rattle.engine_parts.specs.declared.requests.Answer.{Answer}
 use Rattle.engine_parts.specs.declared.requests.Delay.{Delay}
 use Rattle.engine_parts.specs.Handled.{reply_with, run_after}
 
--- the numbering of a request, where `last` was given last: its run, and the sequence that its batch has
+-- the numbering of a request, where `last` was given last: either its run, and the sequence that its batch has; or no
+-- room
 abbrev pub numbering_at : ℕ → ℕ × Request → Numbering
 numbering_at last x = if nat_le (last + count_of x.1.batch.records) max_sequence then
     Given x.0 (run_after last x.1.batch.records) x.1.batch.sequence tt
@@ -42,35 +43,36 @@ abbrev pub batches_of : ℕ → List (ℕ × Request) → List Contents
 batches_of last [] = []
 batches_of last (x ∷ requests) = batch_at last x.1 ++ batches_of (last_with last x.1.batch.records) requests
 
--- one member has these versions, if there are any
+-- the parts are one part of this member, with these versions; or there are no versions, and no parts
 abbrev pub HasVersions : ℕ → List Version → List MemberNodes → Type 0
 HasVersions member versions parts = ((versions ≡ []) × (parts ≡ []))
     ⊎ (parts ≡ record { member = member; nodes = versions } ∷ [])
 
--- a request's versions behind those of a member, if it has a run
+-- the parts, once the versions of a request are added to the member's, if the request has a run
 abbrev pub parts_with : ℕ → ℕ → List Record → List MemberNodes → List MemberNodes
 parts_with member last records parts = if nat_le (last + count_of records) max_sequence then
     with_part parts member (number_from (last + 1) (new_versions records)) else parts
 
--- the members but the leader
+-- the members without the leader
 abbrev pub others_than : ℕ → List ℕ → List ℕ
 others_than leader members = filter (λ (member : ℕ). not (member == leader)) members
 
--- The parts have these versions together, and each member once. Where there are any, they are the leader's, and those
--- of just these who are to work beside it.
+-- The parts have these versions together, and no member has two parts. Where there are versions, the parts are the
+-- leader's and those of exactly the members that should work in parallel with it (`beside`).
 pub record AreParts (leader clients : ℕ) (beside : List ℕ) (versions : List Version) (parts : List MemberVersions) :
     Type 0 where
   pub versions_are : versions_in parts ≡ versions
   pub members : Members clients parts
   pub each : 0 < length versions → HaveParts leader beside parts
 
--- the clients of a leader's requests, but for its own, which is the first
+-- the clients of a leader's requests, without its own request, which is the first
 abbrev pub others_in : List (ℕ × Request) → List ℕ
 others_in [] = []
 others_in (x ∷ requests) = map (λ (y : ℕ × Request). y.0) requests
 
--- Who is to work beside the leader is another client of its group, and nobody is where the parts aren't to be apart.
-pub record AreBeside (apart : Bool) (others beside : List ℕ) : Type 0 where
+-- The members that should work in parallel with the leader are other clients of its group. There are none where the
+-- parts must not be apart.
+pub record AreHelpers (apart : Bool) (others beside : List ℕ) : Type 0 where
   pub of_group : AllByRecursion (λ (member : ℕ). In member others) beside
   pub alone : apart ≡ false → beside ≡ []
 
@@ -80,7 +82,7 @@ abbrev pub full_with : GroupFate → Delay → ℕ → Contents → Answer
 full_with (Written group_last) delay last b = reply_with delay (Err (record { batch = b; why = why.SequenceFull last }))
 full_with (Faulted count) delay last b = reply_with delay (Err (record { batch = b; why = why.LogFault count }))
 
--- the batch has the first sequence of its run, and had `before` as it was handed in
+-- the answer to a batch that has the first sequence of its run, and had `before` when it was handed in
 abbrev pub run_with : GroupFate → Delay → Run → ℕ → Contents → Answer
 run_with (Written group_last) delay run before b =
     reply_with delay (Ok (record { run = run; group_last = group_last; batch = b }))
@@ -107,7 +109,8 @@ abbrev pub IsAnswer : GroupFate → Delay → Numbering → List Contents → �
 IsAnswer o delay (Given client run before envelope) [] y left = ⊥
 IsAnswer o delay (Given client run before envelope) (b ∷ bs) y left =
     (y ≡ (client, run_with o delay run before b)) × (left ≡ bs)
-IsAnswer o delay (SequenceFull client last b envelope) bs y left = (y ≡ (client, full_with o delay last b)) × (left ≡ bs)
+IsAnswer o delay (SequenceFull client last b envelope) bs y left =
+    (y ≡ (client, full_with o delay last b)) × (left ≡ bs)
 
 abbrev pub HasBatch : Numbering → List Contents → Type 0
 HasBatch (Given client run before envelope) [] = ⊥

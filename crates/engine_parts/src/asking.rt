@@ -1,4 +1,4 @@
-//! What a leader asks of the write controller, and how its group waits or is refused.
+//! What a leader asks the write controller, and how its group waits or is refused.
 
 ghost use Rattle.std.specs.Prelude.{◌≡◌, ◌≤◌, ◌<◌, ℕ, List, [], false, true, length, map, vec_capacity};
 ghost use Rattle.std.specs.List.{AllByRecursion, AllZip};
@@ -24,8 +24,8 @@ use std::sync::Wait;
 /// How long a leader waits before it looks again whether writes are still stopped, in microseconds.
 const PAUSE: u64 = 1000;
 
-/// Asks for the delay of a group, of the sum of its sizes. Before that the leader's pass sees what the leaders before
-/// it and the members had seen.
+/// Asks for the delay of a group, with the sum of its sizes. Before that the leader's pass learns what the leaders
+/// before it and the members had seen.
 pub fn ask<Time: Clock, R: Wait>(
     rt: &R,
     controller: &Controller<Time>,
@@ -49,7 +49,7 @@ pub fn ask<Time: Clock, R: Wait>(
     controller.delay(rt, pass, clock, bytes)
 }
 
-/// Lets the leader's pass see what the members had seen.
+/// Lets the leader's pass learn what the members had seen.
 fn learn_all<Time: Clock, R: Wait>(
     rt: &R,
     controller: &Controller<Time>,
@@ -84,7 +84,7 @@ fn bytes_of(requests: &[(u32, SealedRequest)]) -> u64
     bytes
 }
 
-/// Whether writes are stalled: stopped, or slowed down and this group is told to wait.
+/// Whether writes are stalled: stopped, or slowed down where this group has to wait.
 fn is_stalled(look: Look) -> bool
     ensures held_up { result ≡ true → HoldUp (look_of look) }
     ensures free { HoldUp (look_of look) → result ≡ true }
@@ -92,8 +92,8 @@ fn is_stalled(look: Look) -> bool
     look.stops() > 0 || (look.delays() > 0 && look.wait() > 0)
 }
 
-/// Whether a group goes on. One that may wait waits first, and always does. One that may not does where writes aren't
-/// stalled.
+/// Whether a group goes on. A group that may wait always goes on, but waits here first. A group that may not wait goes
+/// on only where writes aren't stalled.
 pub fn may_proceed<Time: Clock, R: Wait>(
     rt: &R,
     controller: &Controller<Time>,
@@ -117,7 +117,7 @@ pub fn may_proceed<Time: Clock, R: Wait>(
     true
 }
 
-/// Waits as long as the group was told, and then while writes are stopped.
+/// Waits as long as the delay answered, and then while writes are stopped.
 fn wait_while_stalled<Time: Clock, R: Wait>(
     rt: &R,
     controller: &Controller<Time>,
@@ -134,7 +134,7 @@ fn wait_while_stalled<Time: Clock, R: Wait>(
         clock.pause(look.wait());
     }
     let mut stops = look.stops();
-    // `stops` is what the delay told, or the newest look behind it.
+    // `stops` is what the delay answered, or the newest look after it.
     for _ in rt.forever() {
         if stops == 0 {
             return;
@@ -145,7 +145,7 @@ fn wait_while_stalled<Time: Clock, R: Wait>(
     unreachable!()
 }
 
-/// A batch is refused since writes are stalled.
+/// The refusal of a batch because writes are stalled.
 pub fn refused_by(look: Look, batch: Batch) -> Refused
     ensures { result ≡ held_up_with (look_of look) batch }
 {
@@ -157,7 +157,7 @@ pub fn refused_by(look: Look, batch: Batch) -> Refused
     Refused { batch, why }
 }
 
-/// Refuses all members since writes are stalled, each with a note of what the leader has seen.
+/// Refuses all members because writes are stalled. Each gets a note of what the leader has seen.
 pub fn refuse_stalled<Time: Clock>(
     controller: &Controller<Time>,
     pass: &mut Pass,
@@ -176,7 +176,7 @@ pub fn refuse_stalled<Time: Clock>(
     ensures room { (vec_capacity requests.new ≡ vec_capacity requests.old)
         × (vec_capacity replies.new ≡ vec_capacity replies.old) }
 {
-    // Each request that is taken has its reply, in the same order, and the pass has seen no more.
+    // Each request that was taken has its reply, in the same order, and the pass has seen nothing more.
     while let Some((client, request)) = take_first(requests) {
         let (batch, envelope) = batch_of(request);
         let answer = Answer {

@@ -1,4 +1,4 @@
-//! The box in which a client's request goes to its leader, and the answer comes back.
+//! The box in which a client's request goes to its leader, and in which the answer comes back.
 
 ghost use Rattle.std.specs.Prelude.{◌≡◌, true, None, vec_len, IfOk};
 ghost use Rattle.engine_parts.specs.Letters.{is_asked, is_told};
@@ -11,7 +11,7 @@ use std::alloc::Global;
 use std::marker::Model;
 use std::mem;
 
-/// What lies in an envelope.
+/// What is in an envelope.
 #[derive(Drop)]
 pub(crate) enum Letter {
     Nothing,
@@ -19,8 +19,8 @@ pub(crate) enum Letter {
     Told(Answer),
 }
 
-/// A client's envelope. Each client has one from its opening on, so that nothing lacks memory later, and what goes
-/// through the line is as small as a box. Contracts see no more than that it is there.
+/// A client's envelope. Each client has one from the opening on, so that nothing can run out of memory later, and what
+/// goes through the line is as small as a box. Contracts see only that it is there.
 #[derive(Drop)]
 pub struct Envelope {
     letter: Box<Letter>,
@@ -46,9 +46,9 @@ impl Model for SealedRequest {
 
     ghost Value = { Request };
 
-    ghost use Rattle.engine_parts.specs.Letters.{request_in};
+    ghost use Rattle.engine_parts.specs.Letters.{asked_in};
 
-    ghost view = { λ s. request_in s.letter.value s.asked };
+    ghost view = { λ s. asked_in s.letter.value s.asked };
 }
 
 /// An envelope with an answer in it. Contracts see the answer.
@@ -63,9 +63,9 @@ impl Model for SealedAnswer {
 
     ghost Value = { Answer };
 
-    ghost use Rattle.engine_parts.specs.Letters.{answer_in_letter};
+    ghost use Rattle.engine_parts.specs.Letters.{told_in};
 
-    ghost view = { λ s. answer_in_letter s.letter.value s.told };
+    ghost view = { λ s. told_in s.letter.value s.told };
 }
 
 impl HasGroupingItem for SealedRequest {
@@ -86,7 +86,7 @@ impl Envelope {
         Ok(Envelope { letter })
     }
 
-    /// One for each client.
+    /// An envelope for each client.
     pub fn for_all(alloc: Global, clients: u32) -> Result<Vec<Envelope>, NoMemory>
         ensures { IfOk result (λ all. vec_len all ≡ clients) }
     {

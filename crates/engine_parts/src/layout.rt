@@ -1,4 +1,4 @@
-//! Where a leader lays its group out.
+//! The lists in which a leader lays its group out.
 
 ghost use Rattle.std.specs.Prelude.{◌≡◌, [], vec_len, IfOk};
 ghost use Rattle.engine_parts.specs.Layout.{IsRoomy, AreRoomy};
@@ -9,7 +9,8 @@ use model_base::NoMemory;
 use std::alloc::Global;
 use table_tree::Parts;
 
-/// A leader's lists, with room for all clients. They are empty between its groups, but for who worked beside it last.
+/// A leader's lists, with room for all clients. Between its groups they are empty, except that `members` still lists
+/// those that worked in parallel with it last.
 #[derive(Drop)]
 pub struct Layout {
     pub numberings: Vec<Numbering>,
@@ -34,7 +35,7 @@ impl Layout {
         })
     }
 
-    /// One for each client.
+    /// A layout for each client.
     pub fn for_all(alloc: Global, clients: u32) -> Result<Vec<Layout>, NoMemory>
         ensures { IfOk result (λ all. (vec_len all ≡ clients) × AreRoomy clients all.items) }
     {
@@ -46,7 +47,7 @@ impl Layout {
         Ok(all)
     }
 
-    /// Drops what was to go into the table.
+    /// Drops the parts that should have gone into the table.
     pub(crate) fn drop_parts(&mut self)
         ensures parts { (self.new.parts.parts ≡ []) × (self.new.parts.clients ≡ self.old.parts.clients) }
         ensures others { (self.new.numberings ≡ self.old.numberings) × (self.new.batches ≡ self.old.batches)

@@ -1,14 +1,15 @@
-//! What the leader of a group does that knows no engine: what a client asks of it and is answered (`requests`), in what
-//! that goes to and fro (`envelope`), what it asks of the write controller for its group (`asking`), how it gives the
-//! members their runs (`numbering`, `layout`), and how it writes their batches to the log as one record (`logging`).
+//! The work of a group's leader that needs no engine: what a client asks of the leader and what the leader answers
+//! (`requests`), the envelope in which both travel (`envelope`), what the leader asks the write controller for its
+//! group (`asking`), how it gives the members their runs (`numbering`, `layout`), and how it writes their batches to
+//! the log as one record (`logging`).
 //!
-//! - `specs/Letters`: what lies in an envelope.
+//! - `specs/Letters`: what is in an envelope.
 //! - `specs/Items`, `Runs`: what the list of writers sees of requests and answers.
 //! - `specs/Handled`: requests that were handled, as commits of `engine_rule`.
 //! - `specs/Asking`: how a leader's view of the write controller goes on.
 //! - `specs/Numbering`, `Layout`: what a leader lays out while it gives runs, and its answers.
 //! - `specs/Led`, `Staged`: the group that a leader has in hand, before and after it is logged.
-//! - `specs/LogLaw`: what the log stands for.
+//! - `specs/LogLaw`: what the log covers.
 #![tactic(auto)]
 
 mod asking;

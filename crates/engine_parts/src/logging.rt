@@ -9,7 +9,7 @@ ghost use Rattle.log_writer.specs.Groups.{counts_of, body_lens_of};
 ghost use Rattle.log_writer.specs.Adding.{Adds, call_of};
 ghost use Rattle.table_tree.specs.Parts.{group_of};
 ghost use Rattle.engine_parts.specs.Handled.{HandsBack, IsReplyOf, seen_at, handled_with, InOrder};
-ghost use Rattle.engine_parts.specs.Numbering.{AreBeside, AreEnough, answers, others_in};
+ghost use Rattle.engine_parts.specs.Numbering.{AreHelpers, AreEnough, answers, others_in};
 ghost use Rattle.engine_parts.specs.Layout.{IsClear};
 ghost use Rattle.engine_parts.specs.LogLaw.{Past, StandsForPast, with_group};
 ghost use Rattle.engine_parts.specs.Led.{GoesOnWith, IsLedGroup, LeadsBy};
@@ -30,7 +30,7 @@ pub struct LogPath<Device: Disk> {
     pub last: u64,
 }
 
-/// Writes the batches that got runs behind `last` to the log, unless they are to stay out of it.
+/// Writes the batches that got runs after `last` to the log, unless they must stay out of it.
 fn log_group<Device: Disk>(
     log: &mut LogWriter<Device>,
     last: u64,
@@ -50,9 +50,9 @@ fn log_group<Device: Disk>(
     log.add_group(last + 1, batches, options.sync)
 }
 
-/// Writes a group to the log, and answers each member. Where members have runs their parts lie on the layout then, for
-/// the table, apart if they may be, with those who are to work beside the leader, and the answer is the group's last
-/// sequence.
+/// Writes a group to the log, and answers each member. Where members have runs, it returns the group's last sequence.
+/// Then the layout has what must go into the table (one part for all members; or, if the parts may be apart, perhaps
+/// one for each member with a run), and the members that should work in parallel with the leader.
 pub fn log_phase<Device: Disk>(
     path: &mut LogPath<Device>,
     leader: u32,
@@ -78,7 +78,7 @@ pub fn log_phase<Device: Disk>(
         requests.old.items replies.new.items) path.new.log path.new.last }
     ensures staged { IsStaged leader layout.old.parts.clients path.old.last path.new.last result
         layout.new.members.items layout.new.parts.parts replies.new.items }
-    ensures beside { IfSome result (λ _. AreBeside apart (others_in requests.old.items) layout.new.members.items) }
+    ensures beside { IfSome result (λ _. AreHelpers apart (others_in requests.old.items) layout.new.members.items) }
     ensures replies { InOrder requests.old.items replies.new.items
         × AllByRecursion HandsBack (handled_with requests.old.items replies.new.items)
         × AllByRecursion (IsReplyOf delay.now) replies.new.items }
@@ -91,7 +91,7 @@ pub fn log_phase<Device: Disk>(
         × (vec_capacity layout.new.members ≡ vec_capacity layout.old.members) }
 {
     let last = path.last;
-    // Nothing is written after a fault: nobody knows what stands there, and recovery may end at it.
+    // Nothing is written after a fault: nobody knows what the log holds there, and recovery may end at it.
     if let Some(count) = path.log.fault() {
         refuse_all(count, delay, requests, replies);
         return None;
@@ -139,7 +139,7 @@ pub fn log_phase<Device: Disk>(
     Some(end)
 }
 
-/// Answers what lies on the layout.
+/// Answers the members whose batches are on the layout.
 fn answer_layout(
     fate: GroupFate,
     delay: &Delay,

@@ -5,12 +5,12 @@ ghost use Rattle.model_base.specs.History.{max_sequence};
 ghost use Rattle.table_rule.specs.declared.content.Version.{Version};
 ghost use Rattle.table_tree.specs.Parts.{group_of};
 ghost use Rattle.engine_rule.specs.Plans.{last_with_all, last_with, versions_at, versions_from, AreLawful, HaveOwnClients};
-ghost use Rattle.engine_memtable.specs.Parts.{members_of};
+ghost use Rattle.engine_rule.specs.Parts.{members_of};
 ghost use Rattle.engine_stage_laws.specs.Served.{parts_from};
 ghost use Rattle.engine_parts.specs.Led.{IsLedGroup, LeadsBy};
 ghost use Rattle.engine_parts.specs.declared.requests.Request.{Request};
 ghost use Rattle.engine_parts.specs.Handled.{commit_requests_of, reply_with, failures};
-ghost use Rattle.engine_parts.specs.Numbering.{numbering_at, numberings_of, batch_at, batches_of, HasVersions, AreBeside, AreParts, others_in, others_than, parts_with, answers, AreEnough, IsAnswer, HasBatch, run_with, full_with};
+ghost use Rattle.engine_parts.specs.Numbering.{numbering_at, numberings_of, batch_at, batches_of, HasVersions, AreHelpers, AreParts, others_in, others_than, parts_with, answers, AreEnough, IsAnswer, HasBatch, run_with, full_with};
 
 use crate::envelope::{Envelope, SealedAnswer, SealedRequest};
 use crate::requests::{Answer, Delay, Request};
@@ -20,12 +20,12 @@ use model_base::Refusal;
 use std::snapshot::Snapshot;
 use table_tree::Parts;
 
-/// How many records a member has to bring, on the average, so that waking it to insert them itself takes less than that
-/// its leader inserts them too.
+/// How many records a member must bring, on average, so that it is faster to wake it and let it insert them itself
+/// than to let its leader insert them too.
 const WORTH_WAKING: u64 = 8;
 
-/// What becomes of a member's batch: it has a run, and stands among the batches that are written, with the first
-/// sequence of its run; or there is no room. `before` is the sequence that the batch had as it was handed in. The
+/// What happens to a member's batch: either it has a run, and is among the batches that are written, with the first
+/// sequence of its run; or there is no room. `before` is the sequence that the batch had when it was handed in. The
 /// answer goes back in the envelope in which the batch came.
 #[derive(Drop)]
 pub enum Numbering {
@@ -43,15 +43,16 @@ pub enum Numbering {
     },
 }
 
-/// What became of a group: its batches were written, and the last sequence is this; or the log has this fault.
+/// What happened to a group: either its batches were written, and this is its last sequence; or the log has this
+/// fault.
 #[derive(Clone, Copy)]
 pub(crate) enum GroupFate {
     Written { group_last: u64 },
     Faulted { count: u64 },
 }
 
-/// Takes the first item out. Answers stand in the order of the requests, the leader's first. A group has few members,
-/// so that moving up those behind costs less than turning its lists round.
+/// Takes the first item out. Answers are in the order of the requests, the leader's first. A group has few members, so
+/// moving up the rest costs less than reversing its lists.
 pub fn take_first<Element>(items: &mut Vec<Element>) -> Option<Element>
     ensures first { MatchOption result ((items.old.items ≡ [])
         × (items.new.items ≡ [])) (λ x. items.old.items ≡ x ∷ items.new.items) }
@@ -77,7 +78,8 @@ pub(crate) fn batch_of(request: SealedRequest) -> (Batch, Envelope)
     (batch, envelope)
 }
 
-/// Gives runs behind `last` to the requests whose runs fit, and answers the sequence given last then.
+/// Gives runs after `last` to the requests whose runs fit. Their versions are all in one part, that of `member`.
+/// Returns the last sequence given then.
 pub(crate) fn number_all(
     requests: &mut Vec<(u32, SealedRequest)>,
     member: u32,
@@ -102,14 +104,15 @@ pub(crate) fn number_all(
         × (vec_capacity batches.new ≡ vec_capacity batches.old) }
 {
     let mut at = last;
-    // What is laid out so far, with what the requests that are left will add, is the whole layout.
+    // What is laid out so far, together with what the requests that are left will add, is the whole layout.
     while let Some((client, request)) = take_first(requests) {
         at = number_one(client, request, member, at, numberings, batches, parts);
     }
     at
 }
 
-/// The same, where each member with a run gets its own part. Those that have one beside the leader are noted.
+/// Gives runs as `number_all` does, but each member with a run gets its own part. The members that have a part are
+/// noted, except the leader.
 pub(crate) fn number_apart(
     requests: &mut Vec<(u32, SealedRequest)>,
     leader: u32,
@@ -140,8 +143,8 @@ pub(crate) fn number_apart(
         × (vec_capacity members.new ≡ vec_capacity members.old) }
 {
     let mut at = last;
-    // What is laid out so far, with what the requests that are left will add, is the whole layout. None of these has
-    // a part yet, and who has one beside the leader is noted.
+    // What is laid out so far, together with what the requests that are left will add, is the whole layout. None of
+    // these requests has a part yet, and the members that have one are noted, except the leader.
     while let Some((client, request)) = take_first(requests) {
         let before = at;
         at = number_one(client, request, client, at, numberings, batches, parts);
@@ -162,11 +165,11 @@ fn note_member(member: u32, leader: u32, has_part: bool, members: &mut Vec<u32>)
     }
 }
 
-/// Whether the members beside the leader bring so many records, on the average, that it is worth waking them, so that
-/// each inserts its own part.
+/// Whether the members other than the leader bring so many records, on average, that it is worth waking them to let
+/// each insert its own part.
 fn are_worth_waking(requests: &[(u32, SealedRequest)]) -> bool {
     let mut records: u64 = 0;
-    // `records` is the sum of those gone through.
+    // `records` is the number of records in the members' requests so far.
     for (_, request) in requests.iter().skip(1) {
         records = records.saturating_add(u64::from(request.as_request().batch.count()));
     }
@@ -174,17 +177,18 @@ fn are_worth_waking(requests: &[(u32, SealedRequest)]) -> bool {
     records >= members.saturating_mul(WORTH_WAKING)
 }
 
-/// Whether each member's part may be apart, for the member itself to insert: where groups go into the table in a stage
-/// of their own, and the table has several locks. Under one lock members would wait for each other.
+/// Whether each member may get its own part, which it inserts itself: only where groups go into the table in a stage
+/// of their own, and the table has several locks. With one lock the members would wait for each other.
 pub fn may_be_apart(staged: bool, locks: u64) -> bool
     ensures { staged ≡ false → result ≡ false }
 {
     staged && locks > 1
 }
 
-/// Gives runs behind `last` to the requests whose runs fit, and answers the sequence given last then. Where the parts
-/// may be apart each member with a run gets its own, and is noted as one that is to work beside the leader. The leader
-/// has all where they may not, where it has no run itself, and where the group isn't worth waking anybody.
+/// Gives runs after `last` to the requests whose runs fit. Returns the last sequence given then. Where the parts may
+/// be apart, each member with a run gets its own part, and all of these but the leader are noted, since they should
+/// work in parallel with it. The leader gets everything in three cases: the parts may not be apart, it has no run
+/// itself, or it isn't worth waking the members of this group.
 pub(crate) fn lay_out(
     requests: &mut Vec<(u32, SealedRequest)>,
     leader: u32,
@@ -208,7 +212,7 @@ pub(crate) fn lay_out(
     ensures parts { AreParts leader parts.old.clients members.new.items
         (versions_from last (commit_requests_of requests.old.items)) (group_of parts.new.parts)
         × (parts.new.clients ≡ parts.old.clients) }
-    ensures beside { AreBeside apart (others_in requests.old.items) members.new.items }
+    ensures beside { AreHelpers apart (others_in requests.old.items) members.new.items }
     ensures taken { requests.new.items ≡ [] }
     ensures room { (vec_capacity requests.new ≡ vec_capacity requests.old)
         × (vec_capacity numberings.new ≡ vec_capacity numberings.old)
@@ -276,7 +280,7 @@ fn number_one(
         before: batch.sequence(),
         envelope,
     });
-    // The log writes a single batch as it stands, so its sequence is set before.
+    // The log writes a single batch as it is, so its sequence is set before.
     batch.set_sequence(run.first);
     batches.push_reserved(batch);
     run.last
@@ -299,7 +303,7 @@ pub(crate) fn answer_all(
         × (vec_capacity batches.new ≡ vec_capacity batches.old)
         × (vec_capacity replies.new ≡ vec_capacity replies.old) }
 {
-    // The answers so far, with those to the numberings that are left, are all answers.
+    // The answers so far, together with those to the numberings that are left, are all answers.
     while let Some(numbering) = take_first(numberings) {
         replies.push_reserved(answer_one(fate, delay, numbering, batches));
     }
@@ -341,7 +345,8 @@ fn answer_one(
     }
 }
 
-/// The answer to a batch that has a run. It goes back with the sequence that it had, where it wasn't written.
+/// The answer to a batch that has a run. If the batch wasn't written, it goes back with the sequence that it had
+/// before.
 fn run_reply(fate: GroupFate, delay: &Delay, run: Run, before: u64, mut batch: Batch) -> Answer
     ensures { result ≡ run_with fate delay.now run before batch }
 {
@@ -405,7 +410,7 @@ pub(crate) fn refuse_all(
     ensures room { (vec_capacity requests.new ≡ vec_capacity requests.old)
         × (vec_capacity replies.new ≡ vec_capacity replies.old) }
 {
-    // The answers so far, with those to the requests that are left, are all answers.
+    // The answers so far, together with those to the requests that are left, are all answers.
     while let Some((client, request)) = take_first(requests) {
         let (batch, envelope) = batch_of(request);
         let answer = refusal(delay, Refusal::LogFault { count }, batch);

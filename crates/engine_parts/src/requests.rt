@@ -1,4 +1,4 @@
-//! What a client asks of a leader, and what it is answered.
+//! What a client asks of a leader, and what the leader answers.
 
 ghost use Rattle.std.specs.Prelude.{◌≡◌, ◌≤◌, reverse};
 ghost use Rattle.model_base.specs.declared.limits.TheConstants.{MAX_SIZE};
@@ -12,7 +12,7 @@ use model_base::WriteOptions;
 use std::snapshot::Snapshot;
 use table_tree::Nodes;
 
-/// A batch that is to be written, with the nodes that it makes, the last record's first.
+/// A batch that should be written, with the nodes that it makes, those of its last record first.
 #[derive(Drop)]
 pub struct Request {
     pub batch: Batch,
@@ -25,8 +25,8 @@ pub struct Request {
     ghost small: { model.size_of_batch batch.records ≤ MAX_SIZE },
 }
 
-/// A delay that a leader asked for its group: what its pass had seen then, with the delay itself as the last call. It
-/// is there for the proofs alone.
+/// A delay that a leader asked for its group: what the leader's pass had seen then, with the delay itself as the last
+/// call. It is only there for the proofs.
 #[derive(Drop)]
 pub struct Delay {
     pub pass: Snapshot<Pass>,
@@ -38,6 +38,6 @@ pub struct Answer {
     pub answer: Result<Receipt, Refused>,
     /// The delay that was asked for the group.
     pub delay: Snapshot<Delay>,
-    /// What the leader has seen of the write controller, where the batch was refused since writes are held up.
+    /// What the leader has seen of the write controller, where the batch was refused because writes are held up.
     pub note: Option<Note>,
 }

@@ -1,4 +1,4 @@
--- Commits that were answered rightly, one after another, and the history that they make.
+-- Commits with right answers, one after another, and the history that they make.
 use Rattle.std.proofs.Common.{◌≡◌, ℕ, ◌+◌, ◌-◌, ◌≤◌, ◌==◌, List, [], ◌∷◌, ◌++◌, Option, refl, ap, sym, ◌∙◌, subst, arith, append_assoc, append-nil}
 use Rattle.std.specs.List.{AllByRecursion}
 use Rattle.std.proofs.lemmas.Bool.{ne_eqb, eq-eqb}
@@ -55,7 +55,7 @@ entries_history last dead before (c ∷ cs) h =
     history_step last dead (entries_of_client c.client before) c (entries_after (before ++ entry_after before c) cs) (last_after_all (last_after last (count_of c.records) c.answer) cs) c.answer h.0
     (entries_history (last_after last (count_of c.records) c.answer) (fault_after dead c.answer) (before ++ entry_after before c) cs h.1)
 
--- each client's own entries of them
+-- each client's own entries among them
 own_with : (k : ℕ) (mine : List Entry) (c : Commit) (v : Answer) → c.client ≡ k → entries_of_client k (entry_with c.client mine c v) ≡ entry_with c.client mine c v
 own_with k mine c (accepted first end) e = rw (eq-eqb c.client k e) refl
 own_with k mine c (held_up numbers) e = refl
@@ -89,7 +89,7 @@ entries_own k before mine (c ∷ cs) is = dite (ℕ_discrete c.client k)
     ∙ ((λ i. none i ++ entries_own k (before ++ entry_after before c) mine cs later i)
     ∙ rw (ne_eqb c.client k other) refl))
 
--- the names in the history are those of the clients
+-- each entry of the history is of one of the clients
 named_with : (n : ℕ) (mine : List Entry) (c : Commit) (rest : List Entry) (v : Answer) → (1 ≤ c.client) × (c.client ≤ n) → AllByRecursion (λ (e : Entry). (1 ≤ e.client) × (e.client ≤ n)) rest
     → AllByRecursion (λ (e : Entry). (1 ≤ e.client) × (e.client ≤ n)) (entry_with c.client mine c v ++ rest)
 named_with n mine c rest (accepted first end) h more = (h, more)
@@ -114,7 +114,7 @@ entries_versions before (c ∷ cs) =
     versions_one (entries_of_client c.client before) c (entries_after (before ++ entry_after before c) cs) c.answer
     ∙ ap (λ vs. versions_with c c.answer ++ vs) (entries_versions (before ++ entry_after before c) cs)
 
--- so groups that the commits made were made by the entries
+-- so what is published, as the commits made it, was also made by the entries
 pub images_entries : (before : List Entry) (cs : List Commit) (published : List (List MemberVersions)) → Images versions_made cs published → Images versions_of_entry (entries_after before cs) published
 images_entries before cs [] is = entries_versions before cs ∙ is
 images_entries before cs (g ∷ published) is = (

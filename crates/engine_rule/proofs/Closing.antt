@@ -43,12 +43,12 @@ use Rattle.engine_controller.proofs.Places.{goes_delays}
 
 -- Statuses
 
--- right beside these groups, where who was held up stands in the group of its delay
+-- the commit's status is right for these groups, provided that a commit that is held up is in the group of its delay
 abbrev HasStatus : Trace → List Group → Option ℕ → Commit → Type 0
 HasStatus trace groups fault c =
     (call : ℕ) → ((place : ℕ) → status_of (place_of c) c.answer ≡ slowed place → Holds groups place c.client call) → IsStatus trace groups fault c.client call (status_of (place_of c) c.answer)
 
--- what is told by one right answer, where these entries stand before
+-- the status that one right answer gives, where these entries come before it
 status_by : (trace : Trace) (groups : List Group) (fault : Option ℕ) (last : ℕ) (dead : Option ℕ) (c : Commit) (p : ℕ) (v : Answer) → IsAnswer last dead (count_of c.records) v → ((n : ℕ) → fault_after dead v ≡ Some n → fault ≡ Some n)
     → IsBoundary trace.start trace.entries last → (call : ℕ) → ((place : ℕ) → status_of p v ≡ slowed place → Holds groups place c.client call) → IsStatus trace groups fault c.client call (status_of p v)
 status_by trace groups fault last dead c p (accepted first end) h to_fault b call held = tt
@@ -56,7 +56,7 @@ status_by trace groups fault last dead c p (held_up numbers) h to_fault b call h
 status_by trace groups fault last dead c p (failed n) h to_fault b call held = to_fault n refl
 status_by trace groups fault last dead c p (no_room l) h to_fault b call held = subst (IsBoundary trace.start trace.entries) (sym h.1) b
 
--- a fault stays what it is
+-- once the log has a fault, it stays the same
 dead_step : (last n : ℕ) (c : Commit) (cs : List Commit) (v : Answer) → ((k : ℕ) → AreAnswered last (Some k) cs → fault_after_all (Some k) cs ≡ Some k) → IsAnswer last (Some n) (count_of c.records) v → AreAnswered (last_after last (count_of c.records) v) (fault_after (Some n) v) cs → fault_after_all (fault_after (Some n) v) cs ≡ Some n
 dead_step last n c cs (accepted first end) more a b = absurd (let bad = a.0 in cc)
 dead_step last n c cs (held_up numbers) more a b = more n b
@@ -91,7 +91,7 @@ all_statuses trace groups fault last dead front (c ∷ cs) h is split ends =
 nat_same : (a b : ℕ) → (a == b) ≡ true → a ≡ b
 nat_same a b h = grind arith
 
--- a client's own
+-- the statuses of one client's commits are right
 own_statuses : (trace : Trace) (groups : List Group) (fault : Option ℕ) (k call : ℕ) (cs : List Commit) → AllByRecursion (HasStatus trace groups fault) cs
     → ((j : ℕ) (attempt : Attempt) (place : ℕ) → slice_get (map attempt_of (commits_of k cs)) j ≡ Some attempt → attempt.status ≡ slowed place → Holds groups place k (call + j))
     → AreStatuses trace groups fault k call (map attempt_of (commits_of k cs))
@@ -118,7 +118,7 @@ own_statuses trace groups fault k call (c ∷ cs) h held = by (c.client == k) re
         next j = omega arith
     by false e own more = more call own
 
--- The lost group's members
+-- The members of the group whose write failed
 
 commits_append : (k : ℕ) (xs ys : List Commit) → commits_of k (xs ++ ys) ≡ commits_of k xs ++ commits_of k ys
 commits_append k xs ys = filter-append (λ (c : Commit). c.client == k) xs ys
@@ -237,7 +237,7 @@ module _ (settings : Settings) (cs : List Commit) (last : ℕ) (fault : Option �
       let is : Some own ≡ None = sym e ∙ (slice_get-map (λ (x : Account). x.attempts) accounts i ∙ ap (option_map (λ (x : Account). x.attempts)) p.1) in absurd (cc))
       (slice_get_cases accounts i).1
 
-  -- what a client has asked for, of all
+  -- a client has a commit for each of its delays in the history
   have_asked : (client : ℕ) → 1 ≤ client → client ≤ settings.clients → (known : List ControllerCall) × (delays_of client history ≡ delays_of client known) × HasAsked client (commits_of client cs) known
   have_asked client low high = ⊎_elim
       (λ (p : (x : Account) × (client - 1 < length accounts) × (slice_get accounts (client - 1) ≡ Some x) × (get_or accounts (client - 1) x ≡ x)).

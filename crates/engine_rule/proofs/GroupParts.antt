@@ -1,4 +1,4 @@
--- Which entries each group of commits made, and that its members were told where it ends.
+-- Which entries each group of commits made, and that its members' answers name the group's end.
 use Rattle.std.proofs.Common.{◌≡◌, ℕ, suc, ◌+◌, Bool, true, false, cond, ◌==◌, filter, flat_map, map, List, [], ◌∷◌, ◌++◌, Option, length, refl, ap, sym, ◌∙◌, subst, append-nil}
 use Rattle.std.proofs.lemmas.Grind.{flat_map-append}
 use Rattle.std.proofs.lemmas.List.{map-append}
@@ -16,7 +16,7 @@ use Rattle.engine_rule.proofs.Chains.{entries_append, entries_history, entries_m
 use Rattle.engine_rule.proofs.Leaders.{attempts_taken, led_of, taken_of}
 use Rattle.engine_rule.proofs.OneGroup.{NameEnd}
 
--- the entries of each group, behind these commits
+-- the entries of each group, where these commits came before
 abbrev pub parts_after : List Commit → List LedGroup → List (List Entry)
 parts_after before [] = []
 parts_after before (g ∷ groups) = entries_after (entries_of before) g.commits ∷ parts_after (before ++ g.commits) groups
@@ -30,7 +30,7 @@ parts_cut before (g ∷ groups) =
     ap (λ es. entries_after (entries_of before) g.commits ++ es) (parts_cut (before ++ g.commits) groups ∙ ap (λ b. entries_after b (all_in groups)) (entries_more before g.commits))
     ∙ sym (entries_append (entries_of before) g.commits (all_in groups))
 
--- Their names
+-- The names of the entries
 
 ordinal_by : (k place : ℕ) (mine : List Entry) (c : Commit) (rest : List Entry) (bs : List Bool) (v : Answer) → length rest ≡ length (filter (λ (b : Bool). b) bs)
     → length (entry_with k mine c v ++ rest) ≡ length (filter (λ (b : Bool). b) (is_success (status_of place v) ∷ bs))
@@ -70,9 +70,9 @@ parts_named before (g ∷ groups) = (
   subst (λ ts. AreNamed ts (map led_of groups) (parts_after (before ++ g.commits) groups)) (map-append taken_of before g.commits) (parts_named (before ++ g.commits) groups),
 )
 
--- Where they end
+-- Where the groups' parts end
 
--- each entry of a client was told this
+-- the ends that the answers to a client's commits name: this end, once for each of its entries
 module _ (k end : ℕ) where
   abbrev told : List Entry → List ℕ
   told es = map (λ (e : Entry). end) (entries_of_client k es)
@@ -99,7 +99,7 @@ module _ (k end : ℕ) where
       by true e more = told_own (entries_of_client c.client before) c (entries_after (before ++ entry_after before c) cs) (commits_of k cs) c.answer e h.0 more
       by false e more = told_other (entries_of_client c.client before) c (entries_after (before ++ entry_after before c) cs) c.answer e ∙ more
 
--- the last sequence of a part that has an entry doesn't depend on what was before
+-- the last sequence of a part that has an entry doesn't depend on the sequence before it
 from_any : (k last : ℕ) (part : List Entry) → map (λ (e : Entry). last_sequence 0 part) (entries_of_client k part) ≡ map (λ (e : Entry). last_sequence last part) (entries_of_client k part)
 from_any k last [] = refl
 from_any k last (e ∷ es) = refl

@@ -1,4 +1,5 @@
--- The groups of the commits, each with the place of its delay in the controller's history, are all groups of the closing.
+-- The groups of the commits, each with the place of its delay in the controller's history, are all the groups of the
+-- closing.
 use Rattle.std.proofs.Common.{◌≡◌, ◌≢◌, ◌⊎◌, inl, inr, ℕ, suc, ◌+◌, ◌-◌, ◌<◌, ◌≤◌, Bool, true, false, true≢false, cond, ◌==◌, filter, flat_map, map, slice_get, List, [], ◌∷◌, ◌++◌, Some, length, refl, ap, sym, ◌∙◌, subst, ⊎_elim, arith, append_assoc, length-append}
 use Rattle.std.specs.Prelude.{◌&&◌}
 use Rattle.std.specs.Bool.{IsTrue}
@@ -10,7 +11,7 @@ use Rattle.model_base.specs.declared.group.Item.{Item}
 use Rattle.model_base.specs.Attempts.{Attempt, WriteStatus, slowed}
 use Rattle.model_base.specs.Controller.{ControllerCall, Look, delay}
 use Rattle.model_base.specs.Grouping.{group_len, size_of}
-use Rattle.model_base.specs.Groups.{AreAsked, Group, HasPlace, HaveOwnPlaces, MayProceed, SawNoStop, StandTogether, is_delay, is_slowed}
+use Rattle.model_base.specs.Groups.{AreAsked, Group, HasPlace, HaveOwnPlaces, MayProceed, SawNoStop, HaveOneFate, is_delay, is_slowed}
 use Rattle.model_base.proofs.Prefixes.{prefix_at, prefix_length, prefix_trans}
 use Rattle.table_rule.specs.Histories.{In}
 use Rattle.model_accounts.specs.Led as leds
@@ -29,7 +30,7 @@ taken_of c = record { client = c.client; attempt = attempt_of c }
 abbrev pub led_of : LedGroup → Led
 led_of g = record { place = length g.known - 1; commits = map taken_of g.commits }
 
--- a client's commits among them
+-- a client's commits among the taken ones
 pub attempts_taken : (client : ℕ) (ds : List Commit) → attempts_of client (map taken_of ds) ≡ map attempt_of (commits_of client ds)
 attempts_taken client [] = refl
 attempts_taken client (d ∷ ds) = by (d.client == client) refl (attempts_taken client ds)
@@ -38,7 +39,7 @@ attempts_taken client (d ∷ ds) = by (d.client == client) refl (attempts_taken 
     by true e h = rw e (ap (λ l. attempt_of d ∷ l) h)
     by false e h = rw e h
 
--- Each group was asked for
+-- A delay was asked for each group
 
 items_are : (cs : List Commit) → items_in (map taken_of cs) ≡ map item_of_request (map request_of cs)
 items_are [] = refl
@@ -66,7 +67,7 @@ slowed_here : (known : List ControllerCall) (cs : List Commit) → AllByRecursio
 slowed_here known [] h = tt
 slowed_here known (c ∷ cs) h = ((λ p e. slowed_by (place_of c) p c.answer e ∙ ap (λ ts. length ts - 1) h.0), slowed_here known cs h.1)
 
--- a group's statuses: all held up, told so by its delay, or none
+-- the statuses in a group: all of it is held up, by the answer of its delay, or none of it is
 abbrev status_in : Taken → WriteStatus
 status_in t = t.attempt.status
 
@@ -91,7 +92,7 @@ none_slowed : (cs : List Commit) → AllByRecursion (λ (c : Commit). is_held_up
 none_slowed [] h = tt
 none_slowed (c ∷ cs) h = (is_slowed_as (place_of c) c.answer ∙ h.0, none_slowed cs h.1)
 
--- Each group's delay comes behind all that the leaders before it had seen, and before those of the groups behind it
+-- Each group's delay comes after all that the leaders before it had seen, and before the delays of the later groups
 
 abbrev IsClear : LedGroup → LedGroup → Type 0
 IsClear g h = (length h.known ≤ length g.known) ⊎ (length g.went < length h.known)
@@ -118,7 +119,7 @@ before_others g at within some (h ∷ groups) clear = (by clear.0, before_others
     by (inl low) behind = absurd (omega (arith, low, behind))
     by (inr high) behind = omega (arith, high, within)
 
--- the last call of what begins the history
+-- the last call of a beginning of the history, at its place in the history
 last_there : (before : List ControllerCall) (t : ControllerCall) (known history : List ControllerCall) → known ≡ before ++ t ∷ [] → IsPrefix known history → slice_get history (length known - 1) ≡ Some t
 last_there before t known history is p =
     let long : length known ≡ length before + 1 = ap length is ∙ length-append before (t ∷ []) in
@@ -156,7 +157,7 @@ module _ (start group_bytes : ℕ) (asked history : List ControllerCall) (cs : L
   all_led [] h p = tt
   all_led (g ∷ groups) h p = (is_led g h.0 p.0, all_led groups h.1 p.1)
 
-  -- no delay stands for two
+  -- no delay is the delay of two groups
   some_known : (g : LedGroup) → IsLedGroup group_bytes g → 1 ≤ length g.known
   some_known g h =
       let a = h.asked in
@@ -176,12 +177,12 @@ module _ (start group_bytes : ℕ) (asked history : List ControllerCall) (cs : L
       let later = all_map (λ (i : LedGroup). length g.went < length i.known) (λ (i : LedGroup). length g.known < length i.known) (λ i more. omega (arith, more, long)) groups r.0 in
       (apart_after (length g.known) (before ++ map taken_of g.commits) groups (some_known g h.0) later, own_places (before ++ map taken_of g.commits) groups h.1 r.1)
 
-  -- Each is held up whole, or goes on whole
+  -- Each is held up as a whole, or goes on as a whole
 
   abbrev places_led : List ℕ
   places_led = map (λ (g : Led). g.place) led
 
-  -- what lets its leader proceed stands in the history
+  -- the look that allows its leader to proceed is in the history
   saw_no_stop : (g : LedGroup) → IsLedGroup group_bytes g → IsPrefix g.went asked → AllByRecursion (IsClear g) k.groups → (leader : ℕ) → HasLooked leader g.known g.went → SawNoStop history places_led leader (length g.known - 1)
   saw_no_stop g h p clear leader l =
       let there = l.is_later.there in
@@ -207,7 +208,7 @@ module _ (start group_bytes : ℕ) (asked history : List ControllerCall) (cs : L
   all_proceed g h p clear leader numbers (d ∷ ds) lets = (may_proceed g h p clear leader numbers d.options.no_slowdown lets.0, all_proceed g h p clear leader numbers ds lets.1)
 
   abbrev IsTogether : LedGroup → Type 0
-  IsTogether g = StandTogether history places_led (length g.known - 1) (items_in (map taken_of g.commits)) (map status_in (map taken_of g.commits))
+  IsTogether g = HaveOneFate history places_led (length g.known - 1) (items_in (map taken_of g.commits)) (map status_in (map taken_of g.commits))
 
   stands : (g : LedGroup) → IsLedGroup group_bytes g → IsPrefix g.went asked → AllByRecursion (IsClear g) k.groups → IsTogether g
   stands g h p clear = by h.together
@@ -230,11 +231,11 @@ module _ (start group_bytes : ℕ) (asked history : List ControllerCall) (cs : L
           )
 
   all_stand : (groups : List LedGroup) → AllByRecursion (IsLedGroup group_bytes) groups → AllByRecursion (λ (g : LedGroup). IsPrefix g.went asked) groups → AllByRecursion (λ (g : LedGroup). AllByRecursion (IsClear g) k.groups) groups
-      → AllByRecursion (λ (g : Led). StandTogether history places_led g.place (items_in g.commits) (map status_in g.commits)) (map led_of groups)
+      → AllByRecursion (λ (g : Led). HaveOneFate history places_led g.place (items_in g.commits) (map status_in g.commits)) (map led_of groups)
   all_stand [] h p clear = tt
   all_stand (g ∷ groups) h p clear = (stands g h.0 p.0 clear.0, all_stand groups h.1 p.1 clear.1)
 
-  -- All commits stand in them
+  -- All commits are in the groups
 
   taken_all : (groups : List LedGroup) → all_taken (map led_of groups) ≡ map taken_of (flat_map (λ (g : LedGroup). g.commits) groups)
   taken_all [] = refl
@@ -247,7 +248,7 @@ module _ (start group_bytes : ℕ) (asked history : List ControllerCall) (cs : L
   clients_of n [] h = tt
   clients_of n (d ∷ ds) h = (h.0, clients_of n ds h.1)
 
-  -- Each delay was asked for one of them
+  -- Each delay was asked for one of the groups
 
   in_append : (xs ys : List Commit) (c : Commit) → In c (xs ++ ys) → In c xs ⊎ In c ys
   in_append [] ys c h = inr h
@@ -300,7 +301,7 @@ module _ (start group_bytes : ℕ) (asked history : List ControllerCall) (cs : L
         (λ client low high. all_back (HasPlace groups) (place_if ((t.client == client) && is_delay t.action) p) (delays_from client (p + 1) calls) (each client low high)),
   )
 
-  -- a client has asked for its delays
+  -- each delay that a client has asked for is the delay of a group
   places_of : (client : ℕ) (known : List ControllerCall) → delays_of client history ≡ delays_of client known → HasAsked client (commits_of client cs) known → AllByRecursion (HasPlace (groups_of led)) (delays_of client history)
   places_of client known same h = subst (AllByRecursion (HasPlace (groups_of led))) (sym same)
       (all_map (λ (place : ℕ). (c : Commit) × In c (commits_of client cs) × (place_of c ≡ place)) (HasPlace (groups_of led))

@@ -1,4 +1,4 @@
--- One group more, for which its leader asked the controller.
+-- One more group, for which its leader asked the controller for a delay.
 use Rattle.std.proofs.Common.{◌≡◌, inl, inr, ℕ, ◌+◌, ◌<◌, Bool, true, false, nat_le, map, List, [], ◌∷◌, ◌++◌, flat_map, length, refl, ap, sym, ◌∙◌, subst, arith, append_assoc, append-nil, length-append}
 use Rattle.std.specs.List.{AllByRecursion}
 use Rattle.std.proofs.lemmas.Grind.{flat_map-append}
@@ -22,7 +22,7 @@ rise_more : (groups : List LedGroup) (g : LedGroup) → Rise groups → AllByRec
 rise_more [] g r below = (tt, tt)
 rise_more (h ∷ groups) g r below = (all_append (λ (i : LedGroup). length h.went < length i.known) groups (g ∷ []) r.0 (below.0, tt), rise_more groups g r.1 below.1)
 
--- its accepted members name what is given last after it
+-- the group's accepted members name what is given last after the group
 abbrev pub NameEnd : ℕ → List Commit → Type 0
 NameEnd end cs = AllByRecursion (λ (c : Commit). NamesEnd end c.answer) cs
 
@@ -34,7 +34,7 @@ ends_more last (h ∷ groups) g r now = (
       (subst (λ n. NameEnd (last_after_all n g.commits) g.commits) (end_append last h.commits (flat_map (λ (i : LedGroup). i.commits) groups)) now),
 )
 
--- what the leaders before had seen begins what this one had seen when it asked, and is shorter
+-- what the leaders before had seen is a beginning of what this leader had seen when it asked, and is shorter
 module _ (asked known went : List ControllerCall) (comes : ComesAfter asked known) (goes : IsPrefix known went) where
   begins : IsPrefix asked known
   begins = (comes.more ++ comes.call ∷ [], sym (append_assoc asked comes.more (comes.call ∷ [])) ∙ sym comes.is)
@@ -67,7 +67,7 @@ module _ (asked known went : List ControllerCall) (comes : ComesAfter asked know
         name_ends = ends_more start k.groups g k.name_ends (subst (λ ds. NameEnd (last_after_all (last_after_all start ds) new) new) (sym k.cut) named);
       }
 
--- the leader's runs tell nobody that writes are held up
+-- where the leader gives runs, no answer says that writes are held up
 planned_not : (last end : ℕ) (records : List Record) → is_held_up (answer_with last end records) ≡ false
 planned_not last end records = by (nat_le (last + count_of records) max_sequence) refl
   where
@@ -75,7 +75,7 @@ planned_not last end records = by (nat_le (last + count_of records) max_sequence
     by true t = rw t refl
     by false t = rw t refl
 
--- and name its group's end
+-- and the accepted answers name the group's end
 plan_named : (last end : ℕ) (records : List Record) → NamesEnd end (answer_with last end records)
 plan_named last end records = by (nat_le (last + count_of records) max_sequence) refl
   where
@@ -83,7 +83,7 @@ plan_named last end records = by (nat_le (last + count_of records) max_sequence)
     by true t = rw t refl
     by false t = rw t tt
 
--- who isn't held up tells of no numbers
+-- where no member is held up, there are no numbers of a hold-up to check
 not_told : (numbers : Look) (cs : List Commit) → AllByRecursion (λ (c : Commit). is_held_up c.answer ≡ false) cs → AllByRecursion (IsHeldUp numbers) cs
 not_told numbers [] h = tt
 not_told numbers (c ∷ cs) h = ((λ told e. let is : true ≡ false = ap is_held_up (sym e) ∙ h.0 in absurd (cc)), not_told numbers cs h.1)
@@ -105,7 +105,7 @@ module _ (known : List ControllerCall) where
   planned_named last end [] = tt
   planned_named last end (q ∷ rs) = (plan_named last end q.records, planned_named (last_with last q.records) end rs)
 
-  -- all are answered alike
+  -- commits that all have the same answer still have the requests that they were made of
   alike_are : (v : Answer) (rs : List CommitRequest) → map request_of (map (λ (q : CommitRequest). commit_of_request known q v) rs) ≡ rs
   alike_are v [] = refl
   alike_are v (q ∷ rs) = ap (λ l. q ∷ l) (alike_are v rs)
@@ -140,7 +140,7 @@ module _ (start group_bytes : ℕ) (cs : List Commit) (asked known : List Contro
     seen_since = goes;
   }) named
 
-  -- none of a group that goes on is held up
+  -- a group that goes on, where no member is held up, is one more of the groups
   going_on : (went : List ControllerCall) → ProceedsWith requests numbers known went → (new : List Commit) → map request_of new ≡ requests → AllByRecursion (λ (c : Commit). c.controller_calls ≡ known) new
       → AllByRecursion (λ (c : Commit). is_held_up c.answer ≡ false) new → NameEnd (last_after_all (last_after_all start cs) new) new → AreInGroups start group_bytes went (cs ++ new)
   going_on went proceeds new are same free = with_group went new are same (not_told numbers new free) (inr (free, subst (λ rs. ProceedsWith rs numbers known went) (sym are) proceeds)) proceeds.begins

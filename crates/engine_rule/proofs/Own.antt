@@ -1,4 +1,4 @@
--- What a client may conclude of its newest answer.
+-- What a client may conclude from its newest answer.
 use Rattle.std.proofs.Common.{◌≡◌, ℕ, ◌+◌, ◌<◌, ◌≤◌, Bool, true, false, cond, ◌==◌, filter, map, List, [], ◌∷◌, ◌++◌, Option, Some, None, length, refl, ap, sym, ◌∙◌, subst, arith, append_assoc, append-nil}
 use Rattle.std.specs.List.{AllByRecursion}
 use Rattle.std.proofs.lemmas.Grind.{flat_map-append}
@@ -8,7 +8,7 @@ use Rattle.model_base.specs.Batch.{Record, count_of}
 use Rattle.model_base.specs.Map.{Pairs}
 use Rattle.model_base.specs.declared.write.WriteOptions.{WriteOptions}
 use Rattle.model_base.specs.History.{Entry, IsHistory, last_of, last_sequence, max_sequence}
-use Rattle.model_base.specs.Attempts.{is_faulted, knows_dead, slowed, faulted, full}
+use Rattle.model_base.specs.Attempts.{is_faulted, knows_log_failed, slowed, faulted, full}
 use Rattle.model_base.specs.Controller.{ControllerCall, HoldUp, Look, delay, look}
 use Rattle.model_base.specs.Tokens.{holds_stop, tokens_of}
 use Rattle.model_base.specs.Trace.{Settings}
@@ -26,7 +26,7 @@ use Rattle.engine_controller.specs.Passes.{EndsWith}
 use Rattle.engine_controller.proofs.Account.{ends_begins, ends_last, ends_tokens}
 use Rattle.engine_rule.proofs.Chains.{entries_history, entries_own}
 
--- the newest of a client's own among all
+-- the newest of a client's own, found among all
 record Parted {A : Type 0} (p : A → Bool) (all old : List A) (x : A) : Type 0 where
   front : List A
   rest : List A
@@ -65,7 +65,7 @@ answered_at : (last : ℕ) (dead : Option ℕ) (front : List Commit) (c : Commit
 answered_at last dead [] c rest h = (tt, h.0)
 answered_at last dead (x ∷ front) c rest h = let t = answered_at (last_after last (count_of x.records) x.answer) (fault_after dead x.answer) front c rest h.1 in ((h.0, t.0), t.1)
 
--- where the log has no fault, nobody was told of one
+-- where the log has no fault now, no answer gave one
 dead_by : (n : ℕ) (cs : List Commit) (v : Answer) → ((m : ℕ) → fault_after_all (Some m) cs ≡ None → ⊥) → fault_after_all (fault_after (Some n) v) cs ≡ None → ⊥
 dead_by n cs (accepted first end) more e = more n e
 dead_by n cs (held_up numbers) more e = more n e
@@ -94,11 +94,11 @@ all_filter P p (x ∷ xs) h = by (p x) (all_filter P p xs h.1)
     by true more = (h.0, more)
     by false more = more
 
-knows_none : (cs : List Commit) → AllByRecursion (λ (c : Commit). is_faulted (status_of (place_of c) c.answer) ≡ false) cs → knows_dead (map attempt_of cs) ≡ false
+knows_none : (cs : List Commit) → AllByRecursion (λ (c : Commit). is_faulted (status_of (place_of c) c.answer) ≡ false) cs → knows_log_failed (map attempt_of cs) ≡ false
 knows_none [] h = refl
 knows_none (c ∷ cs) h = rw (h.0) (knows_none cs h.1)
 
--- no entry ends past the history's end
+-- no entry ends after the history's end
 rises : (start : ℕ) (es : List Entry) → IsHistory start es → start ≤ last_sequence start es
 rises start [] h = omega arith
 rises start (e ∷ es) h = let a = rises (last_of e) es h.1 in let b = h.0.first in let c = h.0.some in omega (arith, a, b, c)
@@ -107,7 +107,7 @@ up_to : (start : ℕ) (es : List Entry) → IsHistory start es → AllByRecursio
 up_to start [] h = tt
 up_to start (e ∷ es) h = (rises (last_of e) es h.1, up_to (last_of e) es h.1)
 
--- the sequence given last never falls, so none was told to be it that is above it now
+-- the last sequence given never becomes smaller, so no answer can have named a greater one than it is now
 rises_with : (last count : ℕ) (v : Answer) → last ≤ last_after last count v
 rises_with last count (accepted first end) = omega arith
 rises_with last count (held_up numbers) = omega arith
@@ -145,7 +145,7 @@ module _ (start k : ℕ) (cs old : List Commit) (c : Commit) (right : AreAnswere
   answer : AreAnswered start None at.front × IsAnswer (last_after_all start at.front) (fault_after_all None at.front) (count_of c.records) c.answer
   answer = answered_at start None at.front c at.rest (subst (AreAnswered start None) at.split right)
 
-  is_alive : fault_after_all None at.front ≡ None → knows_dead (map attempt_of old) ≡ false
+  is_alive : fault_after_all None at.front ≡ None → knows_log_failed (map attempt_of old) ≡ false
   is_alive live = knows_none old (subst (AllByRecursion (λ (c : Commit). is_faulted (status_of (place_of c) c.answer) ≡ false)) at.own_front (all_filter (λ (c : Commit). is_faulted (status_of (place_of c) c.answer) ≡ false) (λ (c : Commit). c.client == k) at.front (all_live at.front live)))
 
   are_up_to : AreUpTo (mine_after k [] old) (last_after_all start at.front)
@@ -160,7 +160,7 @@ module _ (start k : ℕ) (cs old : List Commit) (c : Commit) (right : AreAnswere
   are_full_below = attempts_full_below (last_after_all start at.front) old
       (subst (AllByRecursion (IsFullBefore (last_after_all start at.front))) at.own_front (all_filter (IsFullBefore (last_after_all start at.front)) (λ (c : Commit). c.client == k) at.front (all_full_below start None at.front answer.0)))
 
--- one commit more
+-- a client's own entries, with one more commit
 mine_more : (k : ℕ) (mine : List Entry) (old : List Commit) (c : Commit) → mine_after k mine (old ++ c ∷ []) ≡ mine_after k mine old ++ entry_with k (mine ++ mine_after k mine old) c c.answer
 mine_more k mine [] c = append-nil (entry_with k mine c c.answer) ∙ ap (λ m. entry_with k m c c.answer) (sym (append-nil mine))
 mine_more k mine (o ∷ old) c =
@@ -172,18 +172,18 @@ handled_more : (old : List Commit) (c : Commit) → map attempt_of (old ++ c ∷
 handled_more [] c = refl
 handled_more (o ∷ old) c = ap (λ l. attempt_of o ∷ l) (handled_more old c)
 
--- its attempts, with this answer
+-- a client's attempts, with one more commit, which has this answer
 handled_as : (old : List Commit) (c : Commit) (v : Answer) → c.answer ≡ v → map attempt_of (old ++ c ∷ []) ≡ map attempt_of old ++ record { records = c.records; options = c.options; status = status_of (place_of c) v } ∷ []
 handled_as old c v is = handled_more old c ∙ ap (λ w. map attempt_of old ++ record { records = c.records; options = c.options; status = status_of (place_of c) w } ∷ []) is
 
--- the ends of its groups, with this answer
+-- the ends of a client's groups, with one more commit, which has this answer
 ends_as : (old : List Commit) (c : Commit) (v : Answer) → c.answer ≡ v → ends_of (old ++ c ∷ []) ≡ ends_of old ++ end_with v
 ends_as old c v is = flat_map-append (λ (d : Commit). end_with d.answer) old (c ∷ []) ∙ ap (λ l. ends_of old ++ l) (append-nil (end_with c.answer) ∙ ap end_with is)
 
 ends_same : (old : List Commit) (c : Commit) (v : Answer) → c.answer ≡ v → end_with v ≡ [] → ends_of (old ++ c ∷ []) ≡ ends_of old
 ends_same old c v is none = ends_as old c v is ∙ (ap (λ l. ends_of old ++ l) none ∙ append-nil (ends_of old))
 
--- its entries, with an answer that gives no run
+-- a client's entries stay the same with one more commit, whose answer gives no run
 mine_same : (k : ℕ) (old : List Commit) (c : Commit) (v : Answer) → c.answer ≡ v → entry_with k (mine_after k [] old) c v ≡ [] → mine_after k [] (old ++ c ∷ []) ≡ mine_after k [] old
 mine_same k old c v is none = mine_more k [] old c ∙ (ap (λ w. mine_after k [] old ++ entry_with k (mine_after k [] old) c w) is ∙ (ap (λ es. mine_after k [] old ++ es) none ∙ append-nil (mine_after k [] old)))
 
@@ -265,7 +265,7 @@ module _ (start : ℕ) (opening : Pairs) (k : ℕ) (old : List Commit) (c : Comm
           seen = saw;
         }
 
--- who looked itself made no commit of it
+-- a client that looked itself made no commit of the batch, and has its refusal from the look
 pub refused_looked : (start : ℕ) (opening : Pairs) (k : ℕ) (own : List Commit) (records : List Record) (how : WriteOptions) (before after : List (List MemberVersions)) (known now : List ControllerCall) (numbers : Look) → Begins before after
     → EndsWith k known look (Some numbers) now → how.no_slowdown ≡ true → HoldUp numbers
     → IsRefused (account_of start opening k own before known) records how (no.Incomplete numbers.stops numbers.delays numbers.wait) (account_of start opening k own after now)

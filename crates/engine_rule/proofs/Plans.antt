@@ -1,4 +1,4 @@
--- The runs that a leader gives are right, and what they make.
+-- The runs that a leader gives are right, and what the group makes with them.
 use Rattle.std.proofs.Common.{◌≡◌, ℕ, suc, ◌+◌, ◌<◌, ◌≤◌, Bool, true, false, cond, nat_le, map, List, [], ◌∷◌, ◌++◌, Option, None, length, refl, ap, sym, ◌∙◌, subst, arith, length-append}
 use Rattle.std.proofs.lemmas.Bool.{leb-true, leb-false}
 use Rattle.std.proofs.lemmas.List.Sums.{sum_by-cons}
@@ -91,7 +91,7 @@ planned_versions known last end (a ∷ requests) = by (room last a.records) (pla
         let is : versions_at last a.records ≡ [] = rw e refl in
         (λ i. versions_with (commit_of_request known a (answer_with last end a.records)) (v i) ++ h i) ∙ ap (λ vs. vs ++ versions_from (last_with last a.records) requests) (sym is)
 
--- the versions are one run
+-- the versions of a group are one run
 abbrev counts : Record → ℕ
 counts r = cond (is_counted r) 1 0
 
@@ -137,7 +137,7 @@ versions_runs last (a ∷ requests) = by (room last a.records) (versions_runs (l
           (let l = ap (λ vs. length (vs ++ rest)) is in let m = h.1 in omega (arith, l, m, n)),
         )
 
--- the entries: their batches, their first, and their flags
+-- the entries of a group: their batches, their first sequence, and their flags
 pub planned_batches : (known : List ControllerCall) (last end : ℕ) (before : List Entry) (requests : List CommitRequest) → map (λ (e : Entry). e.records) (entries_after before (commits_of_plan known last end requests)) ≡ batches_from last requests
 planned_batches known last end before [] = refl
 planned_batches known last end before (a ∷ requests) = by (room last a.records) (planned_batches known (last_with last a.records) end (before ++ entry_after before (commit_of_request known a (answer_with last end a.records))) requests)

@@ -1,4 +1,4 @@
--- Each end of a leader's work keeps all consistent.
+-- Each way in which a leader's work may end keeps the state consistent.
 use Rattle.std.proofs.Common.{◌≡◌, ◌≢◌, ◌⊎◌, ℕ, ◌+◌, ◌<◌, ◌≤◌, Bool, true, false, cond, ◌==◌, filter, map, List, [], ◌∷◌, ◌++◌, Option, Some, None, length, refl, ap, sym, ◌∙◌, subst, ⊎_elim, arith, append_assoc, append-nil}
 use Rattle.std.specs.List.{AllByRecursion, AllZip}
 use Rattle.std.proofs.lemmas.List.Elements.{filter-append}
@@ -57,7 +57,7 @@ syncs_flag options e = by options.no_log options.sync e
     by false true e = refl
     by false false e = absurd (cc)
 
--- What holds of each request holds of the entry that it makes
+-- What holds of each request also holds of the entry that it makes
 module _ (known : List ControllerCall) (P : WriteOptions → Type 0) where
   entry_at : (mine : List Entry) (a : CommitRequest) (rest : List Entry) (v : Answer) → P a.options → AllByRecursion (λ (e : Entry). (options : WriteOptions) × P options × (e.flag ≡ flag_of options)) rest
       → AllByRecursion (λ (e : Entry). (options : WriteOptions) × P options × (e.flag ≡ flag_of options)) (entry_with a.client mine (commit_of_request known a v) v ++ rest)
@@ -73,7 +73,7 @@ module _ (known : List ControllerCall) (P : WriteOptions → Type 0) where
       entry_at (filter (λ (e : Entry). e.client == a.client) before) a (entries_after (before ++ entry_after before c) (commits_of_plan known (last_with last a.records) end requests)) (answer_with last end a.records) h.0
       (flags_of (last_with last a.records) end (before ++ entry_after before c) requests h.1)
 
--- A group's entries are each of another client
+-- No two entries of a group are of the same client
 module _ (known : List ControllerCall) where
   client_at : (P : ℕ → Type 0) (mine : List Entry) (a : CommitRequest) (rest : List Entry) (v : Answer) → P a.client → AllByRecursion (λ (e : Entry). P e.client) rest
       → AllByRecursion (λ (e : Entry). P e.client) (entry_with a.client mine (commit_of_request known a v) v ++ rest)
@@ -198,7 +198,7 @@ module _ (start clients group_bytes : ℕ) (asked known went : List ControllerCa
     written = written_new calls' logs;
   }
 
--- A group was answered alike, and got no runs
+-- All members of a group got the same answer, and no runs
 
 abbrev alike : List ControllerCall → Answer → List CommitRequest → List Commit
 alike known v requests = map (λ (q : CommitRequest). commit_of_request known q v) requests
@@ -251,7 +251,7 @@ module _ (known : List ControllerCall) (v : Answer) (none : GivesNoRun v) where
     written = written;
   }
 
--- the fault
+-- the log's fault stays the same after members whose answer is this fault
 failed_dead_on : (known : List ControllerCall) (n : ℕ) (requests : List CommitRequest) → fault_after_all (Some n) (all_failed known n requests) ≡ Some n
 failed_dead_on known n [] = refl
 failed_dead_on known n (a ∷ requests) = failed_dead_on known n requests
@@ -276,7 +276,7 @@ held_up_answered : (known : List ControllerCall) (last : ℕ) (numbers : Look) (
 held_up_answered known last numbers fault [] = tt
 held_up_answered known last numbers fault (a ∷ requests) = (tt, held_up_answered known last numbers fault requests)
 
--- the log's calls are those before
+-- the call that failed is still the lost write when later commits are added
 lost_later : (group_bytes n last : ℕ) (cs new : List Commit) (c : GroupCall) → IsLostWrite group_bytes cs n last c → IsLostWrite group_bytes (cs ++ new) n last c
 lost_later group_bytes n last cs new c g = record {
   front = g.front;

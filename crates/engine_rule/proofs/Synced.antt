@@ -1,4 +1,4 @@
--- A commit that was to be synced was written by a call that synced.
+-- A commit that asked for a sync was written by a call that synced.
 use Rattle.std.proofs.Common.{◌≡◌, ◌⊎◌, inl, inr, ℕ, ◌+◌, ◌≤◌, Bool, true, false, cond, ◌==◌, filter, flat_map, map, sum_by, List, [], ◌∷◌, ◌++◌, Some, None, refl, ap, sym, ◌∙◌, subst, ⊎_elim, arith}
 use Rattle.std.specs.List.{AllByRecursion, AllZip}
 use Rattle.std.proofs.lemmas.List.Sums.{sum_by-cons}
@@ -51,7 +51,7 @@ all_at P a (x ∷ xs) all (inr h) = all_at P a xs all.1 h
 
 -- A commit's entry
 
--- its run has as many sequences as its records count, and one at least
+-- its run has one sequence for each of its counted records, and at least one
 abbrev IsCounted : Entry → Type 0
 IsCounted e = (e.count ≡ count_of e.records) × (1 ≤ e.count)
 
@@ -80,9 +80,9 @@ has_entry c first end before (x ∷ commits) is (inl e) =
     (entry_here x.client _ x first end x.answer (entries_after (before ++ entry_after before x) commits) (ap (λ d. d.answer) e ∙ is))
 has_entry c first end before (x ∷ commits) is (inr h) = entry_there c first (entry_after before x) (entries_after (before ++ entry_after before x) commits) (has_entry c first end (before ++ entry_after before x) commits is h)
 
--- Its call
+-- The call that wrote it
 
--- where it stands among entries whose runs follow
+-- its place among entries whose runs follow one another
 record IsPlaced (e : Entry) (next : ℕ) (es : List Entry) : Type 0 where
   before : List (List Record)
   after : List (List Record)
@@ -150,7 +150,7 @@ synced_among e (part ∷ parts) (c ∷ calls) sync runs each ok h =
     (λ (p : In e (flat_map (λ part. part) parts)). later_call e.first e.records c calls (synced_among e parts calls sync runs.1 each.1 (all_back IsCounted part (flat_map (λ part. part) parts) ok) p))
     (in_append e part (flat_map (λ part. part) parts) h)
 
--- how it stands in the history
+-- its flag in the history
 to_sync : (o : WriteOptions) → o.sync ≡ true → o.no_log ≡ false → flag_of o ≡ Sync
 to_sync o sync log = rw (log, sync) refl
 

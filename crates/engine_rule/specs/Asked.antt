@@ -1,4 +1,5 @@
--- For which groups of commits the controller was asked for a delay, and that each is held up whole, or goes on whole.
+-- For which groups of commits the controller was asked for a delay. Each group is held up as a whole, or goes on as a
+-- whole.
 use Rattle.std.specs.Prelude.{◌≡◌, ◌⊎◌, ℕ, ◌-◌, ◌<◌, Bool, true, false, List, [], ◌∷◌, length, map, flat_map, ⊤}
 use Rattle.std.specs.List.{AllByRecursion}
 use mathlib.Core.List.{IsPrefix}
@@ -8,21 +9,22 @@ use Rattle.engine_controller.specs.Delays.{delays_of}
 use Rattle.engine_rule.specs.Commits.{Answer, Commit, NamesEnd, accepted, held_up, failed, last_after_all, no_room}
 use Rattle.engine_rule.specs.Plans.{CommitRequest, IsWholeGroup, IsAskedFor, ProceedsWith}
 
--- the place of the delay that was asked for a commit's group: the last call of those that the leader had seen
+-- the place of the delay that was asked for a commit's group: it is the last call that the leader had seen then
 abbrev pub place_of : Commit → ℕ
 place_of c = length c.controller_calls - 1
 
 abbrev pub request_of : Commit → CommitRequest
 request_of c = record { client = c.client; records = c.records; options = c.options }
 
--- a group as its leader answered it, the controller's history up to the delay that the leader had asked for it, and as
--- the leader had seen it when it answered
+-- a group as its leader answered it; `known` is the controller's history up to the delay that the leader asked for the
+-- group, and `went` is the history as the leader had seen it when it answered
 pub record LedGroup : Type 0 where
   pub known : List ControllerCall
   pub went : List ControllerCall
   pub commits : List Commit
 
--- who is held up may not wait, and was told so by the group's delay
+-- a member that is held up may not wait, and its answer has the numbers of the group's delay, which say that writes are
+-- held up
 abbrev pub IsHeldUp : Look → Commit → Type 0
 IsHeldUp numbers c = (told : Look) → c.answer ≡ held_up told
     → (told ≡ numbers) × HoldUp numbers × (c.options.no_slowdown ≡ true)
@@ -33,13 +35,14 @@ is_held_up (accepted first group_last) = false
 is_held_up (failed count) = false
 is_held_up (no_room last) = false
 
--- all are held up; or none is, and what the leader saw lets each go on
+-- either all are held up; or none is, and what the leader saw allows each to go on
 abbrev pub AreTogether : LedGroup → Look → Type 0
 AreTogether g numbers = AllByRecursion (λ (c : Commit). is_held_up c.answer ≡ true) g.commits
     ⊎ (AllByRecursion (λ (c : Commit). is_held_up c.answer ≡ false) g.commits
     × ProceedsWith (map request_of g.commits) numbers g.known g.went)
 
--- it is a whole group, for which its leader asked
+-- it is a whole group, its leader asked for its delay, its commits all have the history `known`, and all of them are
+-- held up or all go on
 pub record IsLedGroup (group_bytes : ℕ) (g : LedGroup) : Type 0 where
   pub numbers : Look
   pub asked : IsAskedFor (map request_of g.commits) numbers g.known
@@ -49,20 +52,20 @@ pub record IsLedGroup (group_bytes : ℕ) (g : LedGroup) : Type 0 where
   pub together : AreTogether g numbers
   pub seen_since : IsPrefix g.known g.went
 
--- each leader had seen what the leaders before it had seen, and then asked
+-- each leader asked for its delay after all that the leaders before it had seen
 abbrev pub Rise : List LedGroup → Type 0
 Rise [] = ⊤
 Rise (g ∷ groups) = AllByRecursion (λ (h : LedGroup). length g.went < length h.known) groups × Rise groups
 
--- where `last` was given last, each accepted answer names what is given last after its whole group
+-- where `last` was given last before these groups, each accepted answer names what is given last after its whole group
 abbrev pub NameEnds : ℕ → List LedGroup → Type 0
 NameEnds last [] = ⊤
 NameEnds last (g ∷ groups) =
     AllByRecursion (λ (c : Commit). NamesEnd (last_after_all last g.commits) c.answer) g.commits
     × NameEnds (last_after_all last g.commits) groups
 
--- All commits behind the sequence `start`, group by group. `asked` is the controller's history as the last leader had
--- seen it when it answered: each leader had seen what the leaders before it had seen, and then asked for its own group.
+-- All commits after the sequence `start`, group by group. `asked` is the controller's history as the last leader had
+-- seen it when it answered. Each leader asked for its own group's delay after all that the leaders before it had seen.
 pub record AreInGroups (start group_bytes : ℕ) (asked : List ControllerCall) (commits : List Commit) : Type 0 where
   pub groups : List LedGroup
   pub cut : flat_map (λ (g : LedGroup). g.commits) groups ≡ commits
@@ -71,7 +74,8 @@ pub record AreInGroups (start group_bytes : ℕ) (asked : List ControllerCall) (
   pub rise : Rise groups
   pub name_ends : NameEnds start groups
 
--- for each delay that a client asked for, as it has seen them, it has a commit of that group
+-- for each delay of the client's in what it has seen of the controller (`known`), it has a commit in the group of that
+-- delay
 abbrev pub HasAsked : ℕ → List Commit → List ControllerCall → Type 0
 HasAsked client own known = AllByRecursion (λ (place : ℕ). (c : Commit) × In c own × (place_of c ≡ place))
     (delays_of client known)

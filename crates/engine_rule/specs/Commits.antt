@@ -1,4 +1,4 @@
--- Commits that came to a leader's hand, in the order in which they were linked, and the answers to them.
+-- Commits that a leader took into its group, in the order in which they were linked, and the answers to them.
 use Rattle.std.specs.Prelude.{◌≡◌, ℕ, ◌+◌, ◌<◌, ◌≤◌, List, [], ◌∷◌, filter, ◌==◌, Option, Some, None, MatchOption, ⊤}
 use Rattle.std.specs.List.{AllByRecursion}
 use Rattle.model_base.specs.declared.write.WriteOptions.{WriteOptions}
@@ -7,17 +7,17 @@ use Rattle.model_base.specs.History.{max_sequence}
 use Rattle.model_base.specs.Controller.{ControllerCall, Look}
 
 pub data Answer : Type 0 where
-  -- the batch has the run from this sequence on, in a group that ends with that one
+  -- the batch has the run that begins with the first sequence, in a group that ends with the second
   accepted : ℕ → ℕ → Answer
   -- writes are held up, as these numbers say, and the batch may not wait
   held_up : Look → Answer
-  -- the log's fault, with its count
+  -- the log has failed, with this count of faults
   failed : ℕ → Answer
-  -- behind this sequence, the last one given, there was no room for its run
+  -- after this sequence, the last one given, there was no room for the batch's run
   no_room : ℕ → Answer
 
--- a client's commit with its answer, and the controller's history as its group's leader had seen it, up to the delay
--- that the leader had asked for the group
+-- a client's commit with its answer; `controller_calls` is the controller's history as the leader of its group had seen
+-- it, up to the delay that the leader had asked for the group
 pub record Commit : Type 0 where
   pub client : ℕ
   pub records : List Record
@@ -25,7 +25,8 @@ pub record Commit : Type 0 where
   pub answer : Answer
   pub controller_calls : List ControllerCall
 
--- the last sequence given, and the log's fault, after the answer to a batch of so many counted records
+-- the last sequence given, and the log's fault, after the answer to a batch with this count of records that take a
+-- sequence
 abbrev pub last_after : ℕ → ℕ → Answer → ℕ
 last_after last count (accepted first group_last) = last + count
 last_after last count (held_up numbers) = last
@@ -38,8 +39,8 @@ fault_after fault (held_up numbers) = fault
 fault_after fault (failed count) = Some count
 fault_after fault (no_room at) = fault
 
--- The answer is right where `last` was given last, and the log has this fault, if any. A log that failed gives no run
--- any more, and keeps its fault.
+-- When an answer is right, where `last` was given last and the log has this fault, if any. A log that failed gives no
+-- more runs, and its fault stays the same.
 abbrev pub IsAnswer : ℕ → Option ℕ → ℕ → Answer → Type 0
 IsAnswer last fault count (accepted first group_last) = (fault ≡ None) × (1 ≤ count) × (first ≡ last + 1)
     × (last + count ≤ max_sequence) × (last + count ≤ group_last)
@@ -47,14 +48,14 @@ IsAnswer last fault count (held_up numbers) = ⊤
 IsAnswer last fault count (failed told) = MatchOption fault ⊤ (λ known. told ≡ known)
 IsAnswer last fault count (no_room at) = (fault ≡ None) × (at ≡ last) × (max_sequence < last + count)
 
--- if it is accepted, it names this sequence as the last of its group
+-- an accepted answer names this sequence as the last one of its group
 abbrev pub NamesEnd : ℕ → Answer → Type 0
 NamesEnd end (accepted first group_last) = group_last ≡ end
 NamesEnd end (held_up numbers) = ⊤
 NamesEnd end (failed count) = ⊤
 NamesEnd end (no_room at) = ⊤
 
--- the last sequence given, and the log's fault, after all of some commits
+-- the last sequence given, and the log's fault, after all these commits
 abbrev pub last_after_all : ℕ → List Commit → ℕ
 last_after_all last [] = last
 last_after_all last (c ∷ commits) = last_after_all (last_after last (count_of c.records) c.answer) commits
@@ -63,7 +64,7 @@ abbrev pub fault_after_all : Option ℕ → List Commit → Option ℕ
 fault_after_all fault [] = fault
 fault_after_all fault (c ∷ commits) = fault_after_all (fault_after fault c.answer) commits
 
--- all answers are right, one after another
+-- all answers are right, each one after the answers before it
 abbrev pub AreAnswered : ℕ → Option ℕ → List Commit → Type 0
 AreAnswered last fault [] = ⊤
 AreAnswered last fault (c ∷ commits) = IsAnswer last fault (count_of c.records) c.answer
@@ -73,6 +74,6 @@ AreAnswered last fault (c ∷ commits) = IsAnswer last fault (count_of c.records
 abbrev pub commits_of : ℕ → List Commit → List Commit
 commits_of client commits = filter (λ (c : Commit). c.client == client) commits
 
--- the clients have the numbers from 1 to this
+-- all these commits are of clients with the numbers from 1 to this
 abbrev pub AreOfClients : ℕ → List Commit → Type 0
 AreOfClients clients commits = AllByRecursion (λ (c : Commit). (1 ≤ c.client) × (c.client ≤ clients)) commits

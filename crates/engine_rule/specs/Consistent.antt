@@ -1,4 +1,4 @@
--- How the log, the table and the answers of a write path belong together, at each moment when nobody leads.
+-- How the log, the table and the answers of a write path belong together, at each moment when there is no leader.
 use Rattle.std.specs.Prelude.{◌≡◌, ◌⊎◌, ℕ, List, [], ◌∷◌, ◌++◌, length, Option, Some, None, slice_get}
 use Rattle.model_base.specs.Controller.{ControllerCall}
 use Rattle.model_base.specs.LogContents.{GroupCall}
@@ -13,9 +13,9 @@ use Rattle.engine_rule.specs.Entries.{versions_made, HasPart}
 use Rattle.engine_rule.specs.LogCalls.{WroteCommits}
 use Rattle.engine_rule.specs.Plans.{LeadersGroup, all_failed, commits_of_plan, last_with_all}
 
--- All commits were answered rightly, group by group, and `asked` is the controller's history as the last leader had
--- seen it when it answered. `last` is the last sequence given, the log has the fault that was told, what is published
--- was made by whole commits, and the log's calls wrote them.
+-- All commits have right answers, group by group, and `asked` is the controller's history as the last leader had seen
+-- it when it answered. `last` is the last sequence given. The log's fault is the one in the answers. What is published
+-- was made by whole commits, and the log's calls wrote the commits.
 pub record AreConsistent (start clients group_bytes : ℕ) (asked : List ControllerCall) (commits : List Commit)
     (last : ℕ) (fault : Option ℕ) (published : List (List MemberVersions)) (calls : List GroupCall) : Type 0 where
   pub answered : AreAnswered start None commits
@@ -26,12 +26,12 @@ pub record AreConsistent (start clients group_bytes : ℕ) (asked : List Control
   pub images : Images versions_made commits published
   pub written : WroteCommits group_bytes commits fault last calls
 
--- one group more was published, of just these versions; or there were none, and nothing was
+-- one more group was published, with exactly these versions; or there were no versions, and nothing was published
 abbrev pub Publishes : List Version → List (List MemberVersions) → List (List MemberVersions) → Type 0
 Publishes versions old new = ((versions ≡ []) × (new ≡ old))
     ⊎ ((g : List MemberVersions) × (new ≡ old ++ g ∷ []) × (versions_in g ≡ versions))
 
--- What stands when nobody leads: the controller's history as the last leader had seen it, the commits, the last
+-- The state when there is no leader: the controller's history as the last leader had seen it, the commits, the last
 -- sequence given, the log's fault, what is published, and the log's calls.
 pub record Standing : Type 0 where
   pub asked : List ControllerCall
@@ -41,17 +41,18 @@ pub record Standing : Type 0 where
   pub published : List (List MemberVersions)
   pub calls : List GroupCall
 
--- it belongs together, in a write path with these settings
+-- the state is consistent, in a write path with these settings
 abbrev pub IsConsistent : Settings → Standing → Type 0
 IsConsistent settings s = AreConsistent settings.start settings.clients settings.group_bytes s.asked s.commits s.last
     s.fault s.published s.calls
 
--- what stands once a leader has answered its group with these commits, and has seen so much of the controller
+-- the state once a leader has answered its group with these commits; `seen` is what it has seen of the controller's
+-- history
 abbrev pub answered : Standing → List ControllerCall → List Commit → Standing
 answered s seen commits = record s { asked = seen; commits = s.commits ++ commits }
 
--- the same where the members whose runs fit have them, the log works, this is published then, and the log has these
--- calls
+-- such a state, where the members whose runs fit have them, the log works, and then this is published and the log has
+-- these calls
 abbrev pub with_runs : Standing → LeadersGroup → List (List MemberVersions) → List GroupCall → Standing
 with_runs s g published calls = let end = last_with_all s.last g.requests in
     record (answered s g.went (commits_of_plan g.known s.last end g.requests)) {
@@ -61,14 +62,14 @@ with_runs s g published calls = let end = last_with_all s.last g.requests in
       calls = calls;
     }
 
--- the same where all members are told this fault of the log, which has these calls
+-- such a state, where all members get this fault of the log as their answer, and the log has these calls
 abbrev pub with_fault : Standing → LeadersGroup → ℕ → List GroupCall → Standing
 with_fault s g count calls = record (answered s g.went (all_failed g.known count g.requests)) {
   fault = Some count;
   calls = calls;
 }
 
--- the accounts of all clients: each is the client's part of what stands, beside this history of the controller
+-- the accounts of all clients: each is its client's part of the state, with this history of the controller
 pub record AreAccountsOf (settings : Settings) (s : Standing) (history : List ControllerCall)
     (accounts : List Account) : Type 0 where
   pub all : length accounts ≡ settings.clients

@@ -22,14 +22,14 @@ use Rattle.engine_rule.specs.Asked.{place_of, HasAsked}
 
 -- The history
 
--- the entry that a commit makes after its client's own, if it has a run
+-- the entry that a commit with this answer makes after its client's own entries (`mine`), if it has a run
 abbrev pub entry_with : ℕ → List Entry → Commit → Answer → List Entry
 entry_with client mine c (accepted first group_last) = next_entry client mine c.options first c.records ∷ []
 entry_with client mine c (held_up numbers) = []
 entry_with client mine c (failed count) = []
 entry_with client mine c (no_room at) = []
 
--- the same after the entries of all clients
+-- the entry that a commit makes after the entries of all clients
 abbrev pub entry_after : List Entry → Commit → List Entry
 entry_after before c = entry_with c.client (entries_of_client c.client before) c c.answer
 
@@ -41,7 +41,7 @@ entries_after before (c ∷ commits) = entry_after before c ++ entries_after (be
 abbrev pub entries_of : List Commit → List Entry
 entries_of commits = entries_after [] commits
 
--- the trace of the commits, beside this history of the controller
+-- the trace of the commits, with this history of the controller
 abbrev pub trace_of : ℕ → Pairs → List Commit → List ControllerCall → Trace
 trace_of start opening commits history = record {
   start = start;
@@ -50,7 +50,7 @@ trace_of start opening commits history = record {
   controller_calls = history;
 }
 
--- its versions
+-- The versions that commits make
 
 abbrev pub versions_with : Commit → Answer → List Version
 versions_with c (accepted first group_last) = number_from first (new_versions c.records)
@@ -61,9 +61,9 @@ versions_with c (no_room at) = []
 abbrev pub versions_made : Commit → List Version
 versions_made c = versions_with c c.answer
 
--- What one client has of them
+-- What one client has of all this
 
--- what became of a commit whose group's delay stands at this place
+-- the status of a commit with this answer, where the delay of its group is at this place
 abbrev pub status_of : ℕ → Answer → WriteStatus
 status_of place (accepted first group_last) = succeeded
 status_of place (held_up numbers) = slowed place
@@ -73,7 +73,7 @@ status_of place (no_room at) = full at
 abbrev pub attempt_of : Commit → Attempt
 attempt_of c = record { records = c.records; options = c.options; status = status_of (place_of c) c.answer }
 
--- its own entries after some, from its own commits
+-- a client's own entries, which its own commits make, where `mine` are its entries before those
 abbrev pub mine_after : ℕ → List Entry → List Commit → List Entry
 mine_after client mine [] = []
 mine_after client mine (c ∷ commits) = entry_with client mine c c.answer
@@ -101,8 +101,9 @@ account_of start opening client own published known = record {
   seen = record { start = start; opening = opening; published = published; controller_calls = known };
 }
 
--- The client at this place (from 0) has made just its commits of all, has seen a beginning of what was published, and
--- of the controller's history a beginning with all calls of its own. For each delay among these it has a commit.
+-- The account of the client at this place (from 0). The client has made exactly its own of the commits. It has seen a
+-- beginning of what was published, and of the controller's history a beginning with all calls of its own. For each
+-- delay among these calls it has a commit.
 pub record HasPart (start : ℕ) (opening : Pairs) (commits : List Commit) (published : List (List MemberVersions))
     (history : List ControllerCall) (place : ℕ) (a : Account) : Type 0 where
   pub seen : List (List MemberVersions)
@@ -112,13 +113,14 @@ pub record HasPart (start : ℕ) (opening : Pairs) (commits : List Commit) (publ
   pub has_asked : HasAsked (place + 1) (commits_of (place + 1) commits) known
   pub is : a ≡ account_of start opening (place + 1) (commits_of (place + 1) commits) seen known
 
--- the controller's history, as a client has seen it, went on, with no token of its own
+-- the controller's history, as a client has seen it, went on, while the client itself took no token and gave none back
 pub record SeesMore (client : ℕ) (known now : List ControllerCall) : Type 0 where
   pub begins : IsPrefix known now
   pub tokens : tokens_of client now ≡ tokens_of client known
 
--- One call of a client: the sequence before the first batch and the map before it, the client's number and its own
--- commits before the call; and what it had seen published and of the controller then, and has seen at the call's end
+-- One call of a client: the sequence and the map before the first batch; the client's number, and its own commits
+-- before the call; what it had seen before the call of what is published (`before`) and of the controller (`known`);
+-- and what it has seen of them at the end of the call (`after`, `now`)
 pub record ClientCall : Type 0 where
   pub start : ℕ
   pub opening : Pairs
@@ -129,18 +131,18 @@ pub record ClientCall : Type 0 where
   pub known : List ControllerCall
   pub now : List ControllerCall
 
--- its account before the call, and after it, with this commit more
+-- the client's account before the call, and the account after it, with this commit added
 abbrev pub account_before : ClientCall → Account
 account_before k = account_of k.start k.opening k.client k.own k.before k.known
 
 abbrev pub account_with : ClientCall → Commit → Account
 account_with k c = account_of k.start k.opening k.client (k.own ++ c ∷ []) k.after k.now
 
--- what it had seen went on, with no token of its own
+-- what the client had seen went on, while it took no token and gave none back
 abbrev pub HasSeenMore : ClientCall → Type 0
 HasSeenMore k = Begins k.before k.after × SeesMore k.client k.known k.now
 
--- all of these commits were answered rightly, and the client's newest is this one
+-- all these commits have right answers, and this one is the client's newest
 abbrev pub IsNewest : ClientCall → List Commit → Commit → Type 0
 IsNewest k commits c = AreAnswered k.start None commits × (commits_of k.client commits ≡ k.own ++ c ∷ [])
 
@@ -148,6 +150,6 @@ IsNewest k commits c = AreAnswered k.start None commits × (commits_of k.client 
 abbrev pub EndsRefused : ClientCall → Commit → Refusal → Type 0
 EndsRefused k c why = IsRefused (account_before k) c.records c.options why (account_with k c)
 
--- the clients that made these calls have the numbers from 1 to this
+-- all these calls are of clients with the numbers from 1 to this
 abbrev pub AreCallsOf : ℕ → List ControllerCall → Type 0
 AreCallsOf clients calls = AllByRecursion (λ (t : ControllerCall). (1 ≤ t.client) × (t.client ≤ clients)) calls

@@ -4,3 +4,4 @@ pub mod Asked
 pub mod Entries
 pub mod LogCalls
 pub mod Consistent
+pub mod Parts

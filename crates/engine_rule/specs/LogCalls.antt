@@ -9,22 +9,22 @@ use Rattle.engine_rule.specs.Commits.{Commit}
 use Rattle.engine_rule.specs.Entries.{entries_of}
 use Rattle.engine_rule.specs.Plans.{CommitRequest, all_failed, batches_from, AreLogged, AreUnlogged, IsWholeGroup}
 
--- the calls that worked wrote the logged entries, part by part
+-- these calls, which worked, wrote the logged entries, one part each
 pub record WroteParts (entries : List Entry) (calls : List GroupCall) : Type 0 where
   pub parts : List (List Entry)
   pub cut : flat_map (λ part. part) parts ≡ logged_entries entries
   pub runs : AllByRecursion RunsFollow parts
   pub each : AllZip WroteEntries parts calls
 
--- a call was to write the batches of these requests that fit behind `last`
+-- the call was asked to write those batches of these requests whose runs fit after `last`
 pub record WritesBatches (last : ℕ) (requests : List CommitRequest) (c : GroupCall) : Type 0 where
   pub to_log : AreLogged requests
   pub first : c.first ≡ last + 1
   pub batches : c.batches ≡ batches_from last requests
   pub some : 0 < length c.batches
 
--- The call that failed was to write a whole group of the commits, behind the last sequence given, and each of its
--- members was answered the fault.
+-- The call that failed was asked to write a whole group of the commits, after the last sequence given, and each member
+-- of that group got the fault as its answer.
 pub record IsLostWrite (group_bytes : ℕ) (commits : List Commit) (count last : ℕ) (c : GroupCall) : Type 0 where
   pub front : List Commit
   pub known : List ControllerCall
@@ -53,7 +53,8 @@ pub record WroteCommits (group_bytes : ℕ) (commits : List Commit) (fault : Opt
 abbrev pub SyncsFor : List CommitRequest → Bool → Type 0
 SyncsFor requests sync = AllByRecursion (λ (q : CommitRequest). q.options.sync ≡ true → sync ≡ true) requests
 
--- A group that has runs behind `last` was logged by one call that worked; or there was nothing to log, and no call.
+-- A group that has runs after `last` was logged by one call that worked; or there was nothing to log, and no call was
+-- made.
 abbrev pub LogsGroup : ℕ → List CommitRequest → List GroupCall → List GroupCall → Type 0
 LogsGroup last requests old new =
     ((new ≡ old) × (AreUnlogged requests ⊎ (batches_from last requests ≡ [])))

@@ -1,5 +1,5 @@
--- How a leader gives its group runs, one after another, to those that fit below the greatest sequence, and what lets
--- the group go on at all.
+-- How a leader gives runs, one after another, to those of its group whose runs fit (none may go above the greatest
+-- sequence), and what allows the group to go on at all.
 use Rattle.std.specs.Prelude.{◌≡◌, ◌≢◌, ◌⊎◌, ℕ, ◌+◌, ◌<◌, ◌≤◌, Bool, false, true, nat_le, if◌then◌else◌, List, [], ◌∷◌, ◌++◌, length, map, ⊤, Some}
 use Rattle.std.specs.List.{AllByRecursion}
 use mathlib.Core.List.{IsPrefix}
@@ -21,7 +21,8 @@ pub record CommitRequest : Type 0 where
   pub records : List Record
   pub options : WriteOptions
 
--- its answer in a group for which this history of the controller ends with the delay
+-- the commit that a request makes with this answer, where the group's delay is the last call of this history of the
+-- controller
 abbrev pub commit_of_request : List ControllerCall → CommitRequest → Answer → Commit
 commit_of_request known q answer = record {
   client = q.client;
@@ -31,8 +32,8 @@ commit_of_request known q answer = record {
   controller_calls = known;
 }
 
--- Of a batch, where `last` was given last: what is given last after it, if its run fits; its answer, in a group that
--- ends with `group_last`; itself, if it has a run; and the versions that it makes.
+-- Of a batch, where `last` was given last: what is given last after it (`last`, if its run doesn't fit); its answer, in
+-- a group that ends with `group_last`; the batch itself, if it has a run; and the versions that it makes.
 abbrev pub last_with : ℕ → List Record → ℕ
 last_with last records = if nat_le (last + count_of records) max_sequence then last + count_of records else last
 
@@ -47,7 +48,7 @@ abbrev pub versions_at : ℕ → List Record → List Version
 versions_at last records =
     if nat_le (last + count_of records) max_sequence then number_from (last + 1) (new_versions records) else []
 
--- The same of a group
+-- These four for a group, in the order of its requests
 abbrev pub last_with_all : ℕ → List CommitRequest → ℕ
 last_with_all last [] = last
 last_with_all last (q ∷ requests) = last_with_all (last_with last q.records) requests
@@ -65,48 +66,48 @@ abbrev pub versions_from : ℕ → List CommitRequest → List Version
 versions_from last [] = []
 versions_from last (q ∷ requests) = versions_at last q.records ++ versions_from (last_with last q.records) requests
 
--- all are answered the log's fault
+-- all requests get the log's fault as their answer
 abbrev pub all_failed : List ControllerCall → ℕ → List CommitRequest → List Commit
 all_failed known count requests = map (λ (q : CommitRequest). commit_of_request known q (failed count)) requests
 
--- all are answered that writes are held up
+-- all requests get the answer that writes are held up
 abbrev pub all_held_up : List ControllerCall → Look → List CommitRequest → List Commit
 all_held_up known numbers requests = map (λ (q : CommitRequest). commit_of_request known q (held_up numbers)) requests
 
--- each has a record that counts, and a client's number
+-- each request has at least one record that takes a sequence, and a client's number
 abbrev pub AreLawful : ℕ → List CommitRequest → Type 0
 AreLawful clients requests = AllByRecursion (λ (q : CommitRequest). (1 ≤ count_of q.records) × (1 ≤ q.client)
     × (q.client ≤ clients)) requests
 
--- all are to be logged, or none is
+-- all requests go into the log, or none does
 abbrev pub AreLogged : List CommitRequest → Type 0
 AreLogged requests = AllByRecursion (λ (q : CommitRequest). q.options.no_log ≡ false) requests
 
 abbrev pub AreUnlogged : List CommitRequest → Type 0
 AreUnlogged requests = AllByRecursion (λ (q : CommitRequest). q.options.no_log ≡ true) requests
 
--- no client is twice among them
+-- no two requests are of the same client
 abbrev pub HaveOwnClients : List CommitRequest → Type 0
 HaveOwnClients [] = ⊤
 HaveOwnClients (q ∷ requests) = AllByRecursion (λ (r : CommitRequest). q.client ≢ r.client) requests
     × HaveOwnClients requests
 
--- what grouping sees of one
+-- what grouping sees of a request
 abbrev pub item_of_request : CommitRequest → Item
 item_of_request q = record { size = size_of_batch q.records; options = q.options }
 
--- they are a whole group by the rule of grouping
+-- the requests are a whole group by the grouping rule, and no two are of the same client
 pub record IsWholeGroup (group_bytes : ℕ) (requests : List CommitRequest) : Type 0 where
   pub some : 0 < length requests
   pub whole : group_len group_bytes (map item_of_request requests) ≡ length requests
   pub of_others : HaveOwnClients requests
 
--- all may not wait
+-- none of the requests may wait
 abbrev pub MayNotWait : List CommitRequest → Type 0
 MayNotWait requests = AllByRecursion (λ (q : CommitRequest). q.options.no_slowdown ≡ true) requests
 
--- the controller's history ends with the delay of the sum of a group's sizes, for which its leader, the first, asked,
--- and was told this
+-- the last call of this history of the controller is the delay that the group's leader, the first, asked for, with the
+-- sum of the group's sizes; these numbers are its answer
 pub record IsAskedFor (requests : List CommitRequest) (numbers : Look) (known : List ControllerCall) : Type 0 where
   pub leader : CommitRequest
   pub rest : List CommitRequest
@@ -119,7 +120,7 @@ pub record IsAskedFor (requests : List CommitRequest) (numbers : Look) (known : 
     told = Some numbers;
   } ∷ []
 
--- behind the delay a look of the leader told of no stop
+-- after the delay, the leader made a look that showed no stop
 pub record HasLooked (leader : ℕ) (known went : List ControllerCall) : Type 0 where
   pub place : ℕ
   pub numbers : Look
@@ -127,14 +128,14 @@ pub record HasLooked (leader : ℕ) (known went : List ControllerCall) : Type 0 
       (record { client = leader; action = look; told = Some numbers })
   pub free : numbers.stops ≡ 0
 
--- What the leader was told by its delay lets a commit go on: one that may not wait where writes aren't held up, and one
--- that may once no stop was told.
+-- What the leader saw allows a commit to go on. One that may not wait goes on where the delay said that writes aren't
+-- held up. One that may wait goes on once the delay, or a later look of the leader, showed no stop.
 abbrev pub LetsProceed : ℕ → Look → List ControllerCall → List ControllerCall → Bool → Type 0
 LetsProceed leader numbers known went true = HoldUp numbers → ⊥
 LetsProceed leader numbers known went false = (numbers.stops ≡ 0) ⊎ HasLooked leader known went
 
--- The leader of a group, the first, has seen so much of the controller's history when it goes on, and what it was told
--- lets all of the group go on.
+-- The leader of a group, the first, has seen `went` of the controller's history when the group goes on, and what it saw
+-- there allows all of the group to go on.
 pub record ProceedsWith (requests : List CommitRequest) (numbers : Look)
     (known went : List ControllerCall) : Type 0 where
   pub leader : CommitRequest
@@ -144,29 +145,29 @@ pub record ProceedsWith (requests : List CommitRequest) (numbers : Look)
   pub each : AllByRecursion
       (λ (q : CommitRequest). LetsProceed leader.client numbers known went q.options.no_slowdown) requests
 
--- what was seen before the last call goes on from what the leaders before had seen
+-- `known` is what the leaders before had seen (`asked`), and more calls, and one last call
 pub record ComesAfter (asked known : List ControllerCall) : Type 0 where
   pub more : List ControllerCall
   pub call : ControllerCall
   pub is : known ≡ (asked ++ more) ++ call ∷ []
 
--- A leader's group: its requests, the controller's history up to the delay that the leader asked for it, what the
--- leader was told then, and the history as it had seen it when the group went on
+-- A leader's group: its requests; the controller's history up to the delay that the leader asked for it (`known`); the
+-- answer to that delay (`numbers`); and the history as the leader had seen it when the group went on (`went`)
 pub record LeadersGroup : Type 0 where
   pub requests : List CommitRequest
   pub known : List ControllerCall
   pub numbers : Look
   pub went : List ControllerCall
 
--- It is a whole group of lawful requests, and its leader asked for it after all that the leaders before it had seen
--- (`asked`).
+-- It is a whole group of lawful requests, and its leader asked for its delay after all that the leaders before it had
+-- seen (`asked`).
 pub record IsBuilt (settings : Settings) (asked : List ControllerCall) (g : LeadersGroup) : Type 0 where
   pub lawful : AreLawful settings.clients g.requests
   pub whole : IsWholeGroup settings.group_bytes g.requests
   pub asked_for : IsAskedFor g.requests g.numbers g.known
   pub comes_after : ComesAfter asked g.known
 
--- it is so, and what the leader was told lets all of the group go on
+-- it is such a group, and what its leader saw allows all of the group to go on
 pub record GoesAhead (settings : Settings) (asked : List ControllerCall) (g : LeadersGroup) : Type 0 where
   pub built : IsBuilt settings asked g
   pub proceeds : ProceedsWith g.requests g.numbers g.known g.went

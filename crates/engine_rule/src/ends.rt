@@ -1,4 +1,4 @@
-//! What follows of the commits: for each client at its newest answer, and for all clients at the closing.
+//! What follows from the commits: for each client from its newest answer, and for all clients at the closing.
 
 ghost use mathlib.Core.List.{IsPrefix};
 ghost use Rattle.std.specs.Prelude.{◌≡◌, ◌+◌, ◌<◌, ◌≤◌, ℕ, List, [], ◌∷◌, ◌++◌, length, Option, None, Some, true, false};
@@ -24,8 +24,8 @@ ghost use Rattle.engine_rule.specs.Entries.{trace_of, entries_of, versions_made,
 ghost use Rattle.engine_rule.specs.LogCalls.{WroteParts};
 ghost use Rattle.engine_rule.specs.Consistent.{Standing, IsConsistent, AreAccountsOf};
 
-/// The commits' versions reach from the sequence before the first up to the one given last, which isn't above the
-/// greatest.
+/// From `last` on, as many sequences are given as the commits make versions. Where `last` isn't above the greatest
+/// sequence, the sequence that is given last isn't either.
 pub fn numbers_of_commits()
     ensures reach { (last : ℕ) (fault : Option ℕ) (commits : List Commit) → AreAnswered last fault commits
         → last + length (made_by versions_made commits) ≡ last_after_all last commits }
@@ -33,15 +33,16 @@ pub fn numbers_of_commits()
         → last ≤ max_sequence → last_after_all last commits ≤ max_sequence }
 {}
 
-/// Of right answers the newest to a client is, for its account, an accepted batch or a refusal, whatever the others
-/// were answered, and whatever it has seen published and of the controller since.
+/// Where all answers are right, the newest answer to a client gives its account an accepted batch, once the client has
+/// seen the batch's whole group, or a refusal. It doesn't matter which answers the others got, or what more the client
+/// has seen since of what is published and of the controller.
 pub fn accounts_of_the_commits()
     ensures wrote { (settings : Settings) (k : ClientCall) (commits : List Commit) (c : Commit) (first group_last : ℕ)
         → IsNewest k commits c → HasSeenMore k → c.answer ≡ accepted first group_last
         → early_refusal settings.batch_bytes (holds_stop (tokens_of k.client k.known)) c.records c.options ≡ None
         → last_of k.start k.before < first → group_last ≤ last_of k.start k.after
         → Wrote settings (account_before k) c.records c.options first group_last (account_with k c) }
-    // where writes are held up, or the log failed, the answer alone says so
+    // where writes are held up, or the log failed, nothing needs to be known of the other answers
     ensures held_up { (k : ClientCall) (c : Commit) (numbers : Look) (by moment bytes : ℕ) → HasSeenMore k
         → c.answer ≡ held_up numbers → c.options.no_slowdown ≡ true → HoldUp numbers
         → IsLater k.now (length k.known) (place_of c)
@@ -52,7 +53,7 @@ pub fn accounts_of_the_commits()
     ensures full { (k : ClientCall) (commits : List Commit) (c : Commit) (last : ℕ) → IsNewest k commits c
         → HasSeenMore k → c.answer ≡ no_room last → last_of k.start k.before ≤ last
         → EndsRefused k c (SequenceFull last) }
-    // a client that looked itself, and made no commit of it
+    // a client that looked itself, and then made no commit of the batch
     ensures looked { (k : ClientCall) (records : List Record) (how : WriteOptions) (numbers : Look)
         → Begins k.before k.after → EndsWith k.client k.known look (Some numbers) k.now → how.no_slowdown ≡ true
         → HoldUp numbers → IsRefused (account_before k) records how
@@ -60,7 +61,7 @@ pub fn accounts_of_the_commits()
         (account_of k.start k.opening k.client k.own k.after k.now) }
 {}
 
-/// A commit that was to be synced, and has a run, was written by a call that synced.
+/// A commit that has a run, isn't kept out of the log, and asked for a sync, was written by a call that synced.
 pub fn synced_commits()
     ensures synced { (start client : ℕ) (commits own : List Commit) (c : Commit) (calls : List GroupCall)
         (first group_last : ℕ) → AreAnswered start None commits → WroteParts (entries_of commits) calls
@@ -68,8 +69,8 @@ pub fn synced_commits()
         → c.options.sync ≡ true → c.options.no_log ≡ false → IsSyncedBy first c.records calls }
 {}
 
-/// Once all clients are at rest, their accounts are parts of the one trace of the commits and of the controller's one
-/// history, and the log was written by just the calls that wrote its history.
+/// Once all clients are at rest, their accounts are parts of one trace: of the commits and of the controller's one
+/// history. And the log was written by exactly the calls that wrote its history.
 pub fn closings()
     ensures closing { (settings : Settings) (ended : ℕ) (s : Standing) (history : List ControllerCall)
         (accounts : List Account) → IsConsistent settings s → AreAccountsOf settings s history accounts

@@ -1,4 +1,4 @@
-//! A leader that handles its group leaves all as it should be.
+//! A leader that handles its group keeps history, log, table and answers consistent.
 
 ghost use Rattle.std.specs.Prelude.{◌≡◌, ◌+◌, ℕ, List, [], ◌∷◌, ◌++◌, length, None, Some};
 ghost use Rattle.model_base.specs.Controller.{HoldUp};
@@ -10,17 +10,18 @@ ghost use Rattle.engine_rule.specs.Plans.{CommitRequest, LeadersGroup, IsBuilt, 
 ghost use Rattle.engine_rule.specs.LogCalls.{WritesBatches, LogsGroup};
 ghost use Rattle.engine_rule.specs.Consistent.{AreConsistent, Standing, IsConsistent, answered, with_runs, with_fault, Publishes};
 
-/// The versions of a group are one run behind the last sequence given, up to the one given last then.
+/// The versions of a group are one run. It begins after `last`, the last sequence given, and ends with the sequence
+/// that is given last with the group.
 pub fn runs_of_a_group()
     ensures runs { (last : ℕ) (requests : List CommitRequest) → Runs last (versions_from last requests) }
     ensures ends { (last : ℕ) (requests : List CommitRequest)
         → last + length (versions_from last requests) ≡ last_with_all last requests }
 {}
 
-/// At the beginning all is as it should be, and each end of a leader's work keeps it so.
+/// At the beginning the state is consistent, and each way in which a leader's work may end keeps it so.
 pub fn groups_stay_consistent()
     ensures first { (start clients group_bytes : ℕ) → AreConsistent start clients group_bytes [] [] start None [] [] }
-    // the members whose runs fit have them, the log has their batches, unless it is to stay without, and they are
+    // the members whose runs fit have them, the log has their batches, unless it must stay without them, and they are
     // published
     ensures written { (settings : Settings) (s : Standing) (g : LeadersGroup) (new : List (List MemberVersions))
         (more : List GroupCall) → IsConsistent settings s → s.fault ≡ None → GoesAhead settings s.asked g
@@ -30,7 +31,7 @@ pub fn groups_stay_consistent()
     ensures held_up { (settings : Settings) (s : Standing) (g : LeadersGroup) → IsConsistent settings s
         → IsBuilt settings s.asked g → HoldUp g.numbers → MayNotWait g.requests
         → IsConsistent settings (answered s g.known (all_held_up g.known g.numbers g.requests)) }
-    // the call of the log writer failed, and each member was answered its fault
+    // the call of the log writer failed, and each member got its fault as the answer
     ensures failed { (settings : Settings) (s : Standing) (g : LeadersGroup) (count : ℕ) (c : GroupCall)
         → IsConsistent settings s → s.fault ≡ None → GoesAhead settings s.asked g → WritesBatches s.last g.requests c
         → c.failed ≡ Some count → IsConsistent settings (with_fault s g count (s.calls ++ c ∷ [])) }

@@ -1,17 +1,17 @@
-//! What holds of the commits of a write path that groups them, of its log and of its table, at each moment when nobody
-//! leads. One leader after another handles a group: it gives its members runs, calls the log writer once, publishes
-//! the versions, and answers. So all commits stand in one list, in the order in which they were linked, and the list
-//! says all: the history, what each client did, what is published, and by which calls the log was written.
+//! What holds of the commits of a write path that groups them, of its log and of its table, at each moment when there
+//! is no leader. One leader after another handles a group: it gives its members runs, calls the log writer once,
+//! publishes the versions, and answers. So all commits are in one list, in the order in which they were linked, and
+//! the list shows all: the history, what each client did, what is published, and by which calls the log was written.
 //!
 //! - `specs/Commits`: commits with their answers, and which answers are right.
 //! - `specs/Entries`: what commits make: the entries of the history, their versions, and each client's account.
 //! - `specs/Plans`: how a leader gives a group its runs, and what lets the group go on.
-//! - `specs/Asked`: for which groups the write controller was asked for a delay. Each is held up whole, or goes on
-//!   whole.
+//! - `specs/Asked`: for which groups the write controller was asked for a delay. Each group is held up as a whole, or
+//!   goes on as a whole.
 //! - `specs/LogCalls`: the calls of the log writer that wrote commits.
 //! - `specs/Consistent`: how the log, the table and the answers belong together.
 //!
-//! Each law is a clause of a function that does nothing. Who needs one calls the function.
+//! Each law is a clause of a function that does nothing. Code that needs the law calls the function.
 #![tactic(auto)]
 
 mod ends;

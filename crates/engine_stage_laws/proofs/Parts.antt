@@ -1,4 +1,4 @@
--- The parts of a group are its members' own versions, each member once.
+-- The parts of a group are its members' own versions, and no member is there twice.
 use Rattle.std.proofs.Common.{◌≡◌, ◌≢◌, ℕ, ◌+◌, ◌≤◌, Bool, true, false, nat_le, List, [], ◌∷◌, ◌++◌, refl, ap, sym, ◌∙◌, arith, append-nil, append_assoc}
 use Rattle.std.specs.List.{AllByRecursion}
 use Rattle.model_base.specs.Batch.{count_of}

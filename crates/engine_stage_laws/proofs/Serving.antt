@@ -1,4 +1,4 @@
--- What was served is what was handled, as far as it has runs.
+-- What was served is that part of what was handled that has runs.
 use Rattle.std.proofs.Common.{◌≡◌, ℕ, ◌+◌, List, [], ◌∷◌, ◌++◌, Option, length, refl, ap, sym, ◌∙◌, subst, ⊎_elim, append_assoc}
 use Rattle.model_base.specs.Controller.{ControllerCall, Look}
 use Rattle.model_base.specs.LogContents.{GroupCall}
@@ -19,7 +19,7 @@ made_if c (held_up numbers) more is = refl
 made_if c (failed count) more is = refl
 made_if c (no_room at) more is = refl
 
--- who has no run makes no versions
+-- a commit without a run makes no versions
 pub made_accepted : (cs : List Commit) → made_by versions_made (accepted_of cs) ≡ made_by versions_made cs
 made_accepted [] = refl
 made_accepted (c ∷ cs) = made_if c c.answer (accepted_of cs) refl ∙ ap (λ l. versions_made c ++ l) (made_accepted cs)
@@ -28,7 +28,7 @@ pub accepted_append : (cs ds : List Commit) → accepted_of (cs ++ ds) ≡ accep
 accepted_append [] ds = refl
 accepted_append (c ∷ cs) ds = ap (λ l. if_accepted c c.answer ++ l) (accepted_append cs ds) ∙ sym (append_assoc (if_accepted c c.answer) (accepted_of cs) (accepted_of ds))
 
--- a front of those with runs is made by a front of all
+-- where the list of the commits with runs is cut in two, the list of all commits can be cut to match
 split_if : (c : Commit) (v : Answer) (cs front rest : List Commit) → if_accepted c v ++ accepted_of cs ≡ front ++ rest
     → ((f r : List Commit) → accepted_of cs ≡ f ++ r → (a b : List Commit) × (cs ≡ a ++ b) × (accepted_of a ≡ f) × (accepted_of b ≡ r))
     → c.answer ≡ v → (a b : List Commit) × (c ∷ cs ≡ a ++ b) × (accepted_of a ≡ front) × (accepted_of b ≡ rest)
@@ -45,7 +45,7 @@ accepted_split [] [] rest e = ([], [], refl, refl, e)
 accepted_split [] (x ∷ front) rest e = absurd (cc)
 accepted_split (c ∷ cs) front rest e = split_if c c.answer cs front rest e (λ f r is. accepted_split cs f r is) refl
 
--- what those with runs made is what all made
+-- what the commits with runs made is what all commits made
 pub served_all : (cs : List Commit) (published : List (List MemberVersions)) → AreServed (accepted_of cs) published → AreServed cs published
 served_all cs [] ok = sym (made_accepted cs) ∙ ok
 served_all cs (g ∷ gs) ok =
@@ -67,7 +67,7 @@ served_more known last end requests served published now ok publishes =
     (λ (t : (g : List MemberVersions) × (now ≡ published ++ g ∷ []) × (versions_in g ≡ versions_from last requests)). subst (AreServed (served ++ new)) (sym t.1) (images_more versions_made served new published t.0 ok (made_new ∙ sym t.2)))
     publishes
 
--- nobody has a run who was refused
+-- no refused commit has a run
 pub none_failed : (known : List ControllerCall) (count : ℕ) (requests : List CommitRequest) → accepted_of (all_failed known count requests) ≡ []
 none_failed known count [] = refl
 none_failed known count (q ∷ requests) = none_failed known count requests
@@ -76,7 +76,7 @@ pub none_held_up : (known : List ControllerCall) (numbers : Look) (requests : Li
 none_held_up known numbers [] = refl
 none_held_up known numbers (q ∷ requests) = none_held_up known numbers requests
 
--- what the log's law says of its own history holds of the table's
+-- what the log's law says of its own history also holds of the table's history
 pub consistent_served : (start clients group_bytes : ℕ) (asked : List ControllerCall) (cs : List Commit) (last : ℕ) (fault : Option ℕ) (logged published : List (List MemberVersions)) (calls : List GroupCall)
     → AreConsistent start clients group_bytes asked cs last fault logged calls → AreServed (accepted_of cs) published → AreConsistent start clients group_bytes asked cs last fault published calls
 consistent_served start clients group_bytes asked cs last fault logged published calls k ok = record {

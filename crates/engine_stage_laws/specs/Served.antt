@@ -1,4 +1,4 @@
--- What is published of commits, where the groups' versions go into the table apart from the log.
+-- What is published of the commits, where groups go into the table in a stage of their own, separate from the log.
 use Rattle.std.specs.Prelude.{ℕ, ◌+◌, nat_le, if◌then◌else◌, List, [], ◌∷◌, ◌++◌}
 use Rattle.model_base.specs.History.{max_sequence}
 use Rattle.model_base.specs.Batch.{count_of}
@@ -9,7 +9,7 @@ use Rattle.engine_rule.specs.Commits.{Answer, accepted, held_up, failed, no_room
 use Rattle.engine_rule.specs.Entries.{versions_made}
 use Rattle.engine_rule.specs.Plans.{CommitRequest, last_with}
 
--- of commits those that have runs
+-- those of the commits that have runs
 abbrev pub if_accepted : Commit → Answer → List Commit
 if_accepted c (accepted first group_last) = c ∷ []
 if_accepted c (held_up numbers) = []
@@ -20,12 +20,12 @@ abbrev pub accepted_of : List Commit → List Commit
 accepted_of [] = []
 accepted_of (c ∷ commits) = if_accepted c c.answer ++ accepted_of commits
 
--- the published groups were made by just these commits, group by group, in their order
+-- the published groups were made by exactly these commits, group by group, in their order
 abbrev pub AreServed : List Commit → List (List MemberVersions) → Type 0
 AreServed = Images versions_made
 
--- a group's parts where each member with a run inserts its own: that of a request, if its run fits behind `last`, and
--- those of all
+-- a group's parts, where each member with a run inserts its own: the part of one request, if its run fits after `last`,
+-- and the parts of all requests
 abbrev pub part_at : ℕ → CommitRequest → List MemberVersions
 part_at last q = if nat_le (last + count_of q.records) max_sequence then
     (record { member = q.client; versions = number_from (last + 1) (new_versions q.records) }) ∷ [] else []

@@ -1,11 +1,11 @@
-//! What holds of the commits of a write path that publishes its groups apart from logging them. One leader after
-//! another logs a group and gives the log on; then the groups' versions go into the table one after another, in the
-//! order in which they were logged, while the next ones are logged. Who may publish stands for just the commits, of
-//! those that were given runs, whose groups are published.
+//! What holds of the commits of a write path that publishes its groups in a stage of its own, separate from logging
+//! them. One leader after another logs a group and gives the log on. Then the groups' versions go into the table one
+//! after another, in the order in which they were logged, while the next groups are logged. The right to publish
+//! covers exactly those commits that were given runs and whose groups are published.
 //!
 //! - `specs/Served`: which commits are published, and the parts of a group.
 //!
-//! Each law is a clause of a function that does nothing. Who needs one calls the function.
+//! Each law is a clause of a function that does nothing. Code that needs the law calls the function.
 #![tactic(auto)]
 
 mod served;

@@ -1,4 +1,5 @@
-//! A leader that publishes its group leaves all as it should be, and at the end what is published is what was logged.
+//! Publishing a group keeps what is published consistent with the commits, and at the end the commits and the table's
+//! history belong together.
 
 ghost use Rattle.std.specs.Prelude.{◌≡◌, ℕ, List, [], ◌++◌, Option};
 ghost use Rattle.model_base.specs.Controller.{ControllerCall, Look};
@@ -10,8 +11,8 @@ ghost use Rattle.engine_rule.specs.Plans.{CommitRequest, commits_of_plan, versio
 ghost use Rattle.engine_rule.specs.Consistent.{AreConsistent, Publishes};
 ghost use Rattle.engine_stage_laws.specs.Served.{accepted_of, AreServed, parts_from};
 
-/// The parts of a group, one of each member that has a run, are together the group's versions, and each member is one
-/// of the clients and has one.
+/// The parts of a group, one for each member that has a run, are together the group's versions. Each of these members
+/// is one of the clients, and has one part only.
 pub fn parts_of_a_group()
     ensures versions { (last : ℕ) (requests : List CommitRequest)
         → versions_in (parts_from last requests) ≡ versions_from last requests }
@@ -19,10 +20,10 @@ pub fn parts_of_a_group()
         → HaveOwnClients requests → Members clients (parts_from last requests) }
 {}
 
-/// At the beginning nothing is served. A group that is published is served, and one that has no run changes nothing.
+/// At the beginning nothing is served. A group that is published is served, and a group without runs changes nothing.
 pub fn groups_are_served()
     ensures first { AreServed (accepted_of []) [] }
-    // all that is served ends with the last sequence given, so that the next group goes behind it
+    // what is served ends with the last sequence given, so that the next group goes right after it
     ensures ends { (start : ℕ) (fault : Option ℕ) (commits : List Commit) (published : List (List MemberVersions))
         → AreAnswered start fault commits → AreServed (accepted_of commits) published
         → last_of start published ≡ last_after_all start commits }
@@ -35,7 +36,7 @@ pub fn groups_are_served()
     ensures held_up { (known : List ControllerCall) (numbers : Look) (requests : List CommitRequest)
         (commits : List Commit)
         → accepted_of (commits ++ all_held_up known numbers requests) ≡ accepted_of commits }
-    // at the end the log's commits and the table's history are one
+    // at the end the log's commits and the table's history belong together
     ensures closing { (start clients group_bytes : ℕ) (asked : List ControllerCall) (commits : List Commit) (last : ℕ)
         (fault : Option ℕ) (logged published : List (List MemberVersions)) (calls : List GroupCall)
         → AreConsistent start clients group_bytes asked commits last fault logged calls

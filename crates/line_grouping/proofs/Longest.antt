@@ -22,7 +22,7 @@ and_both : (a b : Bool) → (a && b) ≡ true → (a ≡ true) × (b ≡ true)
 and_both true b h = (refl, h)
 and_both false b h = cc
 
--- the test says what a reader reads
+-- a writer that passes the test may join
 pub fits_means : (max : ℕ) (leader : Item) (total : ℕ) (i : Item) → fits max leader total i ≡ true → MayJoin max leader total i
 fits_means max leader total i h =
     let a = and_both _ _ h in

@@ -10,7 +10,7 @@ use Rattle.std.proofs.lemmas.Bool.Decides.{nat_tests}
 use Rattle.model_base.specs.declared.group.Item.{Item}
 use Rattle.model_base.specs.Grouping.{cap, size_of, fits, fits_at, group_len, same_bool}
 
--- the places behind the leader
+-- the places after the leader's
 abbrev pub places : List Item → List ℕ
 places queue = range_with_len 1 (length queue - 1)
 
@@ -51,7 +51,7 @@ next_unfit max queue below =
     let e : get_or (places queue) n 0 ≡ group_len max queue = omega (arith, place_at queue n lt, group_len-by_front max queue) in
     rw e at (prefix_len_stops (fits_at max queue) (places queue) 0 (omega (arith, lt, length-places queue)))
 
--- the writer at a place fits, where the sizes before it come to this sum
+-- whether the writer at a place fits, by the sum of the sizes before it
 pub fits_at-by_sum : (max : ℕ) (queue : List Item) (place sum : ℕ) (d : Item) → place < length queue → sum ≡ size_of (take place queue)
     → fits_at max queue place ≡ fits max (get_or queue 0 d) (sum + (get_or queue place d).size) (get_or queue place d)
 fits_at-by_sum max [] place sum d lt is = absurd (omega arith)

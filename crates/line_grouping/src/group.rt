@@ -7,8 +7,8 @@ ghost use Rattle.line_grouping.specs.LongestGroup.{IsLongestGroup};
 
 use model_base::Item;
 
-/// How many writers the group of the queue's first has, itself among them, where groups have at most `max`
-/// bytes. The queue is in the order of linking.
+/// The number of writers in the group that the queue's first writer leads, itself among them, where groups have at
+/// most `max` bytes. The queue is in the order of linking.
 pub fn group_len(queue: &[Item], max: u64) -> usize
     requires { 0 < length queue.now }
     ensures rule { result ≡ group_len max queue.now }
@@ -17,7 +17,7 @@ pub fn group_len(queue: &[Item], max: u64) -> usize
 {
     let leader = queue[0];
     let mut sum = leader.size;
-    // The writers before `place` go together, and `sum` is their sizes.
+    // The writers before `place` are in one group, and `sum` is the sum of their sizes.
     for place in 1..queue.len() {
         let writer = queue[place];
         if !fits(max, leader, sum, writer) {
@@ -28,7 +28,8 @@ pub fn group_len(queue: &[Item], max: u64) -> usize
     queue.len()
 }
 
-/// Whether a writer joins a leader's group, where the sizes before it, the leader's among them, come to `sum`.
+/// Whether a writer joins a leader's group, where the sizes of those before it, the leader among them, add up to
+/// `sum`.
 pub fn fits(max: u64, leader: Item, sum: u64, writer: Item) -> bool
     ensures { result ≡ fits max leader (sum + writer.size) writer }
 {

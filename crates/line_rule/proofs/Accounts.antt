@@ -1,4 +1,4 @@
--- What each step of the list makes of the account: an event, two events, or nothing.
+-- What each step of the list does to the account: an event, two events, or nothing.
 use Rattle.std.proofs.Common.{◌≡◌, ℕ, List, [], ◌∷◌, ◌++◌, refl, sym, ap, ◌∙◌, subst}
 use Rattle.std.proofs.lemmas.List.{append_cancel_right}
 use Rattle.line_rule.specs.declared.view.QueuedWriter.{QueuedWriter}
@@ -40,7 +40,7 @@ module _ {Request Reply : Type 0} where
       shows = shows;
     }
 
-    -- the same account, where the list shows otherwise
+    -- the same account, for a list that shows another line and mode
     abbrev same : (line' : List (QueuedWriter Request)) (mode' : Mode Request) → Shows line' k.queue k.log mode' → Account bound line' hs mode'
     same line' mode' shows = record { events = k.events; queue = k.queue; log = k.log; owing = k.owing; legal = k.legal; ran = k.ran; shows = shows }
 
@@ -50,7 +50,7 @@ module _ {Request Reply : Type 0} where
     abbrev Same : List (QueuedWriter Request) → Mode Request → Type 0
     Same line' mode' = (k' : Account bound line' hs mode') × Stays {A = Core Request Reply} (k.queue, k.log, hs, k.owing) (k'.queue, k'.log, hs, k'.owing) × (k'.events ≡ k.events)
 
-    -- and the log is that group's
+    -- the account stays, and the log is with own's group
     abbrev Cut : QueuedWriter Request → List (QueuedWriter Request) → List (QueuedWriter Request) → Mode Request → Type 0
     Cut own g line' mode' = (k' : Account bound line' hs mode') × Stays {A = Core Request Reply} (k.queue, k.log, hs, k.owing) (k'.queue, k'.log, hs, k'.owing) × (k'.log ≡ grouped own g) × (k'.events ≡ k.events)
 
@@ -98,7 +98,7 @@ module _ {Request Reply : Type 0} where
         let came : Happens (builds bound own group left) (k.queue, k.log, hs, k.owing) (left, grouped own group, hs, k.owing) = ((sh.1 ∙ ap elected (sym by_c), sym sh.0 ∙ parts, whole), refl) in
         (next (builds bound own group left) line hs (built c group) left (grouped own group) k.owing came ((own, parts), refl) refl, came, refl)
 
-    -- whose group it is, and who is behind it
+    -- whose group it is, and which writers come after it
     parts_as : (c : ℕ) (g : List (QueuedWriter Request)) (own : QueuedWriter Request) (q : List (QueuedWriter Request)) → mode ≡ built c g → line ≡ q ++ (g ++ own ∷ []) → (k.queue ≡ q) × (k.log ≡ grouped own g)
     parts_as c g own q is parts =
         let sh : Shows line k.queue k.log (built c g) = subst (Shows line k.queue k.log) is k.shows in
@@ -122,7 +122,7 @@ module _ {Request Reply : Type 0} where
     pub recuts_now : (c w : ℕ) → mode ≡ marked c → Same line (cut c w)
     recuts_now c w is = (same line (cut c w) (subst (Shows line k.queue k.log) is k.shows), refl, refl)
 
-    -- nothing but the way in which the mode is told
+    -- the account stays, where the mode is only written in another way
     pub stays_now : (mode' : Mode Request) → mode ≡ mode' → Same line mode'
     stays_now mode' is = (same line mode' (subst (Shows line k.queue k.log) is k.shows), refl, refl)
 
@@ -138,7 +138,7 @@ module _ {Request Reply : Type 0} where
         let came : Happens (exits new) (k.queue, k.log, hs, k.owing) (k.queue, free, hs ++ new, k.owing ++ new) = ((own, g, has, theirs), refl) in
         (next (exits new) [] (hs ++ new) open_ k.queue free (k.owing ++ new) came (sym nil ∙ sh.0, refl) tt, came, refl)
 
-    -- a client is told its reply
+    -- a client gets its reply
     pub completes_now : (h : Handling Request Reply) → of h.by k.owing ≡ (h.asked, h.reply) ∷ [] → Next (completes h) line hs mode
     completes_now h owed =
         let came : Happens (completes h) (k.queue, k.log, hs, k.owing) (k.queue, k.log, hs, without h.by k.owing) = (owed, refl) in

@@ -1,4 +1,4 @@
--- A group that is given one answer.
+-- A group of which each member gets the same answer.
 use Rattle.std.proofs.Common.{◌≡◌, ℕ, List, [], ◌∷◌, ◌++◌, map, reverse, Option, Some, refl, sym, ap, ◌∙◌}
 use Rattle.std.proofs.lemmas.List.{reverse-append}
 use Rattle.model_base.specs.Calls.{Reply as CoreReply}

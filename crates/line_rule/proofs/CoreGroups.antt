@@ -32,13 +32,13 @@ module _ {Request : Type 0} (writer_of : QueuedWriter Request → Writer) where
   pub first_leads : IsSame writer_of → (own : QueuedWriter Request) (group : List (QueuedWriter Request)) → leads own.by (core_queue writer_of (group ++ own ∷ [])) ≡ true
   first_leads same own group = ap (λ l. leads own.by (map writer_of l)) (reverse-append group (own ∷ [])) ∙ eq-eqb (writer_of own).client own.by (same own)
 
-  -- its leader is its first writer
+  -- a group's leader is its first writer
   pub group_leads : IsSame writer_of → (own : QueuedWriter Request) (group : List (QueuedWriter Request)) (ws : List Writer) → IsGroupOf writer_of (group ++ own ∷ []) ws → leads own.by ws ≡ true
   group_leads same own group ws is =
       let c : ℕ = own.by in
       sym (leads_else c ws) ∙ (ap (leads c) is ∙ (leads_else c (core_queue writer_of (group ++ own ∷ [])) ∙ first_leads same own group))
 
--- runs are answers
+-- a writer that is given a run, or another answer, is the same writer without its answer
 run_or_none : (b : Bool) (a r : Answer CoreReply) (w : Writer) (vs us ws : List Writer) → map without_answer vs ≡ map without_answer ws → map without_answer us ≡ map without_answer ws
     → map without_answer (if b then record w { answer = a } ∷ vs else record w { answer = r } ∷ us) ≡ map without_answer (w ∷ ws)
 run_or_none true a r w vs us ws x y i = without_answer w ∷ x i
@@ -57,7 +57,7 @@ module _ {Request Reply : Type 0} (writer_of : QueuedWriter Request → Writer) 
   abbrev pub Same : Squad Request Reply → List Writer → Type 0
   Same g ws = IsGroupOf writer_of (line_of g) ws
 
-  -- a group comes to the end
+  -- one more group is added at the end
   pub groups_more : (g : Squad Request Reply) (gs : List (Squad Request Reply)) (wss : List (List Writer)) (ws : List Writer) → HasGroups writer_of gs wss → Same g ws → HasGroups writer_of (g ∷ gs) (wss ++ ws ∷ [])
   groups_more g gs wss ws all one = subst (λ l. AllZip Same l (wss ++ ws ∷ [])) (sym (reverse-append (g ∷ []) gs)) (all_zipped_more Same (reverse gs) wss g ws all one)
 
@@ -65,11 +65,11 @@ module _ {Request Reply : Type 0} (writer_of : QueuedWriter Request → Writer) 
   front g gs [] all = absurd all
   front g gs (ws ∷ wss) all = (all.0, all.1, refl)
 
-  -- the oldest group is the first
+  -- the oldest group of the list is the first of the queue
   pub groups_first : (g : Squad Request Reply) (gs : List (Squad Request Reply)) (wss : List (List Writer)) → HasGroups writer_of (gs ++ g ∷ []) wss → Same g (first_group wss) × HasGroups writer_of gs (drop 1 wss) × (writers_in wss ≡ first_group wss ++ writers_in (drop 1 wss))
   groups_first g gs wss all = front g (reverse gs) wss (subst (λ l. AllZip Same l wss) (reverse-append gs (g ∷ [])) all)
 
--- who has a group apart is the only one that has
+-- a client that has a group apart is the only one that has one
 module _ {Request Reply : Type 0} where
   pub only_put : (c d : ℕ) (g f : Squad Request Reply) (apart : ℕ → Option (Squad Request Reply)) → IsPut d (some f) (λ _. none) apart → apart c ≡ some g → c ≡ d
   only_put c d g f apart put here = go (ℕ_discrete c d)
@@ -121,7 +121,7 @@ module _ {A : Type 0} where
       go (inl h) = inl (h.0, (λ i. head_or y (is i) ∷ h.1 i), h.2)
       go (inr h) = inr (h.0, h.1, (λ i. head_or y (sym is i) ∷ h.2 i))
 
-  -- more of both, before the end of the one
+  -- more elements in both lists, in one of them before its last part
   pub rearranged_within : (a b c more : List A) → IsRearranged a (b ++ c) → IsRearranged (a ++ more) ((b ++ more) ++ c)
   rearranged_within [] [] c more is = subst (λ l. IsRearranged more (more ++ l)) (sym is) (subst (IsRearranged more) (sym (append-nil more)) (itself more))
   rearranged_within [] (y ∷ b) c more is = absurd (cc)
@@ -153,11 +153,11 @@ module _ {A : Type 0} where
   none_both [] b is = (refl, is)
   none_both (x ∷ a) b is = absurd (cc)
 
-  -- one alone is the one alone
+  -- a rearrangement of one element is that element alone
   pub rearranged_one : (x : A) (b : List A) → IsRearranged (x ∷ []) b → b ≡ x ∷ []
   rearranged_one x b is = let none = none_both is.0 is.1 is.3 in is.2 ∙ (λ i. none.0 i ++ x ∷ none.1 i)
 
--- Who is told is in no group
+-- A client that gets its reply is in no group
 
 abbrev pub Out : ℕ → List Writer → Type 0
 Out c [] = Unit {0}
@@ -182,7 +182,7 @@ pub out_stays : (c : ℕ) (ws : List Writer) → Out c ws → filter (stays c) (
 out_stays c [] out = refl
 out_stays c (w ∷ ws) out = ap (λ b. cond (not b) (answer_of w ∷ filter (stays c) (map answer_of ws)) (filter (stays c) (map answer_of ws))) (ne_eqb w.client c out.0) ∙ ap (λ l. answer_of w ∷ l) (out_stays c ws out.1)
 
--- those of one client
+-- whether an answer is this client's
 abbrev pub belongs : ℕ → ℕ × Answer CoreReply → Bool
 belongs c x = eqb x.0 c
 

@@ -113,7 +113,7 @@ module _ {Request Reply : Type 0} (writer_of : QueuedWriter Request → Writer) 
         },
       )
 
-  -- it comes to the end of the second queue
+  -- that group goes to the end of the second queue
   pub second_core : (c : ℕ) (g : Squad Request Reply) (to : List (Handling Request Reply)) → IsSame writer_of → Stands → IsSecond c g to a b → IsTaken writer_of reply_of o (core.Second c) s ws b
   second_core c g to same r ev = by_phase s.log refl r.log
     where
@@ -174,7 +174,7 @@ module _ {Request Reply : Type 0} (writer_of : QueuedWriter Request → Writer) 
       by_phase (in_log vs) is log = let bad : level ≡ ahead own.by = sym log.2.0 ∙ here in absurd (cc)
       by_phase (marked vs) is log = let bad : level ≡ ahead own.by = sym log.1 ∙ here in absurd (cc)
 
-  -- which comes there alone
+  -- `next` comes only for the client that is ahead
   pub next_there : (c : ℕ) (new : State) → Stands → step o s (core.Next c) ≡ Some new → a.1.1 ≡ ahead c
   next_there c new r came = by_phase s.log r.log came
     where
@@ -235,11 +235,11 @@ module _ {Request Reply : Type 0} (writer_of : QueuedWriter Request → Writer) 
   settled : (l l' : Lead2) (f f' : ℕ → Option (Squad Request Reply)) → l' ≡ l → f' ≡ f → IsSettled l f → IsSettled l' f'
   settled l l' f f' el ef is = (el ∙ is.0, λ k. ap (λ x. x k) ef ∙ is.1 k)
 
-  -- with nothing handed on
+  -- what is owed, where no group is handed on
   owed_plain : Stands → group_handed_on s.log ws ≡ [] → IsRearranged (handled a.0.3) waits
   owed_plain r none_on = rearranged_as was_owed waits (handled a.0.3) waits (sym (append-nil (handled a.0.3)) ∙ (λ i. handled a.0.3 ++ answered (sym none_on i))) refl r.owed
 
-  -- as where nothing is logged
+  -- where nothing is logged, no group is handed on
   none_handed : (held : LogHolder Request) → s.log ≡ core_log writer_of held → group_handed_on s.log ws ≡ []
   none_handed held is = ap (λ l. group_handed_on l ws) is ∙ plain held
     where
@@ -265,7 +265,7 @@ module _ {Request Reply : Type 0} (writer_of : QueuedWriter Request → Writer) 
         },
       )
 
-  -- it builds its group
+  -- the leader builds its group
   pub groups_core : (own : QueuedWriter Request) (group left : List (QueuedWriter Request)) → IsSame writer_of → HasItems writer_of a.0.0 → Stands → HappensAlone (builds o.group_bytes own group left) a b → IsTaken writer_of reply_of o (core.Build own.by) s [] b
   groups_core own group left same has r ev =
       let u = unlogged writer_of a.0.1 a.1.1 a.1.2 ws s.log (λ own' group' is. let bad : Path (LogHolder Request) (elected own.by) (grouped own' group') = sym ev.0.0.0 ∙ is in absurd (cc)) r.log in
@@ -289,7 +289,7 @@ module _ {Request Reply : Type 0} (writer_of : QueuedWriter Request → Writer) 
   writers_are : (vs : List Writer) (own : QueuedWriter Request) (group : List (QueuedWriter Request)) → Stands → s.log ≡ in_hand vs → a.0.1 ≡ grouped own group → vs ≡ core_queue writer_of (group ++ own ∷ [])
   writers_are vs own group r is held = one_built vs (core_queue writer_of (group ++ own ∷ [])) ((in_hand_is vs r is).0 ∙ ap (core_log writer_of) held)
 
-  -- the core logs it
+  -- the core logs the group in hand
   pub logs_there : (now vs : List Writer) (own : QueuedWriter Request) (group : List (QueuedWriter Request)) → IsSame writer_of → Stands → a.0.1 ≡ grouped own group → s.log ≡ in_hand vs → s.log_failed ≡ false → now ≡ with_runs s.assigned vs → list_any has_run now ≡ true → IsTaken writer_of reply_of o (core.Log own.by) s now a
   logs_there now vs own group same r held is alive runs one =
       let u = in_hand_is vs r is in
@@ -322,11 +322,11 @@ module _ {Request Reply : Type 0} (writer_of : QueuedWriter Request → Writer) 
             (rearranged_within (handled a.0.3) left behind (handled replies) was);
       }
 
-  -- with nothing logged
+  -- the group in hand leaves, with nothing logged
   unlogged_leaves : (own : QueuedWriter Request) (p : Reply) (gs : List (QueuedWriter Request × Reply)) (vs now : List Writer) → Stands → IsExit own p gs a b → s.log ≡ in_hand vs → HasReplies reply_of (all_answers own p gs) now → IsCoreOf writer_of reply_of [] b (left_with s now)
   unlogged_leaves own p gs vs now r ev is has = leaves_there own p gs now r (in_hand_is vs r is).2 (ap (λ l. group_handed_on l ws) is) ev has
 
-  -- its leader is the first of its writers
+  -- the leader of a group that leaves is the first of its writers
   first_of_exit : (own : QueuedWriter Request) (p : Reply) (gs : List (QueuedWriter Request × Reply)) (vs : List Writer) → IsSame writer_of → Stands → IsExit own p gs a b → s.log ≡ in_hand vs → leads own.by vs ≡ true
   first_of_exit own p gs vs same r ev is =
       let own' : QueuedWriter Request = ev.0.0.0 in
@@ -342,7 +342,7 @@ module _ {Request Reply : Type 0} (writer_of : QueuedWriter Request → Writer) 
       let new : State = record (leave s now) { log = nobody } in
       (new, (λ i. log_group s own.by (is i)) ∙ ((λ i. when (first i && not (alive i)) (logged_group s (sym runs i))) ∙ (λ i. Some (if no_run i then on else new))), unlogged_leaves own p gs vs now r ev is has)
 
-  -- each member is given the same answer
+  -- each member gets the same answer
   given_there : (reply : CoreReply) (own : QueuedWriter Request) (p : Reply) (gs : List (QueuedWriter Request × Reply)) (vs : List Writer) → IsSame writer_of → Stands → IsExit own p gs a b → s.log ≡ in_hand vs → AllHave reply_of reply (all_answers own p gs) → HasReplies reply_of (all_answers own p gs) (all_answered reply vs)
   given_there reply own p gs vs same r ev is ok =
       subst (λ w. HasReplies reply_of (all_answers own p gs) (all_answered reply w)) (sym (writers_are vs ev.0.0.0 ev.0.0.1 r is ev.0.0.2)) (group_given reply_of writer_of same reply ev.0.0.0 ev.0.0.1 (all_answers own p gs) ev.0.0.3 ok)
@@ -363,7 +363,7 @@ module _ {Request Reply : Type 0} (writer_of : QueuedWriter Request → Writer) 
       let new : State = record (leave s now) { log = nobody } in
       (new, (λ i. refuse s own.by (no.Incomplete stops delays wait) (is i)) ∙ (λ i. when (first i && unslowed i) new), unlogged_leaves own p gs vs now r ev is (given_there reply own p gs vs same r ev is ok))
 
-  -- a client is told
+  -- a client gets its reply
   pub told_core : (e : QueuedWriter Request) (p : Reply) (client : Client) → IsSame writer_of → Stands → IsComplete e p a b → IsNotWith e.by a.0.1 → Absent e.by (flat a.1.0) → client_at s e.by ≡ Some client → HasLeft s e.by (reply_of p) × IsTaken writer_of reply_of o (core.Complete e.by) s ws b
   told_core e p client same r ev unheld out there =
       let c : ℕ = e.by in

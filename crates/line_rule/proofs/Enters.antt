@@ -1,4 +1,4 @@
--- The steps of `link` and of `await_role`: each keeps the rule, and which event it is.
+-- The steps of `link` and of `await_role`: that each keeps the rule, and which event it is.
 use Rattle.std.proofs.Common.{◌≡◌, ◌≢◌, ℕ, ◌+◌, ◌*◌, ◌<◌, ◌≤◌, eqb, List, [], ◌∷◌, ◌++◌, length, get_or, set, refl, sym, ap, ◌∙◌, subst, inr, arith, length-set, append-nil, append_assoc, get_or-set_other, get_or-set_same}
 use mathlib.Core.Logic.{dite}
 use mathlib.Core.Path.{Path}
@@ -275,7 +275,7 @@ module _ {Request Reply Log Right : Type 0} (stands : Laws Request Reply Log Rig
   log_free homes line hand handled phase due nil (cut c w) zero_base ok = absurd (not_snoc ok.0.0 ok.0.1 (sym nil ∙ ok.0.2))
   log_free homes line hand handled phase due nil (marked c) zero_base ok = absurd (omega arith)
 
-  -- a writer comes to the newer end
+  -- a writer is added at the newer end
   grown : (homes : List (Option (LineSlot Request Reply Log Right))) (line hand : List (QueuedWriter Request)) (handled : List (Handling Request Reply)) (phase : ℕ → Phase Request Reply) (due : ℕ → List (Request × Reply)) (e0 : QueuedWriter Request) → phase e0.by ≡ linked e0 → (mode : Mode Request) → (mode ≡ open_ → ⊥)
       → InMode stands n homes line hand handled phase due mode → InMode stands n homes (e0 ∷ line) hand handled phase due mode
   grown homes line hand handled phase due e0 here open_ ne ok = absurd (ne refl)

@@ -1,4 +1,4 @@
--- What a group leaves with, and what is yet to be told of it.
+-- What a group leaves with, and which of its replies haven't been given yet.
 use Rattle.std.proofs.Common.{◌≡◌, ◌≢◌, ℕ, eqb, not, List, [], ◌∷◌, ◌++◌, cond, map, reverse, refl, sym, ap, ◌∙◌, subst, eq-eqb, ne_eqb}
 use Rattle.std.proofs.lemmas.List.{reverse-append, map-append}
 use mathlib.Core.Logic.{dite}
@@ -21,11 +21,11 @@ module _ {Request Reply : Type 0} where
   answers_of (g ∷ gs) = map-append was_for (answers gs) (handling g.0 g.1 ∷ []) ∙ (ap (λ l. l ++ wrote g.0 ∷ []) (answers_of gs)
       ∙ sym (ap (map wrote) (reverse-append (g.0 ∷ []) (heads gs)) ∙ map-append wrote (reverse (heads gs)) (g.0 ∷ [])))
 
-  -- the handlings of a group are its members', and its leader's
+  -- what a group handled is of its leader and its members
   pub group_handled : (own : QueuedWriter Request) (p : Reply) (gs : List (QueuedWriter Request × Reply)) → IsOfGroup own (heads gs) (all_answers own p gs)
   group_handled own p gs = ap (λ l. wrote own ∷ l) (answers_of gs)
 
-  -- who is told nothing more
+  -- where the handlings of a client are left out, none is this client's
   without_none : (c : ℕ) (hs : List (Handling Request Reply)) → of c (without c hs) ≡ []
   without_none c [] = refl
   without_none c (h ∷ hs) = dite (ℕ_discrete h.by c)
@@ -39,7 +39,7 @@ module _ {Request Reply : Type 0} where
       (λ other. subst (λ z. of k (cond (not z) (h ∷ without c hs) (without c hs)) ≡ of k (h ∷ hs)) (sym (ne_eqb h.by c other)) (ap (λ l. cond (eqb h.by k) ((h.asked, h.reply) ∷ l) l) (without_else c k ne hs)))
 
   module _ (phase : ℕ → Phase Request Reply) (due : ℕ → List (Request × Reply)) (owing : List (Handling Request Reply)) (ok : (k : ℕ) → of k owing ≡ due_untold (phase k) (due k)) where
-    -- one client moves, and owes and is owed what it was
+    -- one client moves, and what it hasn't been told stays as it was
     pub owing_stays : (owing' : List (Handling Request Reply)) (due' : ℕ → List (Request × Reply)) (m : ℕ) (ph : Phase Request Reply) → owing' ≡ owing → due_untold ph (due' m) ≡ due_untold (phase m) (due m) → ((k : ℕ) → k ≢ m → due' k ≡ due k) → (k : ℕ) → of k owing' ≡ due_untold (put phase m ph k) (due' k)
     owing_stays owing' due' m ph same here else_due k = ap (of k) same
         ∙ put_at phase m ph (λ j f. of j owing ≡ due_untold f (due' j)) k
@@ -63,14 +63,14 @@ module _ {Request Reply : Type 0} where
         (λ is. ap (λ (j : ℕ). due_untold (phase j) (due k ++ of k new)) is ∙ sym (here (due k ++ of k new)))
         (λ _. refl))))
 
-    -- a client is told
+    -- a client gets its reply
     pub owing_told : (owing' : List (Handling Request Reply)) (due' : ℕ → List (Request × Reply)) (m : ℕ) (ph : Phase Request Reply) → owing' ≡ without m owing → due_untold ph (due' m) ≡ [] → ((k : ℕ) → k ≢ m → due' k ≡ due k) → (k : ℕ) → of k owing' ≡ due_untold (put phase m ph k) (due' k)
     owing_told owing' due' m ph same here else_due k = ap (of k) same
         ∙ put_at phase m ph (λ j f. of j (without m owing) ≡ due_untold f (due' j)) k
         (λ is. subst (λ (j : ℕ). of j (without m owing) ≡ due_untold ph (due' j)) (sym is) (without_none m owing ∙ sym here))
         (λ ne. without_else m k ne owing ∙ (ok k ∙ ap (due_untold (phase k)) (sym (else_due k ne))))
 
-  -- the leader that has cut its group off stays as it is
+  -- what holds of a leader that has cut its group off stays true
   pub cut_stays : (log log' : LogHolder Request) (hand : List (QueuedWriter Request)) (phase : ℕ → Phase Request Reply) (m : ℕ) (ph : Phase Request Reply) → log' ≡ log → (mode : Mode Request) → (Holds m mode → (e : QueuedWriter Request) → phase m ≡ leads e → ph ≡ leads e) → HasCut log hand phase mode → HasCut log' hand (put phase m ph) mode
   cut_stays log log' hand phase m ph same open_ to ok = tt
   cut_stays log log' hand phase m ph same (waits c) to ok = tt
@@ -89,7 +89,7 @@ module _ {Request : Type 0} where
   absent_back c (e ∷ es) b ok = absent_back c es b ok.1
 
 module _ {Request Reply Log Right : Type 0} (stands : Laws Request Reply Log Right) (n : ℕ) where
-  -- who is about to link waits nowhere
+  -- a client that is about to link waits nowhere
   pub away_now : (homes : List (Home (LineSlot Request Reply Log Right))) (line hand queue : List (QueuedWriter Request)) (log : LogHolder Request) (handled : List (Handling Request Reply)) (phase : ℕ → Phase Request Reply) (due : ℕ → List (Request × Reply)) (c w : ℕ) → phase c ≡ preparing w → Absent c line
       → (mode : Mode Request) → InMode stands n homes line hand handled phase due mode → Shows line queue log mode → HasCut log hand phase mode → Absent c queue × IsNotWith c log
   away_now homes line hand queue log handled phase due c w now out open_ ok sh has = (subst (Absent c) sh.0 out, subst (IsNotWith c) (sym sh.1) tt)

@@ -12,7 +12,7 @@ use Rattle.line_rule.specs.declared.view.QueuedWriter.{QueuedWriter}
 use Rattle.line_rule.specs.Grouping.{item_of, codes, items, IsGroup}
 use Rattle.line_grouping.proofs.Places.{group_len_is}
 
--- a writer fits, where the sizes before it come to sum
+-- whether a writer fits, where the sizes before it add up to sum
 abbrev pub fits_next : ℕ → ℕ → ℕ → ℕ → Bool
 fits_next max leader sum code = fits max (item_of leader) (sum + code / 8) (item_of code)
 
@@ -47,7 +47,7 @@ module _ (max leader : ℕ) where
   more_in : (front : List ℕ) (x sum : ℕ) → total leader front ≡ sum → total leader (front ++ x ∷ []) ≡ sum + x / 8
   more_in front x sum is = ap size_of (map-append item_of (leader ∷ front) (x ∷ [])) ∙ more front x sum is
 
-  -- the writer after this many others fits as the sizes say
+  -- whether the writer after these others fits, by the sum of their sizes
   at_seam : (front : List ℕ) (x : ℕ) (back : List ℕ) (sum : ℕ) → total leader front ≡ sum → fits_at max (queue leader (front ++ x ∷ back)) (1 + length front) ≡ fits_next max leader sum x
   at_seam front x back sum is =
       let whole : queue leader (front ++ x ∷ back) ≡ queue leader front ++ item_of x ∷ map item_of back = map-append item_of (leader ∷ front) (x ∷ back) in
@@ -127,7 +127,7 @@ module _ {Request : Type 0} (max : ℕ) (own : QueuedWriter Request) (group left
       let parts : reverse (codes (left ++ (group ++ own ∷ []))) ≡ own.code ∷ reverse (codes (left ++ group)) = ap (λ l. reverse (codes l)) (sym (append_assoc left group (own ∷ []))) ∙ codes_back (left ++ group) own in
       ap (λ l. group_len max (map item_of l)) parts ∙ group_len_by max own.code (reverse (codes (left ++ group)))
 
-  -- the group is of the rule where it has as many as fit
+  -- the group is the rule's if it has as many writers as fit
   pub is_group : length group ≡ fitting max own.code (own.code / 8) (reverse (codes (left ++ group))) → IsGroup max own group left
   is_group is = let len = length-append group (own ∷ []) in let by = rule_by in omega arith
 

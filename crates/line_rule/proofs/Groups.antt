@@ -60,7 +60,7 @@ module _ {Request : Type 0} where
   newest_cut [] x t = refl
   newest_cut (e ∷ es) x t = refl
 
-  -- where the newest of the whole list is the newest of its older end, there is nothing before that
+  -- if the newest writer of a list is the newest of its older end, nothing comes before that end
   pub none_before : (a : List (QueuedWriter Request)) (x : QueuedWriter Request) (b : List (QueuedWriter Request)) → Distinct (a ++ x ∷ b) → newest (a ++ x ∷ b) ≡ x.by → a ≡ []
   none_before [] x b ok is = refl
   none_before (e ∷ es) x b ok is = let apart = distinct_apart (e ∷ es) x b ok in absurd (apart.0 is)
@@ -74,7 +74,7 @@ module _ {Request : Type 0} where
   without k [] = []
   without k (e ∷ es) = cond (eqb e.by k) (without k es) (e ∷ without k es)
 
-  -- what holds of the rest where e goes, and where it stays
+  -- what holds of a list without k's writers, by whether e is k's or not
   without_by : (F : List (QueuedWriter Request) → Type 0) (k : ℕ) (e : QueuedWriter Request) (es : List (QueuedWriter Request)) → (e.by ≡ k → F (without k es)) → (e.by ≢ k → F (e ∷ without k es)) → F (without k (e ∷ es))
   unfolding without
   without_by F k e es yes_ no_ = dite (ℕ_discrete e.by k)

@@ -27,7 +27,7 @@ use Rattle.line_rule.proofs.Squads.{in_one, behind_in, flat_snoc, with_absent, a
 use Rattle.line_rule.proofs.Settles.{handled_out, one_taker}
 
 module _ {Request Reply : Type 0} where
-  -- who gives the log on in a list with the second one has its group there, or gives no run
+  -- a leader that gives the log on, in a list with a second one, has its group there, or nothing more was given a run
   pub hands_joined : (last : List (Handling Request Reply) → List (Handling Request Reply)) (b : Back Request Reply) (seen now : List (Handling Request Reply)) → HandsOn true last b seen now → (last now ≡ last seen) ⊎ ((g : Squad Request Reply) × IsJoined g b × (g.to ≡ last now))
   hands_joined last Away seen now h = inl (h refl)
   hands_joined last (Parting g k) seen now h = absurd h
@@ -56,7 +56,7 @@ module _ {Request Reply : Type 0} where
   own_cut log line hand handled mode phase due c lead Collecting is ok has = absurd is
 
 module _ {Request Reply : Type 0} where
-  -- where the group is, of a leader whose group has joined
+  -- the place of a leader whose group has joined names the group
   joined_place : (two : Two Request Reply) (c : ℕ) (g : Squad Request Reply) (b : Back Request Reply) → IsJoined g b → KnowsBack two c b → In g (two.place c) × (two.lead ≡ ahead c)
   joined_place two c g Away is ok = absurd is
   joined_place two c g (Parting f k) is ok = absurd is
@@ -76,7 +76,7 @@ module _ {Request Reply : Type 0} where
   served_place two c g (Passing f x) is ok = absurd is
 
 module _ {Request Reply Log Right : Type 0} (stands : Laws Request Reply Log Right) (n : ℕ) (s : State (LineSlot Request Reply Log Right) (List (LineHold Request Reply))) (r : Listed stands n s) (id c : ℕ) (st : LineStage Request Reply) (mine : List (Request × Reply)) (b : Back Request Reply) (sees : Sees s id (hold_at c st mine b)) where
-  -- the leader that the stage tells of is the client
+  -- the leader that the stage names is the client
   pub own_stage : IsOwn c st
   own_stage = let fit = (r.seats id (hold_at c st mine b ∷ []) sees).0 in by_stage st fit.4 (λ own is. subst (InPhase stands s.words s.homes c (r.due c)) is (r.rows c fit.1 fit.2))
     where
@@ -119,7 +119,7 @@ module _ {Request Reply Log Right : Type 0} (stands : Laws Request Reply Log Rig
       (turn.0, r.second.newest_is ∙ ap newest whole, subst (Links s.words) whole r.second.links)
 
 module _ {Request Reply Log Right : Type 0} (stands : Laws Request Reply Log Right) (n : ℕ) (s : State (LineSlot Request Reply Log Right) (List (LineHold Request Reply))) (r : Listed stands n s) (k : ℕ) (y : Request × Reply) (owed : r.due k ≡ y ∷ []) where
-  -- who is owed a reply isn't of the group in hand
+  -- a client to which a reply is due isn't of the group in hand
   not_led : (c : ℕ) → r.due c ≡ [] → c ≡ k → ⊥
   not_led c none is = let bad : r.due k ≡ [] = ap r.due (sym is) ∙ none in absurd (cc)
 
@@ -191,7 +191,8 @@ module _ {Request Reply Log Right : Type 0} (stands : Laws Request Reply Log Rig
       absent_both [] gone = of_turn r.two.turn
       absent_both (g ∷ gs) gone = absent_append m (line_of g) (flat (gs ++ last_served r.two.place r.two.turn)) (absent_front m (line_of g) (flat gs) gone) (absent_both gs (absent_back m (line_of g) (flat gs) gone))
 
-  -- who is told by a leader that is in no list is in none either
+  -- a client that gets its reply from a leader that is in no list is neither of the group in hand nor in the second
+  -- list
   pub told_apart : (g : QueuedWriter Request × Reply) (gs : List (QueuedWriter Request × Reply)) (own : QueuedWriter Request) (p : Reply) → Sees s id (hold_at c (Settling (debt (g ∷ gs) own p)) mine Away) → IsNotWith g.0.by (now_of stands n s r).0.1 × Absent g.0.by (flat (now_of stands n s r).1.0)
   told_apart g gs own p sees =
       let fit = (r.seats id (hold_at c (Settling (debt (g ∷ gs) own p)) mine Away ∷ []) sees).0 in

@@ -25,11 +25,11 @@ module _ {Request Reply : Type 0} where
   in_not_away g (served f) ok e = ok
 
 module _ {Request Reply : Type 0} where
-  -- nothing moves of the clients in the second list
+  -- nothing changes for the clients in the second list
   abbrev pub Kept : (ℕ → Phase Request Reply) → (ℕ → Phase Request Reply) → (ℕ → Place Request Reply) → List ℕ → List ℕ → Type 0
   Kept phase phase' place words ws = (k : ℕ) → InSecond place k (phase k) → (get_or ws (older_at k) 0 ≡ get_or words (older_at k) 0) × ((e : QueuedWriter Request) → phase k ≡ leads e → get_or ws (state_at k) 0 ≡ get_or words (state_at k) 0) × (phase' k ≡ phase k)
 
-  -- one client moves, which is not in the second list
+  -- a client moves that isn't in the second list
   pub kept_else : (phase : ℕ → Phase Request Reply) (place : ℕ → Place Request Reply) (m : ℕ) (ph : Phase Request Reply) (words ws : List ℕ) → (InSecond place m (phase m) → ⊥)
       → ((k : ℕ) → k ≢ m → get_or ws (older_at k) 0 ≡ get_or words (older_at k) 0) → ((k : ℕ) → k ≢ m → get_or ws (state_at k) 0 ≡ get_or words (state_at k) 0) → Kept phase (put phase m ph) place words ws
   kept_else phase place m ph words ws un older state k there = dite (ℕ_discrete k m)
@@ -68,7 +68,7 @@ module _ {Request Reply : Type 0} where
       (λ t. ((keep g.own.by (lead_in_second place phase g ok.0 ok.1)).0 ∙ t.0, groups_links phase phase' place words ws gs keep ok.3 t.1))
       (subst (Links words) (append_assoc g.rest (g.own ∷ []) (flat gs)) l))
 
-  -- the first group, with its leader
+  -- what the rule says of the oldest group
   pub groups_at : (phase : ℕ → Phase Request Reply) (place : ℕ → Place Request Reply) (newer : List (Squad Request Reply)) (g : Squad Request Reply) → AllGroups phase place (newer ++ g ∷ []) → (phase g.own.by ≡ leads g.own) × In g (place g.own.by) × AllWith phase g.own.by g.rest
   groups_at phase place [] g ok = (ok.0, ok.1, ok.2)
   groups_at phase place (x ∷ xs) g ok = groups_at phase place xs g ok.3
@@ -122,7 +122,7 @@ module _ {Request Reply Log Right : Type 0} (stands : Laws Request Reply Log Rig
     in_level = in_step r.in_level;
   }
 
-  -- one client moves, which is not in the second list
+  -- a client moves that isn't in the second list
   pub second_row : (words ws : List ℕ) (homes hs : List (Option (LineSlot Request Reply Log Right))) (phase : ℕ → Phase Request Reply) (m : ℕ) (ph : Phase Request Reply) (mode : Mode Request) (last : List (Handling Request Reply)) (two : Two Request Reply) → (InSecond two.place m (phase m) → ⊥) → get_or ws 1 0 ≡ get_or words 1 0
       → ((k : ℕ) → k ≢ m → get_or ws (older_at k) 0 ≡ get_or words (older_at k) 0) → ((k : ℕ) → k ≢ m → get_or ws (state_at k) 0 ≡ get_or words (state_at k) 0) → (get_or ws (state_at m) 0 ≡ 4 → get_or words (state_at m) 0 ≡ 4) → get_elem? hs (n + 1) ≡ get_elem? homes (n + 1)
       → Second stands n words homes phase mode last two → Second stands n ws hs (put phase m ph) mode last two
@@ -142,7 +142,7 @@ module _ {Request Reply Log Right : Type 0} (stands : Laws Request Reply Log Rig
       (⊎_elim (λ (now : phase m ≡ ph). (λ k _. (older k, (λ _ _. state k), put_same phase m ph now k))) (λ (un : InSecond two.place m (phase m) → ⊥). kept_else phase two.place m ph words ws un (λ k _. older k) (λ k _. state k)) which)
       (λ k e. sym (state k) ∙ e) home fronts holds leads_on in_step r
 
-  -- the number stays
+  -- what was given runs stays as it was
   pub level_same : (piped : Bool) (two : Two Request Reply) (last last' : List (Handling Request Reply)) → (piped ≡ true → last' ≡ last) → Level stands piped two last → Level stands piped two last'
   level_same true two last last' same v = subst (λ (k : List (Handling Request Reply)). InStep two.done two.groups k two.lead) (sym (same refl)) v
   level_same false two last last' same v = v

@@ -1,4 +1,4 @@
--- The steps of a leader: each keeps the rule, and which event it is.
+-- The steps of a leader: that each keeps the rule, and which event it is.
 use Rattle.std.proofs.Common.{◌≡◌, ◌≢◌, ℕ, suc, ◌+◌, ◌<◌, ◌≤◌, List, [], ◌∷◌, ◌++◌, length, get_or, set, refl, sym, ap, ◌∙◌, subst, inl, inr, arith, length-set, append_assoc}
 use mathlib.Core.Logic.{dite}
 use mathlib.Core.Path.{Path}
@@ -124,7 +124,7 @@ module _ {Request Reply : Type 0} where
   one_fresh a b s t e = (ap (fresh_entry a) e, ap (fresh_seen s) e)
 
 module _ {Request Reply Log Right : Type 0} (stands : Laws Request Reply Log Right) (n : ℕ) where
-  -- what the rule says of who leads
+  -- what the rule says of a leader
   pub record Leads (s : St stands n) (r : Listed stands n s) (c : ℕ) (lead : Lead Request Reply) : Type 0 where
     pub queue : List (QueuedWriter Request)
     pub parts : r.line ≡ queue ++ in_hand lead
@@ -276,7 +276,7 @@ module _ {Request Reply Log Right : Type 0} (stands : Laws Request Reply Log Rig
   reads_as asked is max is_max slots id me c o seen mine mid =
       subst (λ z. Allows (Listed stands n) slots id me 0 (λ y. y) (after_build asked z (step slots 0 0 0 none) me)) is_max (subst (λ z. Allows (Listed stands n) slots id me 0 (λ y. y) (after_build z stands.bound (step slots 0 0 0 none) me)) is (reads slots id me c o seen mine mid))
 
-  -- the walk stands at the older end of a chain of links
+  -- the walk is the older end of a chain of links
   sees_chain : (s : St stands n) (r : Listed stands n s) (id : ℕ) (me : Sat Request Reply Log Right) → get_elem? s.views id ≡ some me.0 → (end c : ℕ) (walk : List (QueuedWriter Request)) → SeesTo end c me walk → (chain : List (QueuedWriter Request)) × LinksFrom end s.words chain × EndsWith chain walk
   sees_chain s r id me at end c walk (inl h) =
       let fit = (r.seats id (hold c (Leading h.1.0) h.1.1 ∷ []) (at ∙ ap some h.1.2)).0 in

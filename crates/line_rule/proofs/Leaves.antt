@@ -62,7 +62,7 @@ same_group {Request} {Reply} {Log} {Right} c c' p p' (g ∷ gs) (h ∷ hs) t t' 
     ((λ i. (a i, b i) ∷ r.0 i), r.1)
 
 module _ {Request Reply Log Right : Type 0} (stands : Laws Request Reply Log Right) (n : ℕ) where
-  -- a row whose due grows, which is nobody's in the group
+  -- a row where what is due grows; it stays as it was for a client in no group, and where a reply was due already
   pub row_due : (ws : List ℕ) (hs : List (Option (LineSlot Request Reply Log Right))) (k : ℕ) (d d' : List (Request × Reply)) (ph : Phase Request Reply) → (((c : ℕ) (e : QueuedWriter Request) → ph ≡ taken c e → ⊥) → ((e : QueuedWriter Request) → ph ≡ leads e → ⊥) → d' ≡ d) → ((x : Request × Reply) → d ≡ x ∷ [] → d' ≡ x ∷ []) → InPhase stands ws hs k d ph → InPhase stands ws hs k d' ph
   row_due ws hs k d d' idle to keep ok = (ok.0, to (λ c e b. absurd (cc)) (λ e b. absurd (cc)) ∙ ok.1)
   row_due ws hs k d d' (preparing w) to keep ok = (ok.0, ok.1, to (λ c e b. absurd (cc)) (λ e b. absurd (cc)) ∙ ok.2)
@@ -100,7 +100,7 @@ module _ {Request Reply Log Right : Type 0} (stands : Laws Request Reply Log Rig
     all_owed = owed_change r.phase r.phase (λ k. r.due k ++ of k ((handling o p ∷ [] ++ answers gs) ++ [])) due' c gs (λ e x here owed. (here, ap (λ l. r.due e.by ++ of e.by l) (sym (append-nil new)) ∙ owed))
         (owes r.phase r.due c gs (handling o p ∷ []) [] apart (λ k there. (of_other k (handling o p) [] (λ e. there (subst (λ j. Absent j (heads gs)) e own_out)), refl)) members)
 
-    -- what another client knows of its own stays
+    -- what is due to the members of another leader stays as it was
     pub else_owed : (j : ℕ) → j ≢ c → (e : QueuedWriter Request) (x : Request × Reply) → r.phase e.by ≡ taken j e → r.due e.by ≡ x ∷ [] → due' e.by ≡ x ∷ []
     else_owed j ne e x here owed = due_same e.by (λ is. let bad : r.phase e.by ≡ leads o = ap r.phase is ∙ now in absurd (cc)) (λ f _ none_due. absurd (cc)) ∙ owed
 

@@ -1,4 +1,4 @@
--- The looks of a writer that waits for its role, or for its reply: each keeps the rule, and which event it is.
+-- The looks of a writer that waits for its role, or for its reply: that each keeps the rule, and which event it is.
 use Rattle.std.proofs.Common.{◌≡◌, ◌≢◌, ℕ, ◌+◌, ◌<◌, ◌≤◌, List, [], ◌∷◌, ◌++◌, get_or, set, refl, sym, ap, ◌∙◌, subst, inr, arith, length-set, append-nil}
 use mathlib.Core.Logic.{dite}
 use mathlib.Core.Path.{Path}
@@ -204,7 +204,7 @@ module _ {Request Reply Log Right : Type 0} (stands : Laws Request Reply Log Rig
   pub looks : (slots id : ℕ) (me : Sat Request Reply Log Right) (c k : ℕ) (q : Request) (past : List (LineEvent Request Reply)) (mine : List (Request × Reply)) → k ≡ state_at c → At c (Waiting q past) mine me → me.1 ≡ [] → Allows (Listed stands n) slots id me k (λ y. y) (after_read_state stands.logs stands.kept (step slots k 0 0 none) me)
   looks slots id me c k q past mine is mid empty = allows stands n (HappensWhere 2 (IsElect c q)) slots id me k (λ y. y) (after_read_state stands.logs stands.kept (step slots k 0 0 none) me) (looks_is slots id me c k q past mine is mid empty)
 
-  -- the same of a client that works beside its leader
+  -- the same of a client that works in parallel with its leader
   module _ (slots id : ℕ) (me : Sat Request Reply Log Right) (c k : ℕ) (q : Request) (mine : List (Request × Reply)) (is : k ≡ state_at c) (mid : At c (Helping q) mine me) (empty : me.1 ≡ [])
       (s : St stands n) (r : Listed stands n s) (at : get_elem? s.views id ≡ some me.0) where
     abbrev pub saw_beside : ℕ → Sat Request Reply Log Right → Type 0

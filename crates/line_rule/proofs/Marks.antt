@@ -1,4 +1,4 @@
--- The mark.
+-- The steps with the mark: that each keeps the rule, and which event it is.
 use Rattle.std.proofs.Common.{◌≡◌, ◌≢◌, ℕ, ◌+◌, ◌*◌, ◌<◌, ◌≤◌, eqb, List, [], ◌∷◌, ◌++◌, length, get_or, set, refl, sym, ap, ◌∙◌, subst, inl, arith, length-set, get_or-set_other, get_or-set_same}
 use mathlib.Core.Logic.{dite}
 use mathlib.Core.Path.{Path}
@@ -260,7 +260,7 @@ module _ {Request Reply Log Right : Type 0} (stands : Laws Request Reply Log Rig
   newest_snoc b d [] x = refl
   newest_snoc b d (e ∷ es) x = refl
 
-  -- the link of the oldest writer behind the mark is cleared
+  -- the link of the oldest writer after the mark is cleared
   pub cuts_marked_is : (slots id : ℕ) (me : Sat Request Reply Log Right) (c k new : ℕ) (lead : Lead Request Reply) (mine : List (Request × Reply)) (b : Back Request Reply) (pre : List (QueuedWriter Request)) (x : QueuedWriter Request) → AtWith c (Marking lead) mine b me → lead.walk ≡ pre ++ x ∷ [] → k ≡ older_at x.by → new ≡ pack 0 x.code
       → StepIs stands n (λ _. Stays) slots id me k (λ _. new) (λ _. after_cut_behind_mark (step slots k new 0 none) me new)
   cuts_marked_is slots id me c k new lead mine b pre x mid is_walk is_word cleared s r long at fits =

@@ -1,4 +1,4 @@
--- What stays of the rule when one row and one seat move, and what the list is then.
+-- What of the rule stays true when one row and one seat move, and what the list is then.
 use Rattle.std.proofs.Common.{◌≡◌, ◌≢◌, ℕ, ◌<◌, ◌≤◌, List, [], ◌∷◌, ◌++◌, length, get_or, set, refl, sym, ap, ◌∙◌, subst, ⊎_elim, append_assoc}
 use mathlib.Core.Option.{Option, some}
 use lib.ListN.{get_elem?}
@@ -93,7 +93,7 @@ module _ {Request Reply Log Right : Type 0} (stands : Laws Request Reply Log Rig
   holds_by : (k : ℕ) (mode now : Mode Request) → mode ≡ now → Holds k now → Holds k mode
   holds_by k mode now is ok = subst (Holds k) (sym is) ok
 
-  -- what another client knows
+  -- what another client knows stays true
   pub knows_stays : (line line' hand hand' : List (QueuedWriter Request)) (handled handled' : List (Handling Request Reply)) (mode mode' : Mode Request) (phase phase' : ℕ → Phase Request Reply) (due due' : ℕ → List (Request × Reply)) (k : ℕ) → phase' k ≡ phase k
       → (Holds k mode → (mode' ≡ mode) × EndsWith line' line × (handled' ≡ handled) × (hand' ≡ hand) × ((e : QueuedWriter Request) → mode ≡ cut k e.by → phase e.by ≡ linked e → phase' e.by ≡ linked e))
       → ((e : QueuedWriter Request) (x : Request × Reply) → phase e.by ≡ taken k e → due e.by ≡ x ∷ [] → (phase' e.by ≡ taken k e) × (due' e.by ≡ x ∷ []))

@@ -25,7 +25,7 @@ use Rattle.line_rule.proofs.Seconds.{second_parts, second_hands}
 use Rattle.line_rule.proofs.Squads.{behind_in, one_ahead}
 
 module _ {Request Reply : Type 0} where
-  -- what a client knows stays, where its place and its turn stay
+  -- what a client knows stays true, where its place and its turn stay
   pub back_map : (a z : Two Request Reply) (k : ℕ) → z.place k ≡ a.place k → (a.turn ≡ held_by k → (z.turn ≡ held_by k) × EndsWith (flat z.groups) (flat a.groups)) → ((w : ℕ) → a.turn ≡ passes k w → (z.turn ≡ passes k w) × (z.done ≡ a.done))
       → (a.lead ≡ ahead k → z.lead ≡ ahead k) → (z.lead ≡ ahead k → a.lead ≡ ahead k) → (b : Back Request Reply) → KnowsBack a k b → KnowsBack z k b
   back_map a z k same to_h to_p to_l of_l Away ok = (same ∙ ok.0, λ e. ok.1 (of_l e))
@@ -42,14 +42,15 @@ module _ {Request Reply : Type 0} where
   abbrev pub level_two : Two Request Reply → Two Request Reply
   level_two two = record { groups = two.groups; place = two.place; turn = two.turn; lead = level; done = two.done }
 
-  -- the second list is as it was, where another group of c, or none, is apart
+  -- the second list is as it was if c's place changes, but neither the group that c has apart nor the one that is
+  -- served last
   pub second_put : (two : Two Request Reply) (c : ℕ) (p : Place Request Reply) (turn : Turn) → apart_in p ≡ apart_in (two.place c) → last_served (put two.place c p) turn ≡ last_served two.place two.turn → Path (SecondList Request Reply) (two.groups ++ last_served (put two.place c p) turn, two.lead, λ k. apart_in (put two.place c p k)) (second_list_of two)
   second_put two c p turn is same i = (two.groups ++ same i, two.lead, λ k. put_at two.place c p (λ j x. apart_in x ≡ apart_in (two.place j)) k (λ e. is ∙ ap (λ j. apart_in (two.place j)) (sym e)) (λ _. refl) i)
 
   pub apart_same : (place : ℕ → Place Request Reply) (c : ℕ) (p : Place Request Reply) → apart_in p ≡ apart_in (place c) → Path (ℕ → Option (Squad Request Reply)) (λ k. apart_in (put place c p k)) (λ k. apart_in (place k))
   apart_same place c p is i = λ k. put_at place c p (λ j x. apart_in x ≡ apart_in (place j)) k (λ e. is ∙ ap (λ j. apart_in (place j)) (sym e)) (λ _. refl) i
 
-  -- the group that is served last is the same
+  -- the group that is served last stays the same
   pub served_put : (place : ℕ → Place Request Reply) (c : ℕ) (p : Place Request Reply) → served_in p ≡ served_in (place c) → (turn : Turn) → last_served (put place c p) turn ≡ last_served place turn
   served_put place c p is still = refl
   served_put place c p is (calls k) = refl
@@ -65,7 +66,7 @@ module _ {Request Reply : Type 0} where
   pub apart_put : (place : ℕ → Place Request Reply) (c : ℕ) (p : Place Request Reply) → IsPut c (apart_in p) (λ k. apart_in (place k)) (λ k. apart_in (put place c p k))
   apart_put place c p = (ap apart_in (put_here place c p), λ k ne. ap apart_in (put_else place c p k ne))
 
-  -- who is in the second list has no group apart
+  -- a client whose group is in the second list has no group apart
   pub behind_apart : (g : Squad Request Reply) (p : Place Request Reply) → Behind g p → apart_in p ≡ none
   behind_apart g away ok = absurd ok
   behind_apart g (parted f k) ok = absurd ok

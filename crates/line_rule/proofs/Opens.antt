@@ -1,4 +1,4 @@
--- The table at the start, and the seats that are made of the first one.
+-- The list at the start, and the seats that are made of the first one.
 use Rattle.std.proofs.Common.{Bool, true, false, ◌≡◌, ◌≢◌, ℕ, zero, suc, ◌+◌, ◌-◌, ◌*◌, ◌<◌, ◌≤◌, ◌⊎◌, List, [], ◌∷◌, ◌++◌, length, get_or, set, refl, sym, ap, ◌∙◌, subst, inl, inr, ⊎_elim, arith, map, replicate, length-set, append-nil, append_assoc}
 use mathlib.Core.Path.{Path}
 use mathlib.Core.Option.{Option, some, some-injective, some-ne-none, none}
@@ -16,7 +16,8 @@ use Rattle.line_rule.specs.declared.view.LineStage.TheVariants.{Idle}
 use Rattle.line_rule.specs.Chain.{Within}
 use Rattle.line_rule.specs.Standing.{Phase, idle, linked, leads, Mode, open_, waits, led, built, cut, marked, Holds, Two, Place, away, Turn, Lead2, level, ahead, InStep, still, Chained, calls, held_by, passes, flat}
 use Rattle.line_rule.specs.Laws.{Laws}
-use Rattle.line_rule.specs.Rule.{all_but_first, first_only, Fits, AllFit, hold, newcomers, Has, AllIdle, Merges, InPhase, LogHome, InMode, Listed, Level, RightHome, AllGroups, InTurn}
+use Rattle.model_base.specs.Halves.{all_but_first, first_only}
+use Rattle.line_rule.specs.Rule.{Fits, AllFit, hold, newcomers, Has, AllIdle, Merges, InPhase, LogHome, InMode, Listed, Level, RightHome, AllGroups, InTurn}
 use Rattle.line_rule.specs.Events.{free}
 use Rattle.line_rule.specs.Steps.{Lists, IsNow}
 use Rattle.line_rule.proofs.Chains.{put, put_here, put_else, nobody}
@@ -128,7 +129,7 @@ module _ {Request Reply Log Right : Type 0} (stands : Laws Request Reply Log Rig
     seat' : ℕ → ℕ
     seat' = put r.seat c k
 
-    -- those of other clients keep their seats
+    -- clients other than c keep their seats
     seats_stay : (j : ℕ) (v : List (LineHold Request Reply)) → ((h : LineHold Request Reply) → r.seat h.client ≡ j → h.client ≤ n → h.client ≢ c) → AllFit n r.line r.hand r.handled r.mode r.phase r.due r.told r.two r.account.events r.seat j v → AllFit n r.line r.hand r.handled r.mode r.phase r.due r.told r.two r.account.events (put r.seat c k) j v
     seats_stay j [] elsewhere ok = tt
     seats_stay j (h ∷ hs) elsewhere ok = ((put_else r.seat c k h.client (elsewhere h ok.0.0 ok.0.2) ∙ ok.0.0, ok.0.1, ok.0.2, ok.0.3, ok.0.4, ok.0.5, ok.0.6), seats_stay j hs elsewhere ok.1)
@@ -192,7 +193,7 @@ abbrev pick_seat : {A D : Type 0} → Dec D → A → A → A
 pick_seat (yes _) a b = a
 pick_seat (no _) a b = b
 
--- who sits at a sits at b from now on
+-- a client that sat at a sits at b from now on
 reseat : (ℕ → ℕ) → ℕ → ℕ → ℕ → ℕ
 reseat f a b c = pick_seat (ℕ_discrete (f c) a) b (f c)
 
@@ -257,7 +258,7 @@ module _ {Request Reply Log Right : Type 0} (stands : Laws Request Reply Log Rig
             (at_set (set s.views id (v ++ w)) other j [] x e);
       }
 
-  -- joining two leaves it as it is
+  -- joining two seats leaves the list as it is
   pub joins_is : (now : Lists Request Reply) (id other : ℕ) (v w : List (LineHold Request Reply)) → Joins (IsNow stands n now) id v other w (v ++ w) []
   unfolding joins
   joins_is now id other v w s is at apart at_other = (joins id other v w s is.0 at apart at_other, is.1)
@@ -322,7 +323,8 @@ module _ {Request Reply Log Right : Type 0} (stands : Laws Request Reply Log Rig
   level_ends true two last nil un v = ((λ e. absurd (cc)), (λ _. chain_ends two.lead two.done last two.groups nil un v))
   level_ends false two last nil un v = ((λ _. v.1), (λ e. absurd (cc)))
 
-  -- where all clients are idle, the log and the right are at home, the other slots are empty, and the log stands for all that the clients were told
+  -- where all clients are idle, the log and the right are at home, the other slots are empty, and the log covers all
+  -- that the clients were told
   pub record Closes (s : St stands n) (v : List (LineHold Request Reply)) : Type 0 where
     pub log : Log
     pub handled : List (Handling Request Reply)

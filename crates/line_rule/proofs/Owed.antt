@@ -1,4 +1,4 @@
--- What a client owes, with the list of those to be told put in.
+-- What a leader owes, with an equal list of the members that must still get their replies.
 use Rattle.std.proofs.Common.{◌≡◌, ℕ, List, subst}
 use Rattle.line_rule.specs.declared.view.QueuedWriter.{QueuedWriter}
 use Rattle.line_rule.specs.declared.view.Debt.{Debt}

@@ -91,8 +91,7 @@ module _ {Request Reply Log Right : Type 0} (stands : Laws Request Reply Log Rig
       subst (Absent k) (sym ok.0.2) (absent_append k ok.0.0 (ok.0.1 ∷ []) (linked_out phase k ok.0.0 (λ e bad. absurd (cc)) ok.0.3) ((λ e. let bad : phase k ≡ linked ok.0.1 = ap phase (sym e ∙ ok.0.5) ∙ ok.0.4 in absurd (cc)), tt))
   out_of_line homes line hand handled phase due k x now (marked c) un ok = linked_out phase k line (λ e bad. absurd (cc)) ok.0
 
-  -- who settles has not the log
-  -- the seat id, of one client, takes a step in the second list alone
+  -- the seat id, of one client, makes a step in the second list alone
   pub record Pass (s : St stands n) (r : Listed stands n s) (id : ℕ) (ws : List ℕ) (hs : Homes stands n) (c : ℕ) (st : LineStage Request Reply) (mine : List (Request × Reply)) (b z : Back Request Reply) (two : Two Request Reply) : Type 0 where
     pub at : get_elem? s.views id ≡ some (hold_at c st mine b ∷ [])
     pub wide : length ws ≡ length s.words
@@ -163,7 +162,7 @@ module _ {Request Reply Log Right : Type 0} (stands : Laws Request Reply Log Rig
       (λ e. let here : phase k ≡ leads x = ap phase e ∙ now in subst (InPhase stands ws hs k (due k)) (sym here) (subst (InPhase stands words homes k (due k)) here (ok k lo hi)))
       (λ ne. row_stays stands n words ws homes hs k (due k) (state k ne) (older k ne) (home k hi) (phase k) (ok k lo hi))
 
-  -- store of the leader's link
+  -- the store of the leader's link
   pub aims_second_is : (slots id : ℕ) (me : Sat Request Reply Log Right) (c k b new : ℕ) (st : LineStage Request Reply) (mine : List (Request × Reply)) (g : Squad Request Reply) (b0 : ℕ) → AtWith c st mine (Parting g b0) me → k ≡ older_at c → new ≡ pack b g.own.code
       → StepIs stands n (λ _. Stays) slots id me k (λ _. new) (λ _. after_aim_second (step slots k new 0 none) me new)
   aims_second_is slots id me c k b new st mine g b0 mid is_word is_new s r long at fits =
@@ -329,7 +328,7 @@ module _ {Request Reply Log Right : Type 0} (stands : Laws Request Reply Log Rig
       → Allows (Listed stands n) slots id me 1 (λ y. either (eqb y b) new y) (after_join_second stands.rights to (step slots 1 b new said) me)
   joins_second to slots id me c b new st lead mine g said piped mid is_cut from_is is_new = allows stands n (HappensWhere b (IsSecond c g to)) slots id me 1 (λ y. either (eqb y b) new y) (after_join_second stands.rights to (step slots 1 b new said) me) (joins_second_is to slots id me c b new st lead mine g said piped mid is_cut from_is is_new)
 
-  -- a load of the own state: 4 gives the right
+  -- a load of the client's own state: 4, that is STATE_LEADS_TABLE, gives the right
   pub summons_is : (slots id : ℕ) (me : Sat Request Reply Log Right) (c k : ℕ) (d : Debt Request Reply) (mine : List (Request × Reply)) (g : Squad Request Reply) → stands.piped ≡ true → AtWith c (Settling d) mine (Queued g) me → k ≡ state_at c → StepIs stands n (λ _. Stays) slots id me k (λ y. y) (after_summon stands.rights (step slots k 0 0 none) me)
   summons_is slots id me c k d mine g piped mid is_word s r long at fits =
       let st : LineStage Request Reply = Settling d in

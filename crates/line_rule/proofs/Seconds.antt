@@ -20,7 +20,7 @@ use Rattle.line_rule.proofs.Leads.{same_last}
 use Rattle.line_rule.proofs.Squads.{absent_groups, aim_links, distinct_group, ends_or, flat_nil, flat_snoc, groups_newer, groups_put, groups_turn, in_one, is_level, links_join, newest_front, not_snoc, one_ahead, one_called, one_calls, one_holder, one_parted, one_served, one_serves, snoc_some, step_first, with_absent, within_append}
 
 module _ {Request Reply Log Right : Type 0} (stands : Laws Request Reply Log Right) (n : ℕ) where
-  -- the turn, where another place changes
+  -- the turn stays true when another place changes
   pub turn_put : (words : List ℕ) (homes : List (Option (LineSlot Request Reply Log Right))) (phase : ℕ → Phase Request Reply) (groups : List (Squad Request Reply)) (place : ℕ → Place Request Reply) (t : Turn) (lead lead' : Lead2) (done : List (Handling Request Reply)) (c : ℕ) (p : Place Request Reply) → ((g : Squad Request Reply) → place c ≡ called g → ⊥) → ((g : Squad Request Reply) → place c ≡ serves g → ⊥) → (turn : Turn)
       → InTurn stands n words homes phase (record { groups = groups; place = place; turn = t; lead = lead; done = done }) turn → InTurn stands n words homes phase (record { groups = groups; place = put place c p; turn = t; lead = lead'; done = done }) turn
   turn_put words homes phase groups place t lead lead' done c p un_c un_s still ok = ok
@@ -28,7 +28,7 @@ module _ {Request Reply Log Right : Type 0} (stands : Laws Request Reply Log Rig
   turn_put words homes phase groups place t lead lead' done c p un_c un_s (held_by k) ok = (ok.0, ok.1, ok.2, put_else place c p k (λ e. un_s ok.1 (ap place (sym e) ∙ ok.3)) ∙ ok.3, ok.4)
   turn_put words homes phase groups place t lead lead' done c p un_c un_s (passes k w) ok = ok
 
-  -- and a newer group comes
+  -- and when a newer group comes
   pub turn_grows : (words ws : List ℕ) (homes : List (Option (LineSlot Request Reply Log Right))) (phase : ℕ → Phase Request Reply) (groups : List (Squad Request Reply)) (place : ℕ → Place Request Reply) (t : Turn) (lead lead' : Lead2) (done : List (Handling Request Reply)) (g0 : Squad Request Reply) → ((k : ℕ) → get_or ws (state_at k) 0 ≡ get_or words (state_at k) 0) → (turn : Turn) → (turn ≡ still → ⊥)
       → InTurn stands n words homes phase (record { groups = groups; place = place; turn = t; lead = lead; done = done }) turn → InTurn stands n ws homes phase (record { groups = g0 ∷ groups; place = place; turn = t; lead = lead'; done = done }) turn
   turn_grows words ws homes phase groups place t lead lead' done g0 state still un ok = absurd (un refl)
@@ -130,7 +130,7 @@ module _ {Request Reply Log Right : Type 0} (stands : Laws Request Reply Log Rig
       step_of : InStep two.done two.groups last two.lead
       step_of = subst (λ (b : Bool). Level stands b two last) piped r.in_level
 
-      -- the group comes to the newer end
+      -- the group is added at the newer end
       module _ (c : ℕ) (g f : Squad Request Reply) (b v : ℕ) (is_parted : two.place c ≡ parted f b) (own_is : f.own ≡ g.own) (rest_is : f.rest ≡ g.rest) (from_is : g.from ≡ last) (not_ahead : two.lead ≢ ahead c) (holds : Holds c mode) (is_v : v ≡ newest (line_of g)) (hit : get_or words 1 0 ≡ b) (wide : length words ≡ 2 * n + 4) where
         old_parts : Parts stands n words homes phase c g b
         old_parts = let o = r.parts c f b is_parted in (ap (λ (e : QueuedWriter Request). e.by) (sym own_is) ∙ o.0, o.1 ∙ ap leads own_is, subst (AllWith phase c) rest_is o.2, subst (LinksFrom b words) (λ i. rest_is i ++ own_is i ∷ []) o.3, subst Distinct (λ i. rest_is i ++ own_is i ∷ []) o.4, subst (Within n) (λ i. rest_is i ++ own_is i ∷ []) o.5)
@@ -184,7 +184,7 @@ module _ {Request Reply Log Right : Type 0} (stands : Laws Request Reply Log Rig
         abbrev pub two_alone : Two Request Reply
         two_alone = record { groups = g ∷ two.groups; place = put two.place c (serves g); turn = held_by c; lead = ahead c; done = two.done }
 
-        -- behind others
+        -- after other groups
         pub second_behind : b ≢ 0 → Second stands n ws1 homes phase mode last two_joins
         second_behind nonzero =
             let un : two.turn ≡ still → ⊥ = λ e. let t = subst (InTurn stands n words homes phase two) e r.turn_is in nonzero (sym hit ∙ (r.newest_is ∙ ap (λ l. newest (flat l)) t.0)) in
@@ -203,7 +203,7 @@ module _ {Request Reply Log Right : Type 0} (stands : Laws Request Reply Log Rig
               second_joins (serves g) (held_by c) (set homes (n + 1) none) refl (λ a. a) (λ h e. absurd (cc)) ([], g, ap (λ l. g ∷ l) nil, put_here two.place c (serves g), old_parts.0) (λ k h e. absurd (no_called k h e)),
             )
 
-      -- who came first to be alone is called: its leader takes the right
+      -- the oldest group's leader is called, and takes the right
       abbrev pub two_serves : ℕ → Squad Request Reply → Two Request Reply
       two_serves c g = record { groups = two.groups; place = put two.place c (serves g); turn = held_by c; lead = two.lead; done = two.done }
 
@@ -233,7 +233,7 @@ module _ {Request Reply Log Right : Type 0} (stands : Laws Request Reply Log Rig
             },
           )
 
-      -- nobody came after the group: its leader gives the right back
+      -- no group came after this one: its leader gives the right back
       abbrev pub two_stops : ℕ → Squad Request Reply → Two Request Reply
       two_stops c g = record { groups = []; place = put two.place c away; turn = still; lead = two.lead; done = g.to }
 
@@ -274,7 +274,7 @@ module _ {Request Reply Log Right : Type 0} (stands : Laws Request Reply Log Rig
             in_level = subst (λ (z : Bool). Level stands z (two_stops c g) last) (sym piped) (subst (λ (z : List (Handling Request Reply) × List (Squad Request Reply)). InStep z.0 z.1 last two.lead) (λ i. ((same i).to, nil i)) first.1);
           }
 
-      -- somebody came: the link of the next group's leader is cleared
+      -- a group came after this one: the link of the next group's leader is cleared
       abbrev pub two_clears : ℕ → Squad Request Reply → ℕ → List (Squad Request Reply) → Two Request Reply
       two_clears c g w newer = record { groups = newer; place = put two.place c (served g); turn = passes c w; lead = two.lead; done = g.to }
 
@@ -338,7 +338,7 @@ module _ {Request Reply Log Right : Type 0} (stands : Laws Request Reply Log Rig
             t.2 ∙ ap (λ (f : Squad Request Reply). newer ++ f ∷ []) same,
           )
 
-    -- who gives the right on is in no list any more
+    -- the leader that gives the right on is in no list any more
     abbrev pub two_ends : ℕ → Two Request Reply
     two_ends c = record { groups = two.groups; place = put two.place c away; turn = two.turn; lead = two.lead; done = two.done }
 
@@ -365,7 +365,7 @@ module _ {Request Reply Log Right : Type 0} (stands : Laws Request Reply Log Rig
           in_level = level_put two.groups two.place (put two.place c p) two.turn two.turn two.lead two.done last stands.piped r.in_level;
         }
 
-    -- the next leader is told, and the right goes home for it
+    -- the next leader is called, and the right goes home for it
     abbrev pub two_calls : ℕ → Squad Request Reply → Two Request Reply
     two_calls w g = record { groups = two.groups; place = put two.place w (called g); turn = calls w; lead = two.lead; done = two.done }
 
@@ -408,7 +408,7 @@ module _ {Request Reply Log Right : Type 0} (stands : Laws Request Reply Log Rig
           },
         )
 
-    -- the log goes on, behind the group's numbers
+    -- the log is given on, and covers the group
     abbrev pub two_level : Two Request Reply
     two_level = record { groups = two.groups; place = two.place; turn = two.turn; lead = level; done = two.done }
 

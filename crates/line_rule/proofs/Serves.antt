@@ -49,7 +49,7 @@ module _ {Request Reply : Type 0} where
   walk_of d (Serving g walk) = walk
   walk_of d (Passing g x) = d
 
-  -- who is told that it is first
+  -- what a client knows stays true when its group is called
   call_back : (two z : Two Request Reply) (c w : ℕ) (g : Squad Request Reply) → In g (two.place w) → two.turn ≡ passes c w → z.place w ≡ called g → z.lead ≡ two.lead → (y : Back Request Reply) → KnowsBack two w y → KnowsBack z w y
   call_back two z c w g is_in turn_c here same Away ok = absurd (in_not_away g (two.place w) is_in ok.0)
   call_back two z c w g is_in turn_c here same (Parting f d) ok = absurd (subst (In g) ok.0 is_in)
@@ -81,13 +81,13 @@ module _ {Request Reply Log Right : Type 0} (stands : Laws Request Reply Log Rig
   last_slot : (slots k : ℕ) (s : St stands n) → Listed stands n s → length s.homes ≡ slots → k + 1 ≡ slots → k ≡ n + 1
   last_slot slots k s r long is = let many : length s.homes ≡ n + 2 = r.many in omega (arith, long, is)
 
-  -- who has the right leads the oldest group
+  -- the client that has the right leads the oldest group
   served_by : (s : St stands n) (r : Listed stands n s) (c : ℕ) (g : Squad Request Reply) → r.two.turn ≡ held_by c → r.two.place c ≡ serves g → g.own.by ≡ c
   served_by s r c g turn place =
       let t = subst (InTurn stands n s.words s.homes r.phase r.two) turn r.second.turn_is in
       ap (λ (f : Squad Request Reply). f.own.by) (sym (one_serves t.1 g (sym t.3 ∙ place))) ∙ t.4
 
-  -- the right is given back, where no group came
+  -- the right is given back, if no group came
   pub leaves_second_is : (slots id : ℕ) (me : Sat Request Reply Log Right) (c old k : ℕ) (d : Debt Request Reply) (mine : List (Request × Reply)) (g : Squad Request Reply) (walk : List (QueuedWriter Request)) (right : Right) (t : List (ℕ × LineSlot Request Reply Log Right)) (said : Option (LineSlot Request Reply Log Right)) → stands.piped ≡ true → AtWith c (Settling d) mine (Serving g walk) me
       → me.1 ≡ (k, TheRight right) ∷ t → k + 1 ≡ slots → old ≡ newest (line_of g) → stands.rights right g.to → StepIs stands n (HappensWhere old (IsServedOut c g)) slots id me 1 (λ y. either (eqb y old) 0 y) (after_leave_second (step slots 1 old 0 said) me)
   leaves_second_is slots id me c old k d mine g walk right t said piped mid slot is_last is_old stood s r long at fits =
@@ -218,7 +218,7 @@ module _ {Request Reply Log Right : Type 0} (stands : Laws Request Reply Log Rig
       → Allows (Listed stands n) slots id me k (λ _. new) (λ _. after_clear_second (step slots k new 0 none) me new)
   clears_second slots id me c k new d mine g walk pre x piped mid is_walk is_word is_new = allows stands n (λ _. Stays) slots id me k (λ _. new) (λ _. after_clear_second (step slots k new 0 none) me new) (clears_second_is slots id me c k new d mine g walk pre x piped mid is_walk is_word is_new)
 
-  -- that leader is told, and has the right
+  -- that leader is called, and the right goes on to it
   pub calls_next_is : (slots id : ℕ) (me : Sat Request Reply Log Right) (c k j0 : ℕ) (st : LineStage Request Reply) (mine : List (Request × Reply)) (g : Squad Request Reply) (x : QueuedWriter Request) (right : Right) (t : List (ℕ × LineSlot Request Reply Log Right)) → AtWith c st mine (Passing g x) me → me.1 ≡ (j0, TheRight right) ∷ t → j0 + 1 ≡ slots → k ≡ state_at x.by → stands.rights right g.to
       → StepIs stands n (λ _. IsServedOut c g) slots id me k (λ _. 4) (λ _. after_call_next (step slots k 4 0 none) me 4)
   calls_next_is slots id me c k j0 st mine g x right t mid slot is_last is_word stood s r long at fits =
@@ -278,8 +278,7 @@ module _ {Request Reply Log Right : Type 0} (stands : Laws Request Reply Log Rig
       → Allows (Listed stands n) slots id me k (λ _. 4) (λ _. after_call_next (step slots k 4 0 none) me 4)
   calls_next slots id me c k j0 st mine g x right t mid slot is_last is_word stood = allows stands n (λ _. IsServedOut c g) slots id me k (λ _. 4) (λ _. after_call_next (step slots k 4 0 none) me 4) (calls_next_is slots id me c k j0 st mine g x right t mid slot is_last is_word stood)
 
-  -- a member is told to work beside its leader
-  -- only a list with a second one has somebody who serves
+  -- only a list with a second one has a leader that serves
   only_piped : (piped : Bool) (two : Two Request Reply) (last : List (Handling Request Reply)) (newer : List (Squad Request Reply)) (g : Squad Request Reply) → two.groups ≡ newer ++ g ∷ [] → Level stands piped two last → piped ≡ true
   only_piped true two last newer g is ok = refl
   only_piped false two last newer g is ok = absurd (not_snoc newer g (sym ok.0 ∙ is))
@@ -288,6 +287,7 @@ module _ {Request Reply Log Right : Type 0} (stands : Laws Request Reply Log Rig
   serving_piped s r c turn =
       let t = subst (InTurn stands n s.words s.homes r.phase r.two) turn r.second.turn_is in only_piped stands.piped r.two (stands.given r.handled) t.0 t.1 t.2 r.second.in_level
 
+  -- a member may now work in parallel with its leader
   pub parallels_is : (slots id : ℕ) (me : Sat Request Reply Log Right) (c k : ℕ) (pre post : List (QueuedWriter Request × Reply)) (y : QueuedWriter Request × Reply) (o : QueuedWriter Request) (p : Reply) (mine : List (Request × Reply)) (g : Squad Request Reply) (walk : List (QueuedWriter Request)) → AtWith c (Settling (debt (pre ++ y ∷ post) o p)) mine (Serving g walk) me → k ≡ state_at y.0.by → y.0.by ≤ n
       → StepIs stands n (λ _. Stays) slots id me k (λ _. 8) (λ _. after_make_parallel (step slots k 8 0 none) me 8)
   parallels_is slots id me c k pre post y o p mine g walk mid is_word small s r long at fits =

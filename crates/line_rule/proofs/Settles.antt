@@ -1,4 +1,4 @@
--- The steps of a leader that has handled its group: each keeps the rule, and which event it is.
+-- The steps of a leader that has handled its group: that each keeps the rule, and which event it is.
 use Rattle.std.proofs.Common.{true, ◌≡◌, ◌≢◌, ℕ, ◌+◌, ◌*◌, ◌<◌, ◌≤◌, List, [], ◌∷◌, ◌++◌, length, get_or, set, refl, sym, ap, ◌∙◌, subst, inl, arith, length-set, append-nil, get_or-set_other, get_or-set_same}
 use mathlib.Core.Logic.{dite}
 use mathlib.Core.Path.{Path}
@@ -80,7 +80,7 @@ module _ {Request Reply Log Right : Type 0} (stands : Laws Request Reply Log Rig
       subst (Absent k) (sym ok.0.2) (absent_append k ok.0.0 (ok.0.1 ∷ []) (linked_out phase k ok.0.0 no_l ok.0.3) ((λ e. no_l ok.0.1 (ap phase (sym e ∙ ok.0.5) ∙ ok.0.4)), tt))
   handled_out homes line hand handled phase due k x owed no_l no_c (marked c) ok = linked_out phase k line no_l ok.0
 
-  -- who settles has not the log
+  -- a client to which a reply is due doesn't have the log
   pub no_log : (homes : List (Option (LineSlot Request Reply Log Right))) (line hand : List (QueuedWriter Request)) (handled : List (Handling Request Reply)) (phase : ℕ → Phase Request Reply) (due : ℕ → List (Request × Reply)) (k : ℕ) (y : Request × Reply) → due k ≡ y ∷ [] → (mode : Mode Request) → InMode stands n homes line hand handled phase due mode → Holds k mode → ⊥
   no_log homes line hand handled phase due k y owed open_ ok h = h
   no_log homes line hand handled phase due k y owed (waits c) ok h = h

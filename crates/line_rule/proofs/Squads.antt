@@ -1,4 +1,4 @@
--- Facts on the groups of the second list, and where they stand.
+-- Facts on the groups of the second list, and where they are.
 use Rattle.std.proofs.Common.{◌≡◌, ◌≢◌, ℕ, ◌⊎◌, List, [], ◌∷◌, ◌++◌, get_or, refl, sym, ap, ◌∙◌, subst, inl, inr, ⊎_elim, append_assoc, append-nil}
 use mathlib.Core.Path.{Path}
 use Rattle.line_rule.specs.declared.view.QueuedWriter.{QueuedWriter}
@@ -84,7 +84,7 @@ module _ {Request Reply : Type 0} where
   one_serves g h e = ap (squad_in g) e
 
 module _ {Request : Type 0} where
-  -- client 0 is nobody's number, and word 1 nobody's link
+  -- the newest writer of a list stays the newest, whatever comes after the list
   pub newest_front : (a : List (QueuedWriter Request)) (x : QueuedWriter Request) (b : List (QueuedWriter Request)) → newest (a ++ x ∷ []) ≡ newest ((a ++ x ∷ []) ++ b)
   newest_front [] x b = refl
   newest_front (e ∷ es) x b = refl
@@ -134,7 +134,7 @@ module _ {Request : Type 0} where
   within_append n [] b x y = y
   within_append n (e ∷ es) b x y = (x.0, x.1, within_append n es b x.2 y)
 
-  -- the link of the oldest is another
+  -- the links of a group, with another link of its oldest writer
   pub aim_links : (words ws : List ℕ) (c : ℕ) (es : List (QueuedWriter Request)) (own : QueuedWriter Request) (b0 b : ℕ) → ((j : ℕ) → j ≢ c → get_or ws (older_at j) 0 ≡ get_or words (older_at j) 0) → Absent c es → get_or ws (older_at own.by) 0 ≡ pack b own.code
       → LinksFrom b0 words (es ++ own ∷ []) → LinksFrom b ws (es ++ own ∷ [])
   aim_links words ws c [] own b0 b older out new ok = (new, tt)
@@ -150,7 +150,7 @@ module _ {Request Reply : Type 0} where
       line_some [] x t e = absurd (cc)
       line_some (y ∷ ys) x t e = absurd (cc)
 
-  -- the first group leaves, which is not that of who still has the log
+  -- the oldest group leaves, which isn't that of a client that still has the log
   pub step_first : (lead : Lead2) (done last : List (Handling Request Reply)) (c : ℕ) (newer : List (Squad Request Reply)) (g : Squad Request Reply) → g.own.by ≡ c → lead ≢ ahead c → InStep done (newer ++ g ∷ []) last lead → (done ≡ g.from) × InStep g.to newer last lead
   step_first level done last c newer g by_c un ok = chain_first done last newer g ok
   step_first (ahead k) done last c [] g by_c un ok =
@@ -166,13 +166,13 @@ module _ {Request Reply : Type 0} where
   with_absent phase m c [] un ok = tt
   with_absent phase m c (e ∷ es) un ok = ((λ is. un e (ap phase (sym is) ∙ ok.0)), with_absent phase m c es un ok.1)
 
-  -- a leader that is in no group of the second list
+  -- a client that has no group in the second list, and is no member of a group, is in none of its groups
   pub absent_groups : (phase : ℕ → Phase Request Reply) (place : ℕ → Place Request Reply) (m : ℕ) (gs : List (Squad Request Reply)) → ((g : Squad Request Reply) → In g (place m) → ⊥) → ((k : ℕ) (e : QueuedWriter Request) → phase m ≡ taken k e → ⊥) → AllGroups phase place gs → Absent m (flat gs)
   absent_groups phase place m [] un_l un_t ok = tt
   absent_groups phase place m (g ∷ gs) un_l un_t ok =
       absent_append m (line_of g) (flat gs) (absent_append m g.rest (g.own ∷ []) (with_absent phase m g.own.by g.rest (un_t g.own.by) ok.2) ((λ is. un_l g (subst (λ (j : ℕ). In g (place j)) is ok.1)), tt)) (absent_groups phase place m gs un_l un_t ok.3)
 
-  -- nor are its members
+  -- nor is a member of a group that isn't in the second list
   pub member_absent : (phase : ℕ → Phase Request Reply) (place : ℕ → Place Request Reply) (m c : ℕ) (x : QueuedWriter Request) (gs : List (Squad Request Reply)) → phase m ≡ taken c x → ((g : Squad Request Reply) → In g (place c) → ⊥) → AllGroups phase place gs → Absent m (flat gs)
   member_absent phase place m c x [] now un ok = tt
   member_absent phase place m c x (g ∷ gs) now un ok =
@@ -187,7 +187,7 @@ module _ {Request Reply : Type 0} where
   distinct_group phase place c own (e ∷ es) gs un all with apart out rest =
       (absent_append e.by (es ++ own ∷ []) (flat gs) apart.0 (member_absent phase place e.by c e gs with.0 un all), distinct_group phase place c own es gs un all with.1 apart.1 out rest)
 
-  -- another's place does not matter to who is in no group
+  -- the groups stay true when the place of a client changes that is in none of them
   pub groups_put : (phase : ℕ → Phase Request Reply) (place : ℕ → Place Request Reply) (c : ℕ) (p : Place Request Reply) (gs : List (Squad Request Reply)) → Absent c (flat gs) → AllGroups phase place gs → AllGroups phase (put place c p) gs
   groups_put phase place c p [] out ok = tt
   groups_put phase place c p (g ∷ gs) out ok =

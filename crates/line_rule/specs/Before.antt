@@ -53,25 +53,27 @@ abbrev pub IsNextAfter : {Request : Type 0} → List (QueuedWriter Request) → 
     → List (QueuedWriter Request) → Type 0
 IsNextAfter {Request} these x read = (newer : List (QueuedWriter Request)) × (read ≡ newer ++ x ∷ these)
 
--- the member, with its reply, is the next one to be told
+-- the member is the next one to which a reply must be given, and this is its reply
 abbrev pub IsNextOwed : {Request Reply : Type 0} → QueuedWriter Request × Reply → Debt Request Reply → Type 0
 IsNextOwed {Request} {Reply} member d = (others : List (QueuedWriter Request × Reply)) × (d.rest ≡ member ∷ others)
 
--- it is one of those who are to be told
+-- a reply must still be given to the member
 abbrev pub IsOwed : {Request Reply : Type 0} → QueuedWriter Request × Reply → Debt Request Reply → Type 0
 IsOwed {Request} {Reply} member d = (newer older : List (QueuedWriter Request × Reply))
     × (d.rest ≡ newer ++ member ∷ older)
 
 module _ {Request Reply Log Right : Type 0} where
-  -- the seat is that of the client c, which is at this stage, and whose group is nowhere near the second list
+  -- the seat is that of the client c, which is at this stage, and whose group isn't in the second list, nor on its way
+  -- there
   abbrev pub IsAt : ℕ → LineStage Request Reply → Sat Request Reply Log Right → Type 0
   IsAt c stage me = (mine : List (Request × Reply)) × At c stage mine me
 
-  -- the same of one whose group stands so with respect to the second list
+  -- the seat is that of the client c, which is at this stage, and `back` is where its group is with respect to the
+  -- second list
   abbrev pub IsAtWith : ℕ → LineStage Request Reply → Back Request Reply → Sat Request Reply Log Right → Type 0
   IsAtWith c stage back me = (mine : List (Request × Reply)) × AtWith c stage mine back me
 
-  -- in this state of the list the seat `id` is such a client's
+  -- in this state of the list the seat `id` is that of such a client
   abbrev pub SeesAt : ListState Request Reply Log Right → ℕ → ℕ → LineStage Request Reply → Back Request Reply → Type 0
   SeesAt s id c stage back = (mine : List (Request × Reply)) × Sees s id (hold_at c stage mine back)
 
@@ -87,7 +89,8 @@ module _ {Request Reply Log Right : Type 0} where
   abbrev pub IsServing : ℕ → Debt Request Reply → Squad Request Reply → Sat Request Reply Log Right → Type 0
   IsServing c d g me = (read : List (QueuedWriter Request)) × IsAtWith c (Settling d) (Serving g read) me
 
-  -- the same of one that has read that list, where x is the next newer writer after its group
+  -- the client serves its group like that, and has read the second list, where x is the next newer writer after its
+  -- group
   abbrev pub HasReadTo : QueuedWriter Request → ℕ → Debt Request Reply → Squad Request Reply
       → Sat Request Reply Log Right → Type 0
   HasReadTo x c d g me = (read : List (QueuedWriter Request)) × IsAtWith c (Settling d) (Serving g read) me
@@ -98,8 +101,8 @@ module _ {Request Reply Log Right : Type 0} where
   HasFirst k value me = (more : Carried Request Reply Log Right) × (me.1 ≡ (k, value) ∷ more)
 
 module _ {Request Reply Log Right : Type 0} (law : Laws Request Reply Log Right) where
-  -- The leader has handled its group and may give the log on: it has the log, which stands for what the group is
-  -- answered too, the slot of each member and its own, with the replies in them, and then these.
+  -- The leader has handled its group and may give the log on: it has the log, which covers the group's answers too;
+  -- then the slot of each member and its own, with the replies in them; and then `more`.
   abbrev pub HasHandledAnd : Carried Request Reply Log Right → ℕ → Lead Request Reply → Back Request Reply
       → List (QueuedWriter Request × Reply) → Reply → Sat Request Reply Log Right → Type 0
   HasHandledAnd more c lead back gs p me = (l : Log) × (heads gs ≡ lead.taken)
@@ -107,12 +110,12 @@ module _ {Request Reply Log Right : Type 0} (law : Laws Request Reply Log Right)
       × law.logs l (lead.seen ++ all_answers lead.own p gs)
       × HandsOn law.piped law.given back lead.seen (lead.seen ++ all_answers lead.own p gs)
 
-  -- the same, whatever it has besides
+  -- the same, whatever other slots it has
   abbrev pub HasHandled : ℕ → Lead Request Reply → Back Request Reply → List (QueuedWriter Request × Reply) → Reply
       → Sat Request Reply Log Right → Type 0
   HasHandled c lead back gs p me = (more : Carried Request Reply Log Right) × HasHandledAnd more c lead back gs p me
 
-  -- the first slot that the seat has is the last of so many, with the right in it, which stands for these
+  -- the first slot that the seat has is the last of all slots, with the right in it, which covers what was handled
   abbrev pub HasRightFor : ℕ → List (Handling Request Reply) → Sat Request Reply Log Right → Type 0
   HasRightFor slots handled me = (k : ℕ) × (right : Right) × HasFirst k (TheRight right) me × (k + 1 ≡ slots)
       × law.rights right handled

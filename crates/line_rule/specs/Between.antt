@@ -15,7 +15,7 @@ use Rattle.line_rule.specs.Laws.{Laws}
 use Rattle.line_rule.specs.Rule.{LogHome, RightHome, Shows, Recalls}
 use Rattle.line_rule.specs.Steps.{Lists}
 
--- the events go on from what each of these clients knows of them
+-- the events go on from those that each of these clients knows
 abbrev pub AllRecall : {Request Reply : Type 0} → List (LineEvent Request Reply) → List (LineHold Request Reply)
     → Type 0
 AllRecall events [] = Unit {0}
@@ -38,9 +38,9 @@ module _ {Request Reply Log Right : Type 0} (stands : Laws Request Reply Log Rig
   LogAtHome (cut c next) = Unit {0}
   LogAtHome (marked c) = Unit {0}
 
--- where the right is: in its slot, and stands for this, where there is no group, or where the oldest group's leader is
--- called and has yet to take it; and else that leader has it, or the one before it, that has left the list and has yet
--- to call
+-- Where the right is. It is in its slot, and covers `done`, if there is no group, or if the oldest group's leader is
+-- called and has yet to take it. Else that leader has it, or the leader before it, which has left the list and has yet
+-- to call.
 module _ {Request Reply Log Right : Type 0} (stands : Laws Request Reply Log Right) (n : ℕ)
     (homes : List (Option (LineSlot Request Reply Log Right)))
     (groups : List (Squad Request Reply)) (done : List (Handling Request Reply)) where
@@ -51,8 +51,8 @@ module _ {Request Reply Log Right : Type 0} (stands : Laws Request Reply Log Rig
   RightAt (passes c next) = IsOldest next groups
 
 module _ {Request Reply Log Right : Type 0} (stands : Laws Request Reply Log Right) where
-  -- the walk from the newest writer, and the events that led here, the latest first: the state after them is the queue,
-  -- where the log is, what was handled, and what of it its clients haven't been told
+  -- the walk from the newest writer, and the events that led here, the latest first: the state after them is the
+  -- queue, where the log is, what was handled, and for what of it the clients haven't got their replies yet
   pub record Between (n : ℕ) (s : State (LineSlot Request Reply Log Right) (List (LineHold Request Reply))) : Type 0
     where
       pub walk : List (QueuedWriter Request)
@@ -69,12 +69,13 @@ module _ {Request Reply Log Right : Type 0} (stands : Laws Request Reply Log Rig
       pub within : Within n walk
       pub legal : Legal stands.bound events
       pub ran : core_of events ≡ (queue, log, handled, owing)
-      -- nobody's past is another: a writer that waits came among these events, and a leader built its group there
+      -- what each client knows of the past is in these events: a writer that waits came in them, a leader built its
+      -- group in them
       pub recalled : (id : ℕ) (v : List (LineHold Request Reply)) → get_elem? s.views id ≡ some v → AllRecall events v
-      -- the walk is the group in hand and then the queue, until the leader cuts its group off, and then the queue
+      -- the walk is the queue and then the group in hand; once the leader has cut its group off, it is the queue alone
       pub shows : Shows walk queue log mode
       pub home : LogAtHome stands s.homes handled mode
-      -- the second list: its groups, newest first, and what the right stands for
+      -- the second list: its groups, newest first, and what the right covers
       pub groups : List (Squad Request Reply)
       pub turn : Turn
       pub lead : Lead2
@@ -85,14 +86,14 @@ module _ {Request Reply Log Right : Type 0} (stands : Laws Request Reply Log Rig
       pub second_distinct : Distinct (flat groups)
       pub second_within : Within n (flat groups)
       pub right : RightAt stands n s.homes groups done turn
-      -- a group is ahead of the log while its leader, whose group is the newest one, has yet to give the log on
+      -- a group, the newest one, is ahead of the log only while its leader has yet to give the log on
       pub handed : (c : ℕ) → lead ≡ ahead c → Holds c mode
       pub none_second : stands.piped ≡ false → groups ≡ []
-      -- each group begins with what the one before it ends with, from what the right stands for to all that was given
-      -- runs
+      -- each group begins with what the one before it ends with, from what the right covers to all that was given runs
       pub in_order : stands.piped ≡ true → InStep done groups (stands.given handled) lead
 
-  -- the lists are these, but for an oldest group of the second one, whose leader has cut it off and has the right still
+  -- the lists are these; the second may have one group more, the oldest, which its leader has cut off while it still
+  -- has the right
   abbrev pub AreLists : {n : ℕ} {s : State (LineSlot Request Reply Log Right) (List (LineHold Request Reply))}
       → Between n s → Lists Request Reply → Type 0
   AreLists b l = (l.0 ≡ (b.queue, b.log, b.handled, b.owing)) × (l.1.1 ≡ b.lead)

@@ -43,7 +43,7 @@ module _ {Request : Type 0} where
   Distinct [] = Unit {0}
   Distinct (e ∷ es) = Absent e.by es × Distinct es
 
-  -- of each writer's request and code holds what is asked of them
+  -- each writer's request and code are as is asked of them
   abbrev pub AllCoded : (Request → ℕ → Type 0) → List (QueuedWriter Request) → Type 0
   AllCoded asks [] = Unit {0}
   AllCoded asks (e ∷ es) = asks e.asked e.code × AllCoded asks es
@@ -56,7 +56,7 @@ module _ {Request : Type 0} where
   abbrev pub Oldest : List (QueuedWriter Request) → QueuedWriter Request → Type 0
   Oldest chain e = (newer : List (QueuedWriter Request)) × (chain ≡ newer ++ e ∷ [])
 
-  -- the walk stands at the older end of the chain
+  -- the walk is the older end of the chain
   abbrev pub EndsWith : List (QueuedWriter Request) → List (QueuedWriter Request) → Type 0
   EndsWith chain walk = (newer : List (QueuedWriter Request)) × (chain ≡ newer ++ walk)
 
@@ -65,7 +65,7 @@ abbrev pub of : {Request Reply : Type 0} → ℕ → List (Handling Request Repl
 of k [] = []
 of k (h ∷ hs) = cond (h.by == k) ((h.asked, h.reply) ∷ of k hs) (of k hs)
 
--- a group is what its members have for replies, newest first, without the leader
+-- a group is its members with their replies, newest first, without the leader
 module _ {Request Reply : Type 0} where
   abbrev pub heads : List (QueuedWriter Request × Reply) → List (QueuedWriter Request)
   heads [] = []

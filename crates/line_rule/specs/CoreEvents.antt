@@ -20,13 +20,13 @@ use Rattle.line_rule.specs.Standing.{Lead2, level, ahead, line_of}
 use Rattle.line_rule.specs.SecondList.{IsPut}
 use Rattle.line_rule.specs.Steps.{Lists, IsExit}
 
--- the core's writer of each writer of the list
+-- `writer_of` gives the core's writer for each writer of the list
 module _ {Request : Type 0} (writer_of : QueuedWriter Request → Writer) where
-  -- is of the same client
+  -- both are of the same client
   abbrev pub IsSame : Type 0
   IsSame = (e : QueuedWriter Request) → (writer_of e).client ≡ e.by
 
-  -- and those of this queue have the same items
+  -- the writers of this queue have the same items in the core
   abbrev pub HasItems : List (QueuedWriter Request) → Type 0
   HasItems [] = Unit {0}
   HasItems (e ∷ es) = (item_of_writer (writer_of e) ≡ item_of e.code) × HasItems es
@@ -40,12 +40,12 @@ module _ {Request : Type 0} (writer_of : QueuedWriter Request → Writer) where
   core_log (elected c) = led c
   core_log (grouped own group) = in_hand (core_queue (group ++ own ∷ []))
 
--- a client and its reply: of a writer of the core
+-- the client and the answer of a writer of the core
 abbrev pub answer_of : Writer → ℕ × Answer CoreReply
 answer_of w = (w.client, w.answer)
 
 module _ {Request Reply : Type 0} (reply_of : Reply → CoreReply) where
-  -- and of a handling
+  -- the client and the answer of a handling
   abbrev pub answer_in : Handling Request Reply → ℕ × Answer CoreReply
   answer_in h = (h.by, Some (reply_of h.reply))
 
@@ -63,12 +63,13 @@ module _ {Request Reply : Type 0} (reply_of : Reply → CoreReply) where
   LeavesWith ws own a b = (p : Reply) × (gs : List (QueuedWriter Request × Reply)) × IsExit own p gs a b
       × HasReplies (all_answers own p gs) ws
 
-  -- own's group leaves the list, each of it with this reply
+  -- own's group leaves the list, each member with this reply
   abbrev pub AllLeaveWith : CoreReply → QueuedWriter Request → Lists Request Reply → Lists Request Reply → Type 0
   AllLeaveWith reply own a b = (p : Reply) × (gs : List (QueuedWriter Request × Reply)) × IsExit own p gs a b
       × AllHave reply (all_answers own p gs)
 
--- the same in any order: the first of the one is somewhere in the other, and the rest are the others
+-- the same elements in any order: the first of one list is somewhere in the other, and so are the rest among the
+-- others
 abbrev pub IsRearranged : {A : Type 0} → List A → List A → Type 0
 IsRearranged {A} [] ys = ys ≡ []
 IsRearranged {A} (x ∷ xs) ys = (before after : List A) × (ys ≡ before ++ x ∷ after) × IsRearranged xs (before ++ after)
@@ -76,7 +77,7 @@ IsRearranged {A} (x ∷ xs) ys = (before after : List A) × (ys ≡ before ++ x 
 abbrev pub without_answer : Writer → Writer
 without_answer w = record w { answer = None }
 
--- the group in hand, where it is in the core's second queue already
+-- the group in hand, where it is already in the core's second queue
 abbrev pub group_handed_on : LogPhase → List Writer → List Writer
 group_handed_on nobody ws = []
 group_handed_on (led c) ws = []
@@ -85,7 +86,7 @@ group_handed_on (in_log vs) ws = []
 group_handed_on (marked vs) ws = []
 group_handed_on (handed c) ws = ws
 
--- the core's writers are those of these entries, whatever they are answered
+-- the core's writers are those of these entries, whatever answers they have
 abbrev pub IsGroupOf : {Request : Type 0} → (QueuedWriter Request → Writer) → List (QueuedWriter Request) → List Writer
     → Type 0
 IsGroupOf writer_of es ws = map without_answer ws ≡ map without_answer (core_queue writer_of es)
@@ -99,7 +100,7 @@ module _ {Request Reply : Type 0} (writer_of : QueuedWriter Request → Writer) 
   abbrev pub HasGroups : List (Squad Request Reply) → List (List Writer) → Type 0
   HasGroups groups second = AllZip (λ g ws. IsGroupOf writer_of (line_of g) ws) (reverse groups) second
 
-  -- the log is in the same hand, and no group is logged
+  -- in the core the log is with the same holder, and no group is logged
   abbrev pub IsUnlogged : LogHolder Request → Lead2 → (ℕ → Option (Squad Request Reply)) → List Writer → LogPhase
       → Type 0
   IsUnlogged held lead apart ws phase = (phase ≡ core_log writer_of held) × (ws ≡ []) × IsSettled lead apart
@@ -122,9 +123,10 @@ module _ {Request Reply : Type 0} (writer_of : QueuedWriter Request → Writer) 
       × IsGroupOf writer_of (group ++ own ∷ []) ws)
 
 module _ {Request Reply : Type 0} (writer_of : QueuedWriter Request → Writer) (reply_of : Reply → CoreReply) where
-  -- The core has the same queue, the log where the lists show it, and the same groups in its second queue. Who is
-  -- handled and hasn't been told is in that queue or has left, with the same reply for an answer. Beside these is the
-  -- group that is handed on: the list handles it as its leader gives the log on.
+  -- The core has the same queue, the log where the lists show it, and the same groups in its second queue. A client
+  -- whose request is handled and that hasn't got its reply yet is in that second queue or has left, with that reply as
+  -- its answer. In addition to these there is the group that is handed on: the list handles it when its leader gives
+  -- the log on.
   pub record IsCoreOf (ws : List Writer) (l : Lists Request Reply) (half : ListHalf) : Type 0 where
     pub queue : half.queue ≡ core_queue writer_of l.0.0
     pub log : IsLogOf writer_of l.0.1 l.1.1 l.1.2 ws half.log
@@ -132,11 +134,11 @@ module _ {Request Reply : Type 0} (writer_of : QueuedWriter Request → Writer) 
     pub owed : IsRearranged (map (answer_in reply_of) l.0.3 ++ map answer_of (group_handed_on half.log ws))
         (map answer_of (half.leaving ++ writers_in half.second))
 
-  -- the core's writers are of the clients of the list's, and the core stands as both lists show it
+  -- the core's writers are of the same clients as the list's, and the core's state fits both lists
   abbrev pub StandsAs : List Writer → Lists Request Reply → CoreState → Type 0
   StandsAs ws l s = IsSame writer_of × IsCoreOf ws l (list_half_of s)
 
-  -- the event may come in the core, and takes it to what the lists are then
+  -- the event may come in the core, and takes it to a state that fits these lists
   abbrev pub IsTaken : Options → CoreEvent → CoreState → List Writer → Lists Request Reply → Type 0
   IsTaken o event s ws l = (new : CoreState) × (step o s event ≡ Some new)
       × IsCoreOf ws l (list_half_of new)

@@ -1,6 +1,6 @@
 -- The events of the list, and the state after them, as plain lists.
 use Rattle.std.specs.Prelude.{◌≡◌, ◌≢◌, ℕ, ◌==◌, not, List, [], ◌∷◌, ◌++◌, map, filter, reverse}
--- cited with the words below
+-- named here too, for those that cite the definitions below
 pub use Rattle.line_rule.specs.declared.view.LineEvent.{LineEvent}
 pub use Rattle.line_rule.specs.declared.view.LineEvent.TheVariants.{Comes as comes, Elects as elects, Builds as builds, Exits as exits, Completes as completes}
 use Rattle.line_rule.specs.declared.view.QueuedWriter.{QueuedWriter}
@@ -8,41 +8,42 @@ use Rattle.line_rule.specs.declared.view.Handling.{Handling}
 use Rattle.line_rule.specs.Chain.{Absent, of}
 use Rattle.line_rule.specs.Grouping.{IsGroup}
 
--- nobody has the log, or this client leads, or this writer leads and has this group besides itself
+-- nobody has the log, or this client leads, or this writer leads and has these others in its group
 pub data LogHolder (Request : Type 0) : Type 0 where
   free : LogHolder Request
   elected : ℕ → LogHolder Request
   grouped : QueuedWriter Request → List (QueuedWriter Request) → LogHolder Request
 
--- the queue, newest first, who has the log, what was handled, and what of it its clients haven't been told
+-- the queue, newest first, who has the log, what was handled, and for what of it the clients haven't got their replies
+-- yet
 abbrev pub Core : Type 0 → Type 0 → Type 0
 Core Request Reply = List (QueuedWriter Request) × LogHolder Request × List (Handling Request Reply)
     × List (Handling Request Reply)
 
--- the client doesn't have the log, nor has who has it the client's request
+-- the client doesn't have the log, and the one that has it doesn't have the client's request
 abbrev pub IsNotWith : {Request : Type 0} → ℕ → LogHolder Request → Type 0
 IsNotWith c free = Unit {0}
 IsNotWith c (elected leader) = leader ≢ c
 IsNotWith c (grouped own group) = Absent c (own ∷ group)
 
--- a client and its request: of a writer
+-- the client and the request of a writer
 abbrev pub wrote : {Request : Type 0} → QueuedWriter Request → ℕ × Request
 wrote e = (e.by, e.asked)
 
 module _ {Request Reply : Type 0} where
-  -- and of a handling
+  -- the client and the request of a handling
   abbrev pub was_for : Handling Request Reply → ℕ × Request
   was_for h = (h.by, h.asked)
 
-  -- without those of this client
+  -- the handlings without those of this client
   abbrev pub without : ℕ → List (Handling Request Reply) → List (Handling Request Reply)
   without c hs = filter (λ (h : Handling Request Reply). not (h.by == c)) hs
 
-  -- the client waits nowhere, and has nothing to be told
+  -- the client waits nowhere, and no reply is due to it
   abbrev pub IsAway : ℕ → Core Request Reply → Type 0
   IsAway c k = Absent c k.0 × IsNotWith c k.1 × (of c k.3 ≡ [])
 
-  -- clients and requests are those of the group, the leader's first, and then in link order
+  -- clients and requests of what was handled are those of the group, the leader's first, and then in link order
   abbrev pub IsOfGroup : QueuedWriter Request → List (QueuedWriter Request) → List (Handling Request Reply) → Type 0
   IsOfGroup own group new = map was_for new ≡ map wrote (own ∷ reverse group)
 
@@ -63,7 +64,7 @@ module _ {Request Reply : Type 0} where
       × IsOfGroup own group new
   Enabled k (completes h) = of h.by k.3 ≡ (h.asked, h.reply) ∷ []
 
-  -- after the events, the latest first
+  -- the state after these events; the latest is the first of the list
   abbrev pub core_of : List (LineEvent Request Reply) → Core Request Reply
   core_of [] = ([], free, [], [])
   core_of (v ∷ vs) = after (core_of vs) v
@@ -81,18 +82,19 @@ module _ {Request Reply : Type 0} where
   Legal bound [] = Unit {0}
   Legal bound (v ∷ vs) = IsBounded bound v × Enabled (core_of vs) v × Legal bound vs
 
-  -- the events are these, and then later ones
+  -- the events are those of `past`, and then later ones
   abbrev pub GoesOn : List (LineEvent Request Reply) → List (LineEvent Request Reply) → Type 0
   GoesOn events past = (later : List (LineEvent Request Reply)) × (events ≡ later ++ past)
 
-  -- the last event is that the client comes with q, when it had been told all that was handled for it, which is this
+  -- the last event is that the client comes with q, when all that was handled for it was `mine`
   abbrev pub HasCome : ℕ → Request → List (Request × Reply) → List (LineEvent Request Reply) → Type 0
   HasCome c q mine past = (e : QueuedWriter Request) × (before : List (LineEvent Request Reply))
       × (past ≡ comes e ∷ before) × (e.by ≡ c)
       × (e.asked ≡ q) × (of c (core_of before).2 ≡ mine)
 
-  -- The last event is that own builds its group under this bound, and these are left. The queue was these and the group
-  -- then, own's being the oldest writer of it; it led, and this was all that was handled.
+  -- The last event is that own builds its group under this bound, and `left` is left. Before it the queue was `left`
+  -- and then the group, with own as its oldest writer; own led, and `seen` was all that was handled. All these events
+  -- are legal.
   abbrev pub HasBuilt : ℕ → QueuedWriter Request → List (QueuedWriter Request) → List (QueuedWriter Request)
       → List (Handling Request Reply) → List (LineEvent Request Reply) → Type 0
   HasBuilt bound own group left seen past = (before : List (LineEvent Request Reply))

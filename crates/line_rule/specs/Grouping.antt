@@ -11,7 +11,7 @@ use Rattle.line_rule.specs.Chain.{Distinct, AllCoded}
 abbrev pub code_of : Item → ℕ
 code_of i = option_bits i.options + 8 * i.size
 
--- the item that a number stands for
+-- the item that a number represents
 abbrev pub item_of : ℕ → Item
 item_of code = record { size = code / 8; options = options_of_bits code }
 
@@ -28,11 +28,12 @@ module _ {Request : Type 0} where
   abbrev pub items : List (QueuedWriter Request) → List Item
   items queue = map item_of (reverse (codes queue))
 
-  -- of the queue, whose oldest writer is own, the leader takes the group of the grouping rule, and these are left
+  -- from the queue, whose oldest writer is own, the leader takes the group of the grouping rule, and `left` is left
   abbrev pub IsGroup : ℕ → QueuedWriter Request → List (QueuedWriter Request) → List (QueuedWriter Request) → Type 0
   IsGroup max own group left = length (group ++ own ∷ []) ≡ group_len max (items (left ++ (group ++ own ∷ [])))
 
-  -- the same, of writers of different clients, of whose requests and codes holds what the list's law asks
+  -- the same; the group's writers, with own, are of different clients, and their requests and codes are as the list's
+  -- law asks
   abbrev pub IsWhole : (Request → ℕ → Type 0) → ℕ → QueuedWriter Request → List (QueuedWriter Request)
       → List (QueuedWriter Request) → Type 0
   IsWhole asks max own group left = IsGroup max own group left × Distinct (group ++ own ∷ [])

@@ -15,13 +15,13 @@ use Rattle.line_rule.specs.Events.{IsNotWith}
 use Rattle.line_rule.specs.Standing.{line_of, flat}
 use Rattle.line_rule.specs.Steps.{Lists}
 
--- the seat has this client alone, and knows this
+-- the seat is this client's alone, and h is what it knows
 abbrev pub Sees : {Request Reply Log Right : Type 0}
     → State (LineSlot Request Reply Log Right) (List (LineHold Request Reply)) → ℕ → LineHold Request Reply → Type 0
 Sees s id h = get_elem? s.views id ≡ some (h ∷ [])
 
 module _ {Request Reply : Type 0} where
-  -- the leader that the stage tells of is this client
+  -- the leader that the stage names is this client
   abbrev pub IsOwn : ℕ → LineStage Request Reply → Type 0
   IsOwn c Idle = Unit {0}
   IsOwn c (Preparing w) = Unit {0}
@@ -34,7 +34,7 @@ module _ {Request Reply : Type 0} where
   IsOwn c (Settling debt) = debt.own.by ≡ c
   IsOwn c Collecting = Unit {0}
 
-  -- the group has come into the second list, and its leader has the log still
+  -- the group has come into the second list, and its leader still has the log
   abbrev pub IsJoined : Squad Request Reply → Back Request Reply → Type 0
   IsJoined g Away = ⊥
   IsJoined g (Parting f end) = ⊥
@@ -44,7 +44,7 @@ module _ {Request Reply : Type 0} where
   IsJoined g (Serving f walk) = ⊥
   IsJoined g (Passing f next) = ⊥
 
-  -- its leader has the right
+  -- the group's leader has the right
   abbrev pub IsServed : Squad Request Reply → Back Request Reply → Type 0
   IsServed g Away = ⊥
   IsServed g (Parting f end) = ⊥
@@ -54,20 +54,20 @@ module _ {Request Reply : Type 0} where
   IsServed g (Serving f walk) = f ≡ g
   IsServed g (Passing f next) = ⊥
 
-  -- the second list is this group and then, going on by the older links, older ones
+  -- the second list is this group and then, along the older links, older ones
   abbrev pub IsNewestGroup : Squad Request Reply → List ℕ → Type 0
   IsNewestGroup g words = (older : List (Squad Request Reply))
       × (slice_index words 1 ≡ newest (line_of g ++ flat older))
       × Links words (line_of g ++ flat older)
 
-  -- it is newer ones and then this group
+  -- the second list is newer groups and then this one
   abbrev pub IsOldestGroup : Squad Request Reply → List ℕ → Type 0
   IsOldestGroup g words = (newer : List (Squad Request Reply))
       × (slice_index words 1 ≡ newest (flat newer ++ line_of g))
       × Links words (flat newer ++ line_of g)
 
-  -- the walk from the newest writer of the second list is its groups, but for an oldest one whose leader has cut it off
-  -- and has yet to give the right on
+  -- the walk from the newest writer of the second list is its groups, except for an oldest one whose leader has cut it
+  -- off and has yet to give the right on
   abbrev pub IsWalked : Lists Request Reply → List ℕ → Type 0
   IsWalked l words = (walked cut : List (Squad Request Reply)) × (l.1.0 ≡ walked ++ cut) × (length cut ≤ 1)
       × (slice_index words 1 ≡ newest (flat walked)) × Links words (flat walked)

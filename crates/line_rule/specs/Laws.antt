@@ -1,4 +1,4 @@
--- What the log and the right stand for.
+-- What the log and the right cover.
 use Rattle.std.specs.Prelude.{Bool, true, ◌≡◌, ℕ, ◌+◌, ◌-◌, ◌==◌, cond, List, [], ◌∷◌}
 use Rattle.std.specs.Prelude.{Option as Picked, None, Some}
 use Rattle.model_base.specs.declared.group.Item.{Item}
@@ -7,14 +7,14 @@ use Rattle.line_rule.specs.declared.rule.LogOfGroups.{Ghosts}
 use Rattle.line_rule.specs.Grouping.{code_by}
 use Rattle.line_rule.specs.declared.view.Handling.{Handling}
 
--- where there is a second list, nothing between the two gives a run
+-- where there is a second list, nothing that was handled from `seen` to `now` was given a run
 abbrev pub Unnumbered : {Request Reply : Type 0} → Bool
     → (List (Handling Request Reply) → List (Handling Request Reply)) → List (Handling Request Reply)
     → List (Handling Request Reply) → Type 0
 Unnumbered piped given seen now = piped ≡ true → given now ≡ given seen
 
--- what the log stands for, and the right; which of what was handled was given runs, of which alone the right tells;
--- what the right stands for at opening; whether there is a second list
+-- what the log covers, and what the right covers; which handled requests were given runs, since the right covers only
+-- such ones; what the right covers at opening; whether there is a second list
 pub record Laws (Request Reply Log Right : Type 0) : Type 1 where
   pub logs : Log → List (Handling Request Reply) → Type 0
   pub rights : Right → List (Handling Request Reply) → Type 0
@@ -34,7 +34,7 @@ abbrev pub asks_for : {Request About : Type 0} → (Request → Item) → (About
     → Type 0
 asks_for item_of lawful about q code = (code ≡ code_by item_of q) × lawful about q
 
--- the same where what the law is about was picked
+-- the same where the caller picked what the law is about; else only the code is asked for
 abbrev pub asks_picked : {Request About : Type 0} → (Request → Item) → (About → Request → Type 0) → Picked About
     → Request → ℕ → Type 0
 asks_picked item_of lawful None = λ q code. code ≡ code_by item_of q
@@ -47,7 +47,7 @@ last_run run start [] = start
 last_run run start (h ∷ hs) = last_run run
     (cond ((run h.reply).1 == 0) start ((run h.reply).0 + (run h.reply).1 - 1)) hs
 
--- those of the handled that were given runs
+-- those of what was handled that were given runs
 abbrev pub given_runs : {Request Reply : Type 0} → (Reply → ℕ × ℕ) → List (Handling Request Reply)
     → List (Handling Request Reply)
 given_runs run [] = []
@@ -58,7 +58,8 @@ abbrev pub logs_from : {Request Reply Log : Type 0} → (Log → List (Handling 
     → (Reply → ℕ × ℕ) → ℕ → Log → List (Handling Request Reply) → Type 0
 logs_from stands kept number run start l hs = stands l hs × kept hs × (number l ≡ last_run run start hs)
 
--- the same where what the law is about was picked: `log` is what the log says, as its trait has it
+-- the same where the caller picked what the law is about, else nothing is said; `log` has the definitions of the log's
+-- trait
 abbrev pub logs_picked : {Request Reply Log Right About : Type 0} → (Reply → ℕ × ℕ)
     → Ghosts Log Request Reply Right About → ℕ → Picked About → Log → List (Handling Request Reply) → Type 0
 logs_picked run log start None = λ l hs. Unit {0}
@@ -92,7 +93,7 @@ laws asks stands kept number run serves start piped bound = record {
   asks = asks;
 }
 
--- the laws of a list that is opened so
+-- the laws of a list that is opened for k
 abbrev pub laws_for : {Request Reply Log Right About : Type 0} → (Request → Item) → (Reply → ℕ × ℕ)
     → Ghosts Log Request Reply Right About → Start About → Laws Request Reply Log Right
 laws_for item_of run log k =

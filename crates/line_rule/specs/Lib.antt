@@ -11,3 +11,4 @@ pub mod CoreEvents
 pub mod Handing
 pub mod SecondList
 pub mod Before
+pub mod Members

@@ -1,4 +1,4 @@
--- What each step tells.
+-- What each step tells its caller.
 use Rattle.std.specs.Prelude.{Bool, true, ◌≡◌, ◌≢◌, ℕ, ◌<◌, ◌+◌, ◌⊎◌, List, [], ◌∷◌, ◌++◌, length}
 use Rattle.atomic_table.specs.Table.{Me, Step, rest}
 use Rattle.line_rule.specs.declared.words.TheConstants.{MARK, STATE_DONE, STATE_LEADS_LOG, STATE_LEADS_TABLE, STATE_PARALLEL}
@@ -45,7 +45,7 @@ lead_with_walk lead w = record {
   past = lead.past;
 }
 
--- and has taken one request more
+-- the leader has taken one more request
 abbrev pub lead_with_one_more : {Request Reply : Type 0} → Lead Request Reply → QueuedWriter Request
     → Lead Request Reply
 lead_with_one_more lead e = record {
@@ -71,12 +71,12 @@ abbrev pub back_after_cut : {Request Reply : Type 0} → Option (List (Handling 
 back_after_cut none lead = Away
 back_after_cut (some k) lead = Parting (squad_at_cut lead k) 0
 
--- and with what was given runs after it
+-- a group of the second list, with what was given runs with it
 abbrev pub squad_with_end : {Request Reply : Type 0} → Squad Request Reply → List (Handling Request Reply)
     → Squad Request Reply
 squad_with_end g k = record { own = g.own; rest = g.rest; from = g.from; to = k }
 
--- the leader has given the log on
+-- where its group is with respect to the second list, once the leader has given the log on
 abbrev pub back_after_log : {Request Reply : Type 0} → Back Request Reply → Back Request Reply
 back_after_log Away = Away
 back_after_log (Parting g k) = Parting g k
@@ -86,8 +86,9 @@ back_after_log (Queued g) = Queued g
 back_after_log (Serving g walk) = Serving g walk
 back_after_log (Passing g x) = Passing g x
 
--- what a leader needs that gives the log on: a group that is in the second list was given the runs that it said, one
--- that is not was given none
+-- What must hold when a leader gives the log on. Where its group has come into the second list, what it ends with there
+-- is all that was given runs. Where there is a second list, but the group doesn't go there, it was given no runs. At
+-- each other point a leader doesn't give the log on.
 abbrev pub HandsOn : {Request Reply : Type 0} → Bool → (List (Handling Request Reply) → List (Handling Request Reply))
     → Back Request Reply
     → List (Handling Request Reply) → List (Handling Request Reply) → Type 0
@@ -131,7 +132,7 @@ module _ {Request Reply Log Right : Type 0} where
   abbrev pub At : ℕ → LineStage Request Reply → List (Request × Reply) → Sat Request Reply Log Right → Type 0
   At c st mine m = m.0 ≡ hold c st mine ∷ []
 
-  -- and its group stands so with respect to the second list
+  -- the seat of one client, which is at this stage, and b is where its group is with respect to the second list
   abbrev pub AtWith : ℕ → LineStage Request Reply → List (Request × Reply) → Back Request Reply
       → Sat Request Reply Log Right → Type 0
   AtWith c st mine b m = m.0 ≡ hold_at c st mine b ∷ []
@@ -159,7 +160,7 @@ module _ {Request Reply Log Right : Type 0} where
       × At c (Fresh own seen) mine m'
       × (own.by ≡ c) × (own.asked ≡ q) × stood l seen × (m'.1 ≡ (0, TheLog l) ∷ (c, Asked q) ∷ []) × (of c seen ≡ mine)
 
-  -- the compare-exchange that links: it leads where it found 0, and else waits
+  -- the compare-exchange that links: where it succeeds, the client leads if it found 0, and else waits
   abbrev pub after_link : (Log → List (Handling Request Reply) → Type 0) → Step (LineSlot Request Reply Log Right)
       → Sat Request Reply Log Right → ℕ → Sat Request Reply Log Right
       → Type 0
@@ -176,7 +177,7 @@ module _ {Request Reply Log Right : Type 0} where
   Replied kept c q mine m' = (p : Reply) × At c Collecting (mine ++ (q, p) ∷ []) m' × (m'.1 ≡ (c, Told p) ∷ [])
       × ((handled : List (Handling Request Reply)) × kept handled × (of c handled ≡ mine ++ (q, p) ∷ []))
 
-  -- a load of the client's own state: at STATE_PARALLEL it is to work beside its leader
+  -- a load of the client's own state: at STATE_PARALLEL it works in parallel with its leader
   abbrev pub after_read_state : (Log → List (Handling Request Reply) → Type 0)
       → (List (Handling Request Reply) → Type 0) → Step (LineSlot Request Reply Log Right)
       → Sat Request Reply Log Right → ℕ → Sat Request Reply Log Right → Type 0
@@ -187,7 +188,7 @@ module _ {Request Reply Log Right : Type 0} where
       × (r ≡ STATE_PARALLEL → At c (Helping q) mine m' × (m'.1 ≡ m.1))
       × (r ≢ STATE_LEADS_LOG → r ≢ STATE_DONE → r ≢ STATE_PARALLEL → m' ≡ m)
 
-  -- the same of one that works beside its leader
+  -- a load of its own state by a client that works in parallel with its leader
   abbrev pub after_read_reply : (List (Handling Request Reply) → Type 0) → Step (LineSlot Request Reply Log Right)
       → Sat Request Reply Log Right → ℕ → Sat Request Reply Log Right
       → Type 0
@@ -200,7 +201,7 @@ module _ {Request Reply Log Right : Type 0} where
   after_return_slot st m r m' = (c : ℕ) (mine : List (Request × Reply)) → At c Collecting mine m → At c Idle mine m'
       × (m'.1 ≡ [])
 
-  -- the newest writer, and those from there on, of whom there are fewer than slots
+  -- the leader has read the newest writer; the writers from there on are fewer than the slots
   abbrev pub Walks : ℕ → ℕ → Lead Request Reply → List (Request × Reply) → ℕ → Sat Request Reply Log Right
       → Sat Request Reply Log Right → Type 0
   Walks slots c lead mine r m m' = (queue : List (QueuedWriter Request))
@@ -230,7 +231,7 @@ module _ {Request Reply Log Right : Type 0} where
   SeesQueue c m walk = (lead : Lead Request Reply) × (mine : List (Request × Reply))
       × At c (Leading lead) mine m × (lead.walk ≡ walk)
 
-  -- the leader has read these writers behind its mark
+  -- the leader has read these writers, which came after its mark
   abbrev pub SeesMarked : ℕ → Sat Request Reply Log Right → List (QueuedWriter Request) → Type 0
   SeesMarked c m walk = (lead : Lead Request Reply) × (mine : List (Request × Reply)) × (b : Back Request Reply)
       × AtWith c (Marking lead) mine b m × (lead.walk ≡ walk)
@@ -240,12 +241,12 @@ module _ {Request Reply Log Right : Type 0} where
   SeesSecond c m walk = (stage : LineStage Request Reply) × (mine : List (Request × Reply)) × (g : Squad Request Reply)
       × AtWith c stage mine (Serving g walk) m
 
-  -- the leader has read these writers, of whom the oldest one's link names this end
+  -- the leader has read these writers, and the link of the oldest one names this end
   abbrev pub SeesTo : ℕ → ℕ → Sat Request Reply Log Right → List (QueuedWriter Request) → Type 0
   SeesTo end c m walk = ((end ≡ 0) × SeesQueue c m walk) ⊎ ((end ≡ MARK) × SeesMarked c m walk)
       ⊎ ((end ≡ 0) × SeesSecond c m walk)
 
-  -- a link of the walk
+  -- the load of a link of the walk
   abbrev pub after_read_older : Step (LineSlot Request Reply Log Right) → Sat Request Reply Log Right → ℕ
       → Sat Request Reply Log Right → Type 0
   after_read_older st m r m' = (m' ≡ m)
@@ -254,7 +255,7 @@ module _ {Request Reply Log Right : Type 0} where
       → SeesTo end c m walk → walk ≡ pre ++ x ∷ post → st.word ≡ older_at x.by
       → r ≡ pack (newest_from end post) x.code)
 
-  -- the request of the oldest writer that is not in hand
+  -- the leader takes the request of the oldest writer whose request it doesn't have in hand
   abbrev pub after_fetch : Step (LineSlot Request Reply Log Right) → Sat Request Reply Log Right → ℕ
       → Sat Request Reply Log Right → Type 0
   after_fetch st m r m' = (c : ℕ) (lead : Lead Request Reply) (mine : List (Request × Reply))
@@ -262,7 +263,7 @@ module _ {Request Reply Log Right : Type 0} where
       → At c (Leading lead) mine m → lead.walk ≡ pre ++ x ∷ in_hand lead → st.word ≡ older_at x.by
       → At c (Leading (lead_with_one_more lead x)) mine m' × (m'.1 ≡ (x.by, Asked x.asked) ∷ m.1)
 
-  -- the log is given back with all that was handled, where nobody came after the group
+  -- the log is given back with all that was handled, if nobody came after the group
   abbrev pub after_leave : Step (LineSlot Request Reply Log Right) → Sat Request Reply Log Right → ℕ
       → Sat Request Reply Log Right → Type 0
   after_leave st m r m' = (c : ℕ) (lead : Lead Request Reply) (mine : List (Request × Reply))
@@ -271,7 +272,7 @@ module _ {Request Reply Log Right : Type 0} where
       → (r ≡ st.first → At c (Settling (debt gs lead.own p)) mine m' × (m'.1 ≡ slots_of gs ((c, Told p) ∷ [])))
       × (r ≢ st.first → Walks st.slots c lead mine r m m')
 
-  -- a member is told its reply
+  -- a member gets its reply
   abbrev pub after_complete : Step (LineSlot Request Reply Log Right) → Sat Request Reply Log Right → ℕ
       → Sat Request Reply Log Right → Type 0
   after_complete st m r m' = (c : ℕ) (g : QueuedWriter Request
@@ -286,7 +287,7 @@ module _ {Request Reply Log Right : Type 0} where
       → At c (Settling (debt [] own p)) mine m
       → At c Idle (mine ++ (own.asked, p) ∷ []) m' × (m'.1 ≡ rest m.1)
 
-  -- the link of the oldest writer behind the group is cleared
+  -- the link of the oldest writer after the group is cleared
   abbrev pub after_cut_as : Option (List (Handling Request Reply)) → Step (LineSlot Request Reply Log Right)
       → Sat Request Reply Log Right → ℕ → Sat Request Reply Log Right → Type 0
   after_cut_as ch st m r m' = (c : ℕ) (lead : Lead Request Reply) (mine : List (Request × Reply))
@@ -298,7 +299,7 @@ module _ {Request Reply Log Right : Type 0} where
       → Sat Request Reply Log Right → Type 0
   after_cut_off st m r m' = after_cut_as none st m r m'
 
-  -- that writer has the log now, with all that was handled
+  -- the log goes on to that writer, with all that was handled
   abbrev pub after_wake : Step (LineSlot Request Reply Log Right) → Sat Request Reply Log Right → ℕ
       → Sat Request Reply Log Right → Type 0
   after_wake st m r m' = (c : ℕ) (lead : Lead Request Reply) (x : QueuedWriter Request) (mine : List (Request × Reply))
@@ -308,7 +309,7 @@ module _ {Request Reply Log Right : Type 0} where
       → heads gs ≡ lead.taken → m.1 ≡ (0, TheLog l) ∷ slots_of gs ((c, Told p) ∷ t)
       → AtWith c (Settling (debt gs lead.own p)) mine (back_after_log b) m' × (m'.1 ≡ slots_of gs ((c, Told p) ∷ t))
 
-  -- the mark is put where nobody came after the group
+  -- the mark is put, if nobody came after the group
   abbrev pub after_mark : List (Handling Request Reply) → Step (LineSlot Request Reply Log Right)
       → Sat Request Reply Log Right → ℕ → Sat Request Reply Log Right → Type 0
   after_mark from st m r m' = (c : ℕ) (lead : Lead Request Reply) (mine : List (Request × Reply))
@@ -317,14 +318,14 @@ module _ {Request Reply Log Right : Type 0} where
       × (m'.1 ≡ m.1))
       × (r ≢ st.first → Walks st.slots c lead mine r m m')
 
-  -- the writers behind the mark, from the newest one on
+  -- the writers that came after the mark, from the newest one on
   abbrev pub WalksMarked : ℕ → ℕ → Lead Request Reply → List (Request × Reply) → Back Request Reply → ℕ
       → Sat Request Reply Log Right → Sat Request Reply Log Right → Type 0
   WalksMarked slots c lead mine b r m m' = (walk : List (QueuedWriter Request))
       × AtWith c (Marking (lead_with_walk lead walk)) mine b m'
       × (m'.1 ≡ m.1) × (r ≡ newest_from MARK walk) × (length walk + 1 < slots) × AllBelow slots walk
 
-  -- the mark is taken away where nobody came behind it, and the log is given back
+  -- the mark is taken away if nobody came after it, and the log is given back
   abbrev pub after_free : Step (LineSlot Request Reply Log Right) → Sat Request Reply Log Right → ℕ
       → Sat Request Reply Log Right → Type 0
   after_free st m r m' = (c : ℕ) (lead : Lead Request Reply) (mine : List (Request × Reply)) (b : Back Request Reply)
@@ -335,7 +336,7 @@ module _ {Request Reply Log Right : Type 0} where
       → (r ≡ st.first → AtWith c (Settling (debt gs lead.own p)) mine (back_after_log b) m'
       × (m'.1 ≡ slots_of gs ((c, Told p) ∷ t))) × (r ≢ st.first → WalksMarked st.slots c lead mine b r m m')
 
-  -- the link of the oldest writer behind the mark is cleared
+  -- the link of the oldest writer after the mark is cleared
   abbrev pub after_cut_behind_mark : Step (LineSlot Request Reply Log Right) → Sat Request Reply Log Right → ℕ
       → Sat Request Reply Log Right → Type 0
   after_cut_behind_mark st m r m' = (c : ℕ) (lead : Lead Request Reply) (mine : List (Request × Reply))
@@ -352,7 +353,8 @@ module _ {Request Reply Log Right : Type 0} where
       → AtWith c stage mine (Parting g b0) m → st.first ≡ pack b g.own.code
       → AtWith c stage mine (Parting g b) m' × (m'.1 ≡ m.1)
 
-  -- the group comes into the second list, and its leader takes the right where there was none
+  -- the compare-exchange that puts the group into the second list: where it succeeds, the leader takes the right if the
+  -- list was empty
   abbrev pub after_join_second : (Right → List (Handling Request Reply) → Type 0) → List (Handling Request Reply)
       → Step (LineSlot Request Reply Log Right) → Sat Request Reply Log Right
       → ℕ → Sat Request Reply Log Right → Type 0
@@ -365,7 +367,7 @@ module _ {Request Reply Log Right : Type 0} where
       × (k + 1 ≡ st.slots))
       × (r ≢ st.first → m' ≡ m)
 
-  -- a load of the state of a leader whose group is in the second list, behind others at first
+  -- a load of its state by a leader whose group came into the second list after others
   abbrev pub after_summon : (Right → List (Handling Request Reply) → Type 0) → Step (LineSlot Request Reply Log Right)
       → Sat Request Reply Log Right → ℕ → Sat Request Reply Log Right
       → Type 0
@@ -376,7 +378,7 @@ module _ {Request Reply Log Right : Type 0} where
       × AtWith c (Settling d) mine (Serving g []) m'
       × (m'.1 ≡ (k, TheRight right) ∷ m.1) × (k + 1 ≡ st.slots)) × (r ≢ STATE_LEADS_TABLE → m' ≡ m)
 
-  -- the newest writer of the second list, and those from there on
+  -- the leader has read the newest writer of the second list, and those from there on
   abbrev pub WalksSecond : ℕ → ℕ → Debt Request Reply → List (Request × Reply) → Squad Request Reply → ℕ
       → Sat Request Reply Log Right → Sat Request Reply Log Right → Type 0
   WalksSecond slots c d mine g r m m' = (newer : List (QueuedWriter Request))
@@ -384,7 +386,7 @@ module _ {Request Reply Log Right : Type 0} where
       × (r ≡ newest (newer ++ line_of g)) × (length (newer ++ line_of g) + 1 < slots)
       × AllBelow slots (newer ++ line_of g)
 
-  -- the right is given back where no group came after the leader's own
+  -- the right is given back if no group came after the leader's own
   abbrev pub after_leave_second : Step (LineSlot Request Reply Log Right) → Sat Request Reply Log Right → ℕ
       → Sat Request Reply Log Right → Type 0
   after_leave_second st m r m' = (c : ℕ) (d : Debt Request Reply) (mine : List (Request × Reply))
@@ -402,14 +404,14 @@ module _ {Request Reply Log Right : Type 0} where
       → st.word ≡ older_at x.by
       → AtWith c (Settling d) mine (Passing g x) m' × (m'.1 ≡ m.1)
 
-  -- that leader is told, and has the right
+  -- that leader is called, and the right goes on to it
   abbrev pub after_call_next : Step (LineSlot Request Reply Log Right) → Sat Request Reply Log Right → ℕ
       → Sat Request Reply Log Right → Type 0
   after_call_next st m r m' = (c : ℕ) (stage : LineStage Request Reply) (mine : List (Request × Reply))
       (g : Squad Request Reply) (x : QueuedWriter Request)
       → AtWith c stage mine (Passing g x) m → At c stage mine m' × (m'.1 ≡ rest m.1)
 
-  -- a member is told to work beside its leader
+  -- a member may now work in parallel with its leader
   abbrev pub after_make_parallel : Step (LineSlot Request Reply Log Right) → Sat Request Reply Log Right → ℕ
       → Sat Request Reply Log Right → Type 0
   after_make_parallel st m r m' = m' ≡ m

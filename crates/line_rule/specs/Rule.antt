@@ -20,11 +20,11 @@ use Rattle.line_rule.specs.Events.{LineEvent, LogHolder, free, elected, grouped,
 use Rattle.line_rule.specs.Chain.{state_at, older_at, newest, newest_from, Links, LinksFrom, Distinct, Within, EndsWith, of, heads}
 use Rattle.line_rule.specs.Standing.{Phase, idle, preparing, linked, chosen, leads, taken, completed, collecting, Mode, open_, waits, led, built, cut, marked, base_of, Holds, InFront, Place, away, parted, queued, called, serves, served, Turn, still, calls, held_by, passes, ahead, Two, line_of, flat, In, Apart, InStep, KnowsBack}
 use Rattle.line_rule.specs.Laws.{Laws}
--- cited with the words of the rule by those who make the steps
+-- named here too, since those who make the steps cite them together with the definitions of the rule
 pub use Rattle.line_rule.specs.Laws.{Unnumbered, given_runs, last_run, logs_from, logs_picked, serves_picked, kept_picked, asks_for, asks_picked}
 
 module _ {Request Reply : Type 0} where
-  -- the writer e stands in the list
+  -- by the client's phase the writer e is in the list
   abbrev pub InChain : QueuedWriter Request → Phase Request Reply → Type 0
   InChain e idle = ⊥
   InChain e (preparing w) = ⊥
@@ -58,13 +58,13 @@ module _ {Request Reply : Type 0} where
   abbrev pub IsLed : (ℕ → Phase Request Reply) → ℕ → Squad Request Reply → Type 0
   IsLed phase c g = (g.own.by ≡ c) × (phase c ≡ leads g.own) × AllWith phase c g.rest
 
-  -- each group's members are its leader's
+  -- the members of each group are with its leader
   abbrev pub AllGroups : (ℕ → Phase Request Reply) → (ℕ → Place Request Reply) → List (Squad Request Reply) → Type 0
   AllGroups phase place [] = Unit {0}
   AllGroups phase place (g ∷ gs) = (phase g.own.by ≡ leads g.own) × In g (place g.own.by)
       × AllWith phase g.own.by g.rest × AllGroups phase place gs
 
-  -- the client has put q, and has not had the reply
+  -- the client has put its request q in, doesn't lead, and hasn't taken the reply yet
   abbrev pub Waits : Request → Phase Request Reply → Type 0
   Waits q idle = ⊥
   Waits q (preparing w) = ⊥
@@ -96,7 +96,7 @@ module _ {Request Reply : Type 0} where
   AllTaken phase due c [] = Unit {0}
   AllTaken phase due c (e ∷ es) = (phase e.by ≡ taken c e) × (due e.by ≡ []) × AllTaken phase due c es
 
-  -- their requests are handled by c, and they haven't been told
+  -- c has handled their requests, and they haven't got their replies yet
   abbrev pub AllOwed : (ℕ → Phase Request Reply) → (ℕ → List (Request × Reply)) → ℕ
       → List (QueuedWriter Request × Reply) → Type 0
   AllOwed phase due c [] = Unit {0}
@@ -122,7 +122,7 @@ module _ {Request Reply : Type 0} where
         × (due c ≡ (debt.own.asked, debt.reply) ∷ []) × Distinct (heads debt.rest)
     Knows Collecting = phase c ≡ collecting
 
-  -- What a client knows of the events that led here. So these only go on: nobody can put another past behind what
+  -- What a client knows of the events that led here. So events are only added: nobody can replace the past that
   -- somebody knows.
   abbrev pub Recalls : List (LineEvent Request Reply) → LineStage Request Reply → Type 0
   Recalls events Idle = Unit {0}
@@ -150,7 +150,8 @@ module _ {Request Reply : Type 0} where
     AllFit [] = Unit {0}
     AllFit (h ∷ hs) = Fits h × AllFit hs
 
-  -- the holds of n clients that have done nothing
+  -- what is known of a client at a stage, with no group in the second list or on its way there; `hold_at` is the same
+  -- of one whose group is at `b`; `newcomers` are n clients that have done nothing
   abbrev pub hold : ℕ → LineStage Request Reply → List (Request × Reply) → LineHold Request Reply
   hold c st m = record { client = c; stage = st; mine = m; back = Away }
 
@@ -163,7 +164,7 @@ module _ {Request Reply : Type 0} where
   newcomers (suc n) = hold (suc n) Idle [] ∷ newcomers n
 
 module _ {Request Reply : Type 0} where
-  -- who has cut its group off has the log for it, and its members' requests in hand
+  -- a leader that has cut its group off has the log for it, and its members' requests in hand
   abbrev pub HasCut : LogHolder Request → List (QueuedWriter Request) → (ℕ → Phase Request Reply) → Mode Request
       → Type 0
   HasCut log hand phase open_ = Unit {0}
@@ -221,12 +222,12 @@ module _ {Request Reply Log Right : Type 0} (stands : Laws Request Reply Log Rig
   abbrev pub LogHome : List (Option (LineSlot Request Reply Log Right)) → List (Handling Request Reply) → Type 0
   LogHome homes handled = (l : Log) × (get_elem? homes 0 ≡ some (some (TheLog l))) × stands.logs l handled
 
-  -- the right is at home, at the last slot, and stands for these
+  -- the right is at home, in the last slot, and covers these
   abbrev pub RightHome : ℕ → List (Option (LineSlot Request Reply Log Right)) → List (Handling Request Reply) → Type 0
   RightHome n homes hs = (r : Right) × (get_elem? homes (n + 1) ≡ some (some (TheRight r))) × stands.rights r hs
 
-  -- what the right stands for and what the log does go together in a list with a second one; others have no groups
-  -- there, and the right stands for what it did at opening
+  -- in a list with a second one, what the right covers and what the log covers go together, by the groups between
+  -- them; a list without a second one has no groups, and the right covers what it did at opening
   abbrev pub Level : Bool → Two Request Reply → List (Handling Request Reply) → Type 0
   Level true two last = InStep two.done two.groups last two.lead
   Level false two last = (two.groups ≡ []) × (two.done ≡ stands.opened)
@@ -246,7 +247,7 @@ module _ {Request Reply Log Right : Type 0} (stands : Laws Request Reply Log Rig
         × (two.groups ≡ newer ++ g ∷ [])
         × (g.own.by ≡ w)
 
-    -- a group that is cut off from the first list
+    -- the group g is cut off from the first list
     abbrev pub Parts : ℕ → Squad Request Reply → ℕ → Type 0
     Parts c g b = (g.own.by ≡ c) × (phase c ≡ leads g.own) × AllWith phase c g.rest × LinksFrom b words (line_of g)
         × Distinct (line_of g) × Within n (line_of g)
@@ -300,7 +301,7 @@ module _ {Request Reply Log Right : Type 0} (stands : Laws Request Reply Log Rig
       pub handled : List (Handling Request Reply)
       pub mode : Mode Request
       pub phase : ℕ → Phase Request Reply
-      -- what was handled for a client and not yet told it, and what it was told
+      -- what was handled for a client and it hasn't taken out yet, and what it has
       pub due : ℕ → List (Request × Reply)
       pub told : ℕ → List (Request × Reply)
       pub two : Two Request Reply
@@ -326,14 +327,6 @@ module _ {Request Reply Log Right : Type 0} (stands : Laws Request Reply Log Rig
       pub seats : (j : ℕ) (v : List (LineHold Request Reply)) → get_elem? s.views j ≡ some v
           → AllFit n line hand handled mode phase due told two account.events seat j v
 
-abbrev pub all_but_first : {A : Type 0} → List A → List A
-all_but_first [] = []
-all_but_first (x ∷ xs) = xs
-
-abbrev pub first_only : {A : Type 0} → List A → List A
-first_only [] = []
-first_only (x ∷ xs) = x ∷ []
-
 -- what `close` says
 module _ {Request Reply : Type 0} where
   abbrev pub Has : LineHold Request Reply → List (LineHold Request Reply) → Type 0
@@ -344,6 +337,6 @@ module _ {Request Reply : Type 0} where
   abbrev pub AllIdle : ℕ → List (LineHold Request Reply) → Type 0
   AllIdle n v = (i : ℕ) → 0 < i → i ≤ n → (m : List (Request × Reply)) × Has (hold i Idle m) v
 
-  -- what was handled, in which each client's handlings are those that it was told, in its order
+  -- in `handled` each client's handlings are those that it was told, in the same order
   abbrev pub Merges : List (Handling Request Reply) → List (LineHold Request Reply) → Type 0
   Merges handled v = (h : LineHold Request Reply) → Has h v → of h.client handled ≡ h.mine

@@ -1,4 +1,4 @@
--- The second list as its events tell of it.
+-- The second list as its events show it.
 use Rattle.std.specs.Prelude.{◌≡◌, ◌≢◌, ℕ, List, [], ◌∷◌, ◌++◌}
 use mathlib.Core.Option.{Option, none, some}
 use Rattle.line_rule.specs.declared.view.Squad.{Squad}
@@ -6,8 +6,8 @@ use Rattle.line_rule.specs.declared.view.Back.{Back}
 use Rattle.line_rule.specs.declared.view.Back.TheVariants.{Away, Parting, Joining, Holding, Queued, Serving, Passing}
 use Rattle.line_rule.specs.Standing.{Place, away, parted, queued, called, serves, served, Turn, still, calls, held_by, passes, Lead2, level, ahead, Two}
 
--- its groups, newest first; whose group, which is the newest one, is there while it has the log still; and the group
--- that a client has cut off from the first list, and that has yet to come into this one
+-- its groups, newest first; the leader, if there is one, whose group is the newest one there while it still has the
+-- log; and for each client the group that it has cut off from the first list and that has yet to come into this one
 abbrev pub SecondList : Type 0 → Type 0 → Type 0
 SecondList Request Reply = List (Squad Request Reply) × Lead2 × (ℕ → Option (Squad Request Reply))
 
@@ -38,12 +38,12 @@ module _ {Request Reply : Type 0} where
   abbrev pub second_list_of : Two Request Reply → SecondList Request Reply
   second_list_of two = (two.groups ++ last_served two.place two.turn, two.lead, λ k. apart_in (two.place k))
 
-  -- for c it is this now, and for the others as it was
+  -- for c it is now g, and for the others it is as it was
   abbrev pub IsPut : ℕ → Option (Squad Request Reply) → (ℕ → Option (Squad Request Reply))
       → (ℕ → Option (Squad Request Reply)) → Type 0
   IsPut c g was now = (now c ≡ g) × ((k : ℕ) → k ≢ c → now k ≡ was k)
 
-  -- who is ahead is c, where its group is in the second list while it has the log, and not, where it has none there
+  -- c is the one that is ahead if its group is in the second list while it has the log, and else it isn't
   abbrev pub IsAhead : Back Request Reply → ℕ → Lead2 → Type 0
   IsAhead Away c lead = lead ≢ ahead c
   IsAhead (Parting g b) c lead = lead ≢ ahead c
@@ -53,7 +53,7 @@ module _ {Request Reply : Type 0} where
   IsAhead (Serving g walk) c lead = lead ≢ ahead c
   IsAhead (Passing g x) c lead = lead ≢ ahead c
 
-  -- a leader gives the log on: its group, if it is in the second list, is ahead no more
+  -- a leader gives the log on: its group, if it is in the second list, is no longer ahead
   abbrev pub after_handing_on : Back Request Reply → SecondList Request Reply → SecondList Request Reply
   after_handing_on Away p = p
   after_handing_on (Parting g b) p = p

@@ -1,4 +1,4 @@
--- Where each client stands, who has the log, and where the groups of the second list and its right are.
+-- The phase of each client, who has the log, and where the groups of the second list and its right are.
 use Rattle.std.specs.Prelude.{◌≡◌, ◌≢◌, ℕ, List, [], ◌∷◌, ◌++◌}
 use Rattle.line_rule.specs.declared.words.TheConstants.{MARK}
 use Rattle.line_rule.specs.declared.view.QueuedWriter.{QueuedWriter}
@@ -8,7 +8,7 @@ use Rattle.line_rule.specs.declared.view.Back.{Back}
 use Rattle.line_rule.specs.declared.view.Back.TheVariants.{Away, Parting, Joining, Holding, Queued, Serving, Passing}
 use Rattle.line_rule.specs.Chain.{EndsWith}
 
--- where a client stands
+-- how far a client is
 pub data Phase (Request Reply : Type 0) : Type 0 where
   idle : Phase Request Reply
   preparing : ℕ → Phase Request Reply
@@ -56,9 +56,9 @@ InFront k (built c g) = c ≡ k
 InFront k (cut c w) = ⊥
 InFront k (marked c) = ⊥
 
--- where the group of a leader stands: in no list but the first, cut off from that one with this end of its links,
--- behind others in the second, first there and told so, first with the right, or cut off from the second one too while
--- its leader has yet to give the right on
+-- where the group of a leader is: in no list but the first; cut off from that one, with this end of its links; in the
+-- second list, and its leader isn't called yet; the oldest there, and its leader is called; the oldest there, and its
+-- leader has the right; or cut off from the second list too, while its leader has yet to give the right on
 pub data Place (Request Reply : Type 0) : Type 0 where
   away : Place Request Reply
   parted : Squad Request Reply → ℕ → Place Request Reply
@@ -80,7 +80,7 @@ pub data Lead2 : Type 0 where
   level : Lead2
   ahead : ℕ → Lead2
 
--- the second list: its groups, newest first, and what the right stands for
+-- the second list: its groups, newest first, and what the right covers
 pub record Two (Request Reply : Type 0) : Type 0 where
   pub groups : List (Squad Request Reply)
   pub place : ℕ → Place Request Reply
@@ -106,7 +106,7 @@ module _ {Request Reply : Type 0} where
   In g (serves f) = f ≡ g
   In g (served f) = ⊥
 
-  -- and has not the right
+  -- the same, and its leader doesn't have the right
   abbrev pub Behind : Squad Request Reply → Place Request Reply → Type 0
   Behind g away = ⊥
   Behind g (parted f b) = ⊥
@@ -115,7 +115,7 @@ module _ {Request Reply : Type 0} where
   Behind g (serves f) = ⊥
   Behind g (served f) = ⊥
 
-  -- not yet in the second list, or not any more
+  -- the group isn't in the second list yet, or isn't any more
   abbrev pub Apart : Place Request Reply → Type 0
   Apart away = Unit {0}
   Apart (parted g b) = Unit {0}
@@ -124,8 +124,8 @@ module _ {Request Reply : Type 0} where
   Apart (serves f) = ⊥
   Apart (served f) = Unit {0}
 
-  -- each group begins with what the older one ends with, the oldest with what the right stands for, and the newest one
-  -- ends with this
+  -- each group begins with what the older one ends with, the oldest with what the right covers, and the newest one
+  -- ends with `last`
   abbrev pub Chained : List (Handling Request Reply) → List (Squad Request Reply) → List (Handling Request Reply)
       → Type 0
   Chained done [] last = done ≡ last

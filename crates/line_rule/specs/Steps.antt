@@ -23,7 +23,7 @@ use Rattle.line_rule.specs.SecondList.{SecondList, second_list_of, IsPut, IsAhea
 abbrev pub Lists : Type 0 → Type 0 → Type 0
 Lists Request Reply = Core Request Reply × SecondList Request Reply
 
--- what a step tells of the seat before it, the number found or stored, and the seat after it
+-- what a step tells about the seat before it, the number found or stored, and the seat after it
 abbrev pub Telling : Type 0 → Type 0 → Type 0 → Type 0 → Type 1
 Telling Request Reply Log Right =
     Step (LineSlot Request Reply Log Right) → Sat Request Reply Log Right → ℕ → Sat Request Reply Log Right → Type 0
@@ -32,7 +32,7 @@ Telling Request Reply Log Right =
 abbrev pub Stays : {A : Type 0} → A → A → Type 0
 Stays a b = b ≡ a
 
--- it happens where the word held this number, and else nothing moves
+-- the event happens if the word held this number, and else nothing moves
 abbrev pub HappensWhere : {A : Type 0} → ℕ → (A → A → Type 0) → ℕ → A → A → Type 0
 HappensWhere wanted event found a b = (found ≡ wanted → event a b) × (found ≢ wanted → Stays a b)
 
@@ -41,12 +41,12 @@ module _ {Request Reply : Type 0} where
   abbrev pub Happens : LineEvent Request Reply → Core Request Reply → Core Request Reply → Type 0
   Happens v a b = Enabled a v × (b ≡ after a v)
 
-  -- and the second list is as it was
+  -- the event happens to the first list, and the second list is as it was
   abbrev pub HappensAlone : LineEvent Request Reply → Lists Request Reply → Lists Request Reply → Type 0
   HappensAlone v a b = Happens v a.0 b.0 × (b.1 ≡ a.1)
 
-  -- the writer e, that saw this newest writer, comes; it leads where there is none; and nothing moves where another
-  -- came before it
+  -- the writer e, which saw this newest writer, comes; it leads if there was none; and nothing moves if another came
+  -- before it
   abbrev pub IsLink : ℕ → QueuedWriter Request → ℕ → Lists Request Reply → Lists Request Reply → Type 0
   IsLink saw e found a b = (found ≡ saw → found ≡ 0 → (linked : Lists Request Reply) × HappensAlone (comes e) a linked
       × HappensAlone (elects e) linked b)
@@ -65,23 +65,23 @@ module _ {Request Reply : Type 0} where
       → Lists Request Reply → Type 0
   IsExit own p gs = HappensAlone (exits (all_answers own p gs))
 
-  -- e's client is told this reply
+  -- e's client gets this reply
   abbrev pub IsComplete : QueuedWriter Request → Reply → Lists Request Reply → Lists Request Reply → Type 0
   IsComplete e p = HappensAlone (completes (handling e p))
 
-  -- the client c, whose group has the log, cuts it off from the first list, to bring it into the second
+  -- the client c, whose group has the log, cuts the group off from the first list, to bring it into the second
   abbrev pub IsBoundary : ℕ → Squad Request Reply → Lists Request Reply → Lists Request Reply → Type 0
   IsBoundary c g a b = (g.own.by ≡ c) × (a.0.1 ≡ grouped g.own g.rest) × (a.1.2 c ≡ none) × (b.0 ≡ a.0)
       × (b.1.0 ≡ a.1.0) × (b.1.1 ≡ a.1.1) × IsPut c (some g) a.1.2 b.1.2
 
-  -- the link behind a group is cut: to give the log on, or, where it is said what was given runs, to bring the group
-  -- into the second list
+  -- the link of the oldest writer after a group is cut: to give the log on, or, with `from` for what was given runs,
+  -- to bring the group into the second list
   abbrev pub IsCutAs : Option (List (Handling Request Reply)) → ℕ → Lead Request Reply → Lists Request Reply
       → Lists Request Reply → Type 0
   IsCutAs none c lead = Stays
   IsCutAs (some from) c lead = IsBoundary c (squad_at_cut lead from)
 
-  -- that group comes into the second list, as the newest one, while its leader has the log still
+  -- a group that was cut off comes into the second list, as the newest one, while its leader still has the log
   abbrev pub IsSecond : ℕ → Squad Request Reply → List (Handling Request Reply) → Lists Request Reply
       → Lists Request Reply → Type 0
   IsSecond c g to a b = (a.1.2 c ≡ some g) × (a.1.1 ≡ level) × (b.0 ≡ a.0) × (b.1.0 ≡ squad_with_end g to ∷ a.1.0)
@@ -104,18 +104,18 @@ module _ {Request Reply Log Right : Type 0} (stands : Laws Request Reply Log Rig
       → Lists Request Reply
   now_of s r = ((r.account.queue, r.account.log, r.handled, r.account.owing), second_list_of r.two)
 
-  -- the words and slots keep the rule, and the list is this now
+  -- the words and slots keep the rule, and the lists are `now`
   abbrev pub IsNow : Lists Request Reply → State (LineSlot Request Reply Log Right) (List (LineHold Request Reply))
       → Type 0
   IsNow now s = (r : Listed stands n s) × (now_of s r ≡ now)
 
-  -- they keep the rule, and the event made of the list what it is
+  -- the words and slots keep the rule, and the event has led to what the lists are
   abbrev pub Becomes : (Lists Request Reply → Lists Request Reply → Type 0) → Lists Request Reply
       → State (LineSlot Request Reply Log Right) (List (LineHold Request Reply)) → Type 0
   Becomes event before s = (now : Lists Request Reply) × event before now × IsNow now s
 
-  -- Whatever the list is as the seat makes its step on the word i, which becomes f of what it was: the rule is kept,
-  -- the step is the event, and `then` holds of the number found and of the seat after.
+  -- The seat makes its step on the word i, which becomes f of what it was. Whatever state the list is in, the rule is
+  -- kept, the step is the event, and `then` holds of the number that was found and of the seat afterwards.
   abbrev pub StepIs : (ℕ → Lists Request Reply → Lists Request Reply → Type 0) → ℕ → ℕ → Sat Request Reply Log Right → ℕ
       → (ℕ → ℕ)
       → (ℕ → Sat Request Reply Log Right → Type 0) → Type 0
@@ -126,18 +126,18 @@ module _ {Request Reply Log Right : Type 0} (stands : Laws Request Reply Log Rig
       × Becomes (event (slice_index s.words i)) (now_of s r) (stepped s i (f (slice_index s.words i)) id me.1 w a)
       × then (slice_index s.words i) (w, carried_after me.1 a)
 
-  -- the same of a load of the word i
+  -- the step is a load of the word i
   abbrev pub LoadIs : (ℕ → Lists Request Reply → Lists Request Reply → Type 0) → ℕ → ℕ → Sat Request Reply Log Right → ℕ
       → Telling Request Reply Log Right → Type 0
   LoadIs event slots id me i then = StepIs event slots id me i (λ x. x) (then (step slots i 0 0 none) me)
 
-  -- of a store of this value
+  -- the step is a store of this value
   abbrev pub StoreIs : (ℕ → Lists Request Reply → Lists Request Reply → Type 0) → ℕ → ℕ → Sat Request Reply Log Right
       → ℕ → ℕ → Telling Request Reply Log Right → Type 0
   StoreIs event slots id me i value then = StepIs event slots id me i (λ _. value)
       (λ _. then (step slots i value 0 none) me value)
 
-  -- of a compare-exchange from `wanted` to this value
+  -- the step is a compare-exchange from `wanted` to this value
   abbrev pub ExchangeIs : (ℕ → Lists Request Reply → Lists Request Reply → Type 0) → ℕ → ℕ → Sat Request Reply Log Right
       → ℕ → ℕ → ℕ → Telling Request Reply Log Right → Type 0
   ExchangeIs event slots id me i wanted value then =

@@ -1,4 +1,4 @@
-//! An item as a number, as it stands in a word.
+//! An item as a number, as a word holds it.
 ghost use Rattle.std.specs.Prelude.{◌≡◌, ℕ, ◌≤◌, ◌<◌, ◌^◌};
 ghost use Rattle.line_rule.specs.Grouping.{code_of, item_of};
 ghost use Rattle.model_base.specs.declared.group.Item.{Item};
@@ -14,7 +14,7 @@ pub fn code_of(item: Item) -> u64
     u64::from(item.options.bits()) + 8 * item.size
 }
 
-/// The item that a number stands for.
+/// The item that a number represents.
 pub fn item_of(code: u64) -> Item
     ensures { result ≡ item_of code }
 {
@@ -24,7 +24,7 @@ pub fn item_of(code: u64) -> Item
     }
 }
 
-/// A number stands for the item whose code it is.
+/// A number represents the item whose code it is.
 pub fn codes_stand_for_items()
     ensures { (item : Item) → item_of (code_of item) ≡ item }
 {}

@@ -1,6 +1,7 @@
 //! What the slots hold, and what a list is made for.
 
-/// What a slot holds: a client's slot its request or its reply, the first slot the log, and the last one the right.
+/// What a slot holds: a client's slot holds its request or its reply, the first slot the log, and the last one the
+/// right.
 #[derive(Drop)]
 pub enum LineSlot<Request, Reply, Log, Right> {
     Empty,

@@ -23,19 +23,20 @@ ghost use Rattle.line_rule.specs.Before.{lists_at_opening};
 
 use crate::code::codes_stand_for_items;
 
-/// Where the core stands as both lists show it, each event of the lists may come in the core, and it stands as the
-/// lists show it after that event too. `ws` are the writers of the group in hand once the core has logged it, with
-/// their answers. Where a writer of the core is made of each entry's client and request, with their items, it has the
-/// item of its entry in each queue whose codes are those of the requests.
+/// Where the core's state fits both lists (`IsCoreOf`), each event of the lists may come in the core, and afterwards
+/// its state still fits the lists. `ws` are the writers of the group in hand once the core has logged it, with their
+/// answers. If the core's writers are made of each entry's client and request, with the items of the requests, a
+/// writer has the item of its entry in each queue whose codes are those of the requests.
 ///
-/// A writer comes, the oldest leads and builds its group, and the groups of the second list stay. The core logs the
-/// group in hand while the lists stay as they are. The group of which no member has a run leaves by a log, a fault or a
-/// refusal. Who has left is told. So nothing is logged after a fault.
+/// A writer comes, the oldest one leads and builds its group, and the groups of the second list stay as they are. The
+/// core logs the group in hand, if a member has a run and no append has failed, while the lists stay as they are. A
+/// group in hand leaves without being logged: by a log if no member has a run, by a fault, or by a refusal if its
+/// leader asks for no slowdown. A client that has left gets its reply.
 ///
 /// Where there is one stage, a logged group leaves by the core's exit, once it is published. Where groups are handed
-/// on, it is cut off from the first list by `boundary`, comes to the end of the second queue by `second`, and its
-/// leader gives the log on by `next`, which comes nowhere else; and the first group of the second queue leaves it by
-/// an exit once it is published, and its members leave with their answers.
+/// on, a logged group is cut off from the first list by `boundary`, goes to the end of the second queue by `second`,
+/// and its leader gives the log on by `next`, which may come only then. The first group of the second queue leaves it
+/// by an exit once it is published, and its members leave with their answers.
 pub fn list_and_core<Request, Reply>()
     ensures writers { (items : Request → Item) (writer : ℕ → Request → Writer)
         → ((c : ℕ) (q : Request) → ((writer c q).client ≡ c) × (item_of (writer c q) ≡ items q))

@@ -13,7 +13,8 @@ ghost use Rattle.line_rule.specs.declared.view.LineStage.TheVariants.{Idle, Prep
 ghost use Rattle.line_rule.specs.Chain.{state_at, older_at, pack, newest};
 ghost use Rattle.line_rule.specs.Events.{LineEvent};
 ghost use Rattle.line_rule.specs.Laws.{laws_for};
-ghost use Rattle.line_rule.specs.Rule.{Listed, newcomers, all_but_first, first_only};
+ghost use Rattle.model_base.specs.Halves.{all_but_first, first_only};
+ghost use Rattle.line_rule.specs.Rule.{Listed, newcomers};
 ghost use Rattle.line_rule.specs.Plays.{Sat, queued_writer, in_hand, debt, after_begin, after_read_newest, after_name_older, after_link, after_read_state, after_read_reply, after_return_slot, after_build, after_read_older, after_fetch, after_leave, after_cut_off, after_wake, after_complete, after_retire};
 ghost use Rattle.line_rule.specs.Steps.{Lists, now_of, IsNow, Stays, HappensWhere, IsLink, IsElect, IsBuild, IsExit, IsComplete, LoadIs, StoreIs, ExchangeIs};
 ghost use Rattle.line_rule.specs.Between.{Between, AreLists};
@@ -22,15 +23,17 @@ ghost use Rattle.line_rule.specs.Before.{ListState, NameNobody, slots_at_opening
 use crate::rule::{GivesRun, HasGroupingItem, LogOfGroups};
 use crate::words::{STATE_DONE, STATE_IN_LIST, STATE_LEADS_LOG};
 
-/// Between any two steps the walk from the newest writer is the group in hand and then the queue, with no more writers
-/// than clients, and the log is at home, or with the one who leads. The queue, the log's place, what was handled and
-/// what of it its clients haven't been told are those after a list of legal events: somebody links, the oldest writer
-/// is elected, a leader builds its group, under the list's bound, a group leaves, and a client is told its reply. These
-/// events only go on: whoever waits knows those up to its coming, and a leader those up to the building of its group.
+/// Between any two steps the walk from the newest writer is the queue and then, until it is cut off, the group in
+/// hand; it has no more writers than there are clients. The log is at home, or with the leader. The queue, the log's
+/// place, what was handled, and for what of it the clients haven't got their replies yet: that is the state after a
+/// list of legal events. The events are: a writer links, the oldest writer is elected, a leader builds its group under
+/// the list's bound, a group leaves, and a client gets its reply. Events are only added: a client that waits knows
+/// those up to its coming, and a leader those up to the building of its group.
 ///
-/// The walk from the second list's newest writer is its groups, and the leader of the oldest one has the right, or is
-/// to have it. What the groups were given runs for goes on from what the right stands for to all that was, but for the
-/// group of a leader that has yet to give the log on. So groups are served in the order in which the log was written.
+/// The walk from the second list's newest writer is its groups, and the leader of the oldest one has the right, or
+/// will have it. From group to group, what was given runs goes on from what the right covers to all that was given
+/// runs; only the group of a leader that has yet to give the log on comes after that. So groups are served in the
+/// order in which the log was written.
 pub fn between_steps<
     Request: HasGroupingItem,
     Reply: GivesRun,
@@ -43,9 +46,8 @@ pub fn between_steps<
         × AreLists law between (now_of law z.clients s r) }
 {}
 
-/// At opening nobody has come, the log is free, nothing was handled, and no group is in the second list, or on the way
-/// there; and making and joining seats leaves the list
-/// as it is.
+/// At opening nobody has come, the log is free, nothing was handled, and no group is in the second list, or on its way
+/// there. Making and joining seats leaves the list as it is.
 pub fn opening_and_seats<
     Request: HasGroupingItem,
     Reply: GivesRun,
@@ -67,10 +69,10 @@ pub fn opening_and_seats<
         id v other w (v ++ w) [] }
 {}
 
-/// What each step of a list with one stage is, and each reading of an older link, of whatever list that keeps the rule,
-/// where its caller may make it: one of those events, two of them where a link finds nobody before it, or none, and the
-/// second list is as it was. A compare-exchange that fails is none. In each clause `law` is what the log and the right
-/// stand for in a list that is opened for `z`.
+/// What each step of a list with one stage is, and each load of an older link, for any list that keeps the rule, where
+/// the caller may make the step: one of those events, two of them where a link finds nobody before it, or none. The
+/// second list stays as it was. A compare-exchange that fails is no event. In each clause `law` says what the log and
+/// the right cover in a list that is opened for `z`.
 pub fn steps_and_events<
     Request: HasGroupingItem,
     Reply: GivesRun,

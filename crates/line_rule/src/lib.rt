@@ -25,12 +25,12 @@
 //!
 //! # Steps
 //!
-//! A seat is a client's. Who leads has the log, and the slots of its group. Which event of the list each step is, or
-//! that it is none, say [`steps_and_events`] and [`second_steps_and_events`], and which event of the write path's core
-//! an event of the lists is [`list_and_core`].
+//! A seat is a client's. A leader has the log, and the slots of its group. [`steps_and_events`] and
+//! [`second_steps_and_events`] say which event of the list each step is, or that it is none. [`list_and_core`] says
+//! which event of the write path's core each event of the lists is.
 //!
-//! Each request in the list is lawful for what the list's law is about (`lawful` of [`LogOfGroups`]): who links it
-//! shows so, and its leader knows it.
+//! Each request in the list is lawful for what the list's law is about (`lawful` of [`LogOfGroups`]): the client that
+//! links it shows that it is, and the leader then knows it.
 //!
 //! | Step | Who makes it | What it does | Event of the write path |
 //! |---|---|---|---|
@@ -38,29 +38,29 @@
 //! | load of NEWEST ([`ReadNewest`]) | anybody | sees a client's number | |
 //! | store of OLDER `i` ([`NameOlder`]) | client `i` | names the writer that it saw, and its own code | |
 //! | compare-exchange of NEWEST from that writer to `i` ([`Link`]) | client `i` | gives its slot with the request; where it replaced 0 it takes the log, and leads | link, and elect where it replaced 0 |
-//! | load of STATE `i` ([`ReadState`]) | client `i` | at `STATE_LEADS_LOG` it takes the log and its own slot, and leads; at `STATE_PARALLEL` it works beside its leader; at `STATE_DONE` it takes its slot with the reply | elect, where it leads |
-//! | load of STATE `i` ([`ReadReply`]) | client `i`, beside its leader | at `STATE_DONE` it takes its slot with the reply | |
+//! | load of STATE `i` ([`ReadState`]) | client `i` | at `STATE_LEADS_LOG` it takes the log and its own slot, and leads; at `STATE_PARALLEL` it works in parallel with its leader; at `STATE_DONE` it takes its slot with the reply | elect, where it leads |
+//! | load of STATE `i` ([`ReadReply`]) | client `i`, which helps its leader | at `STATE_DONE` it takes its slot with the reply | |
 //! | load of STATE `i` ([`ReturnSlot`]) | client `i` | gives its empty slot back | |
-//! | load of NEWEST ([`Build`]) | the leader | its group is the grouping rule's of the walk from there | build |
-//! | load of OLDER `k` ([`ReadOlder`]) | the leader, who put the mark, or who has the right | sees a link of its walk: of the queue, of those behind its mark, or of the second list | |
+//! | load of NEWEST ([`Build`]) | the leader | takes its group by the grouping rule, of the walk from there | build |
+//! | load of OLDER `k` ([`ReadOlder`]) | the leader, the leader that put the mark, or the one that has the right | sees a link of its walk: of the queue, of the writers after its mark, or of the second list | |
 //! | load of OLDER `k` ([`Fetch`]) | the leader | takes the slot of the next member | |
-//! | compare-exchange of NEWEST from its newest member to 0 ([`Leave`]) | the leader | gives the log back, which stands for the group's handlings too | exit of the single stage; else it only reads anew |
+//! | compare-exchange of NEWEST from its newest member to 0 ([`Leave`]) | the leader | gives the log back, which covers the group's handlings too | exit of the single stage; if it fails, it only reads anew |
 //! | store of OLDER `k` ([`CutOff`], and [`CutAway`] where the list is pipelined) | the leader | clears the link of the oldest writer after its group | boundary, where the list is pipelined |
 //! | store of `STATE_LEADS_LOG` to STATE `k` ([`Wake`]) | the leader | gives the log on to that writer | exit of the single stage; next, where the list is pipelined |
-//! | store of `STATE_DONE` to STATE `k` ([`Complete`]) | who led | gives a member's slot with its reply | complete |
-//! | store of `STATE_DONE` to STATE `i` ([`Retire`]) | who led | gives its own empty slot back | complete |
+//! | store of `STATE_DONE` to STATE `k` ([`Complete`]) | the leader | gives a member's slot with its reply | complete |
+//! | store of `STATE_DONE` to STATE `i` ([`Retire`]) | the leader | gives its own empty slot back | complete |
 //! | compare-exchange of NEWEST from its newest member to `MARK` ([`Mark`]) | the leader | puts its mark in place of its group | boundary |
 //! | store of OLDER `i` ([`AimSecond`]) | who cut its group off | names the newest writer of the second list | |
-//! | compare-exchange of the second NEWEST ([`JoinSecond`]) | who cut its group off | its group comes into the second list; where it replaced 0 it takes the right | second |
+//! | compare-exchange of the second NEWEST ([`JoinSecond`]) | the leader that cut its group off | its group comes into the second list; where it replaced 0 it takes the right | second |
 //! | compare-exchange of NEWEST from `MARK` to 0 ([`Free`]) | who put the mark | gives the log back | next |
 //! | store of OLDER `k` ([`CutBehindMark`]) | who put the mark | clears the link of the oldest writer after the mark | |
 //! | load of STATE `i` ([`Summon`]) | a leader in the second list | takes the right, at `STATE_LEADS_TABLE` | |
-//! | store of `STATE_PARALLEL` to STATE `k` ([`MakeParallel`]) | who has the right | a member of its group may work beside it | |
-//! | compare-exchange of the second NEWEST to 0 ([`LeaveSecond`]) | who has the right | gives the right back | exit of the pipelined stage |
-//! | store of OLDER `k` ([`ClearSecond`]) | who has the right | clears the link of the next group's oldest writer | |
-//! | store of `STATE_LEADS_TABLE` to STATE `k` ([`CallNext`]) | who had it | gives the right on to that writer | exit of the pipelined stage |
+//! | store of `STATE_PARALLEL` to STATE `k` ([`MakeParallel`]) | the right's holder | a member of its group may work in parallel with it | |
+//! | compare-exchange of the second NEWEST to 0 ([`LeaveSecond`]) | the right's holder | gives the right back | exit of the pipelined stage |
+//! | store of OLDER `k` ([`ClearSecond`]) | the right's holder | clears the link of the next group's oldest writer | |
+//! | store of `STATE_LEADS_TABLE` to STATE `k` ([`CallNext`]) | the right's holder | gives the right on to that writer | exit of the pipelined stage |
 //!
-//! A compare-exchange that fails is a load. A seat is made and joined at opening and closing alone, which leaves the
+//! A compare-exchange that fails is a load. Seats are made and joined only at opening and closing, which leaves the
 //! list as it is ([`opening_and_seats`]).
 #![tactic(auto)]
 

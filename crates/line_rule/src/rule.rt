@@ -6,7 +6,7 @@ use crate::view::{Handling, LineView};
 use atomic_table::{Join, Split, TableRule};
 use std::marker::Brand;
 
-/// What a log says that was handled, where it had this number at first, and its number now.
+/// What a log and a right say of what was handled, what is asked of the requests, and the log's number.
 pub trait LogOfGroups<Request, Reply, Right> {
     /// What the law is about, besides the log.
     type About;
@@ -19,7 +19,7 @@ pub trait LogOfGroups<Request, Reply, Right> {
     /// What holds of what was handled, wherever the log is.
     ghost kept: { Self.About → List (Handling Request Reply) → Type 0 };
 
-    /// For which of what was handled, of those that were given runs, the right stands.
+    /// What the right covers, of the handled requests that were given runs.
     ghost serves: { Self.About → Right → List (Handling Request Reply) → Type 0 };
 
     /// What holds of each request that is in the list.
@@ -31,7 +31,7 @@ pub trait LogOfGroups<Request, Reply, Right> {
         ensures { result ≡ Self.number_of self.now };
 }
 
-/// The first number and the count that a reply gives; the count 0 where it gives none.
+/// The run that a reply gives, by its first number and its count; the count is 0 where it gives none.
 pub trait GivesRun {
     ghost use Rattle.std.specs.Prelude.{ℕ};
 
@@ -45,7 +45,8 @@ pub trait HasGroupingItem {
     ghost item_of: { Self → Item };
 }
 
-/// What the law of the log is about, and a number, which the caller picks: the one at opening, or a group's bound.
+/// What the law of the log is about, and a number; the caller picks both. The number is that at opening, or a group's
+/// bound.
 pub trait PickedAbout<About> {
     ghost use Rattle.std.specs.Prelude.{ℕ, Option};
 
@@ -62,7 +63,7 @@ impl<About> PickedAbout<About> for Brand {
     ghost about = { None };
 }
 
-/// Which of what was handled was given runs, which the caller picks.
+/// Which of the handled requests were given runs; the caller picks them.
 pub trait PickedGiven<Request, Reply> {
     ghost use Rattle.std.specs.Prelude.{List};
     ghost use Rattle.line_rule.specs.declared.view.Handling.{Handling};
@@ -76,7 +77,7 @@ impl<Request, Reply> PickedGiven<Request, Reply> for Brand {
     ghost given = { [] };
 }
 
-/// What the law of the right is about, and which of what was handled was given runs, which the caller picks.
+/// What the law of the right is about, and which of the handled requests were given runs; the caller picks both.
 pub trait PickedRight<Request, Reply, About> {
     ghost use Rattle.std.specs.Prelude.{List, Option};
     ghost use Rattle.line_rule.specs.declared.view.Handling.{Handling};
@@ -116,14 +117,14 @@ impl<
 pub struct SplitFirst;
 
 impl<Request, Reply> Split<LineView<Request, Reply>> for SplitFirst {
-    ghost use Rattle.line_rule.specs.Rule.{all_but_first, first_only};
+    ghost use Rattle.model_base.specs.Halves.{all_but_first, first_only};
 
     ghost left = { λ v. all_but_first v };
 
     ghost right = { λ v. first_only v };
 }
 
-/// Takes another's clients in.
+/// Adds another seat's clients.
 pub struct JoinClients;
 
 impl<Request, Reply> Join<LineView<Request, Reply>> for JoinClients {

@@ -1,4 +1,4 @@
-//! What each step makes of the list that only a list with the second one has.
+//! The steps that only a list with a second one has, and what each does to the lists.
 ghost use Rattle.std.specs.Prelude.{◌≡◌, ℕ, ◌≤◌, ◌⊎◌, true, List, []};
 ghost use mathlib.Core.Option.{some};
 ghost use Rattle.line_rule.specs.declared.content.Start.{Start};
@@ -24,10 +24,10 @@ ghost use Rattle.line_rule.specs.Before.{ListState, IsClient, IsNextAfter, IsNex
 use crate::rule::{GivesRun, HasGroupingItem, LogOfGroups};
 use crate::words::{MARK, STATE_LEADS_LOG, STATE_LEADS_TABLE, STATE_PARALLEL};
 
-/// What each step is that only a list with the second one has, of whatever such list that keeps the rule, where its
-/// caller may make it. A group is cut off from the first list, while its leader has the log; it comes into the second
-/// one, as the newest there; it leaves the first where the log is given on; and, as the oldest, it leaves the second.
-/// Each of the other steps is no event.
+/// What each step is that only a list with a second one has, for any such list that keeps the rule, where the caller
+/// may make the step. A group is cut off from the first list while its leader has the log. It comes into the second
+/// list, as the newest one there. It leaves the first list when the log is given on. As the oldest one it leaves the
+/// second list. Each of the other steps is no event.
 pub fn second_steps_and_events<
     Request: HasGroupingItem,
     Reply: GivesRun,
@@ -97,13 +97,14 @@ pub fn second_steps_and_events<
         slots id me (state_at x.by) STATE_LEADS_TABLE after_call_next }
 {}
 
-/// In each state in which the rule holds, by what a leader knows: from where it has cut its group off until it gives
-/// the log on, the log is with that group, so nobody is elected. Who gives the log on, in a list with the second one,
-/// has its group there, as the newest one and with all that was given runs, or nothing more was. The group of who has
-/// the right is the oldest one. Who is told by a leader that is in neither list, and such a leader itself, is in
-/// neither, nor of the group in hand. The leader that a stage tells of is the client itself. And the walk from the
-/// second list's newest writer is its groups, but for an oldest one whose leader has cut it off and has the right
-/// still. The codes of the queue are those of its requests.
+/// What holds in each state in which the rule holds, by what a leader knows. From when a leader has cut its group off
+/// until it gives the log on, the log is with that group, so nobody is elected. When a leader gives the log on, in a
+/// list with a second one, its group is there, as the newest one and with all that was given runs, or nothing more was
+/// given a run. The group of the leader that has the right is the oldest one. A client that gets its reply from a
+/// leader that is in neither list, and such a leader itself, is neither in the second list nor of the group in hand.
+/// The leader that a stage names is the client itself. The walk from the second list's newest writer is its groups,
+/// except for an oldest one whose leader has cut it off and still has the right. The codes of the queue are those of
+/// its requests.
 pub fn handing_on<
     Request: HasGroupingItem,
     Reply: GivesRun,

@@ -1,4 +1,4 @@
-//! The steps of the list: which words and slots each may move, and what its seat knows then.
+//! The steps of the list: which words and slots each may change, and what its seat knows then.
 ghost use Rattle.std.specs.Prelude.{◌≡◌};
 ghost use Rattle.line_rule.specs.Laws.{logs_picked, serves_picked, kept_picked, asks_picked};
 ghost use Rattle.line_rule.specs.Plays.{after_begin, after_read_newest, after_name_older, after_link, after_read_state, after_read_reply, after_return_slot, after_build, after_read_older, after_fetch, after_leave, after_complete, after_retire, after_cut_as, after_cut_off, after_wake, after_mark, after_free, after_aim_second, after_join_second, after_summon, after_leave_second, after_clear_second, after_call_next, after_make_parallel, after_cut_behind_mark};
@@ -40,7 +40,7 @@ impl<Request, Reply, Log, Right> Play<
     ghost then = { after_name_older };
 }
 
-/// A writer comes into the list at the newest end, with its request, and leads where the list was empty.
+/// A writer comes into the list at the newest end, with its request, and leads if the list was empty.
 pub struct Link<About>(PhantomData<About>);
 
 impl<
@@ -53,8 +53,8 @@ impl<
     ghost then = { after_link (logs_picked Reply.run_of Log.LogOfGroups About.number About.about) };
 }
 
-/// A writer in the list reads its state: it leads from here on, or works beside its leader, or it has its reply, or
-/// none of these.
+/// A writer in the list reads its state: it leads from here on, or works in parallel with its leader, or it has its
+/// reply, or none of these.
 pub struct ReadState<About>(PhantomData<About>);
 
 impl<
@@ -68,7 +68,7 @@ impl<
         (kept_picked Log.kept About.about) };
 }
 
-/// A writer that works beside its leader reads its state: it has its reply, or not yet.
+/// A writer that works in parallel with its leader reads its state: it has its reply, or not yet.
 pub struct ReadReply<About>(PhantomData<About>);
 
 impl<
@@ -91,8 +91,8 @@ impl<Request, Reply, Log, Right> Play<
     ghost then = { after_return_slot };
 }
 
-/// A leader reads the newest writer, once, and so builds its group, under the bound that is picked. What the law asks
-/// of each request holds of those of the group.
+/// A leader reads the newest writer, once, and so builds its group, under the bound that the caller picks. What the
+/// law asks of each request holds of those of the group.
 pub struct Build<About>(PhantomData<About>);
 
 impl<
@@ -126,7 +126,7 @@ impl<Request, Reply, Log, Right> Play<
     ghost then = { after_fetch };
 }
 
-/// A leader gives the log back, where nobody came after its group.
+/// A leader gives the log back, if nobody came after its group.
 pub struct Leave;
 
 impl<Request, Reply, Log, Right> Play<
@@ -136,7 +136,7 @@ impl<Request, Reply, Log, Right> Play<
     ghost then = { after_leave };
 }
 
-/// A member is told its reply, which lies in its slot.
+/// A member gets its reply, which is in its slot.
 pub struct Complete;
 
 impl<Request, Reply, Log, Right> Play<
@@ -166,7 +166,7 @@ impl<Request, Reply, Log, Right> Play<
     ghost then = { after_cut_off };
 }
 
-/// A leader gives the log on to that writer.
+/// A leader gives the log on to the oldest writer after its group.
 pub struct Wake;
 
 impl<Request, Reply, Log, Right> Play<
@@ -176,8 +176,8 @@ impl<Request, Reply, Log, Right> Play<
     ghost then = { after_wake };
 }
 
-/// A pipelined leader clears the older link of the oldest writer after its group, and so cuts its group off. What
-/// was given runs before the group is picked.
+/// A pipelined leader clears the older link of the oldest writer after its group, and so cuts its group off. The
+/// caller picks what was given runs before the group.
 pub struct CutAway<Given>(PhantomData<Given>);
 
 impl<Request, Reply, Log, Right, Given: PickedGiven<Request, Reply>> Play<
@@ -187,8 +187,8 @@ impl<Request, Reply, Log, Right, Given: PickedGiven<Request, Reply>> Play<
     ghost then = { after_cut_as (some Given.given) };
 }
 
-/// A pipelined leader puts its mark in place of its group, after which nobody came. What was given runs before
-/// the group is picked.
+/// A pipelined leader puts its mark in place of its group, after which nobody came. The caller picks what was given
+/// runs before the group.
 pub struct Mark<Given>(PhantomData<Given>);
 
 impl<Request, Reply, Log, Right, Given: PickedGiven<Request, Reply>> Play<
@@ -208,8 +208,8 @@ impl<Request, Reply, Log, Right> Play<
     ghost then = { after_aim_second };
 }
 
-/// A group that is cut off comes into the second list, and its leader takes the right where that was empty. What
-/// was given runs with the group is picked, and what the law of the right is about.
+/// A group that is cut off comes into the second list, and its leader takes the right if that list was empty. The
+/// caller picks what was given runs with the group, and what the law of the right is about.
 pub struct JoinSecond<ForRight>(PhantomData<ForRight>);
 
 impl<
@@ -222,8 +222,8 @@ impl<
     ghost then = { after_join_second (serves_picked Log.serves ForRight.about) ForRight.given };
 }
 
-/// A leader in the second list reads its state: it has the right from here on, or not yet. What the law
-/// of the right is about is picked.
+/// A leader in the second list reads its state: it has the right from here on, or not yet. The caller picks what the
+/// law of the right is about.
 pub struct Summon<About>(PhantomData<About>);
 
 impl<
@@ -236,7 +236,7 @@ impl<
     ghost then = { after_summon (serves_picked Log.serves About.about) };
 }
 
-/// A leader gives the right back, where no group came after its own.
+/// A leader gives the right back, if no group came after its own.
 pub struct LeaveSecond;
 
 impl<Request, Reply, Log, Right> Play<
@@ -266,7 +266,7 @@ impl<Request, Reply, Log, Right> Play<
     ghost then = { after_call_next };
 }
 
-/// A member is told to work beside its leader.
+/// A leader lets a member work in parallel with it.
 pub struct MakeParallel;
 
 impl<Request, Reply, Log, Right> Play<
@@ -276,7 +276,7 @@ impl<Request, Reply, Log, Right> Play<
     ghost then = { after_make_parallel };
 }
 
-/// A leader whose group is cut off gives the log back, where nobody came after its mark.
+/// A leader whose group is cut off gives the log back, if nobody came after its mark.
 pub struct Free;
 
 impl<Request, Reply, Log, Right> Play<

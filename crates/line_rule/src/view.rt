@@ -17,9 +17,9 @@ pub struct Handling<Request, Reply> {
     pub reply: Reply,
 }
 
-/// What happens to the list: a writer comes; the oldest one leads; it builds its group, under this bound, and these are
-/// left; the log is given back or on, and the group leaves with what was handled; the client of a handling is told its
-/// reply. No value of it is made.
+/// An event of the list: a writer comes; the oldest one leads; it builds its group, under a bound, and the other
+/// writers of the queue are left; the log is given back or on, and the group leaves with what was handled; the client
+/// of a handling gets its reply. No value of it is made.
 pub enum LineEvent<Request, Reply> {
     Comes(QueuedWriter<Request>),
     Elects(QueuedWriter<Request>),
@@ -44,16 +44,16 @@ pub struct Lead<Request, Reply> {
     pub past: LinkedList<LineEvent<Request, Reply>>,
 }
 
-/// What a leader knows that has given the log back: the members that are to have their replies, newest first. No value
-/// of it is made.
+/// What a leader knows that no longer has the log: the members that must still get their replies, newest first. No
+/// value of it is made.
 pub struct Debt<Request, Reply> {
     pub rest: LinkedList<(QueuedWriter<Request>, Reply)>,
     pub own: QueuedWriter<Request>,
     pub reply: Reply,
 }
 
-/// Where a client stands. One that waits knows the events of the list up to its own coming, the latest first. No value
-/// of it is made.
+/// The stage at which a client is. One that waits knows the events of the list up to its own coming, the latest first.
+/// No value of it is made.
 pub enum LineStage<Request, Reply> {
     Idle,
     Preparing(u64),
@@ -76,7 +76,7 @@ pub struct Squad<Request, Reply> {
     pub to: LinkedList<Handling<Request, Reply>>,
 }
 
-/// Where a leader's group stands with respect to the second list. No value of it is made.
+/// Where a leader's group is with respect to the second list. No value of it is made.
 pub enum Back<Request, Reply> {
     Away,
     Parting(Squad<Request, Reply>, u64),

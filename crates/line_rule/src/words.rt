@@ -9,17 +9,17 @@ pub const STATE_IN_LIST: u64 = 1;
 /// A writer that leads its group, and may take the log: `STATE_GROUP_LEADER`.
 pub const STATE_LEADS_LOG: u64 = 2;
 
-/// A leader whose group is the first of the second list, and that may take the right: `STATE_MEMTABLE_WRITER_LEADER`.
+/// A leader whose group is the oldest of the second list, and that may take the right: `STATE_MEMTABLE_WRITER_LEADER`.
 pub const STATE_LEADS_TABLE: u64 = 4;
 
-/// A member that works beside its leader: `STATE_PARALLEL_MEMTABLE_WRITER`.
+/// A member that works in parallel with its leader: `STATE_PARALLEL_MEMTABLE_WRITER`.
 pub const STATE_PARALLEL: u64 = 8;
 
-/// A writer whose reply lies in its slot: `STATE_COMPLETED`.
+/// A writer whose reply is in its slot: `STATE_COMPLETED`.
 pub const STATE_DONE: u64 = 16;
 
-/// What a leader that has cut its group off leaves in the place of the newest writer, where nobody came after the
-/// group. No client has this number. RocksDB puts a writer of its own there, the dummy of
+/// A leader that cuts its group off leaves this in the place of the newest writer, where nobody came after the group.
+/// No client has this number. RocksDB puts a writer of its own there, the dummy of
 /// `WriteThread::ExitAsBatchGroupLeader`.
 pub const MARK: u64 = 255;
 
@@ -56,7 +56,7 @@ impl Older {
         self.client + 256 * self.code
     }
 
-    /// The link that a number stands for.
+    /// The link that a number represents.
     pub fn of(word: u64) -> Older
         ensures whole { word ≡ pack result.client result.code }
         ensures byte { result.client < 256 }

@@ -1,4 +1,4 @@
--- The slots of a table that was not made, or is closed.
+-- The slots of a table that could not be made, or is closed.
 use Rattle.std.proofs.Common.{◌≡◌, ℕ, zero, suc, ◌+◌, List, [], ◌∷◌, ◌++◌, length, replicate, refl, sym, ap, ◌∙◌, arith, length-append}
 use Rattle.std.proofs.lemmas.List.{append_cancel_right, length-replicate}
 use Rattle.line_rule.specs.declared.content.LineSlot.{LineSlot}

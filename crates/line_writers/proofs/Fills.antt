@@ -1,4 +1,4 @@
--- How a leader lays the replies into the slots.
+-- How a leader puts the replies into the slots.
 use Rattle.std.proofs.Common.{◌≡◌, ℕ, List, [], ◌∷◌, ◌++◌, reverse, refl, sym, ap, ◌∙◌, append_assoc, append-nil}
 use Rattle.std.proofs.lemmas.List.{reverse-append}
 use Rattle.line_rule.specs.declared.view.QueuedWriter.{QueuedWriter}
@@ -7,7 +7,8 @@ use Rattle.line_rule.specs.declared.content.LineSlot.TheVariants.{Empty, Told}
 use Rattle.line_rule.specs.declared.view.Handling.{Handling}
 use Rattle.line_rule.specs.Chain.{heads, handling, all_answers}
 use Rattle.line_rule.specs.Plays.{blanks, slots_of}
-use Rattle.line_writers.specs.Roles.{bys, pays, firsts, fills}
+use Rattle.line_rule.specs.Members.{pays}
+use Rattle.line_writers.specs.Roles.{bys, firsts, fills}
 
 module _ {Reply : Type 0} where
   pub firsts-append : (a b : List (ℕ × Reply)) → firsts (a ++ b) ≡ firsts a ++ firsts b
@@ -30,7 +31,7 @@ module _ {Request Reply : Type 0} where
   members_of own p [] = refl
   members_of own p (g ∷ gs) = ap (λ l. g.0.by ∷ l) (members_of own p gs)
 
-  -- what is handled of a group by these replies, both newest first
+  -- what these replies make of a group: its handlings; replies and writers are given newest first
   abbrev pub handled_by : List (QueuedWriter Request) → QueuedWriter Request → List (ℕ × Reply) → List (Handling Request Reply)
   handled_by es own [] = []
   handled_by [] own (r ∷ rs) = handling own r.1 ∷ []
@@ -50,7 +51,7 @@ module _ {Request Reply Log Right : Type 0} where
   blanks-append [] t u = refl
   blanks-append (k ∷ ks) t u = ap (λ z. (k, Empty) ∷ z) (blanks-append ks t u)
 
-  -- the replies that are laid, and those that are left
+  -- the replies that are in their slots (done), and those that are left
   pub record Filled (all left : List (ℕ × Reply)) (members : List ℕ) (slots : List (ℕ × LineSlot Request Reply Log Right)) : Type 0 where
     pub done : List (ℕ × Reply)
     pub parts : reverse all ≡ done ++ reverse left
@@ -107,7 +108,7 @@ module _ {Request Reply : Type 0} where
   own_pay own p [] = ([], refl)
   own_pay own p (g ∷ gs) = let r = own_pay own p gs in (r.0 ++ (g.0.by, g.1) ∷ [], ap (λ l. l ++ (g.0.by, g.1) ∷ []) r.1)
 
-  -- the leader's own reply is the first
+  -- the leader's own reply comes first
   pub same_reply : (own own' : QueuedWriter Request) (p p' : Reply) (gs gs' : List (QueuedWriter Request × Reply)) → pays own p gs ≡ pays own' p' gs' → p ≡ p'
   unfolding reply_or
   same_reply own own' p p' gs gs' e = ap (reply_or p) (sym (own_pay own p gs).1 ∙ (e ∙ (own_pay own' p' gs').1))

@@ -1,4 +1,4 @@
--- How a leader finds the writer behind its mark.
+-- How a leader finds the writer after its mark.
 use Rattle.std.proofs.Common.{◌≡◌, ◌≢◌, ℕ, ◌+◌, ◌<◌, List, [], ◌∷◌, ◌++◌, length, refl, ap, ◌∙◌, subst, inl, inr, arith, append_assoc, length-append}
 use Rattle.line_rule.specs.declared.view.QueuedWriter.{QueuedWriter}
 use Rattle.line_rule.specs.declared.view.Lead.{Lead}

@@ -18,7 +18,8 @@ use Rattle.line_rule.specs.Plays.{Sat, At, AllBelow, lead_at_build, lead_with_on
 use Rattle.line_rule.proofs.Groups.{within_at}
 use Rattle.line_rule.proofs.Enters.{one_hold}
 use Rattle.line_rule.proofs.Leads.{one_lead, same_last}
-use Rattle.line_writers.specs.Roles.{bys, asks, lead_with_group, past_in, NextIs, Gathering, Grouped}
+use Rattle.line_rule.specs.Members.{asks}
+use Rattle.line_writers.specs.Roles.{bys, lead_with_group, past_in, NextIs, Gathering, Grouped}
 
 heads_of : {A : Type 0} → A → List A → A
 heads_of d [] = d
@@ -37,7 +38,7 @@ module _ {Request : Type 0} where
   no_pairs [] is = refl
   no_pairs (e ∷ es) is = absurd (cc)
 
-  -- the oldest writer of the walk
+  -- what is popped from the walk's list is the oldest writer of the walk
   pub pops : (es : List (QueuedWriter Request)) (l : List (ℕ × ℕ)) (b k : ℕ) → pairs es ≡ l ++ (b, k) ∷ [] → (pre : List (QueuedWriter Request)) × (x : QueuedWriter Request) × (es ≡ pre ++ x ∷ []) × (l ≡ pairs pre) × (x.by ≡ b) × (x.code ≡ k)
   unfolding heads_of others_of
   pops [] [] b k is = absurd (cc)
@@ -60,7 +61,7 @@ same_tail [] b (y ∷ ys) d e len = absurd (omega (arith, ap length e, length-ap
 same_tail (x ∷ xs) b [] d e len = absurd (omega (arith, ap length e, length-append xs b))
 same_tail (x ∷ xs) b (y ∷ ys) d e len = same_tail xs b ys d (ap others_of e) len
 
--- the test of a code is that of the item that it stands for
+-- the test of a code is the test of the item that it encodes
 pub fits_as : (max leader sum code : ℕ) (lead writer : Item) → lead ≡ item_of leader → writer ≡ item_of code → fits_next max leader sum code ≡ fits max lead (sum + writer.size) writer
 fits_as max leader sum code lead writer a b = sym (λ i. fits max (a i) (sum + (b i).size) (b i))
 

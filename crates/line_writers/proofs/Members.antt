@@ -1,10 +1,11 @@
--- Who is replied to behind the leader is another member of its group.
+-- Each client that gets a reply after the leader is another member of its group.
 use Rattle.std.proofs.Common.{◌≡◌, ℕ, ◌<◌, inl, inr, List, [], ◌∷◌, length, get_or, refl, sym, ap, subst, arith, length-append}
 use Rattle.std.proofs.lemmas.List.{get_or_append_left, get_or_push}
 use Rattle.std.proofs.lemmas.Bool.{cases_lt}
 use Rattle.line_rule.specs.declared.view.QueuedWriter.{QueuedWriter}
 use Rattle.line_rule.specs.Chain.{heads, Within}
-use Rattle.line_writers.specs.Roles.{pays, IsMember}
+use Rattle.line_rule.specs.Members.{pays}
+use Rattle.line_writers.specs.Roles.{IsMember}
 
 module _ {Request Reply : Type 0} (n : ℕ) (own : QueuedWriter Request) (p : Reply) where
   one_more : (g : QueuedWriter Request × Reply) (gs : List (QueuedWriter Request × Reply)) (k : ℕ) → IsMember n k gs → IsMember n k (g ∷ gs)

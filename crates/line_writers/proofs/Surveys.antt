@@ -11,7 +11,7 @@ use Rattle.line_rule.proofs.Onward.{one_hold_at}
 use Rattle.line_rule.proofs.Serves.{walk_of}
 use Rattle.line_writers.specs.Roles.{HasRead, CodesFit}
 
--- the writers before x are read, and x comes next
+-- the writers before x are read, and x is read next
 pub record Surveyed {Request Reply Log Right : Type 0} (end c slots : ℕ) (now : Sat Request Reply Log Right) (at : ℕ) (items : List (ℕ × ℕ)) (count : ℕ) : Type 0 where
   pub walk : List (QueuedWriter Request)
   pub pre : List (QueuedWriter Request)
@@ -33,7 +33,7 @@ pub code_fits : {Request : Type 0} (pre : List (QueuedWriter Request)) (x : Queu
 code_fits [] x post ok = ok.0
 code_fits (e ∷ es) x post ok = code_fits es x post ok.1
 
--- the writer behind the ones before it
+-- the pair after those of the writers before x is that of x
 pub pair_at : {Request : Type 0} (pre : List (QueuedWriter Request)) (x : QueuedWriter Request) (post : List (QueuedWriter Request)) (d : ℕ × ℕ) → get_or (pairs (pre ++ x ∷ post)) (length pre) d ≡ (x.by, x.code)
 pair_at [] x post d = refl
 pair_at (e ∷ es) x post d = pair_at es x post d
@@ -42,7 +42,7 @@ pub length-pairs : {Request : Type 0} (l : List (QueuedWriter Request)) → leng
 length-pairs [] = refl
 length-pairs (e ∷ es) = ap suc (length-pairs es)
 
--- somebody came after the group
+-- where the newest writer isn't the group's, another writer came after the group
 pub oldest_newer : {Request : Type 0} (queue t : List (QueuedWriter Request)) (o : QueuedWriter Request) (found old : ℕ) → found ≡ newest (queue ++ (t ++ o ∷ [])) → old ≡ newest (t ++ o ∷ []) → found ≢ old → (pre : List (QueuedWriter Request)) × (x : QueuedWriter Request) × (queue ≡ pre ++ x ∷ [])
 oldest_newer {Request} [] t o found old a b ne = absurd (ne (a ∙ sym b))
 oldest_newer {Request} (e ∷ es) t o found old a b ne = last_one e es
@@ -77,13 +77,13 @@ newest_byte : {Request : Type 0} (end slots : ℕ) (post : List (QueuedWriter Re
 newest_byte end slots [] small few ok = small
 newest_byte end slots (e ∷ es) small few ok = let a = ok.1 in omega arith
 
--- the end is no client, and a byte
+-- the end is no client's number, and fits into a byte
 at_end : {Request Reply Log Right : Type 0} (end c slots : ℕ) (m : Sat Request Reply Log Right) (walk : List (QueuedWriter Request)) → slots ≤ 256 → SeesTo end c m walk → (end < 256) × ((k : ℕ) → 0 < k → k + 1 < slots → k ≢ end)
 at_end end c slots m walk few (inl h) = let z = h.0 in (omega arith, λ k lo hi e. omega arith)
 at_end end c slots m walk few (inr (inl h)) = let z = h.0 in (omega arith, λ k lo hi e. omega arith)
 at_end end c slots m walk few (inr (inr h)) = let z = h.0 in (omega arith, λ k lo hi e. omega arith)
 
--- what the leader has read is one walk
+-- two walks that the leader has read are the same
 pub one_walk : {Request Reply Log Right : Type 0} (end c : ℕ) (m : Sat Request Reply Log Right) (a b : List (QueuedWriter Request)) → SeesTo end c m a → SeesTo end c m b → a ≡ b
 one_walk end c m a b (inl u) (inl v) = let x = u.1 in let y = v.1 in
     let e = one_hold_at c c (Leading x.0) (Leading y.0) x.1 y.1 Away Away m.0 x.2 y.2 in sym x.3 ∙ (ap (λ (l : Lead _ _). l.walk) (one_lead x.0 y.0 e.1) ∙ y.3)

@@ -1,4 +1,4 @@
--- What lies on top of the slots.
+-- The kind of the slot that is on top.
 use Rattle.std.proofs.Common.{ℕ, List, [], ◌∷◌}
 use Rattle.line_rule.specs.declared.content.LineSlot.{LineSlot}
 use Rattle.line_rule.specs.declared.content.LineSlot.TheVariants.{Empty, Asked, Told, TheLog, TheRight}

@@ -1,4 +1,4 @@
--- Slots that go behind the others, one by one.
+-- Slots that are moved to the end, one by one.
 use Rattle.std.proofs.Common.{◌≡◌, ℕ, ◌+◌, ◌<◌, List, [], ◌∷◌, ◌++◌, length, refl, sym, ap, ◌∙◌, arith, append_assoc, append-nil, length-append}
 use Rattle.atomic_table.specs.Table.{turned}
 
@@ -11,7 +11,7 @@ head_or d [] = d
 head_or d (x ∷ xs) = x
 
 module _ {S : Type 0} where
-  -- of the slots a, those in done lie behind already
+  -- of the slots to be moved, those in done are already at the end
   pub record Turned (was now : List (ℕ × S)) (count all : ℕ) : Type 0 where
     pub done : List (ℕ × S)
     pub left : List (ℕ × S)

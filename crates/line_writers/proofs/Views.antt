@@ -1,4 +1,5 @@
--- What a leader's view shows of what was handled before, and with its replies of what is handled then.
+-- What a leader's view shows of what was handled before its group, and what the view and its replies show of what is
+-- handled with the group.
 use Rattle.std.proofs.Common.{ℕ, ◌+◌, List, [], ◌∷◌, ◌++◌, length, reverse, ◌≡◌, sym, ap, ◌∙◌, arith, length-append}
 use Rattle.line_rule.specs.declared.view.QueuedWriter.{QueuedWriter}
 use Rattle.line_rule.specs.declared.view.Handling.{Handling}
@@ -7,7 +8,8 @@ use Rattle.line_rule.specs.declared.view.LineStage.{LineStage}
 use Rattle.line_rule.specs.declared.view.LineStage.TheVariants.{Idle, Preparing, Waiting, Helping, Fresh, Leading, Cutting, Marking, Settling, Collecting}
 use Rattle.line_rule.specs.declared.view.LineEvent.{LineEvent}
 use Rattle.line_rule.specs.Chain.{heads, all_answers}
-use Rattle.line_writers.specs.Roles.{bys, pays, lead_with_group}
+use Rattle.line_rule.specs.Members.{pays}
+use Rattle.line_writers.specs.Roles.{bys, lead_with_group}
 use Rattle.line_rule.specs.Rule.{hold}
 use Rattle.line_writers.proofs.Fills.{handled_by, handled_newest, pays_back}
 use Rattle.line_writers.proofs.Tells.{length-bys}
@@ -45,7 +47,7 @@ module _ {Request Reply : Type 0} where
   handled_in_first [] replies = []
   handled_in_first (h ∷ hs) replies = handled_at h.stage replies
 
-  -- the leader's view and the replies tell what is handled then
+  -- the leader's view and its replies together show all that is handled once its group is
   pub handled_all : (c : ℕ) (own : QueuedWriter Request) (seen : List (Handling Request Reply)) (past : List (LineEvent Request Reply)) (left group : List (QueuedWriter Request)) (mine : List (Request × Reply)) (gs : List (QueuedWriter Request × Reply)) (p : Reply) (view : List (LineHold Request Reply)) (replies : List (ℕ × Reply)) → view ≡ hold c (Leading (lead_with_group own seen past left group)) mine ∷ [] → heads gs ≡ group → replies ≡ pays own p gs
       → handled_in_first view replies ≡ seen ++ all_answers own p gs
   handled_all c own seen past left group mine gs p view replies is heads_are replies_are =
@@ -55,6 +57,6 @@ module _ {Request Reply : Type 0} where
   length_heads [] = omega arith
   length_heads (g ∷ gs) = let r = length_heads gs in omega arith
 
-  -- a group's members, its leader among them
+  -- the number of a group's members, with its leader
   pub long_members : (gs : List (QueuedWriter Request × Reply)) (own : QueuedWriter Request) → length (bys (heads gs ++ own ∷ [])) ≡ length gs + 1
   long_members gs own = let h = length_heads gs in length-bys (heads gs ++ own ∷ []) ∙ length-append (heads gs) (own ∷ []) ∙ omega arith

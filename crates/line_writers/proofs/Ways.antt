@@ -1,4 +1,4 @@
--- Two steps that a leader may make whatever becomes of its group, and two that tell what its right stands for.
+-- Two steps that a leader may make whatever happens to its group, and two that say what its right covers.
 use Rattle.std.proofs.Common.{◌≡◌, ℕ, ◌<◌, ◌≤◌, List, ◌∷◌, ◌++◌, ◌==◌, true, subst}
 use mathlib.Core.Option.{Option, none}
 use prog.Atomic.{either}
@@ -34,7 +34,7 @@ module _ {Request Reply Log Right : Type 0} (stands : Laws Request Reply Log Rig
       → Allows (Listed stands n) slots id me k (λ _. 2) (λ _. after_wake (step slots k 2 0 none) me 2)
   wakes_on slots id me c k lead x mine back gs p l tail mid group slot is_word range stood unnumbered = allows stands n (λ _. IsNext back lead.own p gs) slots id me k (λ _. 2) (λ _. after_wake (step slots k 2 0 none) me 2) (wakes_on_is stands n slots id me c k lead x mine back gs p l tail mid group slot is_word range stood unnumbered)
 
-  -- the law of the right may be told otherwise
+  -- this step of the right's law is also allowed where that law is given in another form, which is equal
   pub joins_as : (rights : Right → List (Handling Request Reply) → Type 0) → stands.rights ≡ rights → (to : List (Handling Request Reply)) (slots id : ℕ) (me : Sat Request Reply Log Right) (c b new : ℕ) (st : LineStage Request Reply) (lead : Lead Request Reply) (mine : List (Request × Reply)) (g : Squad Request Reply) (said : Option (LineSlot Request Reply Log Right)) → stands.piped ≡ true → AtWith c st mine (Parting g b) me → IsCut lead st → g.from ≡ stands.given lead.seen
       → new ≡ newest (line_of g) → Allows (Listed stands n) slots id me 1 (λ y. either (y == b) new y) (after_join_second rights to (step slots 1 b new said) me)
   joins_as rights is to slots id me c b new st lead mine g said piped mid is_cut from_is is_new = subst (λ z. Allows (Listed stands n) slots id me 1 (λ y. either (y == b) new y) (after_join_second z to (step slots 1 b new said) me)) is (joins_second stands n to slots id me c b new st lead mine g said piped mid is_cut from_is is_new)

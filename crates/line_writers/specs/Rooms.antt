@@ -5,7 +5,7 @@ use Rattle.line_writers.specs.declared.room.Requests.{Requests}
 use Rattle.line_writers.specs.declared.room.Replies.{Replies}
 use Rattle.line_writers.specs.declared.room.Lists.{Lists}
 
--- the room is empty, and enough for all clients
+-- the room is empty, and large enough for all clients
 abbrev pub HasRoom : ℕ → Room → Type 0
 HasRoom n room = (vec_len room.walk ≡ 0) × (room.walk.items ≡ []) × (n ≤ vec_capacity room.walk)
     × (vec_len room.members ≡ 0) × (room.members.items ≡ []) × (n ≤ vec_capacity room.members)
@@ -14,7 +14,7 @@ HasRoom n room = (vec_len room.walk ≡ 0) × (room.walk.items ≡ []) × (n ≤
 abbrev pub TakesRequests : {Request : Type 0} → ℕ → Requests Request → Type 0
 TakesRequests n requests = (vec_len requests.list ≡ 0) × (requests.list.items ≡ []) × (n ≤ vec_capacity requests.list)
 
--- the same of replies
+-- there are no replies yet, and there is room for those to all clients
 abbrev pub TakesReplies : {Reply : Type 0} → ℕ → Replies Reply → Type 0
 TakesReplies n replies = (vec_len replies.list ≡ 0) × (replies.list.items ≡ []) × (n ≤ vec_capacity replies.list)
 

@@ -1,4 +1,4 @@
--- What the calls say of a writer.
+-- What the contracts of the calls say of a writer.
 use Rattle.std.specs.Prelude.{Bool, ◌≡◌, ℕ, ◌<◌, ◌≤◌, ◌⊎◌, List, [], ◌∷◌}
 use Rattle.atomic_table.specs.Seated.{TableId}
 use Rattle.line_rule.specs.declared.view.LineHold.{LineHold}
@@ -27,17 +27,17 @@ module _ {Request Reply Log Right : Type 0} where
   abbrev pub client_of : Writer Request Reply Log Right → ℕ
   client_of w = w.client
 
-  -- what the client put, and what came back, in order
+  -- what the client asked, each request with the reply that came back, in order
   abbrev pub answers_told : Writer Request Reply Log Right → List (Request × Reply)
   answers_told w = told_in_first w.seat.me.0
 
-  -- the writer is the same client's, at the same list
+  -- it is the writer of the same client, at the same list
   abbrev pub Stays : Writer Request Reply Log Right → Writer Request Reply Log Right → Type 0
   Stays new old = (new.seat.table_id ≡ old.seat.table_id) × (new.client ≡ old.client)
 
-  -- and stands where it stood
-  abbrev pub StandsStill : Writer Request Reply Log Right → Writer Request Reply Log Right → Type 0
-  StandsStill new old = Stays new old × (new.task ≡ old.task) × (new.seat.me ≡ old.seat.me)
+  -- it is that writer, and its state is unchanged
+  abbrev pub IsUnchanged : Writer Request Reply Log Right → Writer Request Reply Log Right → Type 0
+  IsUnchanged new old = Stays new old × (new.task ≡ old.task) × (new.seat.me ≡ old.seat.me)
 
 module _ {Request Reply Log Right About : Type 0} where
   abbrev pub table_of : WriterList Request Reply Log Right About → TableId
@@ -58,7 +58,7 @@ module _ {Request Reply Log Right About : Type 0} where
   abbrev pub piped_of : WriterList Request Reply Log Right About → Bool
   piped_of list = list.table.shared.key.pipelined
 
-  -- what the log of this list stands for, with its number
+  -- what the log of this list covers, with the log's number
   abbrev pub law_of : (Reply → ℕ × ℕ) → Ghosts Log Request Reply Right About
       → WriterList Request Reply Log Right About → Log → List (Handling Request Reply) → Type 0
   law_of run log list =
@@ -68,7 +68,7 @@ module _ {Request Reply Log Right About : Type 0} where
   abbrev pub bound_of : WriterList Request Reply Log Right About → ℕ
   bound_of list = list.group_bytes
 
-  -- what holds of each request that is in this list, and of its code
+  -- what holds of each request in this list, and of its code
   abbrev pub asks_of : (Request → Item) → (About → Request → Type 0) → WriterList Request Reply Log Right About
       → Request → ℕ → Type 0
   asks_of item_of lawful list = asks_for item_of lawful (about_of list)
@@ -78,12 +78,12 @@ module _ {Request Reply Log Right About : Type 0} where
       → List (Handling Request Reply) → Type 0
   kept_of kept list = kept (about_of list)
 
-  -- where there is a second list, no reply of a group that is refused gives a number
+  -- where there is a second list, nothing that was handled in between was given a run, as with a group that is refused
   abbrev pub flat_of : (Reply → ℕ × ℕ) → WriterList Request Reply Log Right About → List (Handling Request Reply)
       → List (Handling Request Reply) → Type 0
   flat_of run list = Unnumbered (piped_of list) (given_runs run)
 
-  -- what a leader needs that gives the log on, while its group stands so in the second list
+  -- what a leader needs in order to give the log on, while its group is in this state of the second list
   abbrev pub hands_of : (Reply → ℕ × ℕ) → WriterList Request Reply Log Right About → Back Request Reply
       → List (Handling Request Reply) → List (Handling Request Reply) → Type 0
   hands_of run list = HandsOn (piped_of list) (given_runs run)
@@ -91,7 +91,7 @@ module _ {Request Reply Log Right About : Type 0} where
   abbrev pub AllNew : WriterList Request Reply Log Right About → List (Writer Request Reply Log Right) → Type 0
   AllNew list ws = AreNew list.table.shared.table_id list.clients ws
 
-  -- it is the list that was asked for, and these are its writers, of whom none has done anything
+  -- this is the list that was asked for, and these are its writers, none of which has done anything yet
   abbrev pub HasOpened : Start About → WriterList Request Reply Log Right About → List (Writer Request Reply Log Right)
       → Type 0
   HasOpened start list ws = (clients_of list ≡ start.clients) × (start_of list ≡ start.log)
@@ -116,7 +116,7 @@ module _ {Request Reply Log Right : Type 0} where
   abbrev pub AwaitsRole : Writer Request Reply Log Right → Type 0
   AwaitsRole w = w.task ≡ Awaits
 
-  -- it was told to work beside its leader
+  -- it should work in parallel with its leader, and knows that
   abbrev pub IsHelping : Writer Request Reply Log Right → Type 0
   IsHelping w = w.task ≡ Helps
 
@@ -125,13 +125,14 @@ module _ {Request Reply Log Right : Type 0} where
       → Role Log Reply → Writer Request Reply Log Right → Type 0
   HasRole stood kept q mine role w = Becomes stood kept w.client q mine role w.seat.me
 
-  -- it leads as this writer, and all that was handled before is this
+  -- it leads, as the writer `own`, and `seen` is all that was handled before
   abbrev pub IsChosen : QueuedWriter Request → List (Handling Request Reply) → List (Request × Reply)
       → Writer Request Reply Log Right → Type 0
   IsChosen own seen mine w = Chosen w.client own seen mine w.seat.me
 
-  -- it has a group and its requests, of which the law holds; the group is the grouping rule's of the whole queue, under
-  -- this bound, as the queue stood after the events that the leader knows, and these writers were left
+  -- it has a group and its requests, and the law holds of them; the group is what the grouping rule gives, under the
+  -- bound `max`, for the whole queue as it was after the events that the leader knows; `left` are the writers that the
+  -- group left there
   abbrev pub HasGroup : (Request → ℕ → Type 0) → ℕ → ℕ → QueuedWriter Request → List (QueuedWriter Request)
       → List (QueuedWriter Request) → List (Handling Request Reply)
       → List (Request × Reply)
@@ -150,7 +151,7 @@ module _ {Request Reply Log Right : Type 0} where
   abbrev pub AllThere : ℕ → List (Writer Request Reply Log Right) → Type 0
   AllThere n ws = (i : ℕ) → 0 < i → i ≤ n → HasClient i ws
 
-  -- of what was handled, each writer's own is what it was told, in its order
+  -- each writer's own part of what was handled is what it asked and was answered, in its order
   abbrev pub Merged : List (Handling Request Reply) → List (Writer Request Reply Log Right) → Type 0
   Merged handled [] = Unit {0}
   Merged handled (w ∷ ws) = (of w.client handled ≡ answers_told w) × Merged handled ws

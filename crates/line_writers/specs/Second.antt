@@ -17,13 +17,13 @@ use Rattle.line_writers.specs.declared.second.PipelinedRole.TheVariants.{LogLead
 use Rattle.line_writers.specs.Roles.{bys, Turns}
 use Rattle.line_writers.specs.Groups.{HasRightOver}
 
--- the group of a leader that has given the log on, with what was given runs before it, and with it
+-- the group of a leader that has given the log on, with what was given runs before it (`from`), and with it (`to`)
 abbrev pub squad : {Request Reply : Type 0} → Debt Request Reply → List (Handling Request Reply)
     → List (Handling Request Reply) → Squad Request Reply
 squad d from to = record { own = d.own; rest = heads d.rest; from = from; to = to }
 
 module _ {Request Reply Log Right : Type 0} where
-  -- the group is in the second list: its leader is to wait for the right, or has it, on top of the group's slots
+  -- the group is in the second list: its leader must wait for the right, or has it, on top of the group's slots
   abbrev pub Sent : (Right → List (Handling Request Reply) → Type 0) → ℕ → ℕ → Task → Debt Request Reply
       → List (Request × Reply) → Squad Request Reply
       → Sat Request Reply Log Right → Type 0
@@ -41,25 +41,26 @@ module _ {Request Reply Log Right : Type 0} where
   Served n c d mine g m = AtWith c (Settling d) mine (Serving g []) m
       × (m.1 ≡ (n + 1, Empty) ∷ slots_of d.rest ((c, Told d.reply) ∷ []))
 
-  -- its group, with these replies, is in the second list, and these were given runs before the group, and with it
+  -- its group, with these replies, is in the second list; `from` is what was given runs before the group, and `to` is
+  -- what was given runs with it
   abbrev pub IsSent : (Right → List (Handling Request Reply) → Type 0) → ℕ → Debt Request Reply
       → List (Handling Request Reply) → List (Handling Request Reply)
       → List (Request × Reply) → Writer Request Reply Log Right → Type 0
   IsSent serves n d from to mine w = Sent serves n w.client w.task d mine (squad d from to) w.seat.me
 
-  -- its group is in the second list, whatever it is
+  -- its group is in the second list, whatever group it is
   abbrev pub HasSentGroup : (Right → List (Handling Request Reply) → Type 0) → ℕ → Writer Request Reply Log Right
       → Type 0
   HasSentGroup serves n w = (d : Debt Request Reply) × (from to : List (Handling Request Reply))
       × (mine : List (Request × Reply)) × IsSent serves n d from to mine w
 
-  -- and it has the right
+  -- its group is in the second list, and it has taken the right out
   abbrev pub HasRight : ℕ → Debt Request Reply → List (Handling Request Reply) → List (Handling Request Reply)
       → List (Request × Reply) → Writer Request Reply Log Right
       → Type 0
   HasRight n d from to mine w = Served n w.client d mine (squad d from to) w.seat.me
 
-  -- the right, which stands for what was given runs before the group
+  -- its new role is to serve, with the right, which covers what was given runs before the group
   abbrev pub GetsRight : (Right → List (Handling Request Reply) → Type 0) → ℕ → Debt Request Reply
       → List (Handling Request Reply)
       → List (Handling Request Reply) → List (Request × Reply) → PipelinedRole Log Right Reply
@@ -69,14 +70,15 @@ module _ {Request Reply Log Right : Type 0} where
   GetsRight serves n d from to mine Parallel w = ⊥
   GetsRight serves n d from to mine (Done p) w = ⊥
 
-  -- a leader has the log, which stands for all that was handled before; one that is done has its reply behind those
-  -- before; one that works beside its leader is in the list still
+  -- one that leads has the log, which covers all that was handled before; one that is done has its reply, after those
+  -- to its earlier requests; one that works in parallel with its leader is still in the list
   abbrev pub HasPipelinedRole : (Log → List (Handling Request Reply) → Type 0)
       → (List (Handling Request Reply) → Type 0) → Request → List (Request × Reply)
       → PipelinedRole Log Right Reply → Writer Request Reply Log Right → Type 0
   HasPipelinedRole stood kept q mine role w = Turns stood kept w.client w.task q mine role w.seat.me
 
--- the room lists the members of the group, newest first, and the rest of it is empty, and enough for all clients
+-- the room lists the members of the group, its leader too, newest first; its walk is empty; and there is room in both
+-- for all clients
 abbrev pub ListsMembers : {Request Reply : Type 0} → ℕ → Debt Request Reply → Room → Type 0
 ListsMembers n d room = (vec_len room.walk ≡ 0) × (room.walk.items ≡ []) × (n ≤ vec_capacity room.walk)
     × (room.members.items ≡ bys (heads d.rest ++ d.own ∷ [])) × Within n (heads d.rest)

@@ -21,8 +21,8 @@ impl<
     Log: LogOfGroups<Request, Reply, Right>,
     Right,
 > WriterList<Request, Reply, Log, Right> {
-    /// Gives log and right back. The log stands for all that was handled, of which each client's own is what it was
-    /// told, in its order.
+    /// Gives the log and the right back. The log covers all that was handled; each client's own part of it is what
+    /// that client asked, with the replies that it got, in its order.
     pub fn close(self, mut writers: Vec<Writer<Request, Reply, Log, Right>>) -> (Log, Right)
         requires out { AllOut (table_of self) writers.items × AllThere (clients_of self) writers.items
             × (vec_len writers ≡ length writers.items) }
@@ -65,7 +65,7 @@ impl<
             × (first.new.me ≡ (first.old.me.0 ++ reverse (holds_of writers.old.items), []))
             × (writers.new.items ≡ []) }
     {
-        // The last `i` writers' clients have come to the first seat.
+        // The first seat has the clients of the last `i` writers too.
         for i in 0..writers.len() {
             let Some(
                 Writer {
@@ -82,7 +82,7 @@ impl<
     }
 }
 
-// Takes log and right out of the slots of a closed table, of which all others are empty.
+// Takes the log and the right out of the slots of a closed table. All other slots are empty.
 fn take_all<Request, Reply, Log, Right>(
     mut closed: Closed<LineSlot<Request, Reply, Log, Right>, Global>,
     clients: u32,

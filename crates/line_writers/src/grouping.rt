@@ -11,7 +11,8 @@ ghost use Rattle.line_rule.specs.Chain.{pairs};
 ghost use Rattle.line_rule.specs.Grouping.{item_of};
 ghost use Rattle.line_rule.specs.Rule.{asks_for, asks_picked};
 ghost use Rattle.line_rule.specs.Plays.{At, SeesTo, Builds, lead_with_one_more};
-ghost use Rattle.line_writers.specs.Roles.{Chosen, HasRead, CodesFit, NextIs, Grouped, Gathering, asks, Built};
+ghost use Rattle.line_rule.specs.Members.{asks};
+ghost use Rattle.line_writers.specs.Roles.{Chosen, HasRead, CodesFit, NextIs, Grouped, Gathering, Built};
 ghost use Rattle.line_writers.specs.Rooms.{HasRoom, TakesRequests};
 ghost use Rattle.line_writers.specs.Seats.{about_of, asks_of, bound_of, client_of, clients_of, Belongs, IsChosen, HasGroup, Stays, answers_told};
 ghost use Rattle.line_writers.specs.Groups.{Queue, Handled, Answers};
@@ -32,10 +33,10 @@ impl<
     Log: LogOfGroups<Request, Reply, Right>,
     Right,
 > WriterList<Request, Reply, Log, Right> {
-    /// Takes the requests of the leader's group in link order, its own first. The group is the grouping rule's, under
-    /// the list's bound, of the whole queue as it stands at one moment of this call: after the events that the leader
-    /// knows from here on, of which this is the last. Who links later doesn't change it. Each request is lawful for
-    /// this list.
+    /// Takes the requests of the leader's group in link order, its own first. The group is what the grouping rule
+    /// gives, under the list's bound, for the whole queue at one moment of this call: right after the last of the
+    /// events that the leader knows from here on. A writer that links later doesn't change it. Each request is lawful
+    /// for this list.
     pub fn group(
         &self,
         writer: &mut Writer<Request, Reply, Log, Right>,
@@ -60,7 +61,7 @@ impl<
         self.group_from::<Brand>(writer, self.group_bytes, &mut requests.list, room);
     }
 
-    // The bound and what the law is about are picked, since a load knows neither.
+    // The caller picks the bound and what the law is about, since a load knows neither.
     fn group_from<About: PickedAbout<Log::About>>(
         &self,
         writer: &mut Writer<Request, Reply, Log, Right>,
@@ -96,7 +97,7 @@ impl<
         room.walk.clear();
     }
 
-    // Reads the newest writer, and so builds the group.
+    // Reads the number of the newest writer. This step builds the group.
     fn build<About: PickedAbout<Log::About>>(
         &self,
         writer: &mut Writer<Request, Reply, Log, Right>,
@@ -117,8 +118,8 @@ impl<
         self.table.shared.load::<Build<About>>(&mut writer.seat, 0)
     }
 
-    // Walks the writers that were read, from this newest one down to the end that the oldest one's link names: each
-    // writer's client and code.
+    // Walks the writers that were read, from the newest one (`first`) to the oldest one, whose link names `end`. The
+    // walk lists each writer's client and code.
     pub(crate) fn survey(
         &self,
         writer: &mut Writer<Request, Reply, Log, Right>,
@@ -138,7 +139,7 @@ impl<
     {
         let shared = &self.table.shared;
         let mut at = first;
-        // The walk has the writers from the newest one on, and `at` is the next older one.
+        // The walk has the writers from the newest one down to the one before `at`.
         for step in 0..self.clients {
             let word = shared.load::<ReadOlder>(&mut writer.seat, older_word(at));
             let older = Older::of(word);
@@ -173,7 +174,7 @@ impl<
         }
     }
 
-    // Takes the requests of the writers of the walk, from its older end on, while they fit.
+    // Takes the requests of the writers of the walk, from its oldest writer on, while they fit.
     fn gather(
         &self,
         writer: &mut Writer<Request, Reply, Log, Right>,
@@ -200,7 +201,8 @@ impl<
     {
         let leader = item_of(leader_code);
         let mut sum = leader.size;
-        // The writers taken so far go together, and `sum` is their sizes; the walk has those after them.
+        // The writers that were taken so far go together, and `sum` is the sum of their sizes; the walk has the
+        // writers that came after them.
         for step in 0..walk.len() {
             let Some((by, code)) = walk.pop() else {
                 unreachable!()
@@ -215,7 +217,7 @@ impl<
         }
     }
 
-    // Takes the request of the oldest writer whose request the leader does not have.
+    // Takes the request of the oldest writer whose request the leader does not have yet.
     fn fetch(&self, writer: &mut Writer<Request, Reply, Log, Right>, member: u64) -> Request
         requires seat { (writer.old.seat.table_id ≡ self.now.table.shared.table_id) × (member ≤ self.now.clients) }
         requires next { (lead : Lead Request Reply) × (mine : Answers Request Reply)

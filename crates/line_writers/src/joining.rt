@@ -34,9 +34,9 @@ impl<
     Log: LogOfGroups<Request, Reply, Right>,
     Right,
 > WriterList<Request, Reply, Log, Right> {
-    /// Moves a group to the second list, with its replies in its slots. The log, which stands for all that was handled
-    /// before and for the group, goes back, or on to the next leader. The writer waits for the right then, which it has
-    /// already where its group came alone.
+    /// Moves a group to the second list, with its replies in its slots. The log, which covers all that was handled
+    /// before and the group, goes back to the list, or on to the next leader. Then the writer waits for the right; it
+    /// already has the right where there was no other group in the second list.
     pub fn exit_pipelined<R: Wait + rt::Clock>(
         &self,
         rt: &R,
@@ -67,8 +67,8 @@ impl<
         writer.task = Task::Queues;
     }
 
-    // The same, where what was given runs before the group, and with it, is picked: true where the leader has the
-    // right.
+    // Does the work of `exit_pipelined`. The caller picks what was given runs before the group, and with it. Returns
+    // true where the leader has the right.
     fn exit_from<
         Given: PickedGiven<Request, Reply>,
         ForRight: PickedRight<Request, Reply, Log::About>,
@@ -111,7 +111,7 @@ impl<
         )
     }
 
-    // The leader's own code, as it stands in its link.
+    // The code of the leader's own item, which its link holds.
     fn own_code(&self, writer: &mut Writer<Request, Reply, Log, Right>) -> u64
         requires seat { (writer.old.seat.table_id ≡ self.now.table.shared.table_id)
             × (writer.old.client ≤ self.now.clients) }
@@ -130,7 +130,7 @@ impl<
         Older::of(word).code
     }
 
-    // Moves the group to the second list, and gives the log on: true where the leader has taken the right.
+    // Moves the group to the second list, and gives the log on. Returns true where the leader has taken the right.
     fn send_on<
         Given: PickedGiven<Request, Reply>,
         ForRight: PickedRight<Request, Reply, Log::About>,
@@ -172,7 +172,8 @@ impl<
         false
     }
 
-    // Puts the group, which is cut off from the first list, into the second: true where its leader takes the right.
+    // Puts the group, which is cut off from the first list, into the second. Returns true where its leader takes the
+    // right.
     fn join_second<ForRight: PickedRight<Request, Reply, Log::About>, R: Wait + rt::Clock>(
         &self,
         rt: &R,
@@ -196,7 +197,7 @@ impl<
     {
         let shared = &self.table.shared;
         let backoff = Backoff::new();
-        // Until the exchange works the group is cut off from the first list, and not in the second.
+        // Until the exchange succeeds, the group is cut off from the first list, and not in the second.
         for _ in rt.forever() {
             let older = shared.load::<ReadNewest>(&mut writer.seat, 1);
             self.aim_second(writer, older, code);
@@ -209,7 +210,7 @@ impl<
         unreachable!()
     }
 
-    // Lets the leader of a group that is cut off name this newest writer of the second list.
+    // Lets the leader of a group that is cut off name `older`, the newest writer of the second list, in its link.
     fn aim_second(&self, writer: &mut Writer<Request, Reply, Log, Right>, older: u64, code: u64)
         requires seat { (writer.old.seat.table_id ≡ self.now.table.shared.table_id) × (0 < writer.old.client)
             × (writer.old.client ≤ self.now.clients) × (older < 256) × (code < 2 ^ 56) }
@@ -232,7 +233,8 @@ impl<
             .store::<AimSecond>(&mut writer.seat, older_word(c as u64), named.pack());
     }
 
-    // Puts the group into the second list where its newest writer is still `older`; answers the newest writer.
+    // Puts the group into the second list if the newest writer there is still `older`. Returns the newest writer that
+    // it found.
     fn enter_second<ForRight: PickedRight<Request, Reply, Log::About>>(
         &self,
         writer: &mut Writer<Request, Reply, Log, Right>,
@@ -257,7 +259,7 @@ impl<
             .compare_exchange::<JoinSecond<ForRight>>(&mut writer.seat, 1, older, newest_member)
     }
 
-    // Lets the first `count` slots go behind the others.
+    // Moves the first `count` slots to the end, after the others.
     fn rotate(&self, writer: &mut Writer<Request, Reply, Log, Right>, count: usize)
         requires first { (a : Carried Request Reply Log Right)
             × (b : Carried Request Reply Log Right)
@@ -268,7 +270,7 @@ impl<
             → length a ≡ count
             → writer.new.seat.me.1 ≡ b ++ a }
     {
-        // The first `i` slots are behind the others, in their order.
+        // The first `i` slots are after the others, in their order.
         for i in 0..count {
             writer.seat.turn();
         }

@@ -1,4 +1,5 @@
-//! How a leader leaves: the replies into the slots, the log back or on, and each member told.
+//! How a leader leaves: it puts the replies into the slots, gives the log back or on, and then tells each member that
+//! its reply is there.
 ghost use Rattle.std.specs.Prelude.{◌≡◌, ℕ, ◌+◌, ◌^◌, ◌<◌, ◌≤◌, [], ◌∷◌, ◌++◌, vec_len, vec_capacity, length, reverse};
 ghost use Rattle.line_rule.specs.declared.content.LineSlot.{LineSlot};
 ghost use Rattle.line_rule.specs.declared.content.LineSlot.TheVariants.{Empty, Told, TheLog};
@@ -26,8 +27,9 @@ impl<
     Log: LogOfGroups<Request, Reply, Right>,
     Right,
 > WriterList<Request, Reply, Log, Right> {
-    /// Ends a group with its replies. The log, which stands for all that was handled before and for the group, goes
-    /// back, or on to the next leader, and then each member is told its reply. The leader's own is answered.
+    /// Ends a group with its replies. The log, which covers all that was handled before and the group, goes back to
+    /// the list, or on to the next leader. Then each member gets its reply. Returns the leader's own reply. Where the
+    /// list has a second one, no reply may give a run.
     pub fn exit(
         &self,
         writer: &mut Writer<Request, Reply, Log, Right>,
@@ -61,7 +63,8 @@ impl<
         self.retire(writer)
     }
 
-    // Lays the replies, given in link order, into the slots of the members; lists the members, newest first.
+    // Puts the replies, which are given in link order, into the slots of the members, and lists the members, newest
+    // first.
     pub(crate) fn fill(
         &self,
         writer: &mut Writer<Request, Reply, Log, Right>,
@@ -79,7 +82,7 @@ impl<
             × (vec_capacity members.new ≡ vec_capacity members.old) }
         ensures room { vec_capacity replies.new ≡ vec_capacity replies.old }
     {
-        // The last `i` replies lie in their slots, and their members are listed.
+        // The last `i` replies are in their slots, and their members are listed.
         for i in 0..replies.len() {
             let Some((member, reply)) = replies.pop() else {
                 unreachable!()
@@ -115,7 +118,7 @@ impl<
         }
     }
 
-    // Gives the log back, or on to the oldest writer after the group, which has `count` members.
+    // Gives the log back to the list, or on to the oldest writer after the group, which has `count` members.
     fn hand_on(
         &self,
         writer: &mut Writer<Request, Reply, Log, Right>,
@@ -143,7 +146,7 @@ impl<
         self.wake(writer, next, code);
     }
 
-    // Gives the log back where nobody came after the group; answers the newest writer.
+    // Gives the log back to the list where no writer came after the group. Returns the newest writer that it found.
     fn leave(&self, writer: &mut Writer<Request, Reply, Log, Right>, newest_member: u64) -> u64
         requires seat { writer.old.seat.table_id ≡ self.now.table.shared.table_id }
         requires ready { MayLeave (law_of Reply.run_of Log.LogOfGroups self.now) (flat_of Reply.run_of self.now)
@@ -175,7 +178,7 @@ impl<
         self.bells.ring(next);
     }
 
-    // Tells each member but the leader its reply.
+    // Tells each member except the leader that its reply is there.
     pub(crate) fn tell_all(&self, writer: &mut Writer<Request, Reply, Log, Right>, members: &[u32])
         requires seat { writer.old.seat.table_id ≡ self.now.table.shared.table_id }
         requires owed { (mine : Answers Request Reply) × (gs : Members Request Reply) × (own : QueuedWriter Request)
@@ -186,22 +189,23 @@ impl<
             (p : Reply) → Owes writer.old.client (debt gs own p) mine writer.old.seat.me
             → Owes writer.old.client (debt [] own p) mine writer.new.seat.me }
     {
-        // The newest `i` members are told.
+        // The newest `i` members have their replies.
         for i in 0..members.len() - 1 {
             self.complete(writer, members[i]);
         }
         self.ring_all(members);
     }
 
-    // Wakes members, once all were told: who still looks isn't kept waiting by the calls that wake the others.
+    // Wakes the members once all have their replies: a member that still looks, awake, need not wait for the calls
+    // that wake others.
     fn ring_all(&self, members: &[u32]) {
-        // Those before it were woken, if they slept.
+        // The members before this one were woken, if they slept.
         for member in members {
             self.bells.ring(*member as u64);
         }
     }
 
-    // Tells one member its reply, which lies in its slot. It isn't woken here.
+    // Tells one member that its reply is in its slot. It isn't woken here.
     pub(crate) fn complete(&self, writer: &mut Writer<Request, Reply, Log, Right>, member: u32)
         requires seat { (writer.old.seat.table_id ≡ self.now.table.shared.table_id)
             × (0 < member) × (member ≤ self.now.clients) }
@@ -219,7 +223,7 @@ impl<
             .store::<Complete>(&mut writer.seat, state_word(member as u64), STATE_DONE);
     }
 
-    // The leader's own last step, with its reply.
+    // The leader's own last step. Returns its reply.
     pub(crate) fn retire(&self, writer: &mut Writer<Request, Reply, Log, Right>) -> Reply
         requires seat { (writer.old.seat.table_id ≡ self.now.table.shared.table_id)
             × (0 < writer.old.client) × (writer.old.client ≤ self.now.clients) }

@@ -1,11 +1,12 @@
 //! A lock-free list of writers with leaders. A writer links itself with a request at the newest end, and waits for its
-//! role: it leads, and then it has the log, or its request is done, and then it has its reply. The oldest writer leads.
-//! It takes the requests of its group, as the grouping rule chooses them from the queue, handles them, and leaves: the
-//! log goes back, or on to the next leader, and each member is told its reply.
+//! role: either it leads, and then it has the log, or its request is done, and then it has its reply. The oldest
+//! writer leads. It takes the requests of its group, which the grouping rule chooses from the queue, handles them, and
+//! leaves: the log goes back to the list, or on to the next leader, and each member gets its reply.
 //!
-//! Where it has a second list, a leader with a logged group cuts that off, puts it into the second list, and gives the
-//! log on only then. In that list groups wait for a right, in the order of the log; the leader of the oldest one has
-//! it, may tell members to work beside it, and gives the right on.
+//! Where there is a second list, a leader whose group is logged cuts the group off from the first list, puts it into
+//! the second, and only then gives the log on. In the second list groups wait for a right, in the order of the log.
+//! The leader of the oldest group has the right, may let members work in parallel with it, and then gives the right
+//! on.
 //!
 //! The words, slots and steps are those of `line_rule`.
 #![tactic(auto)]

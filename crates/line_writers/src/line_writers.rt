@@ -1,4 +1,4 @@
-//! The list as its parts.
+//! The list and its parts.
 ghost use Rattle.std.specs.Prelude.{◌≡◌, ℕ, ◌+◌, ◌*◌, ◌<◌};
 
 use atomic_table::Table;
@@ -6,7 +6,7 @@ use base_waiting::Bells;
 use line_rule::{GivesRun, HasGroupingItem, LineSlot, LineView, ListRule, LogOfGroups, Start};
 use std::alloc::Global;
 
-/// A list of writers, with the log, which the leader has, and the right, which is for the leaders of a second list.
+/// A list of writers, with the log, which the leader takes, and the right, which is for the leaders of a second list.
 #[derive(Drop)]
 pub struct WriterList<
     Request: HasGroupingItem,

@@ -34,8 +34,8 @@ impl<
     Log: LogOfGroups<Request, Reply, Right>,
     Right,
 > WriterList<Request, Reply, Log, Right> {
-    /// Puts the writer, which is in no list, at the newest end, with a request of which grouping sees this item, and
-    /// which is lawful for this list.
+    /// Puts the writer, which is in no list, at the newest end with its request. `item` is what grouping sees of the
+    /// request. The request must be lawful for this list.
     pub fn link<R: Wait + rt::Clock>(
         &self,
         rt: &R,
@@ -53,7 +53,7 @@ impl<
         self.link_from::<Brand, R>(rt, writer, code_of(item), request);
     }
 
-    /// Waits until the writer, which is in the list, leads, or its request is done.
+    /// Waits until the writer, which is in the list, either leads or has its request done.
     pub fn await_role<R: Wait + rt::Clock>(
         &self,
         rt: &R,
@@ -77,7 +77,7 @@ impl<
         }
     }
 
-    // The number and what the law is about are picked, since a step of the table knows neither.
+    // The caller picks the log's number at opening and what the law is about, since a step of the table knows neither.
     fn link_from<About: PickedAbout<Log::About>, R: Wait + rt::Clock>(
         &self,
         rt: &R,
@@ -106,7 +106,7 @@ impl<
             _ => unreachable!(),
         }
         let backoff = Backoff::new();
-        // Until the exchange works the request lies in its slot, and nobody sees the writer.
+        // Until the exchange succeeds, the request is in its slot, and no other client sees the writer.
         for _ in rt.forever() {
             let newest = shared.load::<ReadNewest>(&mut writer.seat, 0);
             let older = Older {
@@ -129,7 +129,7 @@ impl<
         unreachable!()
     }
 
-    // A member that is told to work beside its leader waits for its reply.
+    // Waits for the role; a member that should work in parallel with its leader goes on to wait for its reply.
     fn await_alone<About: PickedAbout<Log::About>, R: Wait + rt::Clock>(
         &self,
         rt: &R,
@@ -176,7 +176,7 @@ impl<
     {
         let c = writer.client;
         let pauses = Pauses::new();
-        // Until a look shows a role the writer knows what it knew at first.
+        // Until a look shows a role, the writer knows what it knew at first.
         for _ in rt.forever() {
             let state = self
                 .table
@@ -197,7 +197,7 @@ impl<
         unreachable!()
     }
 
-    // Waits for the reply of a writer that was told to work beside its leader.
+    // Waits for the reply of a writer that was asked to work in parallel with its leader.
     pub(crate) fn await_reply<About: PickedAbout<Log::About>, R: Wait + rt::Clock>(
         &self,
         rt: &R,
@@ -215,7 +215,7 @@ impl<
     {
         let c = writer.client;
         let pauses = Pauses::new();
-        // Until a look shows `STATE_DONE` the member knows what it knew at first.
+        // Until a look shows `STATE_DONE`, the member knows what it knew at first.
         for _ in rt.forever() {
             let state = self
                 .table
@@ -282,7 +282,7 @@ impl<
     }
 }
 
-// What a writer is to do that found this newest writer as it linked.
+// The task of a writer that found `newest` as the newest writer when it linked.
 fn task_of(newest: u64) -> Task
     ensures first { newest ≡ 0 → result ≡ Leads }
     ensures behind { newest ≢ 0 → result ≡ Awaits }

@@ -21,8 +21,8 @@ impl<
     Log: LogOfGroups<Request, Reply, Right>,
     Right,
 > WriterList<Request, Reply, Log, Right> {
-    /// A list with a writer of each client, greatest number first, and the lists that each needs to lead. Where memory
-    /// is short, log and right come back.
+    /// A list with a writer for each client, greatest number first, and for each the lists that it needs to lead.
+    /// Where there isn't enough memory, the log and the right come back.
     pub fn open(
         alloc: Global,
         start: &Start<Log::About>,
@@ -83,7 +83,7 @@ impl<
     Log: LogOfGroups<Request, Reply, Right>,
     Right,
 > WriterList<Request, Reply, Log, Right> {
-    // The slots at the start.
+    // The slots as they are at the start.
     fn slots_for(
         alloc: Global,
         clients: u32,
@@ -98,7 +98,7 @@ impl<
             return Err((log, right));
         };
         slots.push_reserved(LineSlot::TheLog(log));
-        // The log's slot is made, and those of the first `made` clients, which are empty.
+        // The slot of the log is there, and so are those of the first `made` clients, which are empty.
         for made in 0..clients {
             slots.push_reserved(LineSlot::Empty);
         }
@@ -106,7 +106,7 @@ impl<
         Ok(slots)
     }
 
-    // Takes the log and the right out of the slots of a table that was not made.
+    // Takes the log and the right out of the slots, where the table could not be made.
     fn unmade(mut slots: Vec<LineSlot<Request, Reply, Log, Right>>, clients: u32) -> (Log, Right)
         requires slots { (l : Log) × (m : Right)
             × (slots.items ≡ TheLog l ∷ (replicate clients Empty ++ TheRight m ∷ [])) }
@@ -133,7 +133,7 @@ impl<
         (log, right)
     }
 
-    // Makes a writer of each client.
+    // Makes a writer for each client.
     fn seat_all(
         &self,
         mut first: Seat<LineSlot<Request, Reply, Log, Right>, LineView<Request, Reply>>,

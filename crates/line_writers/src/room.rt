@@ -16,7 +16,7 @@ pub struct Replies<Reply> {
     pub list: Vec<(u32, Reply)>,
 }
 
-/// Room for the work of a leader.
+/// The lists that a leader works with, for its walk and its members.
 #[derive(Drop)]
 pub struct Room {
     pub(crate) walk: Vec<(u64, u64)>,
@@ -51,7 +51,7 @@ impl<Request: Drop, Reply: Drop> Lists<Request, Reply> {
         })
     }
 
-    // One of each kind for each client.
+    // Lists for each client.
     pub(crate) fn for_all(
         alloc: Global,
         clients: u32,

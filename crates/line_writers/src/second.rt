@@ -1,7 +1,7 @@
-//! What a writer of a list with a second one is asked to do, and how it waits for it.
+//! What a writer of a list with a second one is asked to do, and how it waits to be asked.
 ghost use Rattle.std.specs.Prelude.{◌≡◌, ◌⊎◌, ℕ, true};
 ghost use Rattle.line_rule.specs.declared.view.Debt.{Debt};
-ghost use Rattle.line_writers.specs.Seats.{client_of, clients_of, about_of, piped_of, law_of, kept_of, AwaitsRole, Belongs, IsHelping, IsIn, StandsStill, answers_told};
+ghost use Rattle.line_writers.specs.Seats.{client_of, clients_of, about_of, piped_of, law_of, kept_of, AwaitsRole, Belongs, IsHelping, IsIn, IsUnchanged, answers_told};
 ghost use Rattle.line_writers.specs.declared.second.PipelinedRole.TheVariants.{Parallel, Done};
 ghost use Rattle.line_writers.specs.Second.{IsSent, GetsRight, HasPipelinedRole, HasSentGroup};
 ghost use Rattle.line_writers.specs.Groups.{Handled, Answers};
@@ -17,9 +17,9 @@ use std::sync::Wait;
 pub enum PipelinedRole<Log, Right, Reply> {
     /// To lead a group, with the log.
     LogLeader(Log),
-    /// To serve its group, which is the first of the second list, with the right.
+    /// To serve its group, which is the oldest of the second list, with the right.
     MemLeader(Right),
-    /// To work beside its leader.
+    /// To work in parallel with its leader.
     Parallel,
     /// Nothing more: this is its reply.
     Done(Reply),
@@ -31,9 +31,9 @@ impl<
     Log: LogOfGroups<Request, Reply, Right>,
     Right,
 > WriterList<Request, Reply, Log, Right> {
-    /// Waits until the writer leads, or is told to work beside its leader, or its request is done, or its group, which
-    /// is in the second list, is the first there. A writer is told once to work beside its leader, and only its reply
-    /// comes then.
+    /// Waits until one of these is so: the writer leads; it should work in parallel with its leader; its request is
+    /// done; or its group, which is in the second list, is the oldest there. A writer is asked only once to work in
+    /// parallel with its leader: after that only its reply comes.
     pub fn await_pipelined_role<R: Wait + rt::Clock>(
         &self,
         rt: &R,
@@ -65,10 +65,10 @@ impl<
         }
     }
 
-    /// Whether a group stands in the second list at a moment of this call.
+    /// Whether a group is in the second list at a moment of this call.
     pub fn has_groups(&self, writer: &mut Writer<Request, Reply, Log, Right>) -> bool
         requires { Belongs self.now writer.old }
-        ensures { StandsStill writer.new writer.old }
+        ensures { IsUnchanged writer.new writer.old }
     {
         self.table.shared.load::<ReadNewest>(&mut writer.seat, 1) != 0
     }

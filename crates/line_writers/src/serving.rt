@@ -1,4 +1,4 @@
-//! How the leader of a group of the second list gets the right, has its members beside it, and leaves.
+//! How the leader of a group of the second list gets the right, lets members work in parallel with it, and leaves.
 ghost use Rattle.std.specs.Prelude.{◌≡◌, ◌≢◌, ℕ, ◌+◌, ◌^◌, ◌<◌, ◌≤◌, [], ◌∷◌, ◌++◌, true, vec_len, vec_capacity, length, Some};
 ghost use Rattle.line_rule.specs.declared.content.LineSlot.{LineSlot};
 ghost use Rattle.line_rule.specs.declared.content.LineSlot.TheVariants.{Empty, TheRight};
@@ -36,7 +36,7 @@ impl<
     Log: LogOfGroups<Request, Reply, Right>,
     Right,
 > WriterList<Request, Reply, Log, Right> {
-    /// Tells these members of the group to work beside the leader, which has the right.
+    /// Asks these members of the group to work in parallel with the leader, which has the right.
     pub fn launch_roles(&self, writer: &mut Writer<Request, Reply, Log, Right>, members: &[u32])
         requires leads { Belongs self.now writer.old
             × ((d : Debt Request Reply) × (from to : Handled Request Reply)
@@ -48,14 +48,15 @@ impl<
             → HasRight (clients_of self.now) d from to mine writer.old
             → HasRight (clients_of self.now) d from to mine writer.new }
     {
-        // The first `i` members are told, and the leader has the right still.
+        // The first `i` members were asked, and the leader still has the right.
         for i in 0..members.len() {
             self.make_parallel(writer, members[i]);
         }
     }
 
-    /// Ends a group of the second list. The right, which stands for what was given runs with the group, goes back, or
-    /// on to the leader of the next group, and then each member is told its reply. The leader's own is answered.
+    /// Ends a group of the second list. The right, which covers what was given runs with the group and before, goes
+    /// back to the list, or on to the leader of the next group. Then each member gets its reply. Returns the leader's
+    /// own reply.
     pub fn exit_memtable(
         &self,
         writer: &mut Writer<Request, Reply, Log, Right>,
@@ -87,7 +88,7 @@ impl<
         self.retire(writer)
     }
 
-    // Tells a member to work beside its leader.
+    // Asks a member to work in parallel with its leader.
     fn make_parallel(&self, writer: &mut Writer<Request, Reply, Log, Right>, member: u32)
         requires seat { (writer.old.seat.table_id ≡ self.now.table.shared.table_id) × (0 < member)
             × (member ≤ self.now.clients) }
@@ -106,7 +107,7 @@ impl<
         self.bells.ring(member as u64);
     }
 
-    // Waits until the group is the first of the second list, and takes the right.
+    // Waits until the group is the oldest of the second list, and takes the right.
     pub(crate) fn await_right<About: PickedAbout<Log::About>, R: Wait + rt::Clock>(
         &self,
         rt: &R,
@@ -127,7 +128,7 @@ impl<
     {
         let c = writer.client;
         let pauses = Pauses::new();
-        // Until a look shows `STATE_LEADS_TABLE` the group waits after others.
+        // Until a look shows `STATE_LEADS_TABLE`, the group waits for others before it.
         for _ in rt.forever() {
             let state = self.summon::<About>(writer);
             if state == STATE_LEADS_TABLE {
@@ -138,7 +139,7 @@ impl<
         unreachable!()
     }
 
-    // Looks whether the group is the first of the second list: at `STATE_LEADS_TABLE` its leader has the right.
+    // Looks whether the group is the oldest of the second list. At `STATE_LEADS_TABLE` its leader has the right.
     fn summon<About: PickedAbout<Log::About>>(
         &self,
         writer: &mut Writer<Request, Reply, Log, Right>,
@@ -204,7 +205,8 @@ impl<
         }
     }
 
-    // Gives the right back, or to the leader of the next group; the leader's own has `count` members.
+    // Gives the right back to the list, or on to the leader of the next group. The leader's own group has `count`
+    // members.
     fn pass_on(
         &self,
         writer: &mut Writer<Request, Reply, Log, Right>,
@@ -234,8 +236,8 @@ impl<
         self.call_next(writer, next);
     }
 
-    // Gives the right back where no group came after the leader's own, whose newest member is `newest_member`; answers
-    // the newest writer of the second list.
+    // Gives the right back where no group came after the leader's own, whose newest member is `newest_member`. Returns
+    // the newest writer of the second list that it found.
     fn leave_second(
         &self,
         writer: &mut Writer<Request, Reply, Log, Right>,
@@ -256,7 +258,7 @@ impl<
             .compare_exchange::<LeaveSecond>(&mut writer.seat, 1, newest_member, 0)
     }
 
-    // Clears the link of the next group's leader in the second list.
+    // Clears the link, in the second list, of the next group's leader.
     fn clear_second(&self, writer: &mut Writer<Request, Reply, Log, Right>, next: u64, code: u64)
         requires piped { piped_of self.now ≡ true }
         requires seat { (writer.old.seat.table_id ≡ self.now.table.shared.table_id) × (0 < next)
@@ -278,7 +280,7 @@ impl<
             .store::<ClearSecond>(&mut writer.seat, older_word(next), cleared.pack());
     }
 
-    // Gives the right to the next group's leader.
+    // Gives the right on to the next group's leader.
     fn call_next(&self, writer: &mut Writer<Request, Reply, Log, Right>, next: u64)
         requires seat { (writer.old.seat.table_id ≡ self.now.table.shared.table_id) × (0 < next)
             × (next ≤ self.now.clients) }

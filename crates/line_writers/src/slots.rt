@@ -1,4 +1,4 @@
-//! What is taken out of slots whose contents are known.
+//! Takes out what is in a slot, where it is known which kind of slot it is.
 ghost use Rattle.std.specs.Prelude.{◌≡◌};
 ghost use Rattle.line_rule.specs.declared.content.LineSlot.TheVariants.{Empty, TheLog, TheRight};
 

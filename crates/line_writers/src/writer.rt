@@ -4,8 +4,8 @@ ghost use Rattle.std.specs.Prelude.{◌≡◌};
 use atomic_table::Seat;
 use line_rule::{LineSlot, LineView};
 
-/// What a writer is to do when it waits for its role the next time: to wait, to lead with the log that it has taken, to
-/// wait for its reply alone, to wait for the right, or to serve with the right that it has taken.
+/// What a writer must do when it waits for its role the next time: wait, lead with the log that it has taken, wait for
+/// its reply only, wait for the right, or serve with the right that it has taken.
 #[derive(Clone, Copy)]
 pub(crate) enum Task {
     Awaits,

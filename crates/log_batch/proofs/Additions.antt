@@ -1,4 +1,4 @@
--- What an addition makes of a batch.
+-- What an addition changes in a batch.
 use Rattle.std.proofs.Common.{◌≡◌, ℕ, ◌+◌, ◌≤◌, List, [], ◌∷◌, ◌++◌, length, take, drop, refl, sym, ◌∙◌, ap, arith, length-append, append_assoc, append-nil}
 use Rattle.std.proofs.lemmas.Grind.{flat_map-append, common_steps}
 use Rattle.std.proofs.lemmas.List.Sums.{count_by-le-length}
@@ -8,16 +8,16 @@ use Rattle.model_base.specs.Batch.{Record, value, deletion, single_deletion, log
 use Rattle.log_batch.specs.Contents.{IsBatch}
 use Rattle.log_batch.specs.OneBatch.{same_records}
 
--- The additions of a batch are those that its bytes are of.
+-- If a batch's bytes are those of some additions, these are the batch's additions.
 pub records_are : (bytes : List ℕ) (sequence count : ℕ) (h : IsBatch bytes sequence count) (records : List Record) → count ≡ count_of records → bytes ≡ header sequence count ++ body records → h.records ≡ records
 records_are bytes sequence count h records count_is bytes_are =
     same_records bytes sequence count h (record { records = records; count_is = count_is; bytes_are = bytes_are; fits = h.fits })
 
--- The body of one record more.
+-- The body with one more record.
 pub body-added : (records : List Record) (r : Record) → body (records ++ r ∷ []) ≡ body records ++ record_bytes r
 body-added records r = flat_map-append record_bytes records (r ∷ []) ∙ ap (λ (l : List ℕ). body records ++ l) (append-nil (record_bytes r))
 
--- The count with one record more.
+-- The count with one more record.
 pub count_of-added : (records : List Record) (r : Record) → count_of (records ++ r ∷ []) ≡ count_of records + count_of (r ∷ [])
 count_of-added records r = grind (arith, common_steps)
 
@@ -28,24 +28,24 @@ counts_once (deletion k) = omega arith
 counts_once (single_deletion k) = omega arith
 counts_once (log_data k) = omega arith
 
--- Each record has a byte at least, so there are no more records than bytes.
+-- Each record has at least one byte, so there are no more records than bytes.
 pub few_records : (records : List Record) → length records ≤ length (body records)
 few_records [] = omega arith
 few_records (r ∷ records) = omega (arith, few_records records, length-append (record_bytes r) (body records))
 
--- Another sequence in the header leaves the rest.
+-- Setting another sequence in the header changes nothing else.
 pub sequence_set : (bytes : List ℕ) (s t n : ℕ) (tail : List ℕ) → bytes ≡ header s n ++ tail → take 0 bytes ++ to_le_bytes w64 t ++ drop (0 + length (to_le_bytes w64 t)) bytes ≡ header t n ++ tail
 sequence_set bytes s t n tail e = rw e refl
 
--- Another count in the header leaves the rest.
+-- Setting another count in the header changes nothing else.
 pub count_set : (bytes : List ℕ) (s n m : ℕ) (tail : List ℕ) → bytes ≡ header s n ++ tail → take 8 bytes ++ to_le_bytes w32 m ++ drop (8 + length (to_le_bytes w32 m)) bytes ≡ header s m ++ tail
 count_set bytes s n m tail e = rw e refl
 
--- Nothing stands behind the header of a batch that was cut there.
+-- If the bytes are cut after the header, nothing follows the header.
 pub cut : (bytes : List ℕ) (s n : ℕ) (tail : List ℕ) → bytes ≡ header s n ++ tail → drop 12 (take 12 bytes) ≡ []
 cut bytes s n tail e = rw e refl
 
--- A batch's count is small.
+-- A batch's count is at most `MAX_SIZE`.
 pub small_count : (bytes : List ℕ) (s n : ℕ) (h : IsBatch bytes s n) → n ≤ MAX_SIZE
 small_count bytes s n h =
     omega (arith, h.count_is, count_by-le-length is_counted h.records, few_records h.records, h.fits, ap length h.bytes_are, length-append (header s n) (body h.records))
@@ -58,11 +58,12 @@ body-appended records more = flat_map-append record_bytes records more
 pub count_of-appended : (records more : List Record) → count_of (records ++ more) ≡ count_of records + count_of more
 count_of-appended records more = grind (arith, common_steps)
 
--- Records count no more often than they have bytes.
+-- No more records count than there are bytes.
 pub counts_no_more : (records : List Record) → count_of records ≤ length (body records)
 counts_no_more records = omega (arith, count_by-le-length is_counted records, few_records records)
 
--- The bodies behind the old bytes and then the new count in the header make the batch with these additions more.
+-- Appending the bodies to the old bytes, and then setting the new count in the header, makes the batch with these
+-- additions.
 pub appended_bytes : (old all now : List ℕ) (s n m : ℕ) (records more : List Record) → old ≡ header s n ++ body records → all ≡ old ++ body more
     → now ≡ take 8 all ++ to_le_bytes w32 m ++ drop (8 + length (to_le_bytes w32 m)) all → now ≡ header s m ++ body (records ++ more)
 appended_bytes old all now s n m records more is_old is_all is_now =
@@ -70,13 +71,14 @@ appended_bytes old all now s n m records more is_old is_all is_now =
     is_all ∙ ap (λ (l : List ℕ). l ++ body more) is_old ∙ append_assoc (header s n) (body records) (body more) in
     is_now ∙ count_set all s n m (body records ++ body more) behind ∙ ap (λ (l : List ℕ). header s m ++ l) (sym (body-appended records more))
 
--- The batch with these additions more has the bytes of the old one and those of the bodies.
+-- The batch with these additions has as many bytes as the old batch and the bodies together.
 pub appended_fits : (now : List ℕ) (s n limit : ℕ) (records more : List Record) → now ≡ header s n ++ body (records ++ more) → size_of_batch records + length (body more) ≤ limit
     → length now ≤ limit
 appended_fits now s n limit records more is_now fits =
     omega (arith, fits, ap length is_now, ap length (body-appended records more), length-append (body records) (body more))
 
--- The record behind the old bytes and then the new count in the header make the batch with one addition more.
+-- Appending the record to the old bytes, and then setting the new count in the header, makes the batch with this
+-- addition.
 pub added_bytes : (old more now : List ℕ) (s n m : ℕ) (records : List Record) (r : Record) → old ≡ header s n ++ body records → more ≡ old ++ record_bytes r
     → now ≡ take 8 more ++ to_le_bytes w32 m ++ drop (8 + length (to_le_bytes w32 m)) more → now ≡ header s m ++ body (records ++ r ∷ [])
 added_bytes old more now s n m records r is_old is_more is_now =
@@ -84,7 +86,7 @@ added_bytes old more now s n m records r is_old is_more is_now =
     is_more ∙ ap (λ (l : List ℕ). l ++ record_bytes r) is_old ∙ append_assoc (header s n) (body records) (record_bytes r) in
     is_now ∙ count_set more s n m (body records ++ record_bytes r) behind ∙ ap (λ (l : List ℕ). header s m ++ l) (sym (body-added records r))
 
--- The batch with one addition more has the bytes of the old one and those of the record.
+-- The batch with this addition has as many bytes as the old batch and the record together.
 pub added_fits : (now : List ℕ) (s n limit : ℕ) (records : List Record) (r : Record) → now ≡ header s n ++ body (records ++ r ∷ []) → size_of_batch records + length (record_bytes r) ≤ limit
     → length now ≤ limit
 added_fits now s n limit records r is_now fits =

@@ -1,4 +1,4 @@
--- Bytes are one batch or have one error, and not both.
+-- Bytes are those of one batch at most, have one error at most, and never both.
 use Rattle.std.proofs.Common.{◌≡◌, ℕ, ◌-◌, ◌^◌, ◌<◌, ◌≤◌, List, [], ◌++◌, length, take, drop, refl, sym, ◌∙◌, ap, subst, arith, append-nil, length-drop}
 use Rattle.std.proofs.Math.Seq.{take-length}
 use Rattle.std.proofs.lemmas.List.{take-append-drop, drop-drop}
@@ -11,11 +11,11 @@ use Rattle.model_base.specs.Batch.{Record, count_of, body, IsReadable, IsBatch, 
 use Rattle.log_batch.proofs.OneRecord.{one_record_error}
 use Rattle.log_batch.proofs.OneReading.{none_in_nothing, none_in_error, one_walk}
 
--- The bytes from a place on.
+-- Taking as many bytes from a place on as there are takes all of them.
 pub from_place : (at : ℕ) (bytes : List ℕ) → take (length bytes - at) (drop at bytes) ≡ drop at bytes
 from_place at bytes = ap (λ (n : ℕ). take n (drop at bytes)) (sym (length-drop at bytes)) ∙ take-length (drop at bytes)
 
--- what a batch's bytes are
+-- a batch has at least the bytes of a header
 long_enough : (bytes : List ℕ) (s : ℕ) (records : List Record) → IsBatch bytes s records → 12 ≤ length bytes
 long_enough bytes s records is = omega (arith, ap length is.spelled)
 
@@ -30,12 +30,12 @@ sequence_before : (bytes : List ℕ) (s : ℕ) (records : List Record) → IsBat
 sequence_before bytes s records is =
     ap (λ (l : List ℕ). from_le_bytes w64 (take 8 l)) is.spelled ∙ from_le_bytes-to_le_bytes_8 s is.sequence_fits
 
--- the two parts of a header, and what stands behind it
+-- the bytes are the two parts of a header and what follows it
 joined : (bytes : List ℕ) → bytes ≡ take 8 bytes ++ (take 4 (drop 8 bytes) ++ drop 12 bytes)
 joined bytes = sym (take-append-drop 8 bytes)
     ∙ ap (λ (l : List ℕ). take 8 bytes ++ l) (sym (take-append-drop 4 (drop 8 bytes)) ∙ ap (λ (l : List ℕ). take 4 (drop 8 bytes) ++ l) (drop-drop 4 8 bytes))
 
--- A header and records behind it are a batch.
+-- A header followed by records is a batch.
 pub is_batch : (bytes : List ℕ) (s said : ℕ) (records : List Record) → to_le_bytes w64 s ≡ take 8 bytes → to_le_bytes w32 said ≡ take 4 (drop 8 bytes) → drop 12 bytes ≡ body records
     → AllByRecursion IsReadable records → said ≡ count_of records → s < 2 ^ 64 → said < 2 ^ 32 → IsBatch bytes s records
 is_batch bytes s said records sequence_is said_is body_is readable counted s_fits said_fits = record {
@@ -46,7 +46,7 @@ is_batch bytes s said records sequence_is said_is body_is readable counted s_fit
   count_fits = rw (sym counted) said_fits;
 }
 
--- Bytes are one batch at most.
+-- Bytes are those of one batch at most.
 pub one_batch : (bytes : List ℕ) (s t : ℕ) (a b : List Record) → IsBatch bytes s a → IsBatch bytes t b → (s ≡ t) × (a ≡ b)
 one_batch bytes s t a b x y = (
   sym (sequence_before bytes s a x) ∙ sequence_before bytes t b y,
@@ -54,7 +54,7 @@ one_batch bytes s t a b x y = (
       (append-nil (body a) ∙ sym (records_behind bytes s a x) ∙ records_behind bytes t b y ∙ sym (append-nil (body b)))).0,
 )
 
--- A batch has no error.
+-- The bytes of a batch have no error.
 pub no_batch_error : (bytes : List ℕ) (s : ℕ) (records : List Record) (e : BatchError) → IsBatch bytes s records → IsBatchError bytes e → ⊥
 no_batch_error bytes s records e is (no_header few) = omega (arith, few, long_enough bytes s records is)
 no_batch_error bytes s records e is (no_record others rest long read split wrong) =
@@ -65,13 +65,13 @@ no_batch_error bytes s records e is (wrong_count others long read split said dif
     (append-nil (body records) ∙ sym (records_behind bytes s records is) ∙ split ∙ sym (append-nil (body others))) in
     differ (said ∙ count_before bytes s records is ∙ ap count_of walk.0)
 
--- bytes that are records don't break off
+-- where bytes are those of readable records, no record breaks off with an error
 no_break : (bytes : List ℕ) (a b : List Record) (x : List ℕ) (e : BatchError) → AllByRecursion IsReadable a → AllByRecursion IsReadable b → bytes ≡ body a ++ x → bytes ≡ body b → NoRecord x e → ⊥
 no_break bytes a b x e read_a read_b is_a is_b wrong =
     let walk = one_walk a b x [] read_a read_b (none_in_error x e wrong) none_in_nothing (sym is_a ∙ is_b ∙ sym (append-nil (body b))) in
     subst (λ (l : List ℕ). NoRecord l e) walk.1 wrong
 
--- There is one error at most.
+-- Bytes have one error at most.
 pub one_batch_error : (bytes : List ℕ) (d e : BatchError) → IsBatchError bytes d → IsBatchError bytes e → d ≡ e
 one_batch_error bytes d e (no_header few) (no_header fewer) = refl
 one_batch_error bytes d e (no_header few) (no_record b y long read split wrong) = absurd (omega (arith, few, long))

@@ -1,4 +1,4 @@
--- In front of bytes stands one record or one error, and not both.
+-- Bytes that begin with a readable record have no error, and bytes have one error at most.
 use Rattle.std.proofs.Common.{◌≡◌, inl, inr, ℕ, ◌-◌, ◌^◌, ◌<◌, Bool, false, IsTrue, List, [], ◌∷◌, ◌++◌, length, take, drop, get_or, flat_map, refl, sym, ◌∙◌, ap, subst, arith, append_assoc, append-nil, length-append}
 use Rattle.std.proofs.Math.Seq.{take-length, take-append_seam}
 use Rattle.std.proofs.lemmas.Bool.{false≢true}
@@ -11,14 +11,14 @@ use Rattle.base_bytes.proofs.Spellings.{varint_spells}
 use Rattle.base_bytes.proofs.OneAnswer.{one_front, no_error, one_error}
 use Rattle.base_bytes.proofs.Records.{AreShort, one_string}
 
--- a string's length begins its bytes
+-- the bytes of a string begin with its length
 begins_length : (s x : List ℕ) → length s < 2 ^ 32 → BeginsVarint (varstring s ++ x) (length s) (length (varint (length s)))
 begins_length s x short =
     let v = varint (length s) in
     let front : take (length v) ((v ++ s) ++ x) ≡ v = ap (take (length v)) (append_assoc v s x) ∙ take-append_seam v (s ++ x) in
     record { spelled = rw front (varint_spells (length s) short); within = omega (arith, length-append (v ++ s) x, length-append v s); fits = short }
 
--- where a string stands there is no error
+-- bytes that begin with a string have no error
 no_varstring : (s x : List ℕ) (e : BatchError) → length s < 2 ^ 32 → NoVarstring (varstring s ++ x) e → ⊥
 no_varstring s x Short short (inl error) = no_error (varstring s ++ x) (length s) (length (varint (length s))) code.Short (begins_length s x short) error
 no_varstring s x Short short (inr past) =
@@ -29,14 +29,14 @@ no_varstring s x BadVarint short (inr error) = no_error (varstring s ++ x) (leng
 no_varstring s x (Tag t) short error = error
 no_varstring s x (Count said found) short error = error
 
--- the error Short is no other one
+-- bytes with the error `Short` don't have the error `BadVarint`
 short_alone : (bytes : List ℕ) → NoVarstring bytes Short → NoVarstring bytes BadVarint → ⊥
 short_alone bytes (inl x) (inl y) = cc (one_error bytes code.Short code.NotShortest x y)
 short_alone bytes (inl x) (inr y) = cc (one_error bytes code.Short code.TooLong x y)
 short_alone bytes (inr x) (inl y) = no_error bytes x.0 x.1 code.NotShortest x.2 y
 short_alone bytes (inr x) (inr y) = no_error bytes x.0 x.1 code.TooLong x.2 y
 
--- there is one error at most
+-- bytes have one error at most
 one_no_varstring : (bytes : List ℕ) (d e : BatchError) → NoVarstring bytes d → NoVarstring bytes e → d ≡ e
 one_no_varstring bytes Short Short x y = refl
 one_no_varstring bytes Short BadVarint x y = absurd (short_alone bytes x y)
@@ -47,11 +47,11 @@ one_no_varstring bytes d (Count said found) x y = absurd y
 one_no_varstring bytes (Tag t) e x y = absurd x
 one_no_varstring bytes (Count said found) e x y = absurd x
 
--- a string in front of others and the rest
+-- the bytes of several strings begin with those of the first
 in_front : (s : List ℕ) (strings : List (List ℕ)) (x : List ℕ) → flat_map varstring (s ∷ strings) ++ x ≡ varstring s ++ (flat_map varstring strings ++ x)
 in_front s strings x = append_assoc (varstring s) (flat_map varstring strings) x
 
--- where all strings stand, none is missing
+-- bytes that begin with all the strings don't break off after some of them
 breaks_not : (whole strings : List (List ℕ)) (rest x : List ℕ) (e : BatchError) → length whole < length strings → AreShort whole → AreShort strings
     → flat_map varstring whole ++ rest ≡ flat_map varstring strings ++ x → NoVarstring rest e → ⊥
 breaks_not whole [] rest x e fewer short_w short_s same wrong = omega (arith, fewer)
@@ -61,7 +61,7 @@ breaks_not (w ∷ whole) (s ∷ strings) rest x e fewer short_w short_s same wro
     let first = one_string w s (flat_map varstring whole ++ rest) (flat_map varstring strings ++ x) short_w.0 short_s.0 (sym (in_front w whole rest) ∙ same ∙ in_front s strings x) in
     breaks_not whole strings rest x e (omega (arith, fewer)) short_w.1 short_s.1 first.1 wrong
 
--- the first string that is missing is one, with one error
+-- if the strings break off in two ways, the error is the same
 one_break : (whole strings : List (List ℕ)) (rest x : List ℕ) (d e : BatchError) → AreShort whole → AreShort strings
     → flat_map varstring whole ++ rest ≡ flat_map varstring strings ++ x → NoVarstring rest d → NoVarstring x e → d ≡ e
 one_break [] [] rest x d e short_w short_s same wrong_w wrong_s = one_no_varstring x d e (subst (λ (l : List ℕ). NoVarstring l d) same wrong_w) wrong_s
@@ -73,7 +73,7 @@ one_break (w ∷ whole) (s ∷ strings) rest x d e short_w short_s same wrong_w 
     let first = one_string w s (flat_map varstring whole ++ rest) (flat_map varstring strings ++ x) short_w.0 short_s.0 (sym (in_front w whole rest) ∙ same ∙ in_front s strings x) in
     one_break whole strings rest x d e short_w.1 short_s.1 first.1 wrong_w wrong_s
 
--- no test is passed and failed
+-- no test both passes and fails
 not_both : (b : Bool) → IsTrue b → b ≡ false → ⊥
 not_both b passed failed = false≢true (sym failed ∙ passed)
 
@@ -84,7 +84,7 @@ strings_are (deletion k) = refl
 strings_are (single_deletion k) = refl
 strings_are (log_data k) = refl
 
--- Where a record stands there is no error.
+-- Bytes that begin with a readable record have no error.
 pub no_record_error : (bytes x : List ℕ) (r : Record) (e : BatchError) → IsReadable r → bytes ≡ record_bytes r ++ x → NoRecord bytes e → ⊥
 no_record_error [] x r e readable is wrong = wrong
 no_record_error (t ∷ bytes) x r e readable is (inl wrong) =
@@ -96,7 +96,7 @@ no_record_error (t ∷ bytes) x r e readable is (inr wrong) =
     let tag : t ≡ tag_of r = cc in
     not_both (is_tag t) (subst (λ (u : ℕ). IsTrue (is_tag u)) (sym tag) readable.tag) wrong.0
 
--- There is one error at most.
+-- Bytes have one error at most.
 pub one_record_error : (bytes : List ℕ) (d e : BatchError) → NoRecord bytes d → NoRecord bytes e → d ≡ e
 one_record_error [] d e x y = absurd x
 one_record_error (t ∷ bytes) d e (inl x) (inl y) = one_break x.1.0 y.1.0 x.1.1 y.1.1 d e x.1.3 y.1.3 (sym x.1.4 ∙ y.1.4) x.1.5 y.1.5
@@ -104,7 +104,7 @@ one_record_error (t ∷ bytes) d e (inl x) (inr y) = absurd (not_both (is_tag t)
 one_record_error (t ∷ bytes) d e (inr x) (inl y) = absurd (not_both (is_tag t) y.0 x.0)
 one_record_error (t ∷ bytes) d e (inr x) (inr y) = x.1 ∙ sym y.1
 
--- The second string of a key and its value is missing.
+-- If the value after a key can't be read, neither can the record, and the error is the same.
 pub no_value : (bytes key behind : List ℕ) (e : BatchError) → 0 < length bytes → get_or bytes 0 0 ≡ 1 → length key < 2 ^ 32 → take (length bytes - 1) (drop 1 bytes) ≡ varstring key ++ behind → NoVarstring behind e
     → NoRecord bytes e
 no_value [] key behind e some tag short split wrong = absurd (omega (arith, some))
@@ -115,7 +115,7 @@ no_value (t ∷ bytes) key behind e some tag short split wrong =
     let at_one : NoRecord (1 ∷ bytes) e = inl (refl, (key ∷ [], behind, omega arith, (short, tt), strings, wrong)) in
     subst (λ (u : ℕ). NoRecord (u ∷ bytes) e) (sym tag) at_one
 
--- The one string, or the first, is missing.
+-- If the only string of a record, or the first, can't be read, neither can the record, and the error is the same.
 pub no_string : (bytes : List ℕ) (t : ℕ) (e : BatchError) → 0 < length bytes → get_or bytes 0 0 ≡ t → IsTrue (is_tag t) → 0 < strings_after t → NoVarstring (take (length bytes - 1) (drop 1 bytes)) e
     → NoRecord bytes e
 no_string [] t e some tag is_one more wrong = absurd (omega (arith, some))
@@ -125,7 +125,7 @@ no_string (u ∷ bytes) t e some tag is_one more wrong =
     let at_tag : NoRecord (t ∷ bytes) e = inl (is_one, ([], bytes, more, tt, refl, subst (λ (l : List ℕ). NoVarstring l e) strings wrong)) in
     subst (λ (v : ℕ). NoRecord (v ∷ bytes) e) (sym tag) at_tag
 
--- A tag and its one string are in front.
+-- The bytes begin with a tag and its only string.
 pub string_in_front : (bytes key rest : List ℕ) (t : ℕ) → 0 < length bytes → get_or bytes 0 0 ≡ t → take (length bytes - 1) (drop 1 bytes) ≡ varstring key ++ rest → bytes ≡ (t ∷ flat_map varstring (key ∷ [])) ++ rest
 string_in_front [] key rest t some tag split = absurd (omega (arith, some))
 string_in_front (u ∷ bytes) key rest t some tag split =

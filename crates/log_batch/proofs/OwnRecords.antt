@@ -1,4 +1,4 @@
--- A batch's bytes behind the header are its records, and these are read.
+-- A batch's bytes after the header are those of its records, and these are readable.
 use Rattle.std.proofs.Common.{◌≡◌, ℕ, ◌^◌, ◌<◌, List, [], ◌∷◌, length, drop, refl, sym, ap, ◌∙◌, arith, length-append, flat_map, IsTrue}
 use Rattle.std.specs.List.{AllByRecursion}
 use Rattle.base_bytes.proofs.Records.{AreShort, one_read}
@@ -7,7 +7,7 @@ use Rattle.model_base.specs.Batch.{Record, value, deletion, single_deletion, log
 use Rattle.log_batch.specs.Body.{IsBody}
 use Rattle.log_batch.specs.Contents.{IsBatch}
 
--- strings in few bytes are short
+-- strings whose bytes, with their lengths, are fewer than 2 ^ 32 are short
 few_strings : (strings : List (List ℕ)) → length (flat_map varstring strings) < 2 ^ 32 → AreShort strings
 few_strings [] few = tt
 few_strings (s ∷ strings) few =
@@ -20,7 +20,7 @@ each_tag (deletion k) = refl
 each_tag (single_deletion k) = refl
 each_tag (log_data b) = refl
 
--- records in few bytes are read
+-- records with fewer than 2 ^ 32 bytes are readable
 few_readable : (records : List Record) → length (body records) < 2 ^ 32 → AllByRecursion IsReadable records
 few_readable [] few = tt
 few_readable (r ∷ records) few =

@@ -1,9 +1,9 @@
--- What a batch holds, and the bytes that it is.
+-- What a batch has: its sequence and its additions, and the bytes of these.
 use Rattle.std.specs.Prelude.{◌≡◌, ◌≤◌, ℕ, List, [], ◌∷◌, ◌++◌, length}
 use Rattle.model_base.specs.declared.limits.TheConstants.{MAX_SIZE}
 use Rattle.model_base.specs.Batch.{Record, count_of, header, body, size_of_batch}
 
--- its sequence, and the additions in order
+-- the sequence of a batch, and its additions in order
 pub record Contents : Type 0 where
   pub sequence : ℕ
   pub records : List Record
@@ -12,23 +12,23 @@ pub record Contents : Type 0 where
 abbrev pub empty : Contents
 empty = record { sequence = 0; records = [] }
 
--- with one addition more, behind the others
+-- the contents with one more addition at the end
 abbrev pub with_addition : Contents → Record → Contents
 with_addition contents addition = record contents { records = contents.records ++ addition ∷ [] }
 
--- how many bytes the batch has with it
+-- how many bytes the batch has with this addition
 abbrev pub size_with : Contents → Record → ℕ
 size_with contents addition = size_of_batch (with_addition contents addition).records
 
--- with these additions more, behind the others
+-- the contents with these additions at the end
 abbrev pub with_additions : Contents → List Record → Contents
 with_additions contents additions = record contents { records = contents.records ++ additions }
 
--- how many bytes the batch has with them
+-- how many bytes the batch has with these additions
 abbrev pub size_with_all : Contents → List Record → ℕ
 size_with_all contents additions = size_of_batch (with_additions contents additions).records
 
--- The bytes are those of a batch of this sequence and this count: of the additions `records`. No other additions have
+-- The bytes are those of a batch with this sequence, this count and the additions `records`. No other additions have
 -- these bytes.
 pub record IsBatch (bytes : List ℕ) (sequence count : ℕ) : Type 0 where
   pub records : List Record

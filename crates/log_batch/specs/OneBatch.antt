@@ -1,4 +1,4 @@
--- Bytes are those of one batch at most, so that a batch's bytes tell its additions.
+-- Bytes are those of one batch at most, so a batch's bytes determine its additions.
 use Rattle.std.specs.Prelude.{◌≡◌, ◌++◌, ℕ, List}
 use Rattle.std.specs.Coded.{le_prop, Coded-set, coded_ℕ, coded_list}
 use Rattle.std.proofs.Common.{lit<}

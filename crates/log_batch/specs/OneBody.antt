@@ -1,4 +1,4 @@
--- Bytes are of one list of records at most, so that they tell their records.
+-- Bytes are those of one list of readable records at most, so they determine their records.
 use Rattle.std.specs.Prelude.{◌≡◌, ℕ, List}
 use Rattle.std.proofs.Common.{sym, ◌∙◌}
 use Rattle.std.specs.List.{AllByRecursion, AllByRecursion-prop}

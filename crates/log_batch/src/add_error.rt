@@ -1,4 +1,4 @@
-//! Why a batch takes no more.
+//! Why a batch doesn't take an addition.
 
 use thiserror::Error;
 
@@ -8,8 +8,8 @@ pub enum AddError {
     /// There was no memory.
     #[error("no memory")]
     NoMemory,
-    /// With the addition the batch would have this many bytes, which are too many. More than the
-    /// greatest u64 are given as that.
+    /// With the addition the batch would have this many bytes, which are too many. A number above the greatest u64 is
+    /// given as the greatest u64.
     #[error("the batch would have {size} bytes")]
     TooLarge { size: u64 },
 }

@@ -20,13 +20,13 @@ pub const MAX_SEQUENCE: u64 = (1 << 56) - 1;
 /// How many bytes the header of a batch has: its sequence and its count.
 pub const HEADER_LEN: usize = 12;
 
-/// Where the count stands in it.
+/// The place of the count in the header.
 pub const COUNT_AT: usize = 8;
 
 /// A batch of additions. Contracts see its sequence and the additions in order.
 ///
-/// Its bytes are a header of twelve, which are the sequence in eight and the count in four, the lowest
-/// byte first, and then the records of the additions.
+/// Its bytes are a header of 12 bytes, and then the records of the additions. The header is the sequence in eight
+/// bytes and the count in four, the lowest byte first.
 #[derive(Debug, Drop)]
 pub struct Batch {
     bytes: Bytes,
@@ -57,9 +57,9 @@ impl Batch {
 
     /// Adds a key with its value.
     ///
-    /// Refused before all where the batch would have more than [`MAX_SIZE`] bytes, by `TooLarge` with
-    /// the size that it would have; a length of 2^32 or more counts as a varint of five bytes. A
-    /// refused addition leaves the batch as it was.
+    /// If the batch would have more than [`MAX_SIZE`] bytes, the addition is refused before anything else, by
+    /// `TooLarge` with the size that the batch would have; for this a length of 2^32 or more counts as a varint of
+    /// five bytes. A refused addition leaves the batch as it was.
     pub fn put(&mut self, key: &[u8], value: &[u8]) -> Result<(), AddError>
         ensures ok { OnOk result (self.new ≡ with_addition self.old (model.value key.now value.now)) }
         ensures err { OnErr result (self.new ≡ self.old) }
@@ -71,7 +71,7 @@ impl Batch {
         self.add(RecordView::Value { key, value })
     }
 
-    /// Adds a deletion of a key. Refused as [`Batch::put`] is.
+    /// Adds a deletion of a key. It is refused as by [`Batch::put`].
     pub fn delete(&mut self, key: &[u8]) -> Result<(), AddError>
         ensures ok { OnOk result (self.new ≡ with_addition self.old (model.deletion key.now)) }
         ensures err { OnErr result (self.new ≡ self.old) }
@@ -82,7 +82,7 @@ impl Batch {
         self.add(RecordView::Deletion { key })
     }
 
-    /// Adds a single deletion of a key. Refused as [`Batch::put`] is.
+    /// Adds a single deletion of a key. It is refused as by [`Batch::put`].
     pub fn single_delete(&mut self, key: &[u8]) -> Result<(), AddError>
         ensures ok { OnOk result (self.new ≡ with_addition self.old (model.single_deletion key.now)) }
         ensures err { OnErr result (self.new ≡ self.old) }
@@ -94,7 +94,7 @@ impl Batch {
         self.add(RecordView::SingleDeletion { key })
     }
 
-    /// Adds log data, which isn't counted and takes no sequence. Refused as [`Batch::put`] is.
+    /// Adds log data, which isn't counted and takes no sequence. It is refused as by [`Batch::put`].
     pub fn log_data(&mut self, blob: &[u8]) -> Result<(), AddError>
         ensures ok { OnOk result (self.new ≡ with_addition self.old (model.log_data blob.now)) }
         ensures err { OnErr result (self.new ≡ self.old) }
@@ -105,7 +105,7 @@ impl Batch {
         self.add(RecordView::LogData { blob })
     }
 
-    /// Adds a record behind the others.
+    /// Appends a record.
     fn add(&mut self, view: RecordView<'_>) -> Result<(), AddError>
         ensures ok { OnOk result (self.new ≡ with_addition self.old (record_of view.entry)) }
         ensures err { OnErr result (self.new ≡ self.old) }
@@ -127,8 +127,9 @@ impl Batch {
         Ok(())
     }
 
-    /// Adds the records of a batch that was read, in their order, behind the others (`WriteBatchInternal::Append` of
-    /// RocksDB's db/write_batch.cc). Its own sequence stays. Refused as [`Batch::put`] is; then none of them is added.
+    /// Appends the records of a batch that was read, in their order (`WriteBatchInternal::Append` of RocksDB's
+    /// db/write_batch.cc). The sequence of the batch itself stays. They are refused as by [`Batch::put`]; then none of
+    /// them is added.
     pub fn append(&mut self, other: &BatchView<'_>) -> Result<(), AddError>
         ensures ok { OnOk result (self.new ≡ with_additions self.old other.now.records) }
         ensures err { OnErr result (self.new ≡ self.old) }
@@ -150,7 +151,7 @@ impl Batch {
         Ok(())
     }
 
-    /// Takes out all additions, and sets the sequence to 0.
+    /// Removes all additions, and sets the sequence to 0.
     pub fn clear(&mut self)
         ensures { self.new ≡ empty }
     {
@@ -167,7 +168,7 @@ impl Batch {
         self.sequence
     }
 
-    /// Gives it another sequence, and changes nothing else.
+    /// Gives the batch another sequence, and changes nothing else.
     pub fn set_sequence(&mut self, sequence: u64)
         ensures { self.new ≡ record self.old { sequence = sequence } }
     {
@@ -175,14 +176,14 @@ impl Batch {
         self.bytes.overwrite(0, &sequence.to_le_bytes());
     }
 
-    /// How many additions count. Each of those takes a sequence.
+    /// How many additions count. Each of these takes a sequence.
     pub fn count(&self) -> u32
         ensures { result ≡ model.count_of self.now.records }
     {
         self.count
     }
 
-    /// How many bytes it has.
+    /// How many bytes the batch has.
     pub fn size(&self) -> u64
         ensures value { result ≡ model.size_of_batch self.now.records }
         ensures limit { result ≤ MAX_SIZE }
@@ -190,14 +191,14 @@ impl Batch {
         self.bytes.len() as u64
     }
 
-    /// Its bytes.
+    /// The bytes of the batch.
     pub fn bytes(&self) -> &[u8]
         ensures { result.now ≡ model.batch self.now.sequence self.now.records }
     {
         self.bytes.as_slice()
     }
 
-    /// The additions in order, as parts of its bytes.
+    /// The additions in order, as parts of the batch's bytes.
     pub fn records(&self) -> Records<'_>
         ensures value { result ≡ self.now.records }
         ensures bound { length result < 2 ^ 64 }

@@ -9,7 +9,7 @@ ghost use Rattle.log_batch.specs.Measures.{measure_of};
 use crate::batch::Batch;
 use model_base::{Flag, MAX_SIZE, Refusal, WriteOptions};
 
-/// What the checks see of a batch: the bytes that it has, and how many of its records count.
+/// What the checks see of a batch: how many bytes it has, and how many of its records count.
 #[derive(Clone, Copy, Debug, PartialEq, Eq)]
 pub struct Measure {
     pub size: u64,
@@ -20,7 +20,7 @@ impl Measure {
     ghost use Rattle.std.specs.Prelude.{◌≡◌, ◌≤◌};
     ghost use Rattle.log_batch.specs.Measures.{measure_of};
 
-    /// That of a batch.
+    /// The measure of a batch.
     pub fn of(batch: &Batch) -> Measure
         ensures value { result ≡ measure_of batch.now.records }
         ensures limit { result.size ≤ MAX_SIZE }
@@ -32,9 +32,9 @@ impl Measure {
     }
 }
 
-/// The refusal of a commit before its batch is queued, if there is one, in the order of the checks: a batch without a
-/// record that counts, one of more than `batch_bytes` bytes, a sync that is to stay out of the log, and a client that
-/// holds the stop token itself and doesn't ask for no slowdown.
+/// The refusal of a commit before its batch is queued, if there is one. The checks come in this order: a batch without
+/// a record that counts, a batch of more than `batch_bytes` bytes, a commit that asks for a sync and also to stay out
+/// of the log, and a client that holds the stop token itself and doesn't ask for no slowdown.
 pub fn refusal_at_once(
     measure: Measure,
     options: WriteOptions,
@@ -59,7 +59,7 @@ pub fn refusal_at_once(
     None
 }
 
-/// How a batch that was committed so stands in the history.
+/// The flag that the history has for a batch that was committed with these options.
 pub fn flag_of(options: WriteOptions) -> Flag
     ensures { result ≡ history.flag_of options }
 {

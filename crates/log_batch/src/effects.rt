@@ -1,4 +1,4 @@
-//! What records do to a map, as `MemTableInserter` of RocksDB's `write_batch.cc` does it to a memtable.
+//! What records do to a map. `MemTableInserter` of RocksDB's `write_batch.cc` does this to a memtable.
 
 ghost use Rattle.std.specs.Prelude.{◌≡◌, ◌<◌, ℕ, length, take, OnOk, OnErr};
 ghost use Rattle.model_base.specs.Map.{after_record, after_records};
@@ -9,22 +9,22 @@ use crate::records::Records;
 use base_maps::ByteMap;
 use model_base::NoMemory;
 
-/// Changes a map as records say, in their order. For want of memory it may stop behind some of them.
+/// Changes a map as records say, in their order. If memory runs out, it stops after some of them, perhaps none.
 pub fn write_records(map: &mut ByteMap, records: Records<'_>) -> Result<(), NoMemory>
     ensures ok { OnOk result (map.new ≡ after_records map.old records.entry) }
     ensures err { OnErr result
         ((written : ℕ) × (written < length records.entry)
         × (map.new ≡ after_records map.old (take written records.entry))) }
 {
-    // The map is that of the records before those that are left.
+    // The map has the changes of the records before those that are left.
     for view in records {
         write_record(map, view)?;
     }
     Ok(())
 }
 
-/// Changes a map as a record says: a value is set at its key, a deletion takes its key out, and what is for the log
-/// alone changes nothing. For want of memory the map stays as it was.
+/// Changes a map as a record says: a value is set at its key, a deletion removes its key, and log data changes
+/// nothing. If memory runs out, the map stays as it was.
 pub fn write_record(map: &mut ByteMap, view: RecordView<'_>) -> Result<(), NoMemory>
     ensures ok { OnOk result (map.new ≡ after_record map.old (record_of view.entry)) }
     ensures err { OnErr result (map.new ≡ map.old) }

@@ -1,10 +1,10 @@
-//! Write batches, as RocksDB's db/write_batch.cc lays them out, and what is asked of one before it is written.
+//! Write batches, as RocksDB's db/write_batch.cc lays them out, and the checks of a batch before it is written.
 //!
 //! | part | bytes |
 //! |---|---|
 //! | sequence | 8, the lowest byte first |
 //! | count | 4, the lowest byte first: how many of the records take a sequence |
-//! | records | one after another: a tag, and one or two strings, each behind its length as a varint32 |
+//! | records | one after another: a tag, and one or two strings, each after its length as a varint32 |
 //!
 //! | tag | record | strings | takes a sequence |
 //! |---|---|---|---|
@@ -13,7 +13,7 @@
 //! | 3 | log data | blob | no |
 //! | 7 | single deletion | key | yes |
 //!
-//! - `batch`, `record_bytes`: a batch that is being made. `view`, `records`, `split`: the bytes of one that is read.
+//! - `batch`, `record_bytes`: a batch that is being made. `view`, `records`, `split`: reading a batch's bytes.
 //! - `effects`: what records do to a map. `run`: the sequences of a batch.
 //! - `checks`: the refusals of a commit that need nothing but its batch.
 #![tactic(auto)]

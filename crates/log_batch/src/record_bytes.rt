@@ -1,5 +1,5 @@
-//! The bytes of a record in a batch: a tag, and one or two strings, each behind its length. The tags are those of
-//! RocksDB's db/dbformat.h, `ValueType`.
+//! The bytes of a record in a batch: a tag, and one or two strings, each after its length. The tags are those of
+//! `ValueType` in RocksDB's db/dbformat.h.
 
 ghost use Rattle.std.specs.Prelude.{◌≡◌, ◌<◌, ◌^◌, ◌-◌, ◌+◌, ◌∷◌, ◌++◌, length, take, min, OnOk, OnErr};
 ghost use Rattle.model_base.specs.Batch as model;
@@ -21,8 +21,8 @@ pub const LOG_DATA: u8 = 3;
 /// The tag of a single deletion of a key.
 pub const SINGLE_DELETION: u8 = 7;
 
-/// How many bytes a string has behind its length. A length of 2^32 or more, which has no varint32,
-/// counts as one of five bytes.
+/// How many bytes a string has with its length before it. A length of 2^32 or more has no varint32, and counts as one
+/// of five bytes.
 fn varstring_len(string: &[u8]) -> u64
     ensures { result ≡ length (model.varstring string.now) }
 {
@@ -30,7 +30,7 @@ fn varstring_len(string: &[u8]) -> u64
     varint32_len(len) + len
 }
 
-/// How many bytes are there with those of a record. More than the greatest u64 are given as that.
+/// `size` plus the number of the record's bytes. A number above the greatest u64 is given as the greatest u64.
 pub fn size_with_record(size: u64, view: RecordView<'_>) -> u64
     ensures { result ≡ min (size + length (model.record_bytes (record_of view.entry))) (2 ^ 64 - 1) }
 {
@@ -45,7 +45,7 @@ pub fn size_with_record(size: u64, view: RecordView<'_>) -> u64
     }
 }
 
-/// Puts a string behind the bytes, and its length before it.
+/// Appends a string to the bytes, with its length before it.
 fn append_varstring(bytes: &mut Bytes, string: &[u8]) -> Result<(), NoMemory>
     requires { length string.now < 2 ^ 32 }
     ensures ok { OnOk result (bytes.new ≡ bytes.old ++ model.varstring string.now) }
@@ -55,7 +55,7 @@ fn append_varstring(bytes: &mut Bytes, string: &[u8]) -> Result<(), NoMemory>
     bytes.append(string)
 }
 
-/// Puts a tag and a string behind the bytes.
+/// Appends a tag and a string to the bytes.
 fn append_tagged(bytes: &mut Bytes, tag: u8, string: &[u8]) -> Result<(), NoMemory>
     requires { length string.now < 2 ^ 32 }
     ensures ok { OnOk result (bytes.new ≡ bytes.old ++ (tag ∷ model.varstring string.now)) }
@@ -65,7 +65,7 @@ fn append_tagged(bytes: &mut Bytes, tag: u8, string: &[u8]) -> Result<(), NoMemo
     append_varstring(bytes, string)
 }
 
-/// Puts a record behind the bytes. Where memory fails, a part of it may stand there.
+/// Appends a record to the bytes. If memory runs out, a part of the record may have been appended.
 pub fn append_record(bytes: &mut Bytes, view: RecordView<'_>) -> Result<(), NoMemory>
     requires { length (model.record_bytes (record_of view)) < 2 ^ 32 }
     ensures ok { OnOk result (bytes.new ≡ bytes.old ++ model.record_bytes (record_of view.entry)) }

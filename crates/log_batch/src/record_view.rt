@@ -9,15 +9,15 @@ ghost use Rattle.log_batch.specs.View.{record_of};
 pub enum RecordView<'a> {
     /// A key, and the value that it gets.
     Value { key: &'a [u8], value: &'a [u8] },
-    /// A key that is taken out.
+    /// A key that is removed.
     Deletion { key: &'a [u8] },
-    /// A key that is taken out, and was set once at most since it was last taken out.
+    /// A key that is removed. It should have been set once at most since it was last removed; that isn't checked here.
     SingleDeletion { key: &'a [u8] },
-    /// Bytes that stand in the log alone, and change no key.
+    /// Bytes that are in the log alone, and change no key.
     LogData { blob: &'a [u8] },
 }
 
-/// How many sequences a record takes: one, and log data none.
+/// How many sequences a record takes: log data takes none, and any other record takes one.
 pub fn sequences_of(view: RecordView<'_>) -> u32
     ensures { result ≡ model.count_of (record_of view.entry ∷ []) }
 {

@@ -12,9 +12,9 @@ use crate::split::split_record;
 use model_base::BatchError;
 use std::marker::Model;
 
-/// The records that bytes behind a header are, from the first on. Contracts see those that are left.
+/// The records of the bytes after a header, from the first on. Contracts see the records that are left.
 ///
-/// Each is taken apart anew, and none is copied.
+/// Each record is parsed again when it is reached, and none is copied.
 #[derive(Debug, Drop)]
 pub struct Records<'a> {
     rest: &'a [u8],
@@ -55,7 +55,7 @@ impl<'a> Iterator for Records<'a> {
 }
 
 impl<'a> Records<'a> {
-    /// Those that bytes are.
+    /// The records that these bytes spell.
     pub(crate) fn of_body(bytes: &'a [u8]) -> Records<'a>
         requires { IsBody bytes.now }
         ensures spelled { bytes.now ≡ model.body result }
@@ -65,14 +65,14 @@ impl<'a> Records<'a> {
         Records { rest: bytes }
     }
 
-    /// The bytes of those that are left.
+    /// The bytes of the records that are left.
     pub(crate) fn bytes(&self) -> &'a [u8]
         ensures { result.now ≡ model.body self.now }
     {
         self.rest
     }
 
-    /// The same records from the same place on.
+    /// The records that are left, from the same place on.
     pub(crate) fn again(&self) -> Records<'a>
         ensures same { result ≡ self.now }
         ensures bound { length result < 2 ^ 64 }
@@ -81,7 +81,7 @@ impl<'a> Records<'a> {
     }
 }
 
-/// The records that bytes are, and how many of them count.
+/// The records that bytes spell, and how many of them count.
 pub fn records_of(bytes: &[u8]) -> Result<(Records<'_>, u64), BatchError>
     ensures spelled { IfOk result (λ p. bytes.now ≡ model.body p.0) }
     ensures readable { IfOk result (λ p. AllByRecursion model.IsReadable p.0) }
@@ -93,7 +93,7 @@ pub fn records_of(bytes: &[u8]) -> Result<(Records<'_>, u64), BatchError>
     Ok((Records { rest: bytes }, found))
 }
 
-/// How many of the records that bytes are count.
+/// How many of the records that bytes spell count.
 fn count_records(bytes: &[u8]) -> Result<u64, BatchError>
     ensures ok { IfOk result (λ found. (body : IsBody bytes.now) × (found ≡ model.count_of body.records)) }
     ensures err { IfErr result (λ e. (records : List model.Record) × (rest : List ℕ)

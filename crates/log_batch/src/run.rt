@@ -13,7 +13,8 @@ pub struct Run {
     pub last: u64,
 }
 
-/// The next `count` sequences after the one given last. Refused where the greatest sequence is passed.
+/// The next `count` sequences after `last`, the last one given. It is refused if a sequence would be above the
+/// greatest.
 pub fn next_run(last: u64, count: u64) -> Result<Run, Refusal>
     requires { last ≤ max_sequence }
     ensures first { IfOk result (λ run. run.first ≡ last + 1) }

@@ -1,4 +1,4 @@
-//! The record in front of some bytes, and what stands behind it.
+//! Splits bytes into the record with which they begin and the bytes after it.
 
 ghost use Rattle.std.specs.Prelude.{◌≡◌, ◌<◌, ◌^◌, ◌++◌, length, IfOk, IfErr};
 ghost use Rattle.model_base.specs.Batch as model;
@@ -9,7 +9,7 @@ use crate::record_bytes::{DELETION, LOG_DATA, SINGLE_DELETION, VALUE};
 use base_bytes::get_varint32;
 use model_base::{BatchError, CodeError};
 
-/// The string in front of the bytes, which stands behind its length, and the bytes behind it.
+/// The string with which the bytes begin, after its length, and the bytes after the string.
 fn split_varstring(bytes: &[u8]) -> Result<(&[u8], &[u8]), BatchError>
     ensures spelled { IfOk result (λ p. bytes.now ≡ model.varstring p.0.now ++ p.1.now) }
     ensures short { IfOk result (λ p. length p.0.now < 2 ^ 32) }
@@ -24,7 +24,7 @@ fn split_varstring(bytes: &[u8]) -> Result<(&[u8], &[u8]), BatchError>
     }
 }
 
-/// The record in front of the bytes, and the bytes behind it.
+/// The record with which the bytes begin, and the bytes after it.
 pub fn split_record(bytes: &[u8]) -> Result<(RecordView<'_>, &[u8]), BatchError>
     requires { 0 < length bytes.now }
     ensures spelled { IfOk result (λ p. bytes.now ≡ model.record_bytes (record_of p.0) ++ p.1.now) }

@@ -10,8 +10,7 @@ use base_bytes::{get_fixed32, get_fixed64};
 use model_base::BatchError;
 use std::marker::Model;
 
-/// A batch that was read from bytes, which it borrows. Contracts see its sequence and its records in
-/// order.
+/// A batch that was read from bytes, which it borrows. Contracts see its sequence and its records in order.
 #[derive(Debug, Drop)]
 pub struct BatchView<'a> {
     sequence: u64,
@@ -36,7 +35,7 @@ impl<'a> BatchView<'a> {
         self.sequence
     }
 
-    /// How many records count. Each of those has a sequence.
+    /// How many records count. Each of these has a sequence.
     pub fn count(&self) -> u32
         ensures { result ≡ model.count_of self.now.records }
     {
@@ -54,16 +53,16 @@ impl<'a> BatchView<'a> {
 
 /// Reads bytes as a batch. Nothing is copied.
 ///
-/// The first fault from the front is answered: `Short` where there are fewer bytes than a header, a
-/// length ends early or a string passes the end; `BadVarint` where a length isn't in its shortest
-/// spelling or is too long; `Tag` where a tag isn't read; and behind the last record `Count` where the
-/// header says another number than that of the records that count.
+/// The error is the first one from the front: `Short` where there are fewer bytes than a header, a length ends early
+/// or a string passes the end; `BadVarint` where a length isn't in its shortest spelling or is too long; `Tag` where a
+/// tag isn't one that is read; and after the last record `Count`, where the header has another number than that of the
+/// records that count.
 pub fn read_batch(bytes: &[u8]) -> Result<BatchView<'_>, BatchError>
-    // What it answers is so.
+    // What it answers is true of the bytes.
     ensures ok { IfOk result (λ view. model.IsBatch bytes.now view.sequence view.records) }
     ensures err { IfErr result (model.IsBatchError bytes.now) }
 
-    // What is so is its answer.
+    // What is true of the bytes is what it answers.
     ensures reads { (sequence : ℕ) (records : List model.Record) → model.IsBatch bytes.now sequence records
         → result ≡ Ok (record { sequence = sequence; records = records }) }
     ensures refuses { (e : BatchError) → model.IsBatchError bytes.now e → result ≡ Err e }

@@ -1,4 +1,4 @@
--- What is seen in front of some bytes, case by case.
+-- What is seen at the start of some bytes, case by case.
 use Rattle.std.proofs.Common.{◌≡◌, ℕ, ◌+◌, ◌<◌, ◌≤◌, true, false, List, length, take, drop, not, bytes_eq, Option, Some, None, nat_lt, ◌==◌, cond, refl, ap, ◌∙◌, arith}
 use Rattle.std.proofs.lemmas.Bool.{lt-ltb, le-ltb, ne_eqb}
 use Rattle.std.specs.Int.{w32, to_le_bytes}
@@ -14,25 +14,25 @@ unfolding seen_within
 seen_is None space bytes = refl
 seen_is (Some n) space bytes = refl
 
--- the trailer of a block: zeros
+-- the trailer of a block is zeros
 pub seen_zeros : (number : Option ℕ) (space : ℕ) (bytes : List ℕ) → space < header_len number → are_zeros bytes ≡ true → seen_within number space bytes ≡ nothing
 seen_zeros number space bytes few zeros =
     let e : nat_lt space (header_len number) ≡ true = lt-ltb space (header_len number) few in
     seen_is number space bytes ∙ rw (e, zeros) refl
 
--- the trailer of a block: other bytes
+-- the trailer of a block has other bytes
 pub seen_trailer : (number : Option ℕ) (space : ℕ) (bytes : List ℕ) → space < header_len number → are_zeros bytes ≡ false → seen_within number space bytes ≡ damage BadTrailer
 seen_trailer number space bytes few others =
     let e : nat_lt space (header_len number) ≡ true = lt-ltb space (header_len number) few in
     seen_is number space bytes ∙ rw (e, others) refl
 
--- no bytes
+-- there are no bytes
 pub seen_none : (number : Option ℕ) (space : ℕ) (bytes : List ℕ) → header_len number ≤ space → length bytes ≡ 0 → seen_within number space bytes ≡ nothing
 seen_none number space bytes many none =
     let e : nat_lt space (header_len number) ≡ false = le-ltb space (header_len number) many in
     seen_is number space bytes ∙ rw (e, none) refl
 
--- some bytes, too few for a header
+-- there are some bytes, but too few for a header
 pub seen_short : (number : Option ℕ) (space : ℕ) (bytes : List ℕ) → header_len number ≤ space → 0 < length bytes → length bytes < header_len number → seen_within number space bytes ≡ damage ShortHeader
 seen_short number space bytes many some few =
     let e : nat_lt space (header_len number) ≡ false = le-ltb space (header_len number) many in
@@ -40,7 +40,7 @@ seen_short number space bytes many some few =
     let g : nat_lt (length bytes) (header_len number) ≡ true = lt-ltb (length bytes) (header_len number) few in
     seen_is number space bytes ∙ rw (e, f, g) refl
 
--- a header is there: zeros, or else its fields decide
+-- there is a header: it is zeros, or else its fields decide
 pub seen_there : (number : Option ℕ) (space : ℕ) (bytes : List ℕ) → header_len number ≤ space → 0 < length bytes → header_len number ≤ length bytes
     → seen_within number space bytes ≡ cond (are_zeros (take (header_len number) bytes)) (damage Zeros) (decided number bytes)
 seen_there number space bytes many some there =
@@ -49,14 +49,14 @@ seen_there number space bytes many some there =
     let g : nat_lt (length bytes) (header_len number) ≡ false = le-ltb (length bytes) (header_len number) there in
     seen_is number space bytes ∙ rw (e, f, g) refl
 
--- in a log without a number, the header of a fragment whose part is there: its checksum decides
+-- in a log without a number, a header with a right type whose whole part is there: its checksum decides
 pub plain_by_checksum : (bytes : List ℕ) (kind : Kind) → 7 + length_field bytes ≤ length bytes → type_field bytes ≡ kind_code None kind → decided None bytes ≡ by_checksum None kind bytes
 plain_by_checksum bytes kind there code_is =
     let e : nat_lt (length bytes) (7 + length_field bytes) ≡ false = le-ltb (length bytes) (7 + length_field bytes) there in
     ap (λ b. cond b (damage BadLength) (seen_of_kind bytes (kind_of_code None (type_field bytes)))) e
     ∙ ap (seen_of_kind bytes) (ap (kind_of_code None) code_is ∙ own_code None kind)
 
--- and in a log with a number, where the header has the same one
+-- and in a log with a number, if the header has this number too
 pub numbered_by_checksum : (n : ℕ) (bytes : List ℕ) (kind : Kind) → not (bytes_eq (take 4 (drop 7 bytes)) (to_le_bytes w32 n)) ≡ false → 11 + length_field bytes ≤ length bytes → type_field bytes ≡ kind_code (Some n) kind
     → decided (Some n) bytes ≡ by_checksum (Some n) kind bytes
 numbered_by_checksum n bytes kind own there code_is =

@@ -1,4 +1,4 @@
--- How many pieces are behind a place of a record.
+-- How many pieces come after a place of a record.
 use Rattle.std.proofs.Common.{◌≡◌, ℕ, zero, suc, ◌+◌, ◌-◌, ◌*◌, ◌<◌, ◌≤◌, List, [], ◌∷◌, length, Option, Some, None, refl, ◌∙◌, ap, subst, arith}
 use Rattle.std.proofs.lemmas.Grind.{div_ceil_times}
 use Rattle.std.specs.Int.{div_ceil}
@@ -7,11 +7,11 @@ use Rattle.log_block.specs.declared.pieces.Piece.{Piece}
 use Rattle.log_block.specs.Cutting.{first_piece, later_piece, later_pieces, still_to_come}
 use Rattle.log_block.proofs.Formats.{some_part}
 
--- the pieces of a record of that length, which is written at that place of a block
+-- all pieces of a record of this length, which is written at this place of a block
 abbrev pub all_pieces : Option ℕ → ℕ → ℕ → List Piece
 all_pieces number at len = still_to_come number (Some (first_piece number at len)) len
 
--- as many pieces as the bytes behind the place need
+-- n is the number of pieces that are needed for the bytes that are left
 pub record IsCount (number : Option ℕ) (left n : ℕ) : Type 0 where
   pub enough : left ≤ n * part_len number
   pub needed : n * part_len number < left + part_len number
@@ -23,17 +23,17 @@ pub one_count : (number : Option ℕ) (left m n : ℕ) → IsCount number left m
 one_count None left m n some other = omega (arith, some.enough, some.needed, other.enough, other.needed)
 one_count (Some k) left m n some other = omega (arith, some.enough, some.needed, other.enough, other.needed)
 
--- each but the last has two bytes and more
+-- each piece but the last has two bytes or more
 pub few_pieces : (number : Option ℕ) (left n : ℕ) → IsCount number left n → n + n ≤ left + 1
 few_pieces None left n is = omega (arith, is.needed)
 few_pieces (Some k) left n is = omega (arith, is.needed)
 
--- where bytes are left, so is a piece
+-- if bytes are left, so is a piece
 pub one_fewer : (number : Option ℕ) (left n : ℕ) → 0 < left → IsCount number left n → (m : ℕ) × (n ≡ suc m)
 one_fewer number left zero some is = absurd (omega (arith, some, is.enough))
 one_fewer number left (suc m) some is = (m, refl)
 
--- one fewer behind the next piece
+-- after the next piece one piece fewer is left
 pub count_behind : (number : Option ℕ) (start len n : ℕ) → start ≤ len → IsCount number (len - start) (suc n) → IsCount number (len - (later_piece number start len).end) n
 count_behind number start len n within is = record { enough = omega (arith, is.enough, is.needed); needed = omega (arith, is.enough, is.needed, some_part number) }
 

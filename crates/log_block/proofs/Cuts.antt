@@ -1,4 +1,4 @@
--- The pieces are those that a record's definition has.
+-- The pieces are the fragments that the definition of a record's text has.
 use Rattle.std.proofs.Common.{◌≡◌, ℕ, zero, suc, ◌+◌, ◌-◌, ◌%◌, ◌<◌, ◌≤◌, min, true, false, List, [], ◌∷◌, length, take, drop, slice_range, Option, cond, nat_lt, nat_le, ◌==◌, refl, sym, ◌∙◌, ap, subst, arith, length-take, length-drop, eq-eqb}
 use Rattle.std.proofs.lemmas.List.{take_min, drop-drop}
 use Rattle.std.proofs.Math.Seq.{take-length}
@@ -17,11 +17,11 @@ slice_is_take bytes start n =
     let len : start + min n (length bytes - start) - start ≡ min n (length (drop start bytes)) = omega (arith, length-drop start bytes) in
     ap (λ (k : ℕ). take k (drop start bytes)) len ∙ take_min n (drop start bytes)
 
--- where the fragment behind one of such a part begins to be looked for
+-- the offset at which the fragment after one with this part is looked for
 abbrev behind : Option ℕ → ℕ → List ℕ → ℕ
 behind number offset part = next_place number offset + header_len number + length part
 
--- a piece behind the first
+-- a piece after the first is a fragment of the definition
 later_is : (number : Option ℕ) (bytes : List ℕ) (start offset : ℕ) (kind : Kind) → start ≤ length bytes → offset % 32768 ≡ 0 → (later_piece number start (length bytes)).kind ≡ kind_code number kind
     → IsPiece number bytes offset start (later_piece number start (length bytes)) (record { kind = kind; part = take (part_len number) (drop start bytes) })
 later_is number bytes start offset kind within e kind_is = record {
@@ -62,7 +62,7 @@ later_are number bytes (suc (suc n)) start offset within e is =
           (later_are number bytes (suc n) end next_offset (omega arith) starts (count_behind number start (length bytes) (suc n) within is)),
     )
 
--- what the first piece goes by: the zeros, and the room behind them
+-- what the first piece is made from: the zeros, and the room after them
 pub record IsRoom (number : Option ℕ) (offset at space : ℕ) : Type 0 where
   pub zeros : cond (nat_lt (32768 - at) (header_len number)) (32768 - at) 0 ≡ trailer number offset
   pub same : space ≡ room (next_place number offset) - header_len number
@@ -95,7 +95,7 @@ first_is number bytes offset at n kind part e kind_is end_is len part_is = let n
   part = ap (λ (k : ℕ). take k bytes) none ∙ part_is;
 }
 
--- a record that fits into what is left of the block
+-- a record that fits into what is left of the block is one piece
 one_piece : (number : Option ℕ) (bytes : List ℕ) (offset at : ℕ) → offset % 32768 ≡ at → length bytes ≤ space_of number at
     → ArePieces number bytes offset 0 (all_pieces number at (length bytes)) (as_fragments (bytes ∷ []))
 one_piece number bytes offset at e fits =
@@ -106,7 +106,7 @@ one_piece number bytes offset at e fits =
     subst (λ (ps : List Piece). ArePieces number bytes offset 0 (p ∷ ps) (record { kind = full; part = bytes } ∷ [])) (sym (none_behind number p.end (length bytes) (omega (arith, end_is))))
     (first_is number bytes offset at (length bytes) full bytes e kind_is end_is refl (take-length bytes), tt)
 
--- one that doesn't
+-- a record that doesn't fit there is several pieces
 several_pieces : (number : Option ℕ) (bytes : List ℕ) (offset at m : ℕ) → offset % 32768 ≡ at → space_of number at < length bytes → IsCount number (length bytes - space_of number at) (suc m)
     → ArePieces number bytes offset 0 (first_piece number at (length bytes) ∷ later_pieces number (suc m) (space_of number at) (length bytes)) (as_fragments (take (space_of number at) bytes ∷ first_chunks (part_len number) (suc m) (drop (space_of number at) bytes)))
 several_pieces number bytes offset at m e more is =

@@ -1,4 +1,4 @@
--- A log's header and its longest part, in each format.
+-- How long a log's header and its longest part are, in each format.
 use Rattle.std.proofs.Common.{◌≡◌, ℕ, ◌+◌, ◌-◌, ◌%◌, ◌<◌, ◌≤◌, Option, Some, None, cond, nat_lt, refl, ap}
 use Rattle.std.proofs.Math.Dec.{lit<, lit≤}
 use Rattle.model_base.specs.Log.{header_len, part_len, trailer}
@@ -16,7 +16,7 @@ pub some_part : (number : Option ℕ) → 0 < part_len number
 some_part None = lit< tt
 some_part (Some n) = lit< tt
 
--- no zeros stand at the start of a block
+-- there are no zeros at the start of a block
 pub starts_block : (number : Option ℕ) (offset : ℕ) → offset % 32768 ≡ 0 → trailer number offset ≡ 0
 starts_block None offset e = ap (λ (r : ℕ). cond (nat_lt (32768 - r) 7) (32768 - r) 0) e
 starts_block (Some n) offset e = ap (λ (r : ℕ). cond (nat_lt (32768 - r) 11) (32768 - r) 0) e

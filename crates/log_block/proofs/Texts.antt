@@ -1,4 +1,4 @@
--- What is written of pieces is what is written of their fragments.
+-- What is written for pieces is what is written for their fragments.
 use Rattle.std.proofs.Common.{◌≡◌, ℕ, ◌+◌, List, [], ◌∷◌, ◌++◌, length, slice_range, replicate, Option, refl, ◌∙◌, ap}
 use Rattle.model_base.specs.Log.{Fragment, kind_code, header, header_len, fragment_bytes, trailer, next_place, fragments_text}
 use Rattle.log_block.specs.declared.pieces.Piece.{Piece}

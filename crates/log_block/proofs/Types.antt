@@ -3,7 +3,7 @@ use Rattle.std.proofs.Common.{◌≡◌, ℕ, zero, suc, ◌+◌, ◌-◌, ◌�
 use Rattle.model_base.specs.Log.{Kind, full, first, middle, last, kind_code, plain_log}
 use Rattle.model_base.specs.Reading.{kind_of_code}
 
--- in a log with a number they are four higher
+-- in a log with a number the types are four higher
 pub four_higher : (n : ℕ) (kind : Kind) → kind_code (Some n) kind ≡ 4 + kind_code plain_log kind
 four_higher n full = refl
 four_higher n first = refl
@@ -18,7 +18,7 @@ plain_kind (suc (suc (suc zero))) low high = (middle, refl)
 plain_kind (suc (suc (suc (suc zero)))) low high = (last, refl)
 plain_kind (suc (suc (suc (suc (suc code))))) low high = absurd (omega arith)
 
--- each between the first and the last is a kind's
+-- each type between the first and the last is that of a kind
 pub some_kind : (number : Option ℕ) (code : ℕ) → kind_code number full ≤ code → code ≤ kind_code number last → (kind : Kind) × (code ≡ kind_code number kind)
 some_kind None code low high = plain_kind code low high
 some_kind (Some n) code low high =
@@ -26,7 +26,7 @@ some_kind (Some n) code low high =
     let back : code ≡ 4 + (code - 4) = omega (arith, low) in
     (plain.0, back ∙ (ap (λ (c : ℕ). 4 + c) plain.1 ∙ sym (four_higher n plain.0)))
 
--- a kind's type is read as that kind
+-- the type of a kind is read as this kind
 pub own_code : (number : Option ℕ) (kind : Kind) → kind_of_code number (kind_code number kind) ≡ Some kind
 own_code None full = refl
 own_code None first = refl

@@ -1,4 +1,4 @@
-//! What stands at a place of a block.
+//! What is at a place of a block.
 
 ghost use Rattle.std.specs.Prelude.{◌≡◌, ◌+◌, ◌≤◌, ◌↔◌, IsTrue, length, drop, Some, None};
 ghost use Rattle.model_base.specs.Log as log;
@@ -12,26 +12,28 @@ use model_base::Damage;
 /// What a reader sees at a place of a block.
 #[derive(Clone, Copy, Debug, PartialEq, Eq)]
 pub enum Seen {
-    /// A fragment, by its type, and where in the block its part begins and ends.
+    /// A fragment: its type, and where its part begins and ends in the block.
     Fragment { kind: u8, start: usize, end: usize },
-    /// The file ends there, or the block does, with zeros where no fragment can begin.
+    /// The file ends there, or too little of the block is left for a fragment, and that is zeros.
     End,
-    /// No fragment that reads.
+    /// What is there isn't a valid fragment, for this reason.
     Damage(Damage),
 }
 
-/// What stands at the place `at` of a block, of whose bytes the file has these, in a log with this number, if it has
-/// one. The first of these holds, with 7 bytes for a header, or 11 in a log with a number:
+/// What is at the place `at` of a block. `block` has those of the block's bytes that the file has. The log has this
+/// number, if it has one. A header has 7 bytes, or 11 in a log with a number. The first of these cases that holds is
+/// the answer:
 ///
-/// - Fewer bytes than a header has are left of the block. What is there of them must be zeros, else it is `BadTrailer`.
-/// - The bytes end there.
+/// - Fewer bytes than a header has are left of the block: `End` if those that the file has of them are zeros, else
+///   `BadTrailer`.
+/// - The file's bytes end there: `End`.
 /// - Fewer bytes than a header has are there: `ShortHeader`.
 /// - The header is zeros: `Zeros`.
 /// - In a log without a number, the part would pass the end of the block or of the file: `BadLength`.
 /// - The type is none of 1 to 4, or in a log with a number none of 5 to 8: `BadType`.
 /// - In a log with a number, the header has another one: `OldLog`; and then, as above, `BadLength`.
 /// - The checksum differs: `BadChecksum`.
-/// - A fragment stands there.
+/// - There is a fragment.
 pub fn read_fragment(number: Option<u32>, block: &[u8], at: usize) -> Seen
     requires in_block { length block.now ≤ BLOCK_LEN }
     requires in_file { at ≤ length block.now }
@@ -56,7 +58,7 @@ pub fn read_fragment(number: Option<u32>, block: &[u8], at: usize) -> Seen
     }
 }
 
-/// The fragment behind the header that stands at the place `at`, unless the header is wrong.
+/// The fragment whose header is at the place `at`, unless the header is wrong.
 fn read_part(number: Option<u32>, block: &[u8], at: usize) -> Seen
     requires in_block { length block.now ≤ BLOCK_LEN }
     requires header { at + log.header_len number ≤ length block.now }
@@ -68,7 +70,7 @@ fn read_part(number: Option<u32>, block: &[u8], at: usize) -> Seen
     }
 }
 
-/// The same in a log without a number.
+/// As `read_part`, in a log without a number.
 fn read_plain(block: &[u8], at: usize) -> Seen
     requires in_block { length block.now ≤ BLOCK_LEN }
     requires header { at + 7 ≤ length block.now }
@@ -84,7 +86,7 @@ fn read_plain(block: &[u8], at: usize) -> Seen
     read_checked(None, block, at)
 }
 
-/// The same in a log with this number.
+/// As `read_part`, in a log with this number.
 fn read_numbered(number: u32, block: &[u8], at: usize) -> Seen
     requires in_block { length block.now ≤ BLOCK_LEN }
     requires header { at + 11 ≤ length block.now }
@@ -123,7 +125,7 @@ fn read_checked(number: Option<u32>, block: &[u8], at: usize) -> Seen
     }
 }
 
-/// Where the part ends of the fragment whose header stands in front of these bytes.
+/// Where the part of a fragment ends, if its header is at the start of these bytes.
 fn part_end(number: Option<u32>, bytes: &[u8]) -> usize
     requires { log.header_len number ≤ length bytes.now }
     ensures { result ≡ log.header_len number + reading.length_field bytes.now }
@@ -131,7 +133,7 @@ fn part_end(number: Option<u32>, bytes: &[u8]) -> usize
     header_len(number) + usize::from(LittleEndian::read_u16(&bytes[4..6]))
 }
 
-/// Whether it is the type of a fragment.
+/// Whether this is the type of a fragment.
 fn is_type(number: Option<u32>, kind: u8) -> bool
     ensures { IsTrue result ↔ (log.kind_code number log.full ≤ kind) × (kind ≤ log.kind_code number log.last) }
 {

@@ -9,25 +9,25 @@ ghost use Rattle.log_block.specs.Headers.{summed};
 use base_bytes::{crc32c, extend, mask};
 use std::marker::Model;
 
-/// The bytes of a block.
+/// How many bytes a block has.
 pub const BLOCK_LEN: usize = 32768;
 
 /// The type of a fragment that is a whole record.
 pub const FULL: u8 = 1;
 
-/// The type of a record's first fragment of several.
+/// The type of the first of a record's fragments, if there are several.
 pub const FIRST: u8 = 2;
 
 /// The type of a fragment between a record's first and last.
 pub const MIDDLE: u8 = 3;
 
-/// The type of a record's last fragment of several.
+/// The type of the last of a record's fragments, if there are several.
 pub const LAST: u8 = 4;
 
-/// By how much these types are higher where a log has a number.
+/// In a log with a number, each of these types is higher by this.
 const NUMBERED: u8 = 4;
 
-/// The bytes of a fragment's header: 7, or 11 where the log has a number.
+/// How many bytes a fragment's header has: 7, or 11 if the log has a number.
 pub fn header_len(number: Option<u32>) -> usize
     ensures { result ≡ log.header_len number }
 {
@@ -37,14 +37,14 @@ pub fn header_len(number: Option<u32>) -> usize
     }
 }
 
-/// The bytes of the longest part, which fills a block with its header.
+/// How many bytes the longest part has. With its header it fills a block.
 pub fn max_part_len(number: Option<u32>) -> usize
     ensures { result ≡ log.part_len number }
 {
     BLOCK_LEN - header_len(number)
 }
 
-/// The type of a fragment, by what it is in a log without a number: from [`FULL`] to [`LAST`].
+/// The type of a fragment in this log, from its type in a log without a number: [`FULL`] to [`LAST`].
 pub fn type_in(number: Option<u32>, plain: u8) -> u8
     requires { plain ≤ LAST }
     ensures { (kind : Kind) → plain ≡ kind_code plain_log kind → result ≡ kind_code number kind }
@@ -55,7 +55,7 @@ pub fn type_in(number: Option<u32>, plain: u8) -> u8
     }
 }
 
-/// What a fragment's type is in a log without a number.
+/// The type that a fragment of this log would have in a log without a number.
 pub fn plain_type(number: Option<u32>, kind: u8) -> u8
     ensures { (k : Kind) → kind ≡ kind_code number k → result ≡ kind_code plain_log k }
 {
@@ -69,7 +69,7 @@ pub fn plain_type(number: Option<u32>, kind: u8) -> u8
 #[derive(Debug, Drop)]
 pub struct HeaderBytes(ByFormat);
 
-/// A header's bytes, by whether the log has a number.
+/// A header's bytes, for a log without a number or with one.
 #[derive(Debug, Drop)]
 enum ByFormat {
     Plain([u8; 7]),
@@ -86,7 +86,7 @@ impl Model for HeaderBytes {
 }
 
 impl HeaderBytes {
-    /// Its bytes.
+    /// The bytes as a slice.
     pub fn as_slice(&self) -> &[u8]
         ensures { result.now ≡ self.now }
     {
@@ -97,7 +97,7 @@ impl HeaderBytes {
     }
 }
 
-/// The header of a fragment of this type with this part, which has at most [`max_part_len`] bytes, in a log with this
+/// The header of a fragment of this type with this part, which has at most [`max_part_len`] bytes. The log has this
 /// number, if it has one.
 pub fn header(number: Option<u32>, kind: u8, part: &[u8]) -> HeaderBytes
     requires { length part.now ≤ log.part_len number }
@@ -114,7 +114,7 @@ pub fn header(number: Option<u32>, kind: u8, part: &[u8]) -> HeaderBytes
     }
 }
 
-/// The checksum that a fragment's header has: of its type, of the log's number, if it has one, and of its part.
+/// The checksum that a fragment's header has. It covers the type, the log's number, if it has one, and the part.
 pub(crate) fn checksum(number: Option<u32>, kind: u8, part: &[u8]) -> u32
     ensures { result ≡ masked (crc32c (summed number kind part.now)) }
 {

@@ -12,7 +12,7 @@ use std::marker::Model;
 /// A fragment of a record that is being written.
 #[derive(Clone, Copy, Debug, PartialEq, Eq)]
 pub struct Piece {
-    /// How many zeros stand before its header. They end a block that has no room for a header.
+    /// How many zeros come before its header. They end a block that has no room for a header.
     pub zeros: usize,
     /// The fragment's type.
     pub kind: u8,
@@ -22,18 +22,19 @@ pub struct Piece {
     pub end: usize,
 }
 
-/// Cuts a record into the fragments that stand in the log, from the first on. It takes no memory. Contracts see the
-/// pieces that are still to come.
+/// Cuts a record into the fragments that are written to the log, from the first on. It takes no memory. Contracts see
+/// the pieces that are still to come.
 ///
-/// As `log::Writer::AddRecord` of LevelDB's db/log_writer.cc does it: one FULL fragment where the record fits into what
-/// is left of the block, and else a FIRST, any MIDDLE and a LAST, of which each but the last fills its block.
+/// It cuts as `log::Writer::AddRecord` of LevelDB's db/log_writer.cc does: into one FULL fragment if the record fits
+/// into what is left of the block, and else into a FIRST, any MIDDLE and a LAST, of which each but the last fills its
+/// block.
 #[derive(Debug, Drop)]
 pub struct Fragmenter {
     /// The log's number, if it has one.
     number: Option<u32>,
     /// The next piece.
     next: Option<Piece>,
-    /// The record's bytes.
+    /// How many bytes the record has.
     len: usize,
 }
 
@@ -48,10 +49,10 @@ impl Model for Fragmenter {
 }
 
 impl Fragmenter {
-    /// The pieces of a record of `len` bytes that is written where the log ends at the place `block_offset` of a block.
-    /// The log has this number, if it has one.
+    /// The pieces of a record of `len` bytes that is written to a log which ends at the place `block_offset` of a
+    /// block. The log has this number, if it has one.
     ///
-    /// Where just a header's bytes are left of the block and the record isn't empty, an empty FIRST fragment fills
+    /// If exactly a header's bytes are left of the block and the record isn't empty, an empty FIRST fragment fills
     /// them.
     pub fn new(number: Option<u32>, block_offset: usize, len: usize) -> Fragmenter
         requires { block_offset < BLOCK_LEN }
@@ -60,7 +61,7 @@ impl Fragmenter {
         ensures text { (offset : ℕ) (bytes : List ℕ) → offset % BLOCK_LEN ≡ block_offset → length bytes ≡ len
             → pieces.pieces_text number bytes result ≡ log.record_text number offset bytes }
         ensures cut { pieces.CoverRecord len 0 result }
-        ensures laid { pieces.StandInBlocks number block_offset result }
+        ensures laid { pieces.LieInBlocks number block_offset result }
         ensures bound { length result < 2 ^ 64 }
     {
         Fragmenter {
@@ -108,7 +109,7 @@ fn first_piece(number: Option<u32>, block_offset: usize, len: usize) -> Piece
     }
 }
 
-/// The piece that begins at this place of a record of `len` bytes, if the record goes on there.
+/// The piece that begins at this place of a record of `len` bytes, if the record doesn't end there.
 fn piece_behind(number: Option<u32>, start: usize, len: usize) -> Option<Piece>
     ensures { cutting.still_to_come number result len
         ≡ cutting.later_pieces number (div_ceil (len - start) (log.part_len number)) start len }
@@ -120,7 +121,7 @@ fn piece_behind(number: Option<u32>, start: usize, len: usize) -> Option<Piece>
     }
 }
 
-/// The piece that begins at this place of a record of `len` bytes, and at the start of a block.
+/// The piece that begins at this place of a record of `len` bytes and at the start of a block.
 fn later_piece(number: Option<u32>, start: usize, len: usize) -> Piece
     requires { start < len }
     ensures { result ≡ cutting.later_piece number start len }

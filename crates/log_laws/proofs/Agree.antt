@@ -1,4 +1,4 @@
--- Where a reader meets only fragments of a text, at their places, it reads a front of the text.
+-- If a reader meets only fragments that a text has at the same places, it reads a prefix of the text.
 use Rattle.std.proofs.Common.{Option, ◌≡◌, ⊎_elim, ℕ, List, [], ◌∷◌, ◌++◌, length, replicate, refl, sym, ◌∙◌, ap, subst, arith, length-append, append_assoc}
 use Rattle.std.proofs.Math.ListN.{length-replicate}
 use Rattle.std.proofs.lemmas.List.{append-nil}
@@ -12,7 +12,7 @@ use Rattle.log_laws.proofs.Placed.{behind, end_none, end_more, split_joined, beg
 abbrev pub Whole : List (List Fragment) → Type 0
 Whole groups = AllByRecursion (λ fs. AreOneRecord (kinds_of fs)) groups
 
--- A list of fragments that a text has at their places is a front of the text's fragments.
+-- A list of fragments that a text has at their places is a prefix of the text's fragments.
 pub are_front : (number : Option ℕ) → (text front : List ℕ) (offset : ℕ) (ts fs : List Fragment) → text ≡ front ++ fragments_text number offset ts → length front ≡ offset → FitFrom number offset ts
     → ((pre : List Fragment) (f : Fragment) (post : List Fragment) → fs ≡ pre ++ f ∷ post → HasFragment number text (next_place number (end_of number offset pre)) f)
     → (rest : List Fragment) × (ts ≡ fs ++ rest)
@@ -32,7 +32,7 @@ are_front number text front offset (t ∷ ts) (f ∷ fs) e at fit has =
     (λ pre g post split. subst (λ n. HasFragment number text (next_place number n) g) (end_more number offset f pre ∙ ap (λ (x : Fragment). end_of number (behind number offset x) pre) (sym same)) (has (f ∷ pre) g post (ap (λ (l : List Fragment). f ∷ l) split))) in
     (rest.0, ap (λ (x : Fragment). x ∷ ts) same ∙ ap (λ (l : List Fragment). f ∷ l) rest.1)
 
--- a split of several records' fragments: whole records, and then the begun fragments of the next
+-- a prefix of several records' fragments, split: whole records, and then the first fragments of the next one
 pub record Split (groups : List (List Fragment)) (pre : List Fragment) : Type 0 where
   pub done : List (List Fragment)
   pub later : List (List Fragment)

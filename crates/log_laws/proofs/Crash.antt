@@ -1,4 +1,4 @@
--- With no chance, what is read of an image is a front of what was written.
+-- If nothing matches by chance, what is read of an image is a prefix of what was written.
 use Rattle.std.proofs.Common.{Option, ◌≡◌, ◌⊎◌, inl, inr, ⊎_elim, ℕ, ◌≤◌, List, [], ◌∷◌, ◌++◌, length, take, drop, map, replicate, refl, sym, ◌∙◌, ap, subst, arith, length-append, append_assoc, zero-add}
 use Rattle.std.proofs.Math.Seq.{take-append_seam, drop-append_seam}
 use Rattle.std.proofs.lemmas.List.{take-append-drop, append_cancel_left, map-append}
@@ -13,7 +13,7 @@ use Rattle.log_laws.proofs.Agree.{Whole, are_front, Split, split_groups}
 end_append : (number : Option ℕ) → (offset : ℕ) (xs ys : List Fragment) → end_of number offset (xs ++ ys) ≡ end_of number (end_of number offset xs) ys
 end_append number offset xs ys = omega (arith, ap length (placed_append number offset xs ys), length-append (fragments_text number offset xs) (fragments_text number (end_of number offset xs) ys))
 
--- each fragment of the records that were read was met
+-- the reader met each fragment of the records that it read
 module _ (number : Option ℕ) (image : List ℕ) (kept : ℕ) (records : List (List ℕ)) (within : kept ≤ length image) (read : SpellsWhole number (take kept image) records) (pre post : List Fragment) (f : Fragment) (split : all_fragments read.groups ≡ pre ++ f ∷ post) where
   tail : List ℕ
   tail = drop kept image
@@ -72,7 +72,7 @@ module _ (number : Option ℕ) (image : List ℕ) (kept : ℕ) (records : List (
   pub met : ReaderMeets number image (next_place number (end_of number 0 pre)) f
   met = met_with (split_groups read.groups read.whole pre f post split)
 
-  -- what stands in front of it are some of the records
+  -- the records before this fragment are the first of the records that were read
   front_of : (s : Split read.groups pre) → (met_with s).records ≡ take (length s.done) records
   unfolding met_with
   front_of s =
@@ -82,7 +82,7 @@ module _ (number : Option ℕ) (image : List ℕ) (kept : ℕ) (records : List (
   pub met_front : (m : ReaderMeets number image (next_place number (end_of number 0 pre)) f) × ((n : ℕ) × (m.records ≡ take n records))
   met_front = let s = split_groups read.groups read.whole pre f post split in (met_with s, (length s.done, front_of s))
 
--- Two lists of whole records of which one's fragments are a front of the other's
+-- Two lists of whole records, where the fragments of one are a prefix of the other's
 
 pub not_both : (kinds : List Kind) → AreOneRecord kinds → AreBegun kinds → ⊥
 not_both [] one begun = one
@@ -98,7 +98,7 @@ not_both (first ∷ kinds) one begun = not_to_last kinds one begun
 not_both (middle ∷ kinds) one begun = one
 not_both (last ∷ kinds) one begun = one
 
--- of two fronts of one list, they are the same or one goes on
+-- two prefixes of one list are the same, or one of them goes on
 compare_fronts : (g h x y : List Fragment) → g ++ x ≡ h ++ y
     → (g ≡ h) ⊎ (((z : Fragment) × (q : List Fragment) × (g ≡ h ++ z ∷ q)) ⊎ ((z : Fragment) × (q : List Fragment) × (h ≡ g ++ z ∷ q)))
 compare_fronts [] [] x y e = inl refl
@@ -129,7 +129,7 @@ groups_front (g ∷ gs) (h ∷ hs) rest whole_g whole_h e =
     let more = groups_front gs hs rest whole_g.1 whole_h.1 later in
     (more.0, ap (λ (l : List Fragment). l ∷ hs) same ∙ ap (λ (l : List (List Fragment)). g ∷ l) more.1)
 
--- What a crash leaves, if no checksum matches by chance, is read as a front of the records that were written.
+-- If no checksum is right by chance, what a crash leaves is read as a prefix of the records that were written.
 pub reads_front : (number : Option ℕ) → (image text : List ℕ) (kept : ℕ) (records written : List (List ℕ)) → SpellsWhole number text written → kept ≤ length image → SpellsWhole number (take kept image) records
     → NoChanceForReader number image text → records ≡ take (length records) written
 reads_front number image text kept records written spells within read no_chance =

@@ -1,4 +1,4 @@
--- What a reader sees in a log that was laid out.
+-- What a reader sees in a log that was written fragment by fragment.
 use Rattle.std.proofs.Common.{Option, Some, None, ◌≡◌, ℕ, zero, suc, ◌+◌, ◌-◌, ◌<◌, ◌≤◌, Bool, true, false, List, [], ◌++◌, length, take, drop, replicate, refl, sym, ◌∙◌, ap, arith, cond, nat_lt, length-append, append_assoc, add-zero}
 use Rattle.std.proofs.Math.ListN.{length-replicate}
 use Rattle.std.proofs.Math.Seq.{take-append_seam, drop-append_seam, take-append-add}
@@ -19,7 +19,7 @@ pub fragment_len : (number : Option ℕ) → (f : Fragment) → length (fragment
 fragment_len None f = omega arith
 fragment_len (Some n) f = omega arith
 
--- where a fragment that fits stands, it is seen
+-- a fragment that fits is seen at its place
 pub seen_at_written : (number : Option ℕ) → (front more : List ℕ) (f : Fragment) (place : ℕ) → length front ≡ place → (header_len number) + length f.part ≤ room place → seen_at number (front ++ (fragment_bytes number f ++ more)) place ≡ fragment f
 seen_at_written number front more f place at fits =
     let behind : List ℕ = take (room place - length (fragment_bytes number f)) more in
@@ -33,7 +33,7 @@ zeros_are_zeros : (n : ℕ) → are_zeros (replicate n 0) ≡ true
 zeros_are_zeros zero = refl
 zeros_are_zeros (suc n) = zeros_are_zeros n
 
--- zeros that end a block are passed over
+-- the zeros that end a block are skipped
 seen_zeros : (number : Option ℕ) → (space : ℕ) (n : ℕ) → space < (header_len number) → seen_within number space (replicate n 0) ≡ nothing
 unfolding seen_within
 seen_zeros None space n few =
@@ -43,7 +43,7 @@ seen_zeros (Some m) space n few =
     let e : nat_lt space 11 ≡ true = lt-ltb space 11 few in
     rw (e, zeros_are_zeros n) refl
 
--- nothing is seen past the end
+-- where there are no bytes, nothing is seen
 seen_none : (number : Option ℕ) → (space : ℕ) → seen_within number space [] ≡ nothing
 unfolding seen_within
 seen_none None space = elim (nat_lt space 7) as (λ b. cond b nothing nothing ≡ nothing) [ true ↦ refl | false ↦ refl ]
@@ -56,7 +56,7 @@ seen_past number file place past = ap (λ (bytes : List ℕ). seen_within number
     take_none zero = refl
     take_none (suc n) = refl
 
--- where no zeros are due, or they stand there, the reader goes on to the next fragment
+-- the reader goes on to the next fragment, whether zeros come before it or not
 module _ (number : Option ℕ) (front more : List ℕ) (f : Fragment) (offset : ℕ) (at : length front ≡ offset) (fits : (header_len number) + length f.part ≤ room (next_place number offset)) where
   pub laid : List ℕ
   laid = front ++ ((replicate (trailer number offset) 0 ++ fragment_bytes number f) ++ more)
@@ -71,14 +71,14 @@ module _ (number : Option ℕ) (front more : List ℕ) (f : Fragment) (offset : 
   pub seen_there : seen_at number laid (next_place number offset) ≡ fragment f
   seen_there = ap (λ (file : List ℕ). seen_at number file (next_place number offset)) zeros_front ∙ seen_at_written number (front ++ replicate (trailer number offset) 0) more f (next_place number offset) zeros_len fits
 
-  -- no zeros are due
+  -- no zeros come before it
   at_once : nat_lt (room offset) (header_len number) ≡ false → next_seen number laid offset ≡ record { at = next_place number offset; seen = fragment f }
   at_once none =
       let here : next_place number offset ≡ offset = ap (λ (b : Bool). offset + cond b (room offset) 0) none ∙ add-zero offset in
       let seen : seen_at number laid offset ≡ fragment f = ap (seen_at number laid) (sym here) ∙ seen_there in
       ap (behind_zeros number laid offset) seen ∙ ap (λ (n : ℕ). record { at = n; seen = fragment f }) (sym here)
 
-  -- zeros are due, and stand there
+  -- zeros come before it
   few_left : nat_lt (room offset) (header_len number) ≡ true → seen_at number laid offset ≡ nothing
   unfolding laid
   few_left few =
@@ -93,7 +93,7 @@ module _ (number : Option ℕ) (front more : List ℕ) (f : Fragment) (offset : 
   pub next_is : next_seen number laid offset ≡ record { at = next_place number offset; seen = fragment f }
   next_is = cases_bool (nat_lt (room offset) (header_len number)) (λ few. ap (behind_zeros number laid offset) (few_left few) ∙ ap (λ (s : Seen). record { at = next_place number offset; seen = s }) seen_there) at_once
 
--- the same, spelled out
+-- the same, with the log written out
 pub seen_laid : (number : Option ℕ) → (front more : List ℕ) (f : Fragment) (offset : ℕ) → length front ≡ offset → (header_len number) + length f.part ≤ room (next_place number offset)
     → seen_at number (front ++ ((replicate (trailer number offset) 0 ++ fragment_bytes number f) ++ more)) (next_place number offset) ≡ fragment f
 unfolding laid

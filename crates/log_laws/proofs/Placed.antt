@@ -1,4 +1,4 @@
--- Fragments that stand one after another.
+-- Fragments that come one after another.
 use Rattle.std.proofs.Common.{Option, ◌≡◌, ◌⊎◌, inl, inr, ⊎_elim, ℕ, suc, ◌+◌, List, [], ◌∷◌, ◌++◌, length, map, replicate, refl, sym, ◌∙◌, ap, subst, arith, length-append, append_assoc, add-zero}
 use Rattle.std.proofs.Math.ListN.{length-replicate}
 use Rattle.std.specs.List.{AllByRecursion}
@@ -10,7 +10,7 @@ pub length_map : {A B : Type 0} (f : A → B) (xs : List A) → length (map f xs
 length_map f [] = refl
 length_map f (x ∷ xs) = ap (λ (n : ℕ). suc n) (length_map f xs)
 
--- where the fragment behind one begins to be looked for
+-- the offset after a fragment, from which the next one is looked for
 abbrev pub behind : (number : Option ℕ) → ℕ → Fragment → ℕ
 behind number offset f = next_place number offset + (header_len number) + length f.part
 
@@ -35,7 +35,7 @@ pub fit_back : (number : Option ℕ) → (offset : ℕ) (xs ys : List Fragment) 
 fit_back number offset [] ys fit = subst (λ n. FitFrom number n ys) (sym (end_none number offset)) fit
 fit_back number offset (x ∷ xs) ys fit = subst (λ n. FitFrom number n ys) (sym (end_more number offset x xs)) (fit_back number (behind number offset x) xs ys fit.1)
 
--- where one list joined to another is split, the split stands in the one or in the other
+-- where two joined lists are split, the split is in the one or in the other
 pub split_joined : {A : Type 0} (xs ys front back : List A) (z : A) → xs ++ ys ≡ front ++ z ∷ back
     → ((p : List A) × (front ≡ xs ++ p) × (ys ≡ p ++ z ∷ back)) ⊎ ((q : List A) × (xs ≡ front ++ z ∷ q))
 split_joined [] ys front back z e = inl (front, refl, e)
@@ -50,7 +50,7 @@ not_empty : (pre : List Fragment) (f : Fragment) (post : List Fragment) → kind
 not_empty [] f post e = cc
 not_empty (p ∷ pre) f post e = cc
 
--- the first fragments of a record begin one
+-- after a record's first fragment, each fragment that has another one after it is a middle one
 goes_on : (pre : List Fragment) (f : Fragment) (post : List Fragment) → GoesToLast (kinds_of (pre ++ f ∷ post)) → AllByRecursion (λ k. k ≡ middle) (kinds_of pre)
 goes_on [] f post goes = tt
 goes_on (p ∷ pre) f post goes = with_kind p.kind (goes_on pre f post) goes

@@ -1,4 +1,4 @@
--- A reader of records gets all that stands in the synced bytes.
+-- A reader of records gets all records in the synced bytes.
 use Rattle.std.proofs.Common.{Option, ◌≡◌, ◌⊎◌, inl, inr, ⊎_elim, ℕ, ◌+◌, ◌<◌, ◌≤◌, nat_le, List, [], ◌∷◌, ◌++◌, length, take, drop, map, replicate, refl, sym, ◌∙◌, ap, subst, arith, length-append, append_assoc, length-take, length-drop, zero-add}
 use Rattle.std.proofs.Math.ListN.{length-replicate}
 use Rattle.std.proofs.Math.Seq.{take-take, drop-append_seam}
@@ -8,7 +8,7 @@ use Rattle.std.proofs.lemmas.List.{drop-drop, take-append-drop, append-nil}
 use Rattle.std.specs.List.{AllByRecursion}
 use Rattle.model_base.specs.declared.log.EndReason.{EndReason}
 use Rattle.model_base.specs.Log.{header_len, Kind, full, first, middle, last, Fragment, fragment_bytes, trailer, next_place, fragments_text, FitFrom, AreOneRecord, kinds_of, all_fragments, record_of, SpellsWhole}
-use Rattle.model_base.specs.Reading.{Seen, Next, fragment, nothing, damage, seen_at, next_seen, end_of, AreBegun, Stand, Comes, ReadingEnds, clean, broken, bad_order, unfinished}
+use Rattle.model_base.specs.Reading.{Seen, Next, fragment, nothing, damage, seen_at, next_seen, end_of, AreBegun, HasFragments, ReadsThenSees, ReadingEnds, clean, broken, bad_order, unfinished}
 use Rattle.model_base.specs.Recovery.{IsRead}
 use Rattle.log_laws.proofs.Next.{cases_bool, fragment_len, seen_laid, next_laid}
 use Rattle.log_laws.proofs.Placed.{behind, end_none, end_more, split_joined, begins}
@@ -16,8 +16,8 @@ use Rattle.log_laws.proofs.Agree.{Whole}
 use Rattle.log_laws.proofs.Crash.{not_both}
 use Rattle.log_laws.proofs.Synced.{spells_front, groups_spelled}
 
--- the first of some fragments that stand at a place
-module _ (number : Option ℕ) (file : List ℕ) (offset : ℕ) (f : Fragment) (fs : List Fragment) (stand : Stand number file offset (f ∷ fs)) where
+-- the first of the fragments that are at a place
+module _ (number : Option ℕ) (file : List ℕ) (offset : ℕ) (f : Fragment) (fs : List Fragment) (stand : HasFragments number file offset (f ∷ fs)) where
   more : List ℕ
   more = fragments_text number (behind number offset f) fs ++ stand.rest
 
@@ -53,7 +53,7 @@ module _ (number : Option ℕ) (file : List ℕ) (offset : ℕ) (f : Fragment) (
   pub next_first : next_seen number file offset ≡ record { at = next_place number offset; seen = fragment f }
   next_first = ap (λ (l : List ℕ). next_seen number l offset) file_is ∙ next_laid number (take offset file) more f offset inside stand.fit.0
 
-  pub stand_rest : Stand number file (behind number offset f) fs
+  pub stand_rest : HasFragments number file (behind number offset f) fs
   unfolding more
   stand_rest = record {
     rest = stand.rest;
@@ -63,26 +63,26 @@ module _ (number : Option ℕ) (file : List ℕ) (offset : ℕ) (f : Fragment) (
     fit = stand.fit.1;
   }
 
--- Of two lists of fragments that stand at one place, one is a front of the other.
-pub both_stand : (number : Option ℕ) (file : List ℕ) (offset : ℕ) (xs ys : List Fragment) → Stand number file offset xs → Stand number file offset ys
+-- Of two lists of fragments that are at one place, one is a prefix of the other.
+pub both_stand : (number : Option ℕ) (file : List ℕ) (offset : ℕ) (xs ys : List Fragment) → HasFragments number file offset xs → HasFragments number file offset ys
     → ((rest : List Fragment) × (ys ≡ xs ++ rest)) ⊎ ((z : Fragment) × (rest : List Fragment) × (xs ≡ ys ++ z ∷ rest))
 both_stand number file offset [] ys at_x at_y = inl (ys, refl)
 both_stand number file offset (x ∷ xs) [] at_x at_y = inr (x, xs, refl)
 both_stand number file offset (x ∷ xs) (y ∷ ys) at_x at_y =
     let both : fragment x ≡ fragment y = sym (sees_first number file offset x xs at_x) ∙ sees_first number file offset y ys at_y in
     let same : x ≡ y = cc in
-    let later_y : Stand number file (behind number offset x) ys = subst (λ (f : Fragment). Stand number file (behind number offset f) ys) (sym same) (stand_rest number file offset y ys at_y) in
+    let later_y : HasFragments number file (behind number offset x) ys = subst (λ (f : Fragment). HasFragments number file (behind number offset f) ys) (sym same) (stand_rest number file offset y ys at_y) in
     ⊎_elim (λ h. inl (h.0, ap (λ (f : Fragment). f ∷ ys) (sym same) ∙ ap (λ (l : List Fragment). x ∷ l) h.1))
     (λ h. inr (h.0, h.1, ap (λ (f : Fragment). f ∷ xs) same ∙ ap (λ (l : List Fragment). y ∷ l) h.2))
     (both_stand number file (behind number offset x) xs ys (stand_rest number file offset x xs at_x) later_y)
 
--- what stands behind the first of them
-pub stand_behind : (number : Option ℕ) (file : List ℕ) (offset : ℕ) (xs ys : List Fragment) → Stand number file offset (xs ++ ys) → Stand number file (end_of number offset xs) ys
-stand_behind number file offset [] ys stand = subst (λ n. Stand number file n ys) (sym (end_none number offset)) stand
+-- the fragments after the first ones are at the place where those end
+pub stand_behind : (number : Option ℕ) (file : List ℕ) (offset : ℕ) (xs ys : List Fragment) → HasFragments number file offset (xs ++ ys) → HasFragments number file (end_of number offset xs) ys
+stand_behind number file offset [] ys stand = subst (λ n. HasFragments number file n ys) (sym (end_none number offset)) stand
 stand_behind number file offset (x ∷ xs) ys stand =
-    subst (λ n. Stand number file n ys) (sym (end_more number offset x xs)) (stand_behind number file (behind number offset x) xs ys (stand_rest number file offset x (xs ++ ys) stand))
+    subst (λ n. HasFragments number file n ys) (sym (end_more number offset x xs)) (stand_behind number file (behind number offset x) xs ys (stand_rest number file offset x (xs ++ ys) stand))
 
--- A front of begun fragments is begun.
+-- A prefix of fragments that begin a record begins a record too.
 middles_front : (xs ys : List Fragment) → AllByRecursion (λ k. k ≡ middle) (kinds_of (xs ++ ys)) → AllByRecursion (λ k. k ≡ middle) (kinds_of xs)
 middles_front [] ys all = tt
 middles_front (x ∷ xs) ys all = (all.0, middles_front xs ys all.1)
@@ -97,12 +97,12 @@ begun_front (x ∷ xs) ys begun = with_kind x.kind begun
     with_kind middle none = none
     with_kind last none = none
 
--- Where a whole record stands, reading doesn't end.
-module _ (number : Option ℕ) (file : List ℕ) (offset : ℕ) (g later : List Fragment) (one : AreOneRecord (kinds_of g)) (stand : Stand number file offset (g ++ later)) where
+-- Where there is a whole record, reading doesn't end.
+module _ (number : Option ℕ) (file : List ℕ) (offset : ℕ) (g later : List Fragment) (one : AreOneRecord (kinds_of g)) (stand : HasFragments number file offset (g ++ later)) where
   no_more : (fs p : List Fragment) → AreBegun (kinds_of fs) → fs ≡ g ++ p → ⊥
   no_more fs p begun e = not_both (kinds_of g) one (begun_front g p (subst (λ (l : List Fragment). AreBegun (kinds_of l)) e begun))
 
-  -- behind the begun fragments the reader sees the record's next one
+  -- after the first fragments of a record the reader sees its next one
   pub record GoesOn (fs : List Fragment) (seen : Seen) : Type 0 where
     pub next : Fragment
     pub rest : List Fragment
@@ -111,10 +111,10 @@ module _ (number : Option ℕ) (file : List ℕ) (offset : ℕ) (g later : List 
 
   sees_next : (fs post : List Fragment) (z : Fragment) (next : Next) → g ++ later ≡ fs ++ z ∷ post → next ≡ next_seen number file (end_of number offset fs) → next.seen ≡ fragment z
   sees_next fs post z next e is =
-      let at_z : Stand number file (end_of number offset fs) (z ∷ post) = stand_behind number file offset fs (z ∷ post) (subst (Stand number file offset) e stand) in
+      let at_z : HasFragments number file (end_of number offset fs) (z ∷ post) = stand_behind number file offset fs (z ∷ post) (subst (HasFragments number file offset) e stand) in
       ap (λ (n : Next). n.seen) (is ∙ next_first number file (end_of number offset fs) z post at_z)
 
-  goes_on : (fs : List Fragment) (next : Next) → Comes number file offset fs next → GoesOn fs next.seen
+  goes_on : (fs : List Fragment) (next : Next) → ReadsThenSees number file offset fs next → GoesOn fs next.seen
   goes_on fs next comes = ⊎_elim
       (λ h. absurd (no_more fs (later ++ h.0) comes.begun (h.1 ∙ append_assoc g later h.0)))
       (λ h. ⊎_elim
@@ -144,13 +144,13 @@ module _ (number : Option ℕ) (file : List ℕ) (offset : ℕ) (g later : List 
       let on = goes_on (f ∷ fs) (record { at = place; seen = nothing }) comes in
       let wrong : nothing ≡ fragment on.next = on.is_seen in cc
 
--- where the records that were read end before the synced bytes do, the next record's fragments stand there
+-- where the records that were read end before the synced bytes do, the next record's fragments are there
 stands_next : (number : Option ℕ) (image : List ℕ) (s kept : ℕ) (done later : List Fragment) → kept < s → s ≤ length image → take s image ≡ fragments_text number 0 (done ++ later) → take kept image ≡ fragments_text number 0 done
-    → FitFrom number 0 (done ++ later) → Stand number image kept later
+    → FitFrom number 0 (done ++ later) → HasFragments number image kept later
 stands_next number image s kept done later less within whole part fit =
-    let whole_stand : Stand number image 0 (done ++ later) = record { rest = drop s image; there = sym (take-append-drop s image) ∙ ap (λ (l : List ℕ). l ++ drop s image) whole; fit = fit } in
+    let whole_stand : HasFragments number image 0 (done ++ later) = record { rest = drop s image; there = sym (take-append-drop s image) ∙ ap (λ (l : List ℕ). l ++ drop s image) whole; fit = fit } in
     let end : end_of number 0 done ≡ kept = zero-add (length (fragments_text number 0 done)) ∙ (ap length (sym part) ∙ omega (arith, length-take kept image)) in
-    subst (λ n. Stand number image n later) end (stand_behind number image 0 done later whole_stand)
+    subst (λ n. HasFragments number image n later) end (stand_behind number image 0 done later whole_stand)
 
 pub whole_last : (done : List (List Fragment)) (g : List Fragment) (gs : List (List Fragment)) → Whole (done ++ g ∷ gs) → AreOneRecord (kinds_of g)
 whole_last [] g gs whole = whole.0

@@ -1,4 +1,4 @@
--- With no chance, what is recovered of an image is a front of what was written.
+-- If nothing matches by chance, what is recovered of an image is a prefix of what was written.
 use Rattle.std.proofs.Common.{Option, ◌≡◌, ℕ, zero, suc, List, [], ◌∷◌, ◌++◌, length, take, map, refl, sym, ◌∙◌, ap, subst}
 use Rattle.std.proofs.Math.Seq.{take-append_seam}
 use Rattle.std.proofs.lemmas.List.{map-append, take-map}
@@ -21,7 +21,7 @@ in_order_take last zero bs ordered = tt
 in_order_take last (suc n) [] ordered = ordered
 in_order_take last (suc n) (b ∷ bs) ordered = (ordered.0, in_order_take (last_after last b) n bs ordered.1)
 
--- what the reader met in front of a kept record, recovery met
+-- if the records before the reader's fragment are the first of the kept ones, recovery met that fragment too
 meets : (number : Option ℕ) → (image : List ℕ) (kept place : ℕ) (batches : List Logged) (f : Fragment) (n : ℕ) → Keeps number image kept batches → (m : ReaderMeets number image place f) → m.records ≡ take n (map logged_bytes batches) → Meets number image place f
 meets number image kept place batches f n keeps m front = record {
   kept = m.kept;
@@ -36,7 +36,7 @@ meets number image kept place batches f n keeps m front = record {
   comes = m.comes;
 }
 
--- What recovery keeps of an image is a front of the batches that were written, none left out and none in part.
+-- What recovery keeps of an image is a prefix of the batches that were written, none left out and none in part.
 pub keeps_front : (number : Option ℕ) → (image whole : List ℕ) (kept : ℕ) (batches : List Logged) (written : List (List ℕ)) → SpellsWhole number whole written → Keeps number image kept batches → NoChance number image whole
     → map logged_bytes batches ≡ take (length batches) written
 keeps_front number image whole kept batches written spells keeps no_chance =

@@ -1,4 +1,4 @@
--- Bytes spell one list of records at most, and what was synced is recovered.
+-- Bytes spell at most one list of records, and what was synced is recovered.
 use Rattle.std.proofs.Common.{Option, ◌≡◌, ℕ, ◌≤◌, List, [], ◌∷◌, ◌++◌, length, take, drop, map, replicate, refl, sym, ◌∙◌, ap, subst, arith, length-append, append_assoc, zero-add}
 use Rattle.std.proofs.Math.Seq.{take-take}
 use Rattle.std.proofs.lemmas.List.{map-append, take-append-drop, append-nil}
@@ -12,7 +12,7 @@ use Rattle.log_laws.proofs.Placed.{length_map, behind, placed_append, fit_back}
 use Rattle.log_laws.proofs.Agree.{are_front}
 use Rattle.log_laws.proofs.Crash.{groups_front}
 
--- The fragments that a front of some bytes spells are a front of those that they spell.
+-- The fragments that a prefix of some bytes spells are a prefix of those that all the bytes spell.
 pub groups_spelled : (number : Option ℕ) → (bytes front more : List ℕ) (all some : List (List ℕ)) → bytes ≡ front ++ more → (whole : SpellsWhole number bytes all) (part : SpellsWhole number front some)
     → (rest : List (List Fragment)) × (whole.groups ≡ part.groups ++ rest)
 groups_spelled number bytes front more all some e whole part =
@@ -27,7 +27,7 @@ groups_spelled number bytes front more all some e whole part =
     let flat = are_front number bytes [] 0 (all_fragments whole.groups) (all_fragments part.groups) whole.spelled refl whole.fit has in
     groups_front part.groups whole.groups flat.0 part.whole whole.whole flat.1
 
--- So what it spells is a front of what they spell.
+-- So the records that the prefix spells are a prefix of those that all the bytes spell.
 pub spells_front : (number : Option ℕ) → (bytes front more : List ℕ) (all some : List (List ℕ)) → bytes ≡ front ++ more → SpellsWhole number bytes all → SpellsWhole number front some → (rest : List (List ℕ)) × (all ≡ some ++ rest)
 spells_front number bytes front more all some e whole part =
     let groups = groups_spelled number bytes front more all some e whole part in (
@@ -47,7 +47,7 @@ spells_one number bytes rs qs a b =
     no_length [] e = refl
     no_length (x ∷ l) e = absurd (omega (arith, e))
 
--- What stands in the synced bytes is recovered.
+-- The batches in the synced bytes are recovered.
 pub holds_synced : (number : Option ℕ) → (image whole : List ℕ) (synced : List (List ℕ)) (batches : List Logged) (r : Recovered) → SpellsWhole number whole synced → IsRecovered number image r → length whole ≤ length image → take (length whole) image ≡ whole
     → map logged_bytes batches ≡ synced → AllByRecursion (λ b. IsBatch (logged_bytes b) b.first b.records) batches → AreInOrder 0 batches → length batches ≤ length r.batches
 holds_synced number image whole synced batches r spells is within front same are ordered =

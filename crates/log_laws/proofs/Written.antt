@@ -1,4 +1,4 @@
--- What the writer makes spells the records that it was given.
+-- The text that the writer makes spells the records that it was given.
 use Rattle.std.proofs.Common.{Option, Some, None, ◌≡◌, ℕ, zero, suc, ◌+◌, ◌-◌, ◌*◌, ◌%◌, ◌<◌, ◌≤◌, Bool, true, false, List, [], ◌∷◌, ◌++◌, length, take, drop, map, refl, sym, ◌∙◌, ap, subst, arith, cond, nat_lt, nat_le, length-take, length-drop, add-zero, zero-add}
 use Rattle.std.proofs.lemmas.List.{take-append-drop, append-nil, map-append}
 use Rattle.std.proofs.lemmas.Bool.{ltb-false, leb-true, leb-false}
@@ -14,7 +14,7 @@ use Rattle.log_laws.proofs.Placed.{behind, end_none, end_more, placed_append}
 use Rattle.log_laws.proofs.Agree.{Whole}
 use Rattle.log_laws.proofs.Next.{cases_bool}
 
--- the parts make one record, whatever they are
+-- the parts make one record, whatever bytes they have
 later_is_one : (p : List ℕ) (ps : List (List ℕ)) → GoesToLast (kinds_of (later_fragments (p ∷ ps)))
 later_is_one p [] = refl
 later_is_one p (q ∷ ps) = later_is_one q ps
@@ -38,7 +38,7 @@ as_record [] = refl
 as_record (p ∷ []) = refl
 as_record (p ∷ q ∷ ps) = ap (λ (l : List ℕ). p ++ l) (later_record (q ∷ ps))
 
--- pieces of n, of which only the last may be shorter
+-- the list cut into pieces of n; only the last piece may be shorter
 ArePieces : ℕ → List (List ℕ) → Type 0
 ArePieces n [] = Unit {0}
 ArePieces n (p ∷ []) = length p ≤ n
@@ -55,7 +55,7 @@ unfolding ArePieces
 chunks_are_pieces n zero xs more = omega (arith, length-take n xs)
 chunks_are_pieces n (suc k) xs more = (omega (arith, length-take n xs, more), chunks_are_pieces n k (drop n xs) (omega (arith, length-drop n xs, more)))
 
--- at the start of a block no zeros are due
+-- at the start of a block no zeros come before a fragment
 start_of_block : (number : Option ℕ) → (offset : ℕ) → offset % 32768 ≡ 0 → next_place number offset ≡ offset
 start_of_block None offset e = ap (λ (r : ℕ). offset + cond (nat_lt (32768 - r) 7) (32768 - r) 0) e ∙ add-zero offset
 start_of_block (Some m) offset e = ap (λ (r : ℕ). offset + cond (nat_lt (32768 - r) 11) (32768 - r) 0) e ∙ add-zero offset
@@ -74,7 +74,7 @@ room_for_header number offset = cases_bool (nat_lt (room offset) (header_len num
     (λ few. let here : next_place number offset ≡ offset + room offset = ap (λ (b : Bool). offset + cond b (room offset) 0) few in omega (arith, here, header_small number))
     (λ none. let here : next_place number offset ≡ offset = ap (λ (b : Bool). offset + cond b (room offset) 0) none ∙ add-zero offset in omega (arith, here, header_small number, ltb-false (room offset) (header_len number) none))
 
--- a record's parts from an offset on are one record, fit, and joined are the record
+-- a record's parts, written from an offset on, are one record, fit into their blocks, and joined are the record's bytes
 pub record AreParts (number : Option ℕ) (offset : ℕ) (bytes : List ℕ) (parts : List (List ℕ)) : Type 0 where
   pub whole : AreOneRecord (kinds_of (as_fragments parts))
   pub same : record_of (as_fragments parts) ≡ bytes
@@ -173,7 +173,7 @@ groups_same number offset (r ∷ rs) =
 pub text_spells : (number : Option ℕ) → (rs : List (List ℕ)) → SpellsWhole number (text number rs) rs
 text_spells number rs = record { groups = groups_from number 0 rs; whole = groups_whole number 0 rs; same = groups_same number 0 rs; fit = groups_fit number 0 rs; spelled = text_is_placed number 0 rs }
 
--- So does a text that goes on behind bytes that spell others.
+-- So does a text that goes on after bytes that spell other records.
 pub spells_on : (number : Option ℕ) → (kept : List ℕ) (old new : List (List ℕ)) → SpellsWhole number kept old → SpellsWhole number (kept ++ text_from number (length kept) new) (old ++ new)
 spells_on number kept old new spells =
     let groups = groups_from number (length kept) new in

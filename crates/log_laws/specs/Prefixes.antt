@@ -1,10 +1,10 @@
--- What a crash may leave of a log: a front of the records that were written, each of them whole.
+-- What a crash may leave of a log: a prefix of the records that were written, each of them whole.
 use Rattle.std.specs.Prelude.{◌≡◌, ℕ, ◌≤◌, List, length, take, map, Option}
 use Rattle.std.specs.List.{AllByRecursion}
 use Rattle.model_base.specs.Batch.{IsBatch}
 use Rattle.model_base.specs.Recovery.{Logged, logged_bytes, AreInOrder, Recovered, IsRecovered, IsRead}
 
--- These are the first n of the records, none left out and none in part, and P holds of their number.
+-- These are the first records (`many` of them), none left out and none in part, and P holds of their number.
 pub record IsPrefix (found records : List (List ℕ)) (P : ℕ → Type 0) : Type 0 where
   pub many : ℕ
   pub some : many ≤ length records
@@ -16,7 +16,7 @@ abbrev pub RecoversPrefix : Option ℕ → List (List ℕ) → List ℕ → (ℕ
 RecoversPrefix number records file P = (r : Recovered) → IsRecovered number file r
     → IsPrefix (map logged_bytes r.batches) records P
 
--- what a reader of records gets of the file is one
+-- the records that a reader gets from the file are such a prefix
 abbrev pub ReadsPrefix : Option ℕ → List (List ℕ) → List ℕ → (ℕ → Type 0) → Type 0
 ReadsPrefix number records file P = (found : List (List ℕ)) → IsRead number file found → IsPrefix found records P
 

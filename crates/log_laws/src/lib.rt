@@ -1,11 +1,11 @@
 //! Laws of a log's text, and of what a crash leaves of it.
 //!
-//! A log's last bytes may be torn when the machine stops. What a reader then finds is a front of the records that
-//! were written, none left out and none in part, and all that was safe is among it. There is one premise: that no
-//! torn fragment's checksum matches by chance, since such a fragment can't be told from one that was meant.
+//! A log's last bytes may be torn when the machine stops. What a reader then finds is a prefix of the records that
+//! were written, none left out and none in part, and it has all that was safe. There is one premise: no torn
+//! fragment's checksum is right by chance, since such a fragment can't be told from one that was meant.
 //!
-//! Each law is the contract of a function that does nothing. The functions are called nowhere: they are
-//! here so that the laws are proved with the crate, and the crates above cite their proofs.
+//! Each law is the contract of a function that does nothing. The functions are called nowhere: they are here so that
+//! the laws are proved with the crate, and the crates that build on it cite their proofs.
 #![tactic(auto)]
 
 ghost use Rattle.std.specs.Prelude.{◌≡◌, ◌<◌, ◌≤◌, ◌^◌, ◌++◌, ℕ, List, length, take, map, Option, ⊤};
@@ -14,14 +14,14 @@ ghost use Rattle.model_base.specs.Log.{SpellsWhole, text, text_from};
 ghost use Rattle.model_base.specs.Recovery.{Logged, logged_bytes, Recovered, IsRecovered, IsRead, NoChance, NoChanceForReader};
 ghost use Rattle.log_laws.specs.Prefixes.{RecoversPrefix, ReadsPrefix, BeginsWith, AreTheseBatches};
 
-/// The spelling of a number is a varint, and none begins another.
+/// The bytes that spell a number below 2^32 are a varint, and no varint is a prefix of another one.
 pub fn number_spelling()
     ensures spelled { (n : ℕ) → n < 2 ^ 32 → IsVarint (varint n) n }
     ensures one { (a b x y : List ℕ) (m n : ℕ) → IsVarint a m → IsVarint b n → a ++ x ≡ b ++ y → (a ≡ b) × (m ≡ n) }
 {}
 
-/// The text of records spells them, also where it goes on behind bytes that spell others. Bytes spell one list of
-/// records at most.
+/// The text of records spells them, also where it goes on after bytes that spell other records. Bytes spell at most
+/// one list of records.
 pub fn text_and_spelling()
     ensures spelled { (number : Option ℕ) (records : List (List ℕ)) → SpellsWhole number (text number records) records }
     ensures goes_on { (number : Option ℕ) (kept : List ℕ) (old new : List (List ℕ)) → SpellsWhole number kept old
@@ -30,8 +30,8 @@ pub fn text_and_spelling()
         → SpellsWhole number bytes others → some ≡ others }
 {}
 
-/// What is read or recovered of an image is a front of what was written, none left out and none in part. Here `whole`
-/// is what the log would be once all of it were written, whatever stands behind it in the image.
+/// What is read or recovered of an image is a prefix of what was written, none left out and none in part. Here `whole`
+/// is what the log would be once all of it was written; an image may have anything after that.
 pub fn a_front()
     ensures read { (number : Option ℕ) (image whole : List ℕ) (kept : ℕ) (records written : List (List ℕ))
         → kept ≤ length image → SpellsWhole number (take kept image) records → SpellsWhole number whole written
@@ -51,7 +51,8 @@ pub fn a_prefix()
         → ReadsPrefix number records image (λ n. ⊤) }
 {}
 
-/// What stands in the synced bytes is among it. Recovery keeps it where it is batches whose runs rise.
+/// From an image that begins with the synced bytes (`whole`) a reader gets at least as many records as these bytes
+/// spell. Recovery keeps at least as many, if those are batches whose runs rise.
 pub fn the_synced()
     ensures recovered { (number : Option ℕ) (image whole : List ℕ) (synced : List (List ℕ)) (batches : List Logged)
         (r : Recovered) → IsRecovered number image r → BeginsWith whole image → SpellsWhole number whole synced

@@ -6,7 +6,7 @@ use Rattle.base_devices.specs.Disk.{Disk}
 use Rattle.log_reader.specs.Blocks.{ReadsBlock}
 use borrow.Rule.Slice.PartMut.{put_mid}
 
--- what holds of a disk that tells its content, from two facts of it
+-- a fact about a disk that tells its content, from two others about it
 pub if_both : (told : Option Disk) (P Q R : Disk → Type 0) → IfSome told P → IfSome told Q → ((d : Disk) → P d → Q d → R d) → IfSome told R
 if_both None P Q R p q f = tt
 if_both (Some d) P Q R p q f = f d p q
@@ -15,14 +15,14 @@ pub if_one : (told : Option Disk) (P R : Disk → Type 0) → IfSome told P → 
 if_one None P R p f = tt
 if_one (Some d) P R p f = f d p
 
--- what was read so far, and what a read gives
+-- The block's bytes that were read so far are those of the disk from `start` on; and, below, what one read gives.
 abbrev pub Before : ℕ → ℕ → List ℕ → Disk → Type 0
 Before start at block d = take at block ≡ take at (drop start d.content)
 
 abbrev pub Gives : ℕ → ℕ → List ℕ → Disk → Type 0
 Gives place more buf d = (more ≡ min (length buf) (length d.content - place)) × (take more buf ≡ take more (drop place d.content))
 
--- one read more stands behind those before
+-- after one more read the block's first bytes, with the new ones, are still those of the disk
 pub read_more : (content block buf : List ℕ) (start at more : ℕ) → at ≤ length block → length buf ≡ length block - at → take at block ≡ take at (drop start content)
     → (more ≡ min (length buf) (length content - (start + at))) × (take more buf ≡ take more (drop (start + at) content))
     → take (at + more) (put_mid at (length block - at) block buf) ≡ take (at + more) (drop start content)
@@ -36,7 +36,7 @@ read_more content block buf start at more in_block len before read =
     ∙ (ap (λ (l : List ℕ). l ++ take more (drop (start + at) content)) before
     ∙ (ap (λ (l : List ℕ). take at (drop start content) ++ take more l) (sym (drop-drop at start content)) ∙ sym (take-add at more (drop start content))))))
 
--- a read of nothing changes nothing of what stands in front
+-- a read that gives no bytes leaves the block's first bytes as they were
 pub read_none : (content block buf : List ℕ) (start at more : ℕ) → at ≤ length block → length buf ≡ length block - at → more ≡ 0 → take at block ≡ take at (drop start content)
     → (more ≡ min (length buf) (length content - (start + at))) × (take more buf ≡ take more (drop (start + at) content))
     → take at (put_mid at (length block - at) block buf) ≡ take at (drop start content)
@@ -44,13 +44,13 @@ read_none content block buf start at more in_block len none before read =
     let same : at + more ≡ at = omega arith in
     subst (λ n. take n (put_mid at (length block - at) block buf) ≡ take n (drop start content)) same (read_more content block buf start at more in_block len before read)
 
--- the block is read whole
+-- where all bytes of the block were read, it is the block of the content
 pub read_whole : (content block : List ℕ) (start len : ℕ) → length block ≡ 32768 → length block ≤ len → len ≤ length block → take len block ≡ take len (drop start content) → ReadsBlock content start block len
 read_whole content block start len is past within read =
     let full : len ≡ 32768 = omega arith in
     read ∙ ap (λ (n : ℕ). take n (drop start content)) full
 
--- or the content ends before
+-- and so it is, as far as the content has it, where the content ends before
 pub read_to_end : (content block : List ℕ) (start len more room : ℕ) → room ≡ length block - len → length block ≡ 32768 → len < length block → more ≡ 0 → more ≡ min room (length content - (start + len))
     → take len block ≡ take len (drop start content) → ReadsBlock content start block len
 read_to_end content block start len more room room_is is less none more_is read =
@@ -58,7 +58,7 @@ read_to_end content block start len more room room_is is less none more_is read 
     let small : length (drop start content) ≤ 32768 = omega arith in
     read ∙ (take_all len (drop start content) ends ∙ sym (take_all 32768 (drop start content) small))
 
--- a block keeps its length
+-- a block keeps its length when a read puts bytes into it
 pub length-put : (block buf : List ℕ) (at : ℕ) → at ≤ length block → length buf ≡ length block - at → length (put_mid at (length block - at) block buf) ≡ length block
 length-put block buf at inside len =
     let behind : List ℕ = drop (length block - at) (drop at block) in

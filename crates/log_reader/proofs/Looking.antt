@@ -5,23 +5,24 @@ use Rattle.model_base.specs.Reading.{next_seen}
 use Rattle.log_block.specs.declared.fragments.Seen.{Seen}
 use Rattle.log_block.specs.declared.fragments.Seen.TheVariants as seen
 use Rattle.log_reader.specs.declared.window.Window.{Window}
-use Rattle.log_reader.specs.Blocks.{IsBlock, Reaches, SeenNext, SeenThere, PartIn}
+use Rattle.log_reader.specs.Blocks.{IsBlock, SeesSameFrom, SeenNext, SeenThere, PartIn}
 use Rattle.log_reader.specs.Windows.{IsSound, IsOn, offset_of, bytes_of}
 
--- what is known of a reader of a log of this format that stood in the one window and stands in the other
+-- A reader of a log of this format that was at the old window is at the new one: if the old one is on the file, so is
+-- the new one, and from both the same is seen next.
 abbrev pub Stands : Option ℕ → Window → Window → Disk → Type 0
-Stands number old new d = IsOn d.content old → IsOn d.content new × Reaches number d.content (offset_of old) (offset_of new)
+Stands number old new d = IsOn d.content old → IsOn d.content new × SeesSameFrom number d.content (offset_of old) (offset_of new)
 
--- reading the block doesn't move it
+-- reading the block doesn't move the reader
 pub filled : (number : Option ℕ) (d : Disk) (old mid new : Window) → new.start ≡ mid.start → new.at ≡ mid.at → Stands number old mid d → (IsOn d.content mid → IsOn d.content new) → Stands number old new d
 filled number d old mid new start at stands on = λ begins.
     let h = stands begins in
     let same : offset_of mid ≡ offset_of new = omega (arith, start, at) in
     (on h.0, h.1 ∙ ap (next_seen number d.content) same)
 
--- what stands in its block is what it sees next, but at the end of a whole one
+-- what is seen in its block is what it sees next, except at the end of a whole block
 pub seen_from : (number : Option ℕ) (d : Disk) (old w : Window) (slice : List ℕ) (s : Seen) → slice ≡ w.room.items → w.is_read ≡ true → Stands number old w d
-    → ((file : List ℕ) (start offset : ℕ) → IsBlock file start (take w.len slice) → Reaches number file offset (start + w.at) → SeenThere number file offset start (take w.len slice) w.at s)
+    → ((file : List ℕ) (start offset : ℕ) → IsBlock file start (take w.len slice) → SeesSameFrom number file offset (start + w.at) → SeenThere number file offset start (take w.len slice) w.at s)
     → IsOn d.content old → SeenThere number d.content (offset_of old) w.start (bytes_of w) w.at s
 seen_from number d old w slice s same read stands sees begins =
     let h = stands begins in
@@ -34,7 +35,7 @@ not_end number file offset start block at (seen.Fragment code from to) other the
 not_end number file offset start block at seen.End other there = absurd (other refl)
 not_end number file offset start block at (seen.Damage d) other there = there
 
--- at the end of a whole block it goes on
+-- at the end of a whole block it goes on in the next one
 pub goes_on : (number : Option ℕ) (d : Disk) (old w new : Window) → w.is_read ≡ true → length (bytes_of w) ≡ 32768 → offset_of new ≡ w.start + 32768 → ((file : List ℕ) → IsOn file w → IsOn file new) → Stands number old w d
     → (IsOn d.content old → SeenThere number d.content (offset_of old) w.start (bytes_of w) w.at seen.End) → Stands number old new d
 goes_on number d old w new read full there on stands sees = λ begins. (
@@ -42,7 +43,7 @@ goes_on number d old w new read full there on stands sees = λ begins. (
   (sees begins).0 full ∙ ap (next_seen number d.content) (sym there),
 )
 
--- so many bytes are there
+-- the block has `len` bytes
 pub length-bytes : (w : Window) → IsSound w → length (bytes_of w) ≡ w.len
 length-bytes w sound = omega (arith, length-take w.len w.room.items, sound.room, sound.in_room)
 

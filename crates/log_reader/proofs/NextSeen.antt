@@ -6,18 +6,18 @@ use Rattle.std.proofs.lemmas.Bool.{ltb-true, ltb-false, lt-ltb, le-ltb, eqb-true
 use Rattle.model_base.specs.Log.{Kind, Fragment, header_len, fragment_bytes, room, trailer, next_place}
 use Rattle.model_base.specs.declared.log.Damage.{Damage}
 use Rattle.model_base.specs.declared.log.Damage.TheVariants.{BadTrailer}
-use Rattle.model_base.specs.Reading.{Seen, Next, fragment, nothing, damage, seen_within, seen_at, are_zeros, seen_of_kind, seen_of_kind_numbered, kind_of_code, type_field, length_field, part_field, next_seen, behind_zeros, Stand}
+use Rattle.model_base.specs.Reading.{Seen, Next, fragment, nothing, damage, seen_within, seen_at, are_zeros, seen_of_kind, seen_of_kind_numbered, kind_of_code, type_field, length_field, part_field, next_seen, behind_zeros, HasFragments}
 use Rattle.log_laws.proofs.Next.{cases_bool}
 use Rattle.log_laws.proofs.Placed.{behind}
 use Rattle.log_recovery_laws.specs.Reads.{AreBytes}
 use Rattle.log_recovery_laws.proofs.SeenFragment.{other, one_is, fragment_is, fragment_bytes_are}
 
--- a header has bytes
+-- a header has at least one byte
 pub header_some : (number : Option ℕ) → 0 < header_len number
 header_some None = lit< tt
 header_some (Some n) = lit< tt
 
--- where no zeros are due the next fragment begins at once
+-- where the block has room for a header, no zeros are due and the next fragment begins at once
 pub none_due : (number : Option ℕ) (offset : ℕ) → header_len number ≤ room offset → next_place number offset ≡ offset
 none_due number offset many = ap (λ (b : Bool). offset + cond b (room offset) 0) (le-ltb (room offset) (header_len number) many) ∙ add-zero offset
 
@@ -25,13 +25,13 @@ none_due number offset many = ap (λ (b : Bool). offset + cond b (room offset) 0
 pub some_due : (number : Option ℕ) (offset : ℕ) → room offset < header_len number → next_place number offset ≡ offset + room offset
 some_due number offset few = ap (λ (b : Bool). offset + cond b (room offset) 0) (lt-ltb (room offset) (header_len number) few)
 
--- of no bytes nothing is seen
+-- where there are no bytes, nothing is seen
 pub seen_none : (number : Option ℕ) (space : ℕ) → seen_within number space [] ≡ nothing
 unfolding seen_within
 seen_none None space = elim (nat_lt space 7) as (λ b. cond b nothing nothing ≡ nothing) [ true ↦ refl | false ↦ refl ]
 seen_none (Some n) space = elim (nat_lt space 11) as (λ b. cond b nothing nothing ≡ nothing) [ true ↦ refl | false ↦ refl ]
 
--- a header with a type is something
+-- where a header's kind is looked at, a fragment or damage is seen, and never nothing
 by_sum : (b : Bool) (f : Fragment) (d : Damage) → cond b (fragment f) (damage d) ≡ nothing → ⊥
 by_sum true f d e = cc
 by_sum false f d e = cc
@@ -47,12 +47,12 @@ some_numbered n bytes (Some k) e =
     let s2 = other (nat_lt (length bytes) (11 + length_field bytes)) _ _ nothing s1.1 (λ h. cc) in
     by_sum _ _ _ s2.1
 
--- Where nothing is seen, zeros end the block, or the bytes end.
+-- Where nothing is seen, zeros end the block, or there are no more bytes.
 pub data IsNothing (number : Option ℕ) (space : ℕ) (bytes : List ℕ) : Type 0 where
   zeros_left : space < header_len number → are_zeros bytes ≡ true → IsNothing number space bytes
   none_left : header_len number ≤ space → length bytes ≡ 0 → IsNothing number space bytes
 
--- so it is where a header that is looked at is never nothing
+-- this holds where what is seen of a whole header is never nothing
 by_room : (number : Option ℕ) (space : ℕ) (bytes : List ℕ) (later : Seen)
     → cond (nat_lt space (header_len number)) (cond (are_zeros bytes) nothing (damage BadTrailer)) (cond (length bytes == 0) nothing later) ≡ nothing → (later ≡ nothing → ⊥) → IsNothing number space bytes
 by_room number space bytes later e some = cases_bool (nat_lt space (header_len number))
@@ -89,12 +89,12 @@ zeros_replicate (b ∷ bytes) e =
     and_both true t h = (refl, h)
     and_both false t h = absurd (cc)
 
--- bytes, place by place
+-- a list is one of bytes where the element at each place is a byte
 pub are_bytes : (bytes : List ℕ) → ((k : ℕ) → get_or bytes k 0 < 256) → AreBytes bytes
 are_bytes [] small = tt
 are_bytes (b ∷ bytes) small = (small 0, are_bytes bytes (λ k. small (suc k)))
 
--- a fragment that is seen stands there
+-- this fragment is in the file at this place, within its block
 record StandsAt (number : Option ℕ) (file : List ℕ) (place : ℕ) (f : Fragment) : Type 0 where
   room_for_header : header_len number ≤ room place
   fits : header_len number + length f.part ≤ room place
@@ -121,10 +121,10 @@ seen_stands number file place f are e =
       within = omega (arith, there, part_len, len, file_len, header_some number);
     }
 
--- the fragment that the reader sees next stands behind the zeros that are due
+-- the fragment that the reader sees next is in the file after the zeros that are due
 pub record ComesNext (number : Option ℕ) (file : List ℕ) (offset place : ℕ) (f : Fragment) : Type 0 where
   pub place_is : place ≡ next_place number offset
-  pub stand : Stand number file offset (f ∷ [])
+  pub stand : HasFragments number file offset (f ∷ [])
   pub within : behind number offset f ≤ length file
 
 by_stand : (number : Option ℕ) (file : List ℕ) (offset place : ℕ) (f : Fragment) → place ≡ next_place number offset → (s : StandsAt number file place f)

@@ -1,4 +1,4 @@
--- A record with one fragment more.
+-- A record that gets one more fragment.
 use Rattle.std.proofs.Common.{◌≡◌, ℕ, ◌+◌, List, [], ◌∷◌, ◌++◌, length, drop, slice_range, Option, Some, None, refl, sym, ◌∙◌, ap, subst, arith, length-append, append_assoc}
 use Rattle.std.proofs.Math.Seq.{drop-append_seam}
 use Rattle.std.proofs.lemmas.List.{drop-drop, append-nil}
@@ -6,14 +6,14 @@ use Rattle.std.specs.List.{AllByRecursion}
 use Rattle.model_base.specs.declared.log.Damage.{Damage}
 use Rattle.model_base.specs.declared.log.EndReason.TheVariants as ends
 use Rattle.model_base.specs.Log.{Kind, full, first, middle, last, Fragment, fragments_text, FitFrom, next_place, GoesToLast, AreOneRecord, kinds_of, record_of}
-use Rattle.model_base.specs.Reading.{Seen, Next, fragment, nothing, damage, next_seen, Stand, end_of, AreBegun, Comes, ReadingEnds, clean, broken, bad_order, unfinished}
+use Rattle.model_base.specs.Reading.{Seen, Next, fragment, nothing, damage, next_seen, HasFragments, end_of, AreBegun, ReadsThenSees, ReadingEnds, clean, broken, bad_order, unfinished, IsRecord}
 use Rattle.log_reader.specs.declared.reader.Continuation.TheVariants as continuation
 use Rattle.log_reader.specs.Blocks.{IsNext}
-use Rattle.log_reader.specs.Records.{IsRecord, Reads}
-use Rattle.log_reader.specs.Steps.{BeginsAt, Stood, continuation_of, end_of_reading}
+use Rattle.log_reader.specs.Records.{Reads}
+use Rattle.log_reader.specs.Steps.{BeginsAt, HasReadPart, continuation_of, end_of_reading}
 use Rattle.log_laws.proofs.Placed.{behind, end_none, end_more, placed_append}
 
--- the kinds of a record's first fragments
+-- the first fragments of a record are a first one and then middle ones
 first_kind : (k : Kind) (ks : List Kind) → AreBegun (k ∷ ks) → (k ≡ first) × AllByRecursion (λ j. j ≡ middle) ks
 first_kind full ks are = absurd are
 first_kind first ks are = (refl, are)
@@ -29,7 +29,7 @@ one_by k ks e goes = subst (λ j. AreOneRecord (j ∷ ks)) (sym e) goes
 goes_by : (k : Kind) (ks : List Kind) → k ≡ middle → GoesToLast ks → GoesToLast (k ∷ ks)
 goes_by k ks e goes = subst (λ j. GoesToLast (j ∷ ks)) (sym e) goes
 
--- one middle more, and a last one
+-- Middle fragments and one more middle one are middle fragments; middle fragments and a last one go to the last.
 middles_more : (fs : List Fragment) (f : Fragment) → f.kind ≡ middle → AllByRecursion (λ j. j ≡ middle) (kinds_of fs) → AllByRecursion (λ j. j ≡ middle) (kinds_of (fs ++ f ∷ []))
 middles_more [] f e all = (e, tt)
 middles_more (g ∷ fs) f e all = (all.0, middles_more fs f e all.1)
@@ -38,7 +38,8 @@ to_last : (fs : List Fragment) (f : Fragment) → f.kind ≡ last → AllByRecur
 to_last [] f e all = subst (λ j. GoesToLast (j ∷ [])) (sym e) refl
 to_last (g ∷ fs) f e all = goes_by g.kind (kinds_of (fs ++ f ∷ [])) all.0 (to_last fs f e all.1)
 
--- no whole one and no first one
+-- Conversely: where all are middle fragments, the one that was added is one; where they go to the last, it is a last
+-- one.
 no_middle : (fs : List Fragment) (f : Fragment) → AllByRecursion (λ j. j ≡ middle) (kinds_of (fs ++ f ∷ [])) → f.kind ≡ middle
 no_middle [] f all = all.0
 no_middle (g ∷ fs) f all = no_middle fs f all.1
@@ -59,7 +60,7 @@ no_last (g ∷ fs) f all goes = no_last fs f all.1 (goes_from g.kind (kinds_of (
 one_from : (k : Kind) (ks : List Kind) → k ≡ first → AreOneRecord (k ∷ ks) → GoesToLast ks
 one_from k ks e one = subst (λ j. AreOneRecord (j ∷ ks)) e one
 
--- what a turn says of the kinds
+-- where a record goes on with a fragment, the fragments with it still begin a record, and it begins at `start`
 pub more_begun : (number : Option ℕ) (fs : List Fragment) (f : Fragment) (begun : Option ℕ) (place at start : ℕ) → AreBegun (kinds_of fs) → BeginsAt number begun place fs → (fs ≡ [] → at ≡ next_place number place) → continuation_of f.kind begun at ≡ continuation.More start
     → AreBegun (kinds_of (fs ++ f ∷ [])) × BeginsAt number (Some start) place (fs ++ f ∷ [])
 more_begun number [] f None place at start are begins here e = by_kind f.kind e
@@ -133,7 +134,7 @@ misplaced number (g ∷ fs) f (Some s) place at are begins e =
     not_last middle h is = cc
     not_last last h is = cc
 
--- one list of fragments behind another
+-- the end of two lists of fragments, one after the other
 end_append : (number : Option ℕ) (offset : ℕ) (xs ys : List Fragment) → end_of number offset (xs ++ ys) ≡ end_of number (end_of number offset xs) ys
 end_append number offset xs ys =
     omega (arith, ap length (placed_append number offset xs ys), length-append (fragments_text number offset xs) (fragments_text number (end_of number offset xs) ys))
@@ -142,12 +143,12 @@ pub fit_joined : (number : Option ℕ) (offset : ℕ) (xs ys : List Fragment) �
 fit_joined number offset [] ys fit_x fit_y = subst (λ n. FitFrom number n ys) (end_none number offset) fit_y
 fit_joined number offset (x ∷ xs) ys fit_x fit_y = (fit_x.0, fit_joined number (behind number offset x) xs ys fit_x.1 (subst (λ n. FitFrom number n ys) (end_more number offset x xs) fit_y))
 
--- what stands behind fragments
-behind_stand : (number : Option ℕ) (file : List ℕ) (place : ℕ) (fs : List Fragment) (s : Stand number file place fs) → s.rest ≡ drop (end_of number place fs) file
+-- what follows fragments that are in the file is the rest of the file from their end on
+behind_stand : (number : Option ℕ) (file : List ℕ) (place : ℕ) (fs : List Fragment) (s : HasFragments number file place fs) → s.rest ≡ drop (end_of number place fs) file
 behind_stand number file place fs s =
     sym (drop-append_seam (fragments_text number place fs) s.rest) ∙ (ap (drop (length (fragments_text number place fs))) (sym s.there) ∙ drop-drop (length (fragments_text number place fs)) place file)
 
-stand_more : (number : Option ℕ) (file : List ℕ) (place : ℕ) (fs gs : List Fragment) → Stand number file place fs → Stand number file (end_of number place fs) gs → Stand number file place (fs ++ gs)
+stand_more : (number : Option ℕ) (file : List ℕ) (place : ℕ) (fs gs : List Fragment) → HasFragments number file place fs → HasFragments number file (end_of number place fs) gs → HasFragments number file place (fs ++ gs)
 stand_more number file place fs gs s t = record {
   rest = t.rest;
   there = s.there
@@ -164,69 +165,69 @@ record_more (g ∷ fs) f = ap (λ (l : List ℕ). g.part ++ l) (record_more fs f
 abbrev pub the_fragment : (number : Option ℕ) (file : List ℕ) (offset start : ℕ) (block : List ℕ) (at code from to : ℕ) → IsNext number file offset start block at code from to → Fragment
 the_fragment number file offset start block at code from to n = record { kind = n.kind; part = slice_range block from to }
 
--- with it, the fragments stand there
+-- with this fragment too the fragments are in the file, the record in hand has its part, and they end at `end`
 pub record Added (number : Option ℕ) (file : List ℕ) (place : ℕ) (fs : List Fragment) (f : Fragment) (old new : List ℕ) (end : ℕ) : Type 0 where
-  pub stand : Stand number file place (fs ++ f ∷ [])
+  pub stand : HasFragments number file place (fs ++ f ∷ [])
   pub bytes_are : new ≡ record_of (fs ++ f ∷ [])
   pub there : end ≡ end_of number place (fs ++ f ∷ [])
 
-pub added : (number : Option ℕ) (file : List ℕ) (place offset start : ℕ) (block : List ℕ) (at code from to : ℕ) (begun : Option ℕ) (old new : List ℕ) (s : Stood number file place begun old offset) (n : IsNext number file offset start block at code from to)
+pub added : (number : Option ℕ) (file : List ℕ) (place offset start : ℕ) (block : List ℕ) (at code from to : ℕ) (begun : Option ℕ) (old new : List ℕ) (s : HasReadPart number file place begun old offset) (n : IsNext number file offset start block at code from to)
     → new ≡ old ++ slice_range block from to → Added number file place s.fragments (the_fragment number file offset start block at code from to n) old new (start + to)
 added number file place offset start block at code from to begun old new s n e =
     let fs = s.fragments in
     let f = the_fragment number file offset start block at code from to n in
     record {
-      stand = stand_more number file place fs (f ∷ []) s.stand (subst (λ p. Stand number file p (f ∷ [])) s.there n.stands);
+      stand = stand_more number file place fs (f ∷ []) s.stand (subst (λ p. HasFragments number file p (f ∷ [])) s.there n.stands);
       bytes_are = e ∙ (ap (λ (l : List ℕ). l ++ f.part) s.bytes_are ∙ sym (record_more fs f));
       there = sym n.end ∙ (ap (λ (p : ℕ). end_of number p (f ∷ [])) s.there ∙ sym (end_append number place fs (f ∷ [])));
     }
 
--- at the first fragment the record begins
-pub begins_here : (number : Option ℕ) (file : List ℕ) (place offset start : ℕ) (block : List ℕ) (at code from to : ℕ) (begun : Option ℕ) (old : List ℕ) (s : Stood number file place begun old offset) → IsNext number file offset start block at code from to
+-- where no fragment was read before, the record begins at this one
+pub begins_here : (number : Option ℕ) (file : List ℕ) (place offset start : ℕ) (block : List ℕ) (at code from to : ℕ) (begun : Option ℕ) (old : List ℕ) (s : HasReadPart number file place begun old offset) → IsNext number file offset start block at code from to
     → s.fragments ≡ [] → start + at ≡ next_place number place
 begins_here number file place offset start block at code from to begun old s n none =
     n.place ∙ ap (next_place number) (s.there ∙ (ap (end_of number place) none ∙ end_none number place))
 
--- what the reader sees behind the fragments
-sees_behind : (number : Option ℕ) (file : List ℕ) (place offset : ℕ) (begun : Option ℕ) (old : List ℕ) (s : Stood number file place begun old offset) (next : Next) → next_seen number file offset ≡ next → Comes number file place s.fragments next
+-- what the reader sees after the fragments
+sees_behind : (number : Option ℕ) (file : List ℕ) (place offset : ℕ) (begun : Option ℕ) (old : List ℕ) (s : HasReadPart number file place begun old offset) (next : Next) → next_seen number file offset ≡ next → ReadsThenSees number file place s.fragments next
 sees_behind number file place offset begun old s next e = record {
   begun = s.are_begun;
   stand = s.stand;
   is_next = sym (ap (next_seen number file) (sym s.there) ∙ e);
 }
 
-pub ends_in_order : (number : Option ℕ) (file : List ℕ) (place offset start : ℕ) (block : List ℕ) (at code from to : ℕ) (begun : Option ℕ) (old : List ℕ) (s : Stood number file place begun old offset) (n : IsNext number file offset start block at code from to)
+pub ends_in_order : (number : Option ℕ) (file : List ℕ) (place offset start : ℕ) (block : List ℕ) (at code from to : ℕ) (begun : Option ℕ) (old : List ℕ) (s : HasReadPart number file place begun old offset) (n : IsNext number file offset start block at code from to)
     → continuation_of n.kind begun (start + at) ≡ continuation.Misplaced → ReadingEnds number file place (start + at) ends.BadOrder
 ends_in_order number file place offset start block at code from to begun old s n e =
     let f = the_fragment number file offset start block at code from to n in
     let wrong = misplaced number s.fragments f begun place (start + at) s.are_begun s.begins e in
     bad_order s.fragments (sees_behind number file place offset begun old s (record { at = start + at; seen = fragment f }) n.seen) wrong.0 wrong.1
 
-pub ends_in_damage : (number : Option ℕ) (file : List ℕ) (place offset at : ℕ) (d : Damage) (begun : Option ℕ) (old : List ℕ) → Stood number file place begun old offset → next_seen number file offset ≡ record { at = at; seen = damage d } → ReadingEnds number file place at (ends.Broken d)
+pub ends_in_damage : (number : Option ℕ) (file : List ℕ) (place offset at : ℕ) (d : Damage) (begun : Option ℕ) (old : List ℕ) → HasReadPart number file place begun old offset → next_seen number file offset ≡ record { at = at; seen = damage d } → ReadingEnds number file place at (ends.Broken d)
 ends_in_damage number file place offset at d begun old s e = broken s.fragments (sees_behind number file place offset begun old s (record { at = at; seen = damage d }) e)
 
-pub ends_with_file : (number : Option ℕ) (file : List ℕ) (place offset file_len : ℕ) (begun : Option ℕ) (old new : List ℕ) → Stood number file place begun old offset → (next_seen number file offset).seen ≡ nothing → length file ≡ file_len
+pub ends_with_file : (number : Option ℕ) (file : List ℕ) (place offset file_len : ℕ) (begun : Option ℕ) (old new : List ℕ) → HasReadPart number file place begun old offset → (next_seen number file offset).seen ≡ nothing → length file ≡ file_len
     → Reads number file place new (end_of_reading begun file_len)
 ends_with_file number file place offset file_len begun old new s none len = by_begun begun s.fragments s.begins
     (sees_behind number file place offset begun old s (record { at = (next_seen number file offset).at; seen = nothing }) (ap (λ (x : Seen). record { at = (next_seen number file offset).at; seen = x }) none))
   where
-    by_begun : (b : Option ℕ) (fs : List Fragment) → BeginsAt number b place fs → Comes number file place fs (record { at = (next_seen number file offset).at; seen = nothing }) → Reads number file place new (end_of_reading b file_len)
+    by_begun : (b : Option ℕ) (fs : List Fragment) → BeginsAt number b place fs → ReadsThenSees number file place fs (record { at = (next_seen number file offset).at; seen = nothing }) → Reads number file place new (end_of_reading b file_len)
     by_begun None [] begins comes = subst (λ n. ReadingEnds number file place n ends.Clean) len (clean comes)
     by_begun None (f ∷ fs) begins comes = absurd begins
     by_begun (Some start) [] begins comes = absurd begins
     by_begun (Some start) (f ∷ fs) begins comes = subst (λ n. ReadingEnds number file place n ends.Unfinished) (sym begins) (unfinished f fs comes)
 
--- a record goes on
-pub goes_further : (number : Option ℕ) (file : List ℕ) (place offset start : ℕ) (block : List ℕ) (at code from to begin : ℕ) (begun : Option ℕ) (old new : List ℕ) → Stood number file place begun old offset → (n : IsNext number file offset start block at code from to)
-    → continuation_of n.kind begun (start + at) ≡ continuation.More begin → new ≡ old ++ slice_range block from to → Stood number file place (Some begin) new (start + to)
+-- the record goes on with this fragment
+pub goes_further : (number : Option ℕ) (file : List ℕ) (place offset start : ℕ) (block : List ℕ) (at code from to begin : ℕ) (begun : Option ℕ) (old new : List ℕ) → HasReadPart number file place begun old offset → (n : IsNext number file offset start block at code from to)
+    → continuation_of n.kind begun (start + at) ≡ continuation.More begin → new ≡ old ++ slice_range block from to → HasReadPart number file place (Some begin) new (start + to)
 goes_further number file place offset start block at code from to begin begun old new s n e taken =
     let f = the_fragment number file offset start block at code from to n in
     let more = added number file place offset start block at code from to begun old new s n taken in
     let kinds = more_begun number s.fragments f begun place (start + at) begin s.are_begun s.begins (begins_here number file place offset start block at code from to begun old s n) e in
     record { fragments = s.fragments ++ f ∷ []; are_begun = kinds.0; stand = more.stand; begins = kinds.1; bytes_are = more.bytes_are; there = more.there }
 
--- a record ends
-pub ends_record : (number : Option ℕ) (file : List ℕ) (place offset start : ℕ) (block : List ℕ) (at code from to begin : ℕ) (begun : Option ℕ) (old new : List ℕ) → Stood number file place begun old offset → (n : IsNext number file offset start block at code from to)
+-- the record ends with this fragment
+pub ends_record : (number : Option ℕ) (file : List ℕ) (place offset start : ℕ) (block : List ℕ) (at code from to begin : ℕ) (begun : Option ℕ) (old new : List ℕ) → HasReadPart number file place begun old offset → (n : IsNext number file offset start block at code from to)
     → continuation_of n.kind begun (start + at) ≡ continuation.Last begin → new ≡ old ++ slice_range block from to → IsRecord number file place begin (start + to) new
 ends_record number file place offset start block at code from to begin begun old new s n e taken =
     let f = the_fragment number file offset start block at code from to n in

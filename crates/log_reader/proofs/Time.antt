@@ -4,7 +4,7 @@ use Rattle.base_devices.specs.Disk.{Disk, IsImage, TimePasses}
 use Rattle.base_devices.specs.declared.disk.Disk.{Ghosts}
 use Rattle.log_reader.specs.OnlyReads.{OnlyReads}
 
--- one stretch of time after another
+-- two stretches of time, one after the other, are one
 more_time : {D : Type 0} (told : D → Option Disk) (moment from : D → ℕ) (since : D → ℕ → List ℕ → Type 0) (old mid new : D) → told new ≡ told mid
     → TimePasses told moment from since old mid → TimePasses told moment from since mid new → TimePasses told moment from since old new
 more_time told moment from since old mid new same first second =
@@ -21,7 +21,7 @@ more_time told moment from since old mid new same first second =
       keeps = λ t image known before has. second.keeps t image known (omega (arith, before, later_first)) (first.keeps t image (omega (arith, known, forgets_second)) before has);
     }
 
--- one stretch of reading after another
+-- two stretches of reading, one after the other, are one
 pub more_read : {D : Type 0} (ghosts : Ghosts D) (old mid new : D) → OnlyReads ghosts old mid → OnlyReads ghosts mid new → OnlyReads ghosts old new
 more_read ghosts old mid new first second =
     let later_first = first.later in

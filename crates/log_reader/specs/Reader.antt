@@ -5,8 +5,8 @@ use Rattle.log_reader.specs.declared.reader.Next.TheVariants as next
 use Rattle.log_reader.specs.declared.window.Window.{Window}
 use Rattle.log_reader.specs.Windows.{IsSound, IsOn, offset_of}
 
--- the log's number, if it has one, the place up to which records were read, the last of them, the answer with which the
--- reading stopped, and where the reader stands
+-- the log's number, if it has one, the place up to which records were read, the record in hand, the answer with which
+-- the reading stopped, if it has, and the window
 pub record Reader : Type 0 where
   pub number : Option ℕ
   pub place : ℕ
@@ -14,23 +14,23 @@ pub record Reader : Type 0 where
   pub stopped : Option Next
   pub window : Window
 
--- what it holds of the log is this file's
+-- what the reader holds of the log is from this file
 abbrev pub Follows : List ℕ → Reader → Type 0
 Follows file r = IsOn file r.window
 
--- it stands after the records that were read, until it stops
+-- until the reader stops, its offset is the place up to which records were read
 pub record IsReader (r : Reader) : Type 0 where
   pub sound : IsSound r.window
   pub behind : r.stopped ≡ None → offset_of r.window ≡ r.place
 
--- where it stands after an answer
+-- the place up to which records were read, after an answer: only a record moves it
 abbrev pub PlaceAfter : Reader → Reader → Next → Type 0
 PlaceAfter old new (next.Record start end) = new.place ≡ end
 PlaceAfter old new (next.End at why) = new.place ≡ old.place
 PlaceAfter old new (next.Fault count) = new.place ≡ old.place
 PlaceAfter old new next.NoMemory = new.place ≡ old.place
 
--- a record ends after the place, and no file is so long that the places come to an end
+-- a record ends after the place from which it was read, and below 2 ^ 63, which no file is long enough to reach
 abbrev pub GoesForward : ℕ → Next → Type 0
 GoesForward place (next.Record start end) = (place < end) × (end < 2 ^ 63)
 GoesForward place (next.End at why) = Unit {0}

@@ -1,8 +1,8 @@
--- One fragment more of a record. The log is of the format that comes first.
+-- One more fragment of a record. Where a definition takes `number` first, that is the log's number, if it has one.
 use Rattle.std.specs.Prelude.{◌≡◌, ℕ, ◌<◌, List, [], ◌∷◌, Option, Some, None}
 use Rattle.model_base.specs.declared.log.EndReason.TheVariants as ends
 use Rattle.model_base.specs.Log.{Kind, full, first, middle, last, Fragment, kinds_of, record_of, next_place}
-use Rattle.model_base.specs.Reading.{Stand, end_of, AreBegun}
+use Rattle.model_base.specs.Reading.{HasFragments, end_of, AreBegun}
 use Rattle.log_reader.specs.declared.reader.Next.{Next}
 use Rattle.log_reader.specs.declared.reader.Next.TheVariants as next
 use Rattle.log_reader.specs.declared.reader.Step.{Step}
@@ -11,29 +11,29 @@ use Rattle.log_reader.specs.declared.reader.Continuation.{Continuation}
 use Rattle.log_reader.specs.declared.reader.Continuation.TheVariants as continuation
 use Rattle.log_reader.specs.Records.{Reads, HasFault}
 
--- where the record begins whose first fragments these are, if there are any
+-- the record whose first fragments these are begins at `start`, and where there are no fragments none has begun
 abbrev pub BeginsAt : Option ℕ → Option ℕ → ℕ → List Fragment → Type 0
 BeginsAt number None place [] = Unit {0}
 BeginsAt number None place (f ∷ fs) = ⊥
 BeginsAt number (Some start) place [] = ⊥
 BeginsAt number (Some start) place (f ∷ fs) = start ≡ next_place number place
 
--- the first fragments of a record were read from a place on, and the reader stands after them
-pub record Stood (number : Option ℕ) (file : List ℕ) (place : ℕ) (begun : Option ℕ) (in_hand : List ℕ) (offset : ℕ) :
-    Type 0 where
+-- the first fragments of a record, perhaps none, were read from a place on, and the reader is at their end
+pub record HasReadPart (number : Option ℕ) (file : List ℕ) (place : ℕ) (begun : Option ℕ) (in_hand : List ℕ)
+    (offset : ℕ) : Type 0 where
   pub fragments : List Fragment
   pub are_begun : AreBegun (kinds_of fragments)
-  pub stand : Stand number file place fragments
+  pub stand : HasFragments number file place fragments
   pub begins : BeginsAt number begun place fragments
   pub bytes_are : in_hand ≡ record_of fragments
   pub there : offset ≡ end_of number place fragments
 
--- what one fragment more comes to
+-- what one more fragment gives: a record that goes on, or an answer
 abbrev pub StepIs : Option ℕ → List ℕ → ℕ → List ℕ → ℕ → Step → Type 0
-StepIs number file place in_hand offset (step.More start) = Stood number file place (Some start) in_hand offset
+StepIs number file place in_hand offset (step.More start) = HasReadPart number file place (Some start) in_hand offset
 StepIs number file place in_hand offset (step.Done answer) = Reads number file place in_hand answer
 
--- from the one offset the reader went on to the other, where a record ends, if it has read one
+-- where the answer is a record, the reader moved on from the one offset to the other, and the record ends there
 abbrev pub EndsAt : ℕ → ℕ → Next → Type 0
 EndsAt old new (next.Record start end) = (old < new) × (end ≡ new)
 EndsAt old new (next.End at why) = Unit {0}
@@ -48,7 +48,7 @@ abbrev pub HasFaultStep : ℕ → ℕ → Step → Type 0
 HasFaultStep before now (step.More start) = now ≡ before
 HasFaultStep before now (step.Done answer) = HasFault before now answer
 
--- what a fragment of this kind comes to at an offset, where the record begins at another, if it has begun
+-- how a record continues with a fragment of this kind at the offset `at`; it begins at `start`, if it has begun
 abbrev pub continuation_of : Kind → Option ℕ → ℕ → Continuation
 continuation_of full None at = continuation.Last at
 continuation_of first None at = continuation.More at
@@ -59,7 +59,7 @@ continuation_of first (Some start) at = continuation.Misplaced
 continuation_of middle (Some start) at = continuation.More start
 continuation_of last (Some start) at = continuation.Last start
 
--- what the end of the file means
+-- what the end of the file means: a clean end, or, inside a record, an unfinished one
 abbrev pub end_of_reading : Option ℕ → ℕ → Next
 end_of_reading None file_len = next.End file_len ends.Clean
 end_of_reading (Some start) file_len = next.End start ends.Unfinished

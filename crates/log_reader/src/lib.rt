@@ -1,10 +1,10 @@
-//! Reads the records of a log one after another, as LevelDB's db/log_reader.cc does. The first thing that doesn't read
-//! ends the reading, and nothing after it is looked at.
+//! Reads the records of a log one after another, as LevelDB's db/log_reader.cc does. The first thing that can't be
+//! read ends the reading, and nothing after it is looked at.
 //!
-//! A log may have a number, as the recyclable ones of RocksDB's db/log_reader.cc have. It is read with this number, and
-//! a fragment that another log left in the file ends the reading too.
+//! A log may have a number, as the recyclable ones of RocksDB's db/log_reader.cc have. It is read with this number,
+//! and a fragment that another log left in the file ends the reading too.
 //!
-//! One block of the log is held at a time, and the record in hand.
+//! It holds one block of the log at a time, and the record in hand.
 #![tactic(auto)]
 
 mod read_block;

@@ -1,4 +1,4 @@
-//! A block, from the disk.
+//! Reading a block from the disk.
 
 ghost use Rattle.std.specs.Prelude.{◌≡◌, ◌+◌, ◌^◌, ◌<◌, ◌≤◌, length, IfOk, IfErr, IfSome, OnOk};
 ghost use Rattle.base_devices.specs.Faults.{Rose};
@@ -9,7 +9,8 @@ use base_devices::Disk;
 use log_block::BLOCK_LEN;
 
 /// Reads the block that begins at the offset `start` into the first bytes of `block`, as far as the disk has it, and
-/// answers how many bytes that are. A fault is answered by the disk's count, and no read that failed is tried again.
+/// answers how many bytes it read. For a fault it answers the disk's count of faults. No read that failed is tried
+/// again.
 pub fn read_block<D: Disk>(disk: &mut D, start: u64, block: &mut [u8]) -> Result<usize, u64>
     requires room { length block.old ≡ BLOCK_LEN }
     requires small { start < 2 ^ 63 }

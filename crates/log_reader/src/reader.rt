@@ -6,7 +6,7 @@ ghost use Rattle.log_reader.specs.Blocks.{IsNext};
 ghost use Rattle.log_reader.specs.Windows.{IsSound, IsOn, offset_of, bytes_of};
 ghost use Rattle.log_reader.specs.Records.{Reads, HasFault, stopped_by};
 ghost use Rattle.log_reader.specs.Steps as steps;
-ghost use Rattle.log_reader.specs.Steps.{Stood, StepIs, EndsAt, Moves, HasFaultStep, end_of_reading};
+ghost use Rattle.log_reader.specs.Steps.{HasReadPart, StepIs, EndsAt, Moves, HasFaultStep, end_of_reading};
 ghost use Rattle.log_reader.specs.Reader.{Follows, PlaceAfter, GoesForward};
 ghost use Rattle.log_reader.specs.OnlyReads.{OnlyReads};
 
@@ -17,24 +17,24 @@ use model_base::{EndReason, NoMemory};
 use std::alloc::Global;
 use std::marker::Model;
 
-/// What reading on comes to.
+/// What reading on gives.
 #[derive(Clone, Copy, Debug, PartialEq, Eq)]
 pub enum Next {
-    /// A record, which is in hand: the offset of its first fragment, and the one after its last.
+    /// A record, which is now in hand: the offset of its first fragment, and the one after its last.
     Record { start: u64, end: u64 },
-    /// Nothing more is read: at which offset that shows, and why.
+    /// No more records are read: the offset where that shows, and why.
     End { at: u64, why: EndReason },
-    /// The disk failed, for the how many-th time.
+    /// The disk failed, and this is its count of faults.
     Fault { count: u64 },
     /// There was no memory for the record.
     NoMemory,
 }
 
-/// Reads the records of a log, from the first on. Contracts see the log's number, if it has one, up to which place it
-/// has read records, the record in hand, whether it has stopped and with which answer, and where it stands.
+/// Reads the records of a log, from the first on. Contracts see the log's number, if it has one, the place up to which
+/// it has read records, the record in hand, whether it has stopped and with which answer, and its window.
 ///
-/// The disk is passed to each call and isn't kept: of a disk that is borrowed by a value which owns memory, no contract
-/// could say what it is afterwards.
+/// The disk is passed to each call and isn't kept: if a value that owns memory borrowed the disk, no contract could
+/// say what the disk is afterwards.
 #[derive(Debug, Drop)]
 pub struct LogReader {
     number: Option<u32>,
@@ -67,12 +67,13 @@ impl Model for LogReader {
 }
 
 impl LogReader {
-    /// At the start of a log with this number, if it has one, of which nothing is read yet. It makes the room for a
-    /// block.
+    /// A reader at the start of a log with this number, if it has one. It has read nothing yet. This call makes the
+    /// room for a block.
     pub fn open(alloc: Global, number: Option<u32>) -> Result<LogReader, NoMemory>
         ensures number { IfOk result (λ r. r.number ≡ number) }
         ensures start { IfOk result (λ r. r.place ≡ 0) }
         ensures going { IfOk result (λ r. r.stopped ≡ None) }
+        ensures empty { IfOk result (λ r. r.in_hand ≡ []) }
         ensures follows { IfOk result (λ r. (file : List ℕ) → Follows file r) }
     {
         Ok(LogReader {
@@ -84,8 +85,9 @@ impl LogReader {
         })
     }
 
-    /// Reads the next record of the log that the disk holds, which is the same at each call. After any answer but
-    /// `Record` the same answer comes again, and the disk isn't touched. A read that failed is never tried again.
+    /// Reads the next record of the log that the disk holds, which should be the same log at each call. After any
+    /// answer but `Record` the same answer comes again, and the disk isn't touched. A read that failed is never tried
+    /// again.
     pub fn next<D: Disk>(&mut self, disk: &mut D) -> Next
         ensures reads { IfSome (D.told disk.old) (λ d. Follows d.content self.old → self.old.stopped ≡ None
             → Reads self.old.number d.content self.old.place self.new.in_hand result) }
@@ -118,7 +120,7 @@ impl LogReader {
     }
 }
 
-/// What one fragment more comes to.
+/// What one more fragment gives.
 enum Step {
     /// The record goes on. It begins at this offset.
     More(u64),
@@ -131,11 +133,11 @@ enum Continuation {
     Last(u64),
     /// It goes on. It begins at this offset.
     More(u64),
-    /// No fragment of this type may stand there.
+    /// No fragment of this type may come there.
     Misplaced,
 }
 
-/// Reads the record that begins where the window stands.
+/// Reads the next record, from the window's place on.
 fn read_record<D: Disk>(
     number: Option<u32>,
     window: &mut Window,
@@ -162,7 +164,7 @@ fn read_record<D: Disk>(
     }
 }
 
-/// Reads one fragment more of a record. `begun` says where the record begins, if fragments of it were read.
+/// Reads one more fragment of a record. `begun` is where the record begins, if fragments of it were read already.
 fn read_part<D: Disk>(
     number: Option<u32>,
     window: &mut Window,
@@ -173,7 +175,7 @@ fn read_part<D: Disk>(
     requires { IsSound window.old }
     ensures sound { IsSound window.new }
     ensures step { IfSome (D.told disk.old) (λ d. (place : ℕ) → IsOn d.content window.old
-        → Stood number d.content place begun in_hand.old.items (offset_of window.old)
+        → HasReadPart number d.content place begun in_hand.old.items (offset_of window.old)
         → StepIs number d.content place in_hand.new.items (offset_of window.new) result) }
     ensures on { IfSome (D.told disk.old) (λ d. IsOn d.content window.old → IsOn d.content window.new) }
     ensures moves { Moves (offset_of window.old) (offset_of window.new) result }
@@ -209,7 +211,8 @@ fn end_of_file(begun: Option<u64>, file_len: u64) -> Next
     }
 }
 
-/// Takes the part from `start` to `end` of the block, of a fragment of this type, to the record.
+/// Adds to the record the part of a fragment of this type, if it may come there: the block's bytes from `start` to
+/// `end`.
 fn take_part(
     number: Option<u32>,
     window: &mut Window,
@@ -225,7 +228,7 @@ fn take_part(
     requires in_block { end ≤ window.old.len }
     ensures sound { IsSound window.new }
     ensures step { (file : List ℕ) (place offset : ℕ) → IsOn file window.old
-        → Stood number file place begun in_hand.old.items offset
+        → HasReadPart number file place begun in_hand.old.items offset
         → IsNext number file offset window.old.start (bytes_of window.old) window.old.at kind start end
         → StepIs number file place in_hand.new.items (offset_of window.new) result }
     ensures on { (file : List ℕ) → IsOn file window.old → IsOn file window.new }
@@ -252,7 +255,7 @@ fn take_part(
     }
 }
 
-/// What a fragment of this type at the offset `at` comes to, where the record begins at `begun`, if it has begun.
+/// How a record continues with a fragment of this type at the offset `at`. It begins at `begun`, if it has begun.
 fn continuation_of(number: Option<u32>, kind: u8, begun: Option<u64>, at: u64) -> Continuation
     ensures { (k : Kind) → kind ≡ kind_code number k → result ≡ steps.continuation_of k begun at }
 {
@@ -265,7 +268,7 @@ fn continuation_of(number: Option<u32>, kind: u8, begun: Option<u64>, at: u64) -
     }
 }
 
-/// Adds the part from `start` to `end` of the block to the record. The window goes on after it.
+/// Adds the part from `start` to `end` of the block to the record. The window's place is after the part then.
 fn add_part(
     window: &mut Window,
     in_hand: &mut Vec<u8>,

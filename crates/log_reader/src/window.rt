@@ -1,4 +1,4 @@
-//! The block of a log in which a reader stands.
+//! The block of a log in which a reader is.
 
 ghost use Rattle.std.specs.Prelude.{◌≡◌, ◌+◌, ◌^◌, ◌<◌, ◌≤◌, ℕ, List, length, slice_range, IfOk, IfErr, IfSome, OnOk, true};
 ghost use Rattle.base_devices.specs.Faults.{Rose};
@@ -12,7 +12,7 @@ use log_block::{BLOCK_LEN, Seen};
 use model_base::NoMemory;
 use std::alloc::Global;
 
-/// The block in which a reader stands, and where in it.
+/// The block in which a reader is, and its place there.
 #[derive(Debug, Drop)]
 pub struct Window {
     /// Room for a block. Its first bytes are the block's, once it is read.
@@ -43,8 +43,8 @@ impl Window {
         })
     }
 
-    /// What the reader of a log with this number, if it has one, sees next. It stands there then. A fault of the disk
-    /// is answered by its count.
+    /// What the reader of a log with this number, if it has one, sees next. The reader's place is there then. For a
+    /// fault of the disk it answers the disk's count of faults.
     pub fn look<D: Disk>(&mut self, number: Option<u32>, disk: &mut D) -> Result<Seen, u64>
         requires { IsSound self.old }
         ensures sound { IsSound self.new }
@@ -57,7 +57,7 @@ impl Window {
         ensures fault { IfErr result (λ count. Rose (D.faults disk.old) count × (count ≤ D.faults disk.new)) }
         ensures disk { OnlyReads ⟦<D as Disk>⟧ disk.old disk.new }
     {
-        // The blocks before this one have nothing more behind the place where the window stood.
+        // From the place where the window was at the call, the blocks before this one have nothing more.
         loop {
             self.fill(disk)?;
             match see(number, &self.room[..self.len], self.at) {
@@ -72,7 +72,7 @@ impl Window {
         }
     }
 
-    /// Reads the block, if it isn't yet.
+    /// Reads the block, if it isn't read yet.
     fn fill<D: Disk>(&mut self, disk: &mut D) -> Result<(), u64>
         requires { IsSound self.old }
         ensures sound { IsSound self.new }
@@ -91,7 +91,7 @@ impl Window {
         Ok(())
     }
 
-    /// To the start of the next block.
+    /// Goes to the start of the next block.
     fn go_on(&mut self)
         requires sound { IsSound self.old }
         requires read { self.old.is_read ≡ true }
@@ -107,7 +107,7 @@ impl Window {
         self.is_read = false;
     }
 
-    /// Where in the log the reader stands.
+    /// The reader's offset in the log.
     pub fn offset(&self) -> u64
         requires { IsSound self.now }
         ensures { result ≡ offset_of self.now }
@@ -115,7 +115,7 @@ impl Window {
         self.start + self.at as u64
     }
 
-    /// Where in the log the block ends.
+    /// The offset in the log where the block ends, as far as the file has it.
     pub fn end(&self) -> u64
         requires { IsSound self.now }
         ensures { result ≡ self.now.start + length (bytes_of self.now) }
@@ -133,7 +133,7 @@ impl Window {
         &self.room[start..end]
     }
 
-    /// To this place of the block.
+    /// Goes to this place of the block.
     pub fn go_to(&mut self, at: usize)
         requires sound { IsSound self.old }
         requires in_block { at ≤ self.old.len }

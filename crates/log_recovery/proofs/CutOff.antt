@@ -1,4 +1,4 @@
--- A last write that was cut off, by the reason for which the log ends.
+-- For each reason for which a log may end: whether its last write was cut off.
 use Rattle.std.proofs.Common.{◌≡◌, ◌↔◌, IsTrue, ℕ, Bool, true, List, drop, Option, Some, None, Result, Ok, Err, IfOk, IfSome, refl, sym, ◌∙◌, subst}
 use Rattle.base_devices.specs.Disk.{Disk}
 use Rattle.model_base.specs.declared.log.Damage.TheVariants.{ShortHeader, Zeros, BadLength}
@@ -25,7 +25,7 @@ zeros_of number file at why (in_part passes) is = absurd (cc)
 zeros_of number file at why in_record is = absurd (cc)
 zeros_of number file at why (zeros all) is = all
 
--- what an answer says of the file, from what it says by another fact
+-- where an answer has one meaning for the file and this implies another one, it has the other one too
 told_by : (told : Option Disk) (answer : Result Bool ℕ) (P Q : Disk → Bool → Type 0) → ((d : Disk) (b : Bool) → P d b → Q d b) → IfSome told (λ d. IfOk answer (P d)) → IfSome told (λ d. IfOk answer (Q d))
 told_by None answer P Q says p = tt
 told_by (Some d) (Ok b) P Q says p = says d b p

@@ -1,9 +1,9 @@
--- Where recovery ends, nothing more may be kept.
+-- Where recovery ends, no more may be kept.
 use Rattle.std.proofs.Common.{Option, ℕ, ◌≤◌, List, nat_lt, subst}
 use Rattle.std.proofs.lemmas.Bool.{ltb-true, ltb-false}
 use Rattle.model_base.specs.declared.log.EndReason.{EndReason}
 use Rattle.model_base.specs.Log.{Fragment, AreOneRecord, kinds_of, record_of, next_place}
-use Rattle.model_base.specs.Reading.{Stand, ReadingEnds}
+use Rattle.model_base.specs.Reading.{HasFragments, ReadingEnds}
 use Rattle.model_base.specs.Recovery.{Logged, last_sequence, Keeps, RecordEnds, reading, record_read, IsRecovered}
 use Rattle.log_recovery.specs.Keeping.{MayBeKept}
 use Rattle.log_laws.proofs.Next.{cases_bool}
@@ -29,7 +29,7 @@ recovered_unread number file kept at why bs keeps ends = record {
 }
 
 -- Where a record is read that isn't kept, no more is kept.
-pub recovered_unkept : (number : Option ℕ) (file : List ℕ) (kept : ℕ) (why : EndReason) (bs : List Logged) (fs : List Fragment) → Keeps number file kept bs → AreOneRecord (kinds_of fs) → Stand number file kept fs
+pub recovered_unkept : (number : Option ℕ) (file : List ℕ) (kept : ℕ) (why : EndReason) (bs : List Logged) (fs : List Fragment) → Keeps number file kept bs → AreOneRecord (kinds_of fs) → HasFragments number file kept fs
     → RecordEnds (last_sequence 0 bs) (record_of fs) why → (MayBeKept (last_sequence 0 bs) (record_of fs) → ⊥)
     → IsRecovered number file (record { batches = bs; kept = kept; at = next_place number kept; why = why })
 recovered_unkept number file kept why bs fs keeps one stands ends not_kept = record {

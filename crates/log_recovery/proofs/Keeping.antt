@@ -1,4 +1,4 @@
--- A record that was read: it is kept, or it ends recovery.
+-- A record that was read is kept, or it ends recovery.
 use Rattle.std.proofs.Common.{◌≡◌, ℕ, ◌+◌, ◌-◌, ◌<◌, List, [], ◌∷◌, ◌++◌, length, Option, Some, None, MatchOption, ◌==◌, cond, refl, sym, ◌∙◌, ap, subst, arith}
 use Rattle.model_base.specs.declared.log.EndReason.{EndReason}
 use Rattle.model_base.specs.declared.log.EndReason.TheVariants as ends
@@ -10,7 +10,7 @@ use Rattle.log_recovery.specs.declared.kept.Kept.{Kept}
 use Rattle.log_recovery.specs.Keeping.{MayBeKept, Adds, Refuses, MayRun, IsRunEnd}
 use Rattle.log_recovery.proofs.MoreKept.{one_header}
 
--- a batch that may follow has a run that may
+-- a batch that may follow has a run that may follow
 kept_run : (last first : ℕ) (bytes : List ℕ) (records : List Record) → IsBatch bytes first records → MayBeKept last bytes → MayRun last first (count_of records)
 kept_run last first bytes records is m =
     let one = one_header bytes first m.batch.first records m.batch.records is (subst (λ l. IsBatch l m.batch.first m.batch.records) m.same m.is) in
@@ -44,12 +44,12 @@ may_be_kept last first bytes records is may = record {
   may = may;
 }
 
--- the run of a batch that is read, against the numbers that the code has
+-- the run of a batch that is read, in the numbers that the code has, may follow if the code finds no reason why not
 pub run_of : (last first count : ℕ) (r : Option EndReason) → MatchOption r (MayRun last first count) (IsRunEnd last first count) → ((why : EndReason) → r ≡ Some why → ⊥) → MayRun last first count
 run_of last first count None m none = m
 run_of last first count (Some why) m none = absurd (none why refl)
 
--- What the code changes, as the batch that it keeps.
+-- What the code changes is that it keeps this batch.
 pub adds : (old new : Kept) (bytes : List ℕ) (end first count : ℕ) (records : List Record) → IsBatch bytes first records → count ≡ count_of records → MayRun old.last first count
     → new.groups.items ≡ old.groups.items ++ record { first = first; count = count; size = length bytes } ∷ [] → new.map ≡ after_records old.map records
     → new.last ≡ cond (count == 0) old.last (first + count - 1) → new.end ≡ end → Adds old new bytes end

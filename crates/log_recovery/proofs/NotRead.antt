@@ -1,9 +1,9 @@
--- Where no record is read, none stands.
+-- Where reading finds no record, there is none.
 use Rattle.std.proofs.Common.{Option, ◌≡◌, ℕ, List, [], ◌∷◌, ◌++◌, sym, ◌∙◌, ap, subst, append_assoc}
 use Rattle.model_base.specs.declared.log.Damage.{Damage}
 use Rattle.model_base.specs.declared.log.EndReason.{EndReason}
 use Rattle.model_base.specs.Log.{Fragment, AreOneRecord, kinds_of}
-use Rattle.model_base.specs.Reading.{fragment, nothing, damage, AreBegun, Stand, ReadingEnds, clean, broken, bad_order, unfinished}
+use Rattle.model_base.specs.Reading.{fragment, nothing, damage, AreBegun, HasFragments, ReadingEnds, clean, broken, bad_order, unfinished}
 use Rattle.log_laws.proofs.Placed.{begins}
 use Rattle.log_recovery.proofs.Standing.{goes_on}
 
@@ -13,7 +13,7 @@ not_nothing f e = cc
 not_damage : (d : Damage) (f : Fragment) → damage d ≡ fragment f → ⊥
 not_damage d f e = cc
 
--- the next fragment of a record stands in no wrong place
+-- the next fragment of a record is in no wrong place
 in_order : (fs g later : List Fragment) (f h : Fragment) → AreOneRecord (kinds_of g) → g ≡ fs ++ h ∷ later → fragment f ≡ fragment h → (AreBegun (kinds_of (fs ++ f ∷ [])) → ⊥) → (AreOneRecord (kinds_of (fs ++ f ∷ [])) → ⊥) → ⊥
 in_order fs g [] f h one parts seen not_begun not_one =
     let same : h ≡ f = cc in
@@ -23,8 +23,8 @@ in_order fs g (p ∷ later) f h one parts seen not_begun not_one =
     let split : g ≡ (fs ++ f ∷ []) ++ p ∷ later = parts ∙ ap (λ (x : Fragment). fs ++ x ∷ p ∷ later) same ∙ sym (append_assoc fs (f ∷ []) (p ∷ later)) in
     not_begun (begins (fs ++ f ∷ []) p later (subst (λ l. AreOneRecord (kinds_of l)) split one))
 
--- Where no record is read, none stands.
-pub none_stands : (number : Option ℕ) (file : List ℕ) (offset at : ℕ) (why : EndReason) (g : List Fragment) → ReadingEnds number file offset at why → AreOneRecord (kinds_of g) → Stand number file offset g → ⊥
+-- Where reading finds no record, there is none.
+pub none_stands : (number : Option ℕ) (file : List ℕ) (offset at : ℕ) (why : EndReason) (g : List Fragment) → ReadingEnds number file offset at why → AreOneRecord (kinds_of g) → HasFragments number file offset g → ⊥
 none_stands number file offset at why g (clean comes) one stands =
     let on = goes_on number file offset [] g _ comes one stands in not_nothing on.f on.sees
 none_stands number file offset at why g (broken {d = d} fs comes) one stands =

@@ -30,7 +30,7 @@ after_batch m last b may is = by_count (count_of b.records == 0) refl
         let runs = may some in
         record { within = runs.1; none = λ z. let first = runs.0 in absurd (omega (arith, some, first, z)) }
 
--- so it is behind one batch more
+-- so this holds with one batch more, too
 pub numbered_more : (old new : Kept) (bytes : List ℕ) (end : ℕ) → Adds old new bytes end → IsNumbered old.map old.last → IsNumbered new.map new.last
 numbered_more old new bytes end a is =
     let b = a.kept.batch in

@@ -1,13 +1,12 @@
--- The steps of recovery: a record more, or the end.
+-- The steps of recovery: one more record, or the end.
 use Rattle.std.proofs.Common.{Option, ◌≡◌, ℕ, List, [], ◌∷◌, ◌++◌, refl, sym, ◌∙◌, ap, subst}
 use Rattle.std.proofs.lemmas.List.{map-append}
 use Rattle.std.proofs.lemmas.List.Sums.{fold-append}
 use Rattle.model_base.specs.declared.log.EndReason.{EndReason}
 use Rattle.model_base.specs.Log.{Fragment, AreOneRecord, kinds_of, record_of, next_place}
 use Rattle.model_base.specs.Map.{Pairs, after_records}
-use Rattle.model_base.specs.Reading.{end_of, Stand, ReadingEnds}
+use Rattle.model_base.specs.Reading.{end_of, HasFragments, ReadingEnds, IsRecord}
 use Rattle.model_base.specs.Recovery.{Logged, last_after, last_sequence, MayFollow, Keeps, IsRecovered}
-use Rattle.log_reader.specs.Records.{IsRecord}
 use Rattle.log_recovery.specs.declared.kept.Kept.{Kept}
 use Rattle.log_recovery.specs.declared.recovery.End.{End}
 use Rattle.log_recovery.specs.Keeping.{note_of, Shows, KeepsFront, Adds, Refuses}
@@ -15,7 +14,7 @@ use Rattle.log_recovery.specs.Recovering.{HasRecovered}
 use Rattle.log_recovery.proofs.MoreKept.{keeps_none, keeps_more}
 use Rattle.log_recovery.proofs.Ending.{recovered_unread, recovered_unkept}
 
--- one batch more is shown
+-- what is kept shows one batch more
 shows_more : (old new : Kept) (bytes : List ℕ) (end : ℕ) (bs : List Logged) (a : Adds old new bytes end) → Shows old bs → Shows new (bs ++ a.kept.batch ∷ [])
 shows_more old new bytes end bs a shows = record {
   groups = a.groups ∙ (ap (λ notes. notes ++ note_of a.kept.batch ∷ []) shows.groups ∙ sym (map-append note_of bs (a.kept.batch ∷ [])));
@@ -32,7 +31,7 @@ begins number file kept groups map_is last end = record {
 }
 
 -- A record that may be kept is kept.
-pub keeps_record : (number : Option ℕ) (file : List ℕ) (old new : Kept) (fs : List Fragment) (bytes : List ℕ) (end : ℕ) → KeepsFront number file old → AreOneRecord (kinds_of fs) → Stand number file old.end fs → bytes ≡ record_of fs → end ≡ end_of number old.end fs
+pub keeps_record : (number : Option ℕ) (file : List ℕ) (old new : Kept) (fs : List Fragment) (bytes : List ℕ) (end : ℕ) → KeepsFront number file old → AreOneRecord (kinds_of fs) → HasFragments number file old.end fs → bytes ≡ record_of fs → end ≡ end_of number old.end fs
     → Adds old new bytes end → KeepsFront number file new
 keeps_record number file old new fs bytes end front one stands bytes_are end_is a =
     let b = a.kept.batch in
@@ -44,7 +43,7 @@ keeps_record number file old new fs bytes end front one stands bytes_are end_is 
       keeps = subst (λ n. Keeps number file n (front.batches ++ b ∷ [])) (sym end_is ∙ sym a.end_is) more;
     }
 
--- what is shown of what the file recovers
+-- what is shown is what is recovered from the file
 has_recovered : (number : Option ℕ) (file : List ℕ) (kept : Kept) (end : End) (bs : List Logged) → Shows kept bs → IsRecovered number file (record { batches = bs; kept = kept.end; at = end.at; why = end.why })
     → HasRecovered number file (record { groups = kept.groups; map = kept.map; last = kept.last; kept = kept.end; end = end })
 has_recovered number file kept end bs shows is = record {
@@ -54,14 +53,14 @@ has_recovered number file kept end bs shows is = record {
 }
 
 -- A record that can't be kept ends recovery.
-pub refuses_record : (number : Option ℕ) (file : List ℕ) (kept : Kept) (fs : List Fragment) (bytes : List ℕ) (end : End) → KeepsFront number file kept → AreOneRecord (kinds_of fs) → Stand number file kept.end fs → bytes ≡ record_of fs → end.at ≡ next_place number kept.end
+pub refuses_record : (number : Option ℕ) (file : List ℕ) (kept : Kept) (fs : List Fragment) (bytes : List ℕ) (end : End) → KeepsFront number file kept → AreOneRecord (kinds_of fs) → HasFragments number file kept.end fs → bytes ≡ record_of fs → end.at ≡ next_place number kept.end
     → Refuses kept.last bytes end.why → HasRecovered number file (record { groups = kept.groups; map = kept.map; last = kept.last; kept = kept.end; end = end })
 refuses_record number file kept fs bytes end front one stands bytes_are at_is refuses =
     let r = subst (λ n. Refuses n (record_of fs) end.why) front.shows.last (subst (λ l. Refuses kept.last l end.why) bytes_are refuses) in
     let is = recovered_unkept number file kept.end end.why front.batches fs front.keeps one stands r.ends r.not_kept in
     has_recovered number file kept end front.batches front.shows (subst (λ n. IsRecovered number file (record { batches = front.batches; kept = kept.end; at = n; why = end.why })) (sym at_is) is)
 
--- So does what doesn't read.
+-- So does anything that can't be read.
 pub ends_reading : (number : Option ℕ) (file : List ℕ) (kept : Kept) (end : End) → KeepsFront number file kept → ReadingEnds number file kept.end end.at end.why
     → HasRecovered number file (record { groups = kept.groups; map = kept.map; last = kept.last; kept = kept.end; end = end })
 ends_reading number file kept end front ends =
@@ -70,10 +69,10 @@ ends_reading number file kept end front ends =
 -- A record that was read and kept.
 pub keeps_read : (number : Option ℕ) (file : List ℕ) (old new : Kept) (place start end : ℕ) (in_hand bytes : List ℕ) → old.end ≡ place → bytes ≡ in_hand → KeepsFront number file old → IsRecord number file place start end in_hand → Adds old new bytes end → KeepsFront number file new
 keeps_read number file old new place start end in_hand bytes there bytes_are front r a =
-    keeps_record number file old new r.fragments bytes end front r.one (subst (λ n. Stand number file n r.fragments) (sym there) r.stand) (bytes_are ∙ r.bytes_are) (r.ends ∙ ap (λ (n : ℕ). end_of number n r.fragments) (sym there)) a
+    keeps_record number file old new r.fragments bytes end front r.one (subst (λ n. HasFragments number file n r.fragments) (sym there) r.stand) (bytes_are ∙ r.bytes_are) (r.ends ∙ ap (λ (n : ℕ). end_of number n r.fragments) (sym there)) a
 
 -- A record that was read and not kept.
 pub refuses_read : (number : Option ℕ) (file : List ℕ) (kept : Kept) (place start end : ℕ) (in_hand bytes : List ℕ) (why : EndReason) → kept.end ≡ place → bytes ≡ in_hand → KeepsFront number file kept → IsRecord number file place start end in_hand → Refuses kept.last bytes why
     → HasRecovered number file (record { groups = kept.groups; map = kept.map; last = kept.last; kept = kept.end; end = record { at = start; why = why } })
 refuses_read number file kept place start end in_hand bytes why there bytes_are front r refuses =
-    refuses_record number file kept r.fragments bytes (record { at = start; why = why }) front r.one (subst (λ n. Stand number file n r.fragments) (sym there) r.stand) (bytes_are ∙ r.bytes_are) (r.starts ∙ ap (next_place number) (sym there)) refuses
+    refuses_record number file kept r.fragments bytes (record { at = start; why = why }) front r.one (subst (λ n. HasFragments number file n r.fragments) (sym there) r.stand) (bytes_are ∙ r.bytes_are) (r.starts ∙ ap (next_place number) (sym there)) refuses

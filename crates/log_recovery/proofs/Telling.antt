@@ -1,4 +1,4 @@
--- What the steps of recovery come to where the disk tells its content.
+-- What the steps of recovery give where the disk tells its content.
 use Rattle.std.proofs.Common.{◌≡◌, ℕ, List, Option, Some, None, MatchOption, IfSome, sym, subst}
 use Rattle.base_devices.specs.Disk.{Disk}
 use Rattle.model_base.specs.declared.log.EndReason.{EndReason}
@@ -21,7 +21,7 @@ pub if_all : (told : Option Disk) (P : Disk → Type 0) → ((d : Disk) → P d)
 if_all None P f = tt
 if_all (Some d) P f = f d
 
--- the reader's answer is so, of a log of its format
+-- the reader's answer is what reading the file gives, for a log with its number
 pub reads : (number : Option ℕ) (before told : Option Disk) (log : Reader) (in_hand : List ℕ) (answer : Next) → log.number ≡ number → before ≡ told → log.stopped ≡ None → IfSome told (λ d. Follows d.content log)
     → IfSome before (λ d. Follows d.content log → log.stopped ≡ None → Reads log.number d.content log.place in_hand answer) → IfSome told (λ d. Reads number d.content log.place in_hand answer)
 reads number before told log in_hand answer format same going follows says =
@@ -32,13 +32,13 @@ reads number before told log in_hand answer format same going follows says =
     Said : Option ℕ → Disk → Type 0
     Said n d = Follows d.content log → log.stopped ≡ None → Reads n d.content log.place in_hand answer
 
--- and it follows the file
+-- and the reader still follows the file
 pub follows_on : (before told : Option Disk) (log new : Reader) → before ≡ told → IfSome told (λ d. Follows d.content log) → IfSome before (λ d. Follows d.content log → Follows d.content new) → IfSome told (λ d. Follows d.content new)
 follows_on before told log new same follows says =
     let now : IfSome told (λ d. Follows d.content log → Follows d.content new) = subst (λ (t : Option Disk). IfSome t (λ d. Follows d.content log → Follows d.content new)) same says in
     if_both told (λ d. Follows d.content log) (λ d. Follows d.content log → Follows d.content new) (λ d. Follows d.content new) follows now (λ d f s. s f)
 
--- what keeping a record came to
+-- what keeping a record did: it is kept, or it can't be kept and nothing has changed
 abbrev pub KeptOrNot : Kept → Kept → List ℕ → ℕ → Option EndReason → Type 0
 KeptOrNot old new bytes end r = MatchOption r (Adds old new bytes end) (λ why. (new ≡ old) × Refuses old.last bytes why)
 
@@ -50,14 +50,14 @@ pub kept_refuses : (old new : Kept) (bytes : List ℕ) (end : ℕ) (r : Option E
 kept_refuses old new bytes end None why m e = absurd (cc)
 kept_refuses old new bytes end (Some w) why m e = let same : w ≡ why = cc in (m.0, subst (Refuses old.last bytes) same m.1)
 
--- one record more is kept
+-- one more record is kept
 pub front_more : (number : Option ℕ) (told : Option Disk) (old new : Kept) (place start end : ℕ) (in_hand bytes : List ℕ) → old.end ≡ place → bytes ≡ in_hand → Adds old new bytes end
     → IfSome told (λ d. KeepsFront number d.content old) → IfSome told (λ d. Reads number d.content place in_hand (next.Record start end)) → IfSome told (λ d. KeepsFront number d.content new)
 front_more number told old new place start end in_hand bytes there bytes_are adds front says =
     if_both told (λ d. KeepsFront number d.content old) (λ d. Reads number d.content place in_hand (next.Record start end)) (λ d. KeepsFront number d.content new) front says
     (λ d f r. keeps_read number d.content old new place start end in_hand bytes there bytes_are f r adds)
 
--- what is shown of what is kept, with this end
+-- the answer, from what is kept and from this end
 abbrev pub answer : Kept → ℕ → EndReason → Recovered
 answer kept at why = record { groups = kept.groups; map = kept.map; last = kept.last; kept = kept.end; end = record { at = at; why = why } }
 
@@ -69,7 +69,7 @@ refused number told old new place start end in_hand bytes why there bytes_are re
     (if_both told (λ d. KeepsFront number d.content old) (λ d. Reads number d.content place in_hand (next.Record start end)) (λ d. HasRecovered number d.content (answer old start why)) front says
     (λ d f r. refuses_read number d.content old place start end in_hand bytes why there bytes_are f r refuses.1))
 
--- so does what doesn't read
+-- so does anything that can't be read
 pub ended : (number : Option ℕ) (told : Option Disk) (kept : Kept) (place at : ℕ) (in_hand : List ℕ) (why : EndReason) → kept.end ≡ place
     → IfSome told (λ d. KeepsFront number d.content kept) → IfSome told (λ d. Reads number d.content place in_hand (next.End at why)) → IfSome told (λ d. HasRecovered number d.content (answer kept at why))
 ended number told kept place at in_hand why there front says =

@@ -5,7 +5,7 @@ use Rattle.std.proofs.lemmas.List.{drop-drop, take-append-drop}
 use Rattle.std.proofs.lemmas.List.Folds.{list_all-append}
 use Rattle.model_base.specs.Reading.{are_zeros}
 
--- a piece behind what was looked at
+-- one more piece, after what was looked at
 piece_behind : (content : List ℕ) (from at len : ℕ) → from ≤ at → are_zeros (take (at - from + len) (drop from content)) ≡ (are_zeros (take (at - from) (drop from content)) && are_zeros (take len (drop at content)))
 piece_behind content from at len after =
     let rest = drop from content in
@@ -14,7 +14,7 @@ piece_behind content from at len after =
     ∙ (list_all-append (λ b. b == 0) (take (at - from) rest) (take len (drop (at - from) rest))
     ∙ ap (λ (l : List ℕ). are_zeros (take (at - from) rest) && are_zeros (take len l)) (drop-drop (at - from) from content ∙ ap (λ (n : ℕ). drop n content) there))
 
--- a piece of zeros more
+-- one more piece of zeros
 pub more_zeros : (content piece : List ℕ) (from at len : ℕ) → from ≤ at → are_zeros (take (at - from) (drop from content)) ≡ true → take len piece ≡ take len (drop at content) → are_zeros (take len piece) ≡ true
     → are_zeros (take (at + len - from) (drop from content)) ≡ true
 more_zeros content piece from at len after before same zeros =
@@ -23,12 +23,12 @@ more_zeros content piece from at len after before same zeros =
     ap (λ (n : ℕ). are_zeros (take n (drop from content))) so_far
     ∙ (piece_behind content from at len after ∙ (ap (λ (b : Bool). b && are_zeros (take len (drop at content))) before ∙ these))
 
--- a front that has another byte
+-- if the first n bytes aren't all zeros, neither are all bytes
 front_has : (n : ℕ) (bytes : List ℕ) → are_zeros (take n bytes) ≡ false → are_zeros bytes ≡ false
 front_has n bytes other =
     ap are_zeros (sym (take-append-drop n bytes)) ∙ (list_all-append (λ b. b == 0) (take n bytes) (drop n bytes) ∙ ap (λ (b : Bool). b && are_zeros (drop n bytes)) other)
 
--- a piece that has another byte
+-- a piece that has a byte other than zero
 pub other_byte : (content piece : List ℕ) (from at len : ℕ) → from ≤ at → are_zeros (take (at - from) (drop from content)) ≡ true → take len piece ≡ take len (drop at content) → are_zeros (take len piece) ≡ false → false ≡ are_zeros (drop from content)
 other_byte content piece from at len after before same other =
     let these : are_zeros (take len (drop at content)) ≡ false = ap are_zeros (sym same) ∙ other in

@@ -1,4 +1,4 @@
--- What keeping a record of a log comes to.
+-- What keeping a record of a log does.
 use Rattle.std.specs.Prelude.{◌≡◌, ◌≢◌, ℕ, ◌+◌, ◌-◌, ◌<◌, ◌≤◌, List, [], ◌∷◌, ◌++◌, length, map, fold, Option}
 use Rattle.model_base.specs.declared.log.EndReason.{EndReason}
 use Rattle.model_base.specs.declared.log.EndReason.TheVariants as ends
@@ -9,30 +9,30 @@ use Rattle.model_base.specs.Recovery.{Logged, logged_bytes, last_after, last_seq
 use Rattle.log_recovery.specs.declared.kept.GroupNote.{GroupNote}
 use Rattle.log_recovery.specs.declared.kept.Kept.{Kept}
 
--- the note of a batch
+-- what is noted of a batch
 abbrev pub note_of : Logged → GroupNote
 note_of b = record { first = b.first; count = count_of b.records; size = length (logged_bytes b) }
 
--- what the batches come to that are kept: their notes, their map and the last sequence
+-- what is kept shows these batches: their notes, their map and their last sequence
 pub record Shows (kept : Kept) (batches : List Logged) : Type 0 where
   pub groups : kept.groups.items ≡ map note_of batches
   pub map_is : kept.map ≡ fold (λ m b. after_records m b.records) [] batches
   pub last : kept.last ≡ last_sequence 0 batches
 
--- the records up to an offset are kept of the file, which is a log of this format
+-- what is kept is all records of the file up to the offset `kept.end`, in a log with this number, if it has one
 pub record KeepsFront (number : Option ℕ) (file : List ℕ) (kept : Kept) : Type 0 where
   pub batches : List Logged
   pub shows : Shows kept batches
   pub keeps : Keeps number file kept.end batches
 
--- the batch with these bytes may follow the last sequence
+-- these bytes are a batch that may follow the last sequence
 pub record MayBeKept (last : ℕ) (bytes : List ℕ) : Type 0 where
   pub batch : Logged
   pub same : logged_bytes batch ≡ bytes
   pub is : IsBatch (logged_bytes batch) batch.first batch.records
   pub may : MayFollow last batch
 
--- a record's batch is kept after the others, up to this offset
+-- the batch of a record is kept after the others, and the record ends at this offset
 pub record Adds (old new : Kept) (bytes : List ℕ) (end : ℕ) : Type 0 where
   pub kept : MayBeKept old.last bytes
   pub groups : new.groups.items ≡ old.groups.items ++ note_of kept.batch ∷ []
@@ -40,16 +40,17 @@ pub record Adds (old new : Kept) (bytes : List ℕ) (end : ℕ) : Type 0 where
   pub last : new.last ≡ last_after old.last kept.batch
   pub end_is : new.end ≡ end
 
--- a record that can't be kept, and why
+-- a record with these bytes can't be kept, for this reason
 pub record Refuses (last : ℕ) (bytes : List ℕ) (why : EndReason) : Type 0 where
   pub ends : RecordEnds last bytes why
   pub not_kept : MayBeKept last bytes → ⊥
 
--- a run of so many sequences may follow the last one, and passes no greatest one
+-- a run of `count` sequences may follow the last one: it has none, or it begins above that one and doesn't pass the
+-- greatest sequence
 abbrev pub MayRun : ℕ → ℕ → ℕ → Type 0
 MayRun last first count = count ≢ 0 → (last < first) × (first + count - 1 ≤ max_sequence)
 
--- why it may not
+-- why such a run may not follow
 abbrev pub IsRunEnd : ℕ → ℕ → ℕ → EndReason → Type 0
 IsRunEnd last first count (ends.Order f l) = (f ≡ first) × (l ≡ last) × (count ≢ 0) × (first ≤ last)
 IsRunEnd last first count (ends.High f n) = (f ≡ first) × (n ≡ count) × (count ≢ 0) × (last < first)

@@ -1,4 +1,4 @@
--- What recovering a log comes to.
+-- What recovery of a log answers.
 use Rattle.std.specs.Prelude.{◌≡◌, ◌≢◌, ℕ, ◌≤◌, List, [], map, Option}
 use Rattle.base_devices.specs.Faults.{Rose}
 use Rattle.model_base.specs.History.{max_sequence}
@@ -11,8 +11,8 @@ use Rattle.log_recovery.specs.declared.recovery.RecoverError.{RecoverError}
 use Rattle.log_recovery.specs.declared.recovery.RecoverError.TheVariants.{Fault, NoMemory, Damage}
 use Rattle.log_recovery.specs.Keeping.{note_of}
 
--- what a caller sees of what is recovered: a note of each group, the map, the last sequence, what is kept, and why no
--- more
+-- what a caller sees of what is recovered: a note of each group, the map, the last sequence, up to which offset
+-- records are kept, and where and why recovery ends
 pub record ShowsRecovered (shown : Recovered) (r : recovery.Recovered) : Type 0 where
   pub groups : shown.groups.items ≡ map note_of r.batches
   pub map_is : shown.map ≡ recovery.recovered_map r
@@ -21,20 +21,20 @@ pub record ShowsRecovered (shown : Recovered) (r : recovery.Recovered) : Type 0 
   pub at : shown.end.at ≡ r.at
   pub why : shown.end.why ≡ r.why
 
--- the file, a log of this format, recovers just that
+-- this is what is recovered from the file, a log with this number, if it has one
 pub record HasRecovered (number : Option ℕ) (file : List ℕ) (shown : Recovered) : Type 0 where
   pub recovered : recovery.Recovered
   pub is : recovery.IsRecovered number file recovered
   pub shows : ShowsRecovered shown recovered
 
 -- The last sequence is no greater than the greatest one. Where it is 0 there are no keys, since each record but log
--- data takes a sequence. So it is whether the disk tells its content or not.
+-- data takes a sequence. This holds whether the disk tells its content or not.
 pub record IsNumbered (map : Pairs) (last : ℕ) : Type 0 where
   pub within : last ≤ max_sequence
   pub none : last ≡ 0 → map ≡ []
 
--- why a log was not recovered: the disk's count rose in the call, or there was no memory and no fault, or neither is so
--- and the mode, which isn't the one that accepts any end, doesn't accept this one
+-- why a log was not recovered: the disk's count of faults rose in the call; or there was no memory, and no fault; or
+-- the end is damage, there was no fault, and the mode isn't the one that accepts any end (`TellsDamage` says more)
 abbrev pub IsRecoverError : Mode → ℕ → ℕ → RecoverError → Type 0
 IsRecoverError mode before now (Fault count) = Rose before count × (count ≤ now)
 IsRecoverError mode before now NoMemory = now ≡ before

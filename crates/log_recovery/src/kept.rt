@@ -11,8 +11,8 @@ use log_batch::{MAX_SEQUENCE, read_batch, write_records};
 use model_base::{BatchError, EndReason, NoMemory};
 use std::alloc::Global;
 
-/// What is noted of a record that is kept: the first sequence that its header says, how many sequences it
-/// takes, and its bytes.
+/// What is noted of a record that is kept: the first sequence that its header says, how many sequences it takes, and
+/// how many bytes it has.
 #[derive(Clone, Copy, Debug, PartialEq, Eq)]
 pub struct GroupNote {
     pub first: u64,
@@ -20,19 +20,19 @@ pub struct GroupNote {
     pub size: u64,
 }
 
-/// What the records that are kept so far come to.
+/// What the records that are kept so far give.
 #[derive(Drop)]
 pub struct Kept {
     pub groups: Vec<GroupNote>,
     pub map: ByteMap,
     /// The last sequence, 0 before the first.
     pub last: u64,
-    /// The offset after them.
+    /// The offset after these records.
     pub end: u64,
 }
 
 impl Kept {
-    /// Nothing kept. This takes no memory.
+    /// Nothing is kept yet. This takes no memory.
     pub fn new(alloc: Global) -> Kept
         ensures groups { result.groups.items ≡ [] }
         ensures map { result.map ≡ [] }
@@ -74,7 +74,7 @@ impl Kept {
     }
 }
 
-/// Why a record ends recovery that is no batch.
+/// Why a record that is no batch ends recovery.
 fn end_of(error: BatchError) -> EndReason
     ensures { (last : ℕ) (bytes : List ℕ) → IsBatchError bytes error → RecordEnds last bytes result }
 {
@@ -86,7 +86,7 @@ fn end_of(error: BatchError) -> EndReason
     }
 }
 
-/// Why a run of so many sequences can't follow the last one, if it can't.
+/// Why a run of `count` sequences can't follow the last one, if it can't.
 fn run_end(last: u64, first: u64, count: u32) -> Option<EndReason>
     ensures { MatchOption result (MayRun last first count) (IsRunEnd last first count) }
 {
@@ -101,7 +101,7 @@ fn run_end(last: u64, first: u64, count: u32) -> Option<EndReason>
     }
 }
 
-/// The last sequence after a run of so many, which may follow.
+/// The last sequence after a run of `count` sequences, which may follow.
 fn last_after(last: u64, first: u64, count: u32) -> u64
     requires { MayRun last first count }
     ensures { result ≡ (if count == 0 then last else first + count - 1) }

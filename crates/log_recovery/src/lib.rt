@@ -1,14 +1,13 @@
 //! Point-in-time recovery of a log (RocksDB wiki, "WAL Recovery Modes", kPointInTimeRecovery): the records before the
-//! first place that doesn't read, or before the first record that is no batch or whose run of sequences doesn't rise.
+//! first place that can't be read, or before the first record that is no batch or whose run of sequences doesn't rise.
 //!
-//! Any bytes recover something. What follows damage is not looked at: a log is a history, and what stands after a gap
-//! would be another one.
+//! Recovery of any bytes has a result. What follows damage is not looked at: a log is a history, and what follows a
+//! gap would be another history.
 //!
-//! A log may have a number, and is recovered with it. It ends where a fragment stands that another log left in the
-//! file.
+//! A log may have a number, and is recovered with it. It ends at a fragment that another log left in the file.
 //!
-//! A mode may accept fewer ends than point-in-time recovery, which accepts any. Then no log is taken for whole that
-//! lost more than the mode lets it lose, and what is recovered is the same.
+//! A mode may accept fewer ends than point-in-time recovery, which accepts any. Then a log that lost more than the
+//! mode lets it lose is not taken for whole. What is recovered is the same in each mode.
 #![tactic(auto)]
 
 mod kept;

@@ -13,10 +13,10 @@ use byteorder::{ByteOrder, LittleEndian};
 use log_block::{BLOCK_LEN, header_len};
 use model_base::{Damage, EndReason};
 
-/// Which ends of a log recovery accepts. Any other is damage.
+/// Which ends of a log recovery accepts. Any other end is damage.
 #[derive(Clone, Copy, Debug, PartialEq, Eq)]
 pub enum Mode {
-    /// Any end at all: the records in front of it are recovered.
+    /// Any end at all: the records before it are recovered.
     Point,
     /// The end of a whole log, and one where the last write was cut off.
     Tail,
@@ -24,8 +24,8 @@ pub enum Mode {
     Absolute,
 }
 
-/// Whether the mode accepts this end of the log that a disk holds, of which recovery says it. A fault of the disk is
-/// answered by its count.
+/// Whether the mode accepts this end, which recovery found for the log that the disk holds. For a fault of the disk it
+/// answers the disk's count of faults.
 pub fn accepts<D: Disk>(
     disk: &mut D,
     number: Option<u32>,
@@ -52,7 +52,7 @@ pub fn accepts<D: Disk>(
     }
 }
 
-/// Whether a log ends so as a whole one does.
+/// Whether a log that ends for this reason ends as a whole one does.
 fn is_whole_end(why: EndReason) -> bool
     ensures { IsTrue result ↔ IsWholeEnd why }
 {
@@ -63,7 +63,7 @@ fn is_whole_end(why: EndReason) -> bool
     }
 }
 
-/// Whether the log ends so because its last write was cut off.
+/// Whether the log ends there because its last write was cut off.
 fn is_cut_off<D: Disk>(disk: &mut D, number: Option<u32>, end: End) -> Result<bool, u64>
     ensures decided { IfSome (D.told disk.old) (λ d. IfOk result
         (λ is. IsTrue is ↔ IsCutOff number d.content end.at end.why)) }
@@ -80,10 +80,10 @@ fn is_cut_off<D: Disk>(disk: &mut D, number: Option<u32>, end: End) -> Result<bo
     }
 }
 
-// No header is longer.
+// No header is longer than this.
 const HEADER_ROOM: usize = 11;
 
-/// Whether the fragment at the place `at` goes on where the file ends, and doesn't pass its block.
+/// Whether the fragment at the place `at` goes on past the end of the file, and not past the end of its block.
 fn passes_file<D: Disk>(disk: &mut D, number: Option<u32>, at: u64) -> Result<bool, u64>
     ensures decided { IfSome (D.told disk.old) (λ d. IfOk result (λ is. IsTrue is ↔ PassesFile number d.content at)) }
     ensures worked { OnOk result (D.faults disk.new ≡ D.faults disk.old) }
@@ -108,7 +108,7 @@ fn passes_file<D: Disk>(disk: &mut D, number: Option<u32>, at: u64) -> Result<bo
     Ok(len == 0)
 }
 
-// How many bytes are looked at at a time.
+// How many bytes are looked at in one go.
 const PIECE: usize = 4096;
 
 /// Whether all bytes of a file from this place on are zeros.
@@ -120,7 +120,7 @@ fn are_zeros_from<D: Disk>(disk: &mut D, from: u64) -> Result<bool, u64>
 {
     let mut piece = [0; PIECE];
     let mut at = from;
-    // From `from` up to `at` there are zeros, and no read has failed.
+    // From `from` up to `at` there are only zeros, and no read has failed.
     loop {
         let Ok(len) = disk.read(at, &mut piece) else {
             return Err(disk.faults());

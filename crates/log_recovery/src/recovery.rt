@@ -21,8 +21,8 @@ pub struct End {
     pub why: EndReason,
 }
 
-/// What a log recovers: the groups that are kept, the map and the last sequence of all their records, the offset after
-/// them, and the end.
+/// What is recovered from a log: the groups that are kept, the map and the last sequence of all their records, the
+/// offset after them, and the end of recovery.
 #[derive(Drop)]
 pub struct Recovered {
     pub groups: Vec<GroupNote>,
@@ -35,7 +35,7 @@ pub struct Recovered {
 /// Why a log was not recovered.
 #[derive(Clone, Copy, Debug, PartialEq, Eq)]
 pub enum RecoverError {
-    /// The disk failed, for the how many-th time.
+    /// The disk failed, and this is its count of faults.
     Fault { count: u64 },
     NoMemory,
     /// Recovery ends at this offset for this reason, which the mode doesn't accept.
@@ -52,14 +52,14 @@ impl From<NoMemory> for RecoverError {
     }
 }
 
-/// Recovers the log that a disk holds, and which has this number, if it has one. Any bytes give an answer, and the disk
-/// keeps them.
+/// Recovers the log that a disk holds and that has this number, if it has one. There is an answer for any bytes, and
+/// the disk is only read.
 ///
 /// It reads from the start on and never asks the disk for its length, so that a disk on which nothing can be read is a
 /// fault and not an empty log. No read that failed is tried again.
 ///
-/// It is `Fault` where a read failed, and `NoMemory` where there was no memory for a block, a record, a note, a key or
-/// a value. It accepts any end, as [`Mode::Point`] does, and is never `Damage`.
+/// The error is `Fault` where a read failed, and `NoMemory` where there was no memory for a block, a record, a note, a
+/// key or a value. This call accepts any end, as [`Mode::Point`] does, so the error is never `Damage`.
 pub fn recover<D: Disk>(
     alloc: Global,
     disk: &mut D,
@@ -91,7 +91,8 @@ pub fn recover<D: Disk>(
 /// Recovers the log as `recover` does, and accepts only an end that the mode accepts. Any other is `Damage`, with the
 /// place where recovery ends and its reason.
 ///
-/// The disk is read a little further where the mode asks for it: what stands behind the place, up to the file's end.
+/// The disk is read further where the mode asks for it: from the place where recovery ends, at most up to the file's
+/// end.
 pub fn recover_mode<D: Disk>(
     alloc: Global,
     disk: &mut D,
@@ -116,7 +117,7 @@ pub fn recover_mode<D: Disk>(
     }
 }
 
-/// What is recovered where the kept records end so.
+/// The answer, from what is kept and from the end of recovery.
 fn answer_of(kept: Kept, end: End) -> Recovered
     ensures { result ≡ record { groups = kept.groups; map = kept.map; last = kept.last; kept = kept.end; end = end } }
 {

@@ -1,4 +1,4 @@
--- A reader gets all records before the first damage: each file gives one list of them.
+-- A reader gets all records before the first damage, and each file gives exactly one list of them.
 use Rattle.std.proofs.Common.{◌≡◌, ℕ, zero, suc, ◌+◌, ◌<◌, ◌≤◌, List, [], ◌∷◌, ◌++◌, length, take, Option, nat_lt, sym, subst, arith}
 use Rattle.std.proofs.lemmas.Bool.{ltb-true, ltb-false}
 use Rattle.model_base.specs.Log.{SpellsWhole, record_of}
@@ -14,7 +14,7 @@ use Rattle.log_recovery_laws.proofs.Spelled.{Begins, begins_none, begins_more, n
 abbrev pub AllRead : Option ℕ → List ℕ → Type 0
 AllRead number file = (records : List (List ℕ)) × IsRead number file records
 
--- one record more, with which it goes on, or the end
+-- The next answer: with one more record the reader goes on, and at the end of reading it has all.
 one_more : (number : Option ℕ) (file : List ℕ) (kept : ℕ) (records : List (List ℕ)) → Begins number file kept records
     → ((further : ℕ) (more : List (List ℕ)) → Begins number file further more → kept < further → AllRead number file) → Result number file kept → AllRead number file
 one_more number file kept records b go_on (found start end bytes, is) =
@@ -29,7 +29,7 @@ read_from number file are (suc fuel) kept records b enough =
 pub all_read_some : (number : Option ℕ) (file : List ℕ) → AreBytes file → AllRead number file
 all_read_some number file are = read_from number file are (suc (length file)) 0 [] (begins_none number file) (omega arith)
 
--- where reading ends, no others reach further
+-- no other reading of the same file reaches further
 no_further : (number : Option ℕ) (file : List ℕ) (records others : List (List ℕ)) (x : IsRead number file records) (y : IsRead number file others) → y.kept ≤ x.kept
 no_further number file records others x y = cases_bool (nat_lt x.kept y.kept)
     (λ less.

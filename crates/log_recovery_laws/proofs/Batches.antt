@@ -13,7 +13,7 @@ use Rattle.log_recovery_laws.specs.Reads.{AreBytes}
 use Rattle.log_recovery_laws.proofs.Bytes.{bytes_take, bytes_drop, bytes_at}
 use Rattle.log_recovery_laws.proofs.Records.{OneRecord, record_or_error}
 
--- bytes are records, or some records and then none
+-- the bytes are records and nothing else, or some records and then a rest that begins with none
 data Walked (bytes : List ℕ) : Type 0 where
   all : (records : List Record) → AllByRecursion IsReadable records → bytes ≡ body records → Walked bytes
   broken : (records : List Record) (rest : List ℕ) (error : BatchError) → AllByRecursion IsReadable records → bytes ≡ body records ++ rest → NoRecord rest error → Walked bytes
@@ -31,7 +31,7 @@ walk (suc fuel) (t ∷ bytes) are enough = ⊎_elim
     (λ e. broken [] (t ∷ bytes) e.0 tt refl e.1)
     (record_or_error t bytes are.1)
 
--- four and eight bytes are a number
+-- four bytes make a number below 2 ^ 32, and eight one below 2 ^ 64
 four_fit : (bytes : List ℕ) → AreBytes bytes → from_le_bytes w32 bytes < 2 ^ 32
 four_fit bytes are = omega (arith, bytes_at bytes are 0, bytes_at bytes are 1, bytes_at bytes are 2, bytes_at bytes are 3)
 

@@ -1,4 +1,4 @@
--- Parts of bytes are bytes.
+-- Parts of lists of bytes, and such lists joined, are lists of bytes.
 use Rattle.std.proofs.Common.{ℕ, zero, suc, ◌<◌, List, [], ◌∷◌, ◌++◌, take, drop, get_or, sym, subst, arith}
 use Rattle.std.proofs.Math.Dec.{lit<}
 use Rattle.std.proofs.lemmas.List.{get_or_past}

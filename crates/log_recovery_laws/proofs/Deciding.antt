@@ -1,4 +1,4 @@
--- Whether kinds of fragments begin a record, or are one.
+-- For any kinds of fragments it is decided whether they begin a record, and whether they are a whole one.
 use Rattle.std.proofs.Common.{◌≡◌, ◌⊎◌, inl, inr, ⊎_elim, List, [], ◌∷◌, refl}
 use Rattle.std.specs.List.{AllByRecursion}
 use Rattle.model_base.specs.Log.{Kind, full, first, middle, last, GoesToLast, AreOneRecord}

@@ -1,24 +1,25 @@
--- A fragment that a reader sees next stands there.
+-- A fragment that a reader sees next is in the file there.
 use Rattle.std.proofs.Common.{◌≡◌, ℕ, ◌+◌, ◌-◌, ◌<◌, ◌≤◌, Bool, true, false, ◌&&◌, List, [], ◌∷◌, ◌++◌, length, take, drop, replicate, Option, Some, None, refl, sym, ◌∙◌, ap, subst, arith, cond, nat_lt, ◌==◌, length-take, length-drop, append_assoc, append-nil, add-zero}
 use Rattle.std.proofs.lemmas.List.{take-append-drop, drop-drop}
 use Rattle.std.proofs.lemmas.Bool.{ltb-true, ltb-false, lt-ltb, le-ltb, eqb-true}
 use Rattle.model_base.specs.Log.{header_len, Fragment, fragment_bytes, room, trailer, next_place}
 use Rattle.model_base.specs.declared.log.Damage.TheVariants.{BadTrailer}
-use Rattle.model_base.specs.Reading.{Seen, Next, fragment, nothing, damage, seen_within, seen_at, are_zeros, length_field, part_field, next_seen, behind_zeros, Stand}
+use Rattle.model_base.specs.Reading.{Seen, Next, fragment, nothing, damage, seen_within, seen_at, are_zeros, length_field, part_field, next_seen, behind_zeros, HasFragments}
 use Rattle.log_laws.proofs.Next.{cases_bool}
 use Rattle.log_laws.proofs.Placed.{behind}
 use Rattle.log_recovery_laws.specs.Reads.{AreBytes}
 use Rattle.log_recovery_laws.proofs.Bytes.{bytes_take, bytes_drop}
 use Rattle.log_recovery_laws.proofs.SeenFragment.{one_is, fragment_is, fragment_bytes_are}
 
--- where no zeros are due the next fragment begins at once, and else with the next block
+-- where the block has room for a header no zeros are due, and the next fragment begins at once; else it begins with
+-- the next block
 none_due : (number : Option ℕ) (offset : ℕ) → header_len number ≤ room offset → trailer number offset ≡ 0
 none_due number offset many = ap (λ (b : Bool). cond b (room offset) 0) (le-ltb (room offset) (header_len number) many)
 
 some_due : (number : Option ℕ) (offset : ℕ) → room offset < header_len number → trailer number offset ≡ room offset
 some_due number offset few = ap (λ (b : Bool). cond b (room offset) 0) (lt-ltb (room offset) (header_len number) few)
 
--- so none where a fragment is seen
+-- so no zeros are due where a fragment is seen
 none_there : (number : Option ℕ) (file : List ℕ) (offset : ℕ) (f : Fragment) → seen_at number file offset ≡ fragment f → trailer number offset ≡ 0
 none_there number file offset f seen = none_due number offset (fragment_is number (room offset) (take (room offset) (drop offset file)) f seen).room
 
@@ -31,7 +32,8 @@ next_begins number file offset place f e = by_seen (seen_at number file offset) 
     by_seen (damage d) seen h = let wrong : fragment f ≡ damage d = ap (λ (n : Next). n.seen) h in absurd (cc)
     by_seen (fragment g) seen h = ap (λ (n : Next). n.at) h ∙ sym (ap (λ (n : ℕ). offset + n) (none_there number file offset g seen) ∙ add-zero offset)
 
--- Where nothing is seen, zeros end the block, or the bytes end.
+-- Where nothing is seen, zeros end the block, or the block has room for a header (and no bytes are left, which isn't
+-- needed here).
 data IsNothing (number : Option ℕ) (space : ℕ) (bytes : List ℕ) : Type 0 where
   zeros_left : space < header_len number → are_zeros bytes ≡ true → IsNothing number space bytes
   none_left : header_len number ≤ space → IsNothing number space bytes
@@ -63,7 +65,7 @@ zeros_replicate (b ∷ bytes) e =
     and_both true t h = (refl, h)
     and_both false t h = absurd (cc)
 
--- a fragment that is seen stands there
+-- this fragment is in the file at this place, within its block
 record StandsAt (number : Option ℕ) (file : List ℕ) (place : ℕ) (f : Fragment) : Type 0 where
   fits : header_len number + length f.part ≤ room place
   rest : List ℕ
@@ -93,9 +95,9 @@ seen_stands number file place f are e =
     some_header None = omega arith
     some_header (Some n) = omega arith
 
--- The fragment that the reader sees next stands after the zeros that are due.
+-- this fragment is in the file after the zeros that are due at the offset
 pub record ComesNext (number : Option ℕ) (file : List ℕ) (offset : ℕ) (f : Fragment) : Type 0 where
-  pub stand : Stand number file offset (f ∷ [])
+  pub stand : HasFragments number file offset (f ∷ [])
   pub within : behind number offset f ≤ length file
 
 by_stand : (number : Option ℕ) (file : List ℕ) (offset : ℕ) (f : Fragment) → (s : StandsAt number file (next_place number offset) f) → drop offset file ≡ replicate (trailer number offset) 0 ++ (fragment_bytes number f ++ s.rest) → ComesNext number file offset f

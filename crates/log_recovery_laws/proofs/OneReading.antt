@@ -1,16 +1,16 @@
--- Reading on comes to one record or one end, and not to both.
+-- Reading on gives one record or one end, and not both.
 use Rattle.std.proofs.Common.{◌≡◌, ⊎_elim, ℕ, List, [], ◌∷◌, ◌++◌, length, Option, refl, sym, ◌∙◌, ap, subst, append_assoc, append-nil}
 use Rattle.model_base.specs.declared.log.EndReason.{EndReason}
 use Rattle.model_base.specs.declared.log.EndReason.TheVariants as ends
 use Rattle.model_base.specs.Log.{Fragment, AreOneRecord, kinds_of, record_of, next_place}
-use Rattle.model_base.specs.Reading.{Seen, Next, fragment, nothing, damage, next_seen, end_of, AreBegun, Stand, Comes, ReadingEnds, clean, broken, bad_order, unfinished}
+use Rattle.model_base.specs.Reading.{Seen, Next, fragment, nothing, damage, next_seen, end_of, AreBegun, HasFragments, ReadsThenSees, ReadingEnds, clean, broken, bad_order, unfinished}
 use Rattle.log_laws.proofs.Placed.{begins}
 use Rattle.log_laws.proofs.Crash.{not_both}
 use Rattle.log_laws.proofs.ReadSynced.{next_first, both_stand, stand_behind, begun_front, reading_goes_on}
 use Rattle.log_recovery_laws.specs.Reads.{Answer, found, ended, Reads}
 
--- One record at most stands at an offset.
-pub one_record : (number : Option ℕ) (file : List ℕ) (offset : ℕ) (xs ys : List Fragment) → AreOneRecord (kinds_of xs) → AreOneRecord (kinds_of ys) → Stand number file offset xs → Stand number file offset ys → xs ≡ ys
+-- At an offset there is at most one record.
+pub one_record : (number : Option ℕ) (file : List ℕ) (offset : ℕ) (xs ys : List Fragment) → AreOneRecord (kinds_of xs) → AreOneRecord (kinds_of ys) → HasFragments number file offset xs → HasFragments number file offset ys → xs ≡ ys
 one_record number file offset xs ys one_x one_y at_x at_y =
     ⊎_elim (λ h. by_rest h.0 h.1)
     (λ h. absurd (not_both (kinds_of ys) one_y (begins ys h.0 h.1 (subst (λ (l : List Fragment). AreOneRecord (kinds_of l)) h.2 one_x))))
@@ -20,11 +20,11 @@ one_record number file offset xs ys one_x one_y at_x at_y =
     by_rest [] e = sym (e ∙ append-nil xs)
     by_rest (z ∷ rest) e = absurd (not_both (kinds_of xs) one_x (begins xs z rest (subst (λ (l : List Fragment). AreOneRecord (kinds_of l)) e one_y)))
 
--- Where a record stands, reading doesn't end.
-pub no_end : (number : Option ℕ) (file : List ℕ) (offset at : ℕ) (why : EndReason) (fs : List Fragment) → AreOneRecord (kinds_of fs) → Stand number file offset fs → ReadingEnds number file offset at why → ⊥
-no_end number file offset at why fs one stand end = reading_goes_on number file offset fs [] one (subst (Stand number file offset) (sym (append-nil fs)) stand) at why end
+-- Where there is a record, reading doesn't end.
+pub no_end : (number : Option ℕ) (file : List ℕ) (offset at : ℕ) (why : EndReason) (fs : List Fragment) → AreOneRecord (kinds_of fs) → HasFragments number file offset fs → ReadingEnds number file offset at why → ⊥
+no_end number file offset at why fs one stand end = reading_goes_on number file offset fs [] one (subst (HasFragments number file offset) (sym (append-nil fs)) stand) at why end
 
--- where an end shows, and why it is one, from the begun fragments and what is seen after them
+-- Where an end shows, and why it is one, computed from the begun fragments and from what is seen after them.
 place_at_end : Option ℕ → List ℕ → ℕ → List Fragment → ℕ
 place_at_end number file offset [] = length file
 place_at_end number file offset (f ∷ fs) = next_place number offset
@@ -47,7 +47,7 @@ reason_of fs (fragment f) = ends.BadOrder
 record Stops (number : Option ℕ) (file : List ℕ) (offset at : ℕ) (why : EndReason) : Type 0 where
   fs : List Fragment
   next : Next
-  comes : Comes number file offset fs next
+  comes : ReadsThenSees number file offset fs next
   stops : (z : Fragment) → next.seen ≡ fragment z → AreBegun (kinds_of (fs ++ z ∷ [])) → ⊥
   place : at ≡ place_of number file offset fs next.at next.seen
   reason : why ≡ reason_of fs next.seen
@@ -66,10 +66,10 @@ reading_stops number file offset at why (bad_order {at = p} {f = f} fs c not_beg
 }
 reading_stops number file offset at why (unfinished {at = p} f fs c) = record { fs = f ∷ fs; next = record { at = p; seen = nothing }; comes = c; stops = λ z e begun. cc; place = refl; reason = refl }
 
--- no begun fragments go on where reading stops
-not_past : (number : Option ℕ) (file : List ℕ) (offset at : ℕ) (why : EndReason) (s : Stops number file offset at why) (gs rest : List Fragment) (z : Fragment) → AreBegun (kinds_of gs) → Stand number file offset gs → gs ≡ s.fs ++ z ∷ rest → ⊥
+-- no begun record in the file goes on past the fragments after which reading stops
+not_past : (number : Option ℕ) (file : List ℕ) (offset at : ℕ) (why : EndReason) (s : Stops number file offset at why) (gs rest : List Fragment) (z : Fragment) → AreBegun (kinds_of gs) → HasFragments number file offset gs → gs ≡ s.fs ++ z ∷ rest → ⊥
 not_past number file offset at why s gs rest z begun stand e =
-    let there = stand_behind number file offset s.fs (z ∷ rest) (subst (Stand number file offset) e stand) in
+    let there = stand_behind number file offset s.fs (z ∷ rest) (subst (HasFragments number file offset) e stand) in
     s.stops z (ap (λ (n : Next). n.seen) (s.comes.is_next ∙ next_first number file (end_of number offset s.fs) z rest there))
     (begun_front (s.fs ++ z ∷ []) rest (subst (λ (l : List Fragment). AreBegun (kinds_of l)) (e ∙ sym (append_assoc s.fs (z ∷ []) rest)) begun))
 
@@ -83,7 +83,7 @@ same_stop number file offset at other why reason s t =
     by_rest [] e = sym (e ∙ append-nil s.fs)
     by_rest (z ∷ rest) e = absurd (not_past number file offset at why s t.fs rest z t.comes.begun t.comes.stand e)
 
--- There is one end at most.
+-- There is at most one end.
 pub one_end : (number : Option ℕ) (file : List ℕ) (offset at other : ℕ) (why reason : EndReason) → ReadingEnds number file offset at why → ReadingEnds number file offset other reason → (at ≡ other) × (why ≡ reason)
 one_end number file offset at other why reason x y =
     let s = reading_stops number file offset at why x in
@@ -94,7 +94,7 @@ one_end number file offset at other why reason x y =
       s.reason ∙ (ap (λ (n : Next). reason_of s.fs n.seen) next ∙ (ap (λ (fs : List Fragment). reason_of fs t.next.seen) same ∙ sym t.reason)),
     )
 
--- There is one answer at most.
+-- There is at most one answer.
 pub one_answer : (number : Option ℕ) (file : List ℕ) (offset : ℕ) (a b : Answer) → Reads number file offset a → Reads number file offset b → a ≡ b
 one_answer number file offset (found s e bytes) (found t f others) x y =
     let same : x.fragments ≡ y.fragments = one_record number file offset x.fragments y.fragments x.one y.one x.stand y.stand in

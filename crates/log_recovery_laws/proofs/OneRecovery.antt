@@ -1,4 +1,4 @@
--- No file recovers two things.
+-- Recovery of a file has at most one result.
 use Rattle.std.proofs.Common.{◌≡◌, ◌⊎◌, inl, inr, ℕ, ◌<◌, ◌≤◌, List, take, map, Option, refl, sym, ◌∙◌, ap, subst, arith}
 use Rattle.model_base.specs.declared.batch.BatchError.{BatchError}
 use Rattle.model_base.specs.declared.batch.BatchError.TheVariants.{Short, BadVarint, Tag, Count}
@@ -12,14 +12,14 @@ use Rattle.log_laws.proofs.Synced.{spells_one}
 use Rattle.log_recovery_laws.proofs.OneReading.{one_record, one_end, no_end}
 use Rattle.log_recovery_laws.proofs.Kept.{same_logged}
 
--- why recovery ends at bytes that are no batch
+-- the reason for which recovery ends, where a record's bytes are no batch
 reason_of : BatchError → EndReason
 reason_of Short = ends.Short
 reason_of BadVarint = ends.BadVarint
 reason_of (Tag t) = ends.Tag t
 reason_of (Count said found) = ends.Count said found
 
--- a run that may not follow: it begins too low, or passes the greatest sequence
+-- a batch that may not follow: its run begins too low, or, below, passes the greatest sequence
 record TooLow (last : ℕ) (bytes : List ℕ) (why : EndReason) : Type 0 where
   first : ℕ
   records : List Record

@@ -1,22 +1,22 @@
--- Reading on comes to a record or an end.
+-- Reading on gives a record or an end.
 use Rattle.std.proofs.Common.{◌≡◌, ⊎_elim, ℕ, zero, suc, ◌+◌, ◌<◌, ◌≤◌, List, [], ◌∷◌, ◌++◌, length, drop, Option, Some, None, refl, sym, ◌∙◌, ap, arith, append_assoc}
 use Rattle.std.proofs.Math.Seq.{drop-append_seam}
 use Rattle.std.proofs.lemmas.List.{drop-drop}
 use Rattle.model_base.specs.declared.log.EndReason.TheVariants as ends
 use Rattle.model_base.specs.Log.{header_len, Fragment, fragments_text, AreOneRecord, kinds_of, record_of, next_place}
-use Rattle.model_base.specs.Reading.{Seen, Next, fragment, nothing, damage, next_seen, end_of, AreBegun, Stand, Comes, clean, broken, bad_order, unfinished}
+use Rattle.model_base.specs.Reading.{Seen, Next, fragment, nothing, damage, next_seen, end_of, AreBegun, HasFragments, ReadsThenSees, clean, broken, bad_order, unfinished}
 use Rattle.log_laws.proofs.Placed.{behind, end_none, end_more, placed_append}
 use Rattle.log_laws.proofs.Written.{fit_joined}
 use Rattle.log_recovery_laws.specs.Reads.{AreBytes, Answer, found, ended, Reads}
 use Rattle.log_recovery_laws.proofs.NextFragment.{next_stands}
 use Rattle.log_recovery_laws.proofs.Deciding.{are_begun, are_one}
 
--- what stands after fragments
-behind_stand : (number : Option ℕ) (file : List ℕ) (offset : ℕ) (fs : List Fragment) (s : Stand number file offset fs) → s.rest ≡ drop (end_of number offset fs) file
+-- what follows fragments that are in the file is the rest of the file from their end on
+behind_stand : (number : Option ℕ) (file : List ℕ) (offset : ℕ) (fs : List Fragment) (s : HasFragments number file offset fs) → s.rest ≡ drop (end_of number offset fs) file
 behind_stand number file offset fs s =
     sym (drop-append_seam (fragments_text number offset fs) s.rest) ∙ (ap (drop (length (fragments_text number offset fs))) (sym s.there) ∙ drop-drop (length (fragments_text number offset fs)) offset file)
 
-pub stand_more : (number : Option ℕ) (file : List ℕ) (offset : ℕ) (fs gs : List Fragment) → Stand number file offset fs → Stand number file (end_of number offset fs) gs → Stand number file offset (fs ++ gs)
+pub stand_more : (number : Option ℕ) (file : List ℕ) (offset : ℕ) (fs gs : List Fragment) → HasFragments number file offset fs → HasFragments number file (end_of number offset fs) gs → HasFragments number file offset (fs ++ gs)
 stand_more number file offset fs gs s t = record {
   rest = t.rest;
   there = s.there
@@ -32,25 +32,25 @@ end_after number offset (g ∷ fs) f = end_more number offset g (fs ++ f ∷ [])
 abbrev pub Result : Option ℕ → List ℕ → ℕ → Type 0
 Result number file offset = (answer : Answer) × Reads number file offset answer
 
--- a record's first fragments stand there, and the place after them is in the file
+-- these fragments, which begin a record, are in the file from this offset on
 record Begun (number : Option ℕ) (file : List ℕ) (offset : ℕ) (fs : List Fragment) : Type 0 where
   begun : AreBegun (kinds_of fs)
-  stand : Stand number file offset fs
+  stand : HasFragments number file offset fs
 
--- one fragment more
+-- One more fragment.
 module _ (number : Option ℕ) (file : List ℕ) (offset : ℕ) (fs : List Fragment) (are : AreBytes file) (b : Begun number file offset fs) where
   next : Next
   next = next_seen number file (end_of number offset fs)
 
-  comes : (s : Seen) → next.seen ≡ s → Comes number file offset fs (record { at = next.at; seen = s })
+  comes : (s : Seen) → next.seen ≡ s → ReadsThenSees number file offset fs (record { at = next.at; seen = s })
   unfolding next
   comes s e = record { begun = b.begun; stand = b.stand; is_next = ap (λ (x : Seen). record { at = next.at; seen = x }) (sym e) }
 
-  at_end : (gs : List Fragment) → Comes number file offset gs (record { at = next.at; seen = nothing }) → Result number file offset
+  at_end : (gs : List Fragment) → ReadsThenSees number file offset gs (record { at = next.at; seen = nothing }) → Result number file offset
   at_end [] c = (ended (length file) ends.Clean, clean c)
   at_end (g ∷ gs) c = (ended (next_place number offset) ends.Unfinished, unfinished g gs c)
 
-  -- what is done with a record that goes on
+  -- how reading continues once the record has more fragments
   GoOn : Type 0
   GoOn = (gs : List Fragment) → Begun number file offset gs → end_of number offset fs < end_of number offset gs → end_of number offset gs ≤ length file → Result number file offset
 
@@ -94,7 +94,7 @@ pub reads_some : (number : Option ℕ) (file : List ℕ) (offset : ℕ) → AreB
 reads_some number file offset are =
     reads_from number file offset are (suc (length file)) [] (record { begun = tt; stand = record { rest = drop offset file; there = refl; fit = tt } }) (omega (arith, end_none number offset))
 
--- A record takes some bytes.
+-- A record takes at least one byte.
 pub record_long : (number : Option ℕ) (offset : ℕ) (fs : List Fragment) → AreOneRecord (kinds_of fs) → offset < end_of number offset fs
 record_long number offset [] one = absurd one
 record_long number offset (f ∷ fs) one = omega (arith, end_more number offset f fs, some_header number)

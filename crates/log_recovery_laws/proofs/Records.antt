@@ -1,4 +1,4 @@
--- In front of bytes stands a record of a batch, or there is an error.
+-- Bytes begin with a record of a batch, or there is an error.
 use Rattle.std.proofs.Common.{◌≡◌, ◌⊎◌, inl, inr, ⊎_elim, ℕ, ◌+◌, ◌^◌, ◌<◌, ◌≤◌, true, IsTrue, List, [], ◌∷◌, ◌++◌, length, take, drop, flat_map, refl, sym, ◌∙◌, ap, subst, arith, nat_lt, ◌==◌, append_assoc, append-nil, length-take, length-drop}
 use Rattle.std.proofs.lemmas.List.{take-append-drop}
 use Rattle.std.proofs.lemmas.Bool.{ltb-true, ltb-false, eqb-true}
@@ -15,7 +15,7 @@ use Rattle.log_recovery_laws.specs.Reads.{AreBytes}
 use Rattle.log_recovery_laws.proofs.Bytes.{bytes_drop}
 use Rattle.log_recovery_laws.proofs.Varints.{varint_or_error}
 
--- a string after its length stands in front of the bytes
+-- the bytes begin with a string and, before it, its length
 record OneString (bytes : List ℕ) : Type 0 where
   string : List ℕ
   rest : List ℕ
@@ -54,7 +54,7 @@ string_or_error bytes are =
     turned (inl h) = inl (h.1, h.0, h.2)
     turned (inr e) = inr e
 
--- a record that is read stands in front of the bytes
+-- the bytes begin with a record that can be read
 pub record OneRecord (bytes : List ℕ) : Type 0 where
   pub first : Record
   pub rest : List ℕ
@@ -65,7 +65,7 @@ pub record OneRecord (bytes : List ℕ) : Type 0 where
 abbrev pub RecordOrError : List ℕ → Type 0
 RecordOrError bytes = OneRecord bytes ⊎ ((error : BatchError) × NoRecord bytes error)
 
--- a record of one string
+-- with a tag whose record has one string, the bytes begin with such a record, or there is an error
 of_one : (make : List ℕ → Record) (t : ℕ) → ((s : List ℕ) → tag_of (make s) ≡ t) → ((s : List ℕ) → strings_of (make s) ≡ s ∷ []) → IsTrue (is_tag t) → 0 < strings_after t → (bytes : List ℕ) → AreBytes bytes → RecordOrError (t ∷ bytes)
 of_one make t tag strings is some bytes are = ⊎_elim
     (λ (one : OneString bytes). inl (record {
@@ -80,7 +80,7 @@ of_one make t tag strings is some bytes are = ⊎_elim
     (λ e. inr (e.0, inl (is, ([], bytes, some, tt, refl, e.1))))
     (string_or_error bytes are)
 
--- a key and its value
+-- the same for a value, which has a key and a value
 of_two : (bytes : List ℕ) → AreBytes bytes → RecordOrError (1 ∷ bytes)
 of_two bytes are = ⊎_elim
     (λ (key : OneString bytes). ⊎_elim
@@ -97,7 +97,7 @@ of_two bytes are = ⊎_elim
     (λ e. inr (e.0, inl (refl, ([], bytes, omega arith, tt, refl, e.1))))
     (string_or_error bytes are)
 
--- where the tag is this one
+-- from one tag to another that is equal to it
 at_tag : (u t : ℕ) (bytes : List ℕ) → (u == t) ≡ true → RecordOrError (u ∷ bytes) → RecordOrError (t ∷ bytes)
 at_tag u t bytes e at = subst (λ n. RecordOrError (n ∷ bytes)) (eqb-true u t e) at
 

@@ -1,4 +1,4 @@
--- Each file recovers something.
+-- Recovery of any file has a result.
 use Rattle.std.proofs.Common.{⊎_elim, ℕ, zero, suc, ◌+◌, ◌-◌, ◌<◌, ◌≤◌, ◌≢◌, List, [], ◌∷◌, ◌++◌, length, replicate, Option, nat_lt, nat_le, ◌==◌, refl, subst, arith}
 use Rattle.std.proofs.lemmas.Bool.{ltb-true, ltb-false, leb-true, leb-false, eqb-true, eqb-false}
 use Rattle.model_base.specs.declared.batch.BatchError.{BatchError}
@@ -8,19 +8,19 @@ use Rattle.model_base.specs.declared.log.EndReason.TheVariants as ends
 use Rattle.model_base.specs.Batch.{Record, count_of, IsBatch, IsBatchError}
 use Rattle.model_base.specs.History.{max_sequence}
 use Rattle.model_base.specs.Log.{header, Fragment, fragment_bytes, kind_code, trailer, fragments_text, AreOneRecord, kinds_of, record_of, next_place}
-use Rattle.model_base.specs.Reading.{end_of, Stand, ReadingEnds}
+use Rattle.model_base.specs.Reading.{end_of, HasFragments, ReadingEnds, IsRecord}
 use Rattle.model_base.specs.Recovery.{Logged, MayFollow, last_sequence, Keeps, RecordEnds, short, bad_varint, tag, count, order, high, reading, record_read, Recovered, IsRecovered}
 use Rattle.log_batch.proofs.OneAnswer.{one_batch, no_batch_error}
 use Rattle.log_laws.proofs.Next.{cases_bool}
 use Rattle.log_laws.proofs.Placed.{behind}
-use Rattle.log_recovery_laws.specs.Reads.{AreBytes, found, ended, IsRecord}
+use Rattle.log_recovery_laws.specs.Reads.{AreBytes, found, ended}
 use Rattle.log_recovery_laws.proofs.Bytes.{bytes_front, bytes_back, bytes_joined, bytes_drop}
 use Rattle.log_recovery_laws.proofs.Reading.{Result, reads_some, record_long}
 use Rattle.log_recovery_laws.proofs.OneReading.{one_record, no_end}
 use Rattle.log_recovery_laws.proofs.Batches.{batch_or_error}
 use Rattle.log_recovery_laws.proofs.Kept.{MayBeKept, no_more_kept, keeps_none, keeps_more}
 
--- the parts of fragments that stand in bytes are bytes
+-- if the fragments' text is bytes, their joined parts are bytes
 placed_bytes : (number : Option ℕ) (offset : ℕ) (fs : List Fragment) → AreBytes (fragments_text number offset fs) → AreBytes (record_of fs)
 placed_bytes number offset [] are = tt
 placed_bytes number offset (f ∷ fs) are =
@@ -29,7 +29,7 @@ placed_bytes number offset (f ∷ fs) are =
     let later : AreBytes (fragments_text number (behind number offset f) fs) = bytes_back (replicate (trailer number offset) 0 ++ fragment_bytes number f) (fragments_text number (behind number offset f) fs) are in
     bytes_joined f.part (record_of fs) part (placed_bytes number (behind number offset f) fs later)
 
-record_bytes_are : (number : Option ℕ) (file : List ℕ) (offset : ℕ) (fs : List Fragment) → AreBytes file → Stand number file offset fs → AreBytes (record_of fs)
+record_bytes_are : (number : Option ℕ) (file : List ℕ) (offset : ℕ) (fs : List Fragment) → AreBytes file → HasFragments number file offset fs → AreBytes (record_of fs)
 record_bytes_are number file offset fs are s = placed_bytes number offset fs (bytes_front (fragments_text number offset fs) s.rest (subst AreBytes s.there (bytes_drop offset file are)))
 
 abbrev pub Result-of : Option ℕ → List ℕ → Type 0
@@ -47,8 +47,8 @@ module _ (number : Option ℕ) (file : List ℕ) (kept : ℕ) (bs : List Logged)
     ends = reading end;
   }
 
-  -- where a record is read that may not be kept, neither
-  unkept : (why : EndReason) (fs : List Fragment) → AreOneRecord (kinds_of fs) → Stand number file kept fs → RecordEnds last (record_of fs) why → (MayBeKept last (record_of fs) → ⊥) → Result-of number file
+  -- where a record is read that may not be kept, no more is kept either
+  unkept : (why : EndReason) (fs : List Fragment) → AreOneRecord (kinds_of fs) → HasFragments number file kept fs → RecordEnds last (record_of fs) why → (MayBeKept last (record_of fs) → ⊥) → Result-of number file
   unfolding last
   unkept why fs one stands end not_kept = (
     record { batches = bs; kept = kept; at = next_place number kept; why = why },
@@ -65,17 +65,17 @@ module _ (number : Option ℕ) (file : List ℕ) (kept : ℕ) (bs : List Logged)
   reason_of bytes (Tag t) is = (ends.Tag t, tag is)
   reason_of bytes (Count said n) is = (ends.Count said n, count is)
 
-  no_batch : (fs : List Fragment) → AreOneRecord (kinds_of fs) → Stand number file kept fs → (e : BatchError) → IsBatchError (record_of fs) e → Result-of number file
+  no_batch : (fs : List Fragment) → AreOneRecord (kinds_of fs) → HasFragments number file kept fs → (e : BatchError) → IsBatchError (record_of fs) e → Result-of number file
   no_batch fs one stands e is =
       let why = reason_of (record_of fs) e is in
       unkept why.0 fs one stands why.1 (λ m. no_batch_error (record_of fs) m.batch.first m.batch.records e (subst (λ (l : List ℕ). IsBatch l m.batch.first m.batch.records) m.same m.is) is)
 
-  -- what is done with one batch more
+  -- how recovery continues once more is kept
   GoOn : Type 0
   GoOn = (further : ℕ) (cs : List Logged) → Keeps number file further cs → kept < further → Result-of number file
 
-  -- a batch that is read may follow, or not
-  module _ (fs : List Fragment) (one : AreOneRecord (kinds_of fs)) (stands : Stand number file kept fs) (first : ℕ) (records : List Record) (is : IsBatch (record_of fs) first records) where
+  -- the record that is read is a batch; its run may follow, or not
+  module _ (fs : List Fragment) (one : AreOneRecord (kinds_of fs)) (stands : HasFragments number file kept fs) (first : ℕ) (records : List Record) (is : IsBatch (record_of fs) first records) where
     this : Logged
     this = record { first = first; records = records }
 

@@ -1,4 +1,4 @@
--- The fragment that a reader sees in front of some bytes.
+-- What holds of bytes in front of which a reader sees a fragment.
 use Rattle.std.proofs.Common.{◌≡◌, ℕ, ◌+◌, ◌≤◌, Bool, true, false, not, List, [], ◌∷◌, ◌++◌, length, take, drop, bytes_eq, Option, Some, None, refl, sym, ◌∙◌, ap, subst, arith, cond, nat_lt, ◌==◌, length-take, length-drop, append_assoc}
 use Rattle.std.proofs.lemmas.Bool.{ltb-false, eqb-true}
 use Rattle.std.proofs.lemmas.List.{take-append-drop, drop-drop}
@@ -13,7 +13,7 @@ use Rattle.model_base.specs.Reading.{fragment, nothing, damage, seen_within, see
 use Rattle.log_recovery_laws.specs.Reads.{AreBytes}
 use Rattle.log_recovery_laws.proofs.Bytes.{bytes_take, bytes_drop, bytes_at}
 
--- where a choice gives what its first branch doesn't
+-- if a choice doesn't give its first branch, the condition is false and it gives its second one
 pub other : {A : Type 0} (b : Bool) (x y z : A) → cond b x y ≡ z → (x ≡ z → ⊥) → (b ≡ false) × (y ≡ z)
 other true x y z e not = absurd (not e)
 other false x y z e not = (refl, e)
@@ -26,7 +26,7 @@ no_trailer : (b : Bool) (f : Fragment) → cond b nothing (damage BadTrailer) �
 no_trailer true f h = cc
 no_trailer false f h = cc
 
--- what the header covers by its checksum, and what it has after its kind
+-- A header's checksum, and what a header has after its kind: the log's number, if it has one.
 pub sum_of : Option ℕ → ℕ → List ℕ → ℕ
 sum_of None code part = masked (crc32c (code ∷ part))
 sum_of (Some n) code part = masked (crc32c (code ∷ to_le_bytes w32 n ++ part))
@@ -40,7 +40,7 @@ unfolding sum_of tail_of
 header_is None code part = refl
 header_is (Some n) code part = refl
 
--- the code of a kind
+-- a code that is read as this kind is the code of this kind
 code_of : (number : Option ℕ) (code : ℕ) (kind : Kind) → kind_of_code number code ≡ Some kind → code ≡ kind_code number kind
 code_of None code kind e = by_tests (code == 1) (code == 2) (code == 3) (code == 4) refl refl refl refl e
   where
@@ -61,7 +61,7 @@ code_of (Some n) code kind e = by_tests (code == 5) (code == 6) (code == 7) (cod
     by_tests false false false true one two three four h = let same : last ≡ kind = cc in eqb-true code 8 four ∙ ap (kind_code (Some n)) same
     by_tests false false false false one two three four h = absurd (cc)
 
--- what is known of bytes in front of which a fragment is seen
+-- what holds of bytes in front of which this fragment is seen
 pub record IsFragment (number : Option ℕ) (space : ℕ) (bytes : List ℕ) (f : Fragment) : Type 0 where
   pub room : header_len number ≤ space
   pub there : header_len number + length_field bytes ≤ length bytes
@@ -70,7 +70,7 @@ pub record IsFragment (number : Option ℕ) (space : ℕ) (bytes : List ℕ) (f 
   pub sum_is : checksum_field bytes ≡ sum_of number (type_field bytes) (part_field number bytes)
   pub part_is : f.part ≡ part_field number bytes
 
--- what the checked fields say
+-- the kind and the part that these bytes have are the fragment's, and their checksum is right
 record IsChecked (number : Option ℕ) (bytes : List ℕ) (f : Fragment) : Type 0 where
   code : type_field bytes ≡ kind_code number f.kind
   sum_is : checksum_field bytes ≡ sum_of number (type_field bytes) (part_field number bytes)
@@ -88,7 +88,7 @@ checked_is bytes f (Some k) read e =
       part_is = ap (λ (g : Fragment). g.part) (sym same);
     }
 
--- the same with a number, which stands there
+-- the same in a log with a number: the header has that number too, and the bytes are long enough for the part
 record IsNumbered (n : ℕ) (bytes : List ℕ) (f : Fragment) : Type 0 where
   fields : IsChecked (Some n) bytes f
   there : 11 + length_field bytes ≤ length bytes
@@ -148,12 +148,12 @@ fragment_is (Some n) space bytes f e =
       part_is = is.fields.part_is;
     }
 
--- a header has at least its first seven bytes
+-- a header has at least seven bytes
 seven : (number : Option ℕ) → 7 ≤ header_len number
 seven None = omega arith
 seven (Some n) = omega arith
 
--- the bytes of a header, from its fields
+-- the bytes are a header, made of the fields that are read from it, and what follows the header
 header_bytes : (number : Option ℕ) (bytes : List ℕ) (n : ℕ) → AreBytes bytes → 7 ≤ length bytes → length_field bytes ≡ n → drop 7 bytes ≡ tail_of number ++ drop (header_len number) bytes
     → (to_le_bytes w32 (checksum_field bytes) ++ to_le_bytes w16 n ++ type_field bytes ∷ tail_of number) ++ drop (header_len number) bytes ≡ bytes
 header_bytes number bytes n are long len tail =
@@ -169,7 +169,7 @@ header_bytes number bytes n are long len tail =
     ∙ (ap (λ (l : List ℕ). to_le_bytes w32 (checksum_field bytes) ++ (to_le_bytes w16 n ++ type_field bytes ∷ l)) (sym tail)
     ∙ (ap (λ (l : List ℕ). l ++ (to_le_bytes w16 n ++ type_field bytes ∷ drop 7 bytes)) sum ∙ (ap (λ (l : List ℕ). take 4 bytes ++ l) behind ∙ take-append-drop 4 bytes))))
 
--- The bytes are those of the fragment that is seen, and what follows it.
+-- The bytes are those of the fragment that is seen, and then what follows it.
 pub fragment_bytes_are : (number : Option ℕ) (space : ℕ) (bytes : List ℕ) (f : Fragment) → AreBytes bytes → seen_within number space bytes ≡ fragment f
     → bytes ≡ fragment_bytes number f ++ drop (header_len number + length f.part) bytes
 fragment_bytes_are number space bytes f are e =

@@ -1,11 +1,11 @@
--- The records that a file begins with: one more, and which one comes next.
+-- The records that a file begins with: how one more is added, and which one comes next.
 use Rattle.std.proofs.Common.{Option, ◌≡◌, ⊎_elim, ℕ, ◌+◌, ◌<◌, ◌≤◌, List, [], ◌∷◌, ◌++◌, length, take, drop, map, refl, sym, ◌∙◌, ap, subst, arith, length-append, length-take, length-drop, append_assoc, zero-add}
 use Rattle.std.proofs.Math.Seq.{take-append_seam, take-add}
 use Rattle.std.proofs.lemmas.Grind.{flat_map-append}
 use Rattle.std.proofs.lemmas.List.{take-append-drop, append-nil, map-append}
 use Rattle.std.specs.List.{AllByRecursion}
 use Rattle.model_base.specs.Log.{Fragment, fragments_text, FitFrom, AreOneRecord, kinds_of, record_of, all_fragments, SpellsWhole}
-use Rattle.model_base.specs.Reading.{end_of, Stand}
+use Rattle.model_base.specs.Reading.{end_of, HasFragments}
 use Rattle.log_laws.proofs.Placed.{placed_append, fit_front}
 use Rattle.log_laws.proofs.Agree.{Whole}
 use Rattle.log_laws.proofs.Crash.{groups_front}
@@ -20,7 +20,7 @@ pub record Begins (number : Option ℕ) (file : List ℕ) (kept : ℕ) (records 
 pub begins_none : (number : Option ℕ) (file : List ℕ) → Begins number file 0 []
 begins_none number file = record { within = omega arith; spelled = record { groups = []; whole = tt; same = refl; fit = tt; spelled = refl } }
 
--- their fragments
+-- the fragments of these records
 module _ (number : Option ℕ) (file : List ℕ) (kept : ℕ) (records : List (List ℕ)) (b : Begins number file kept records) where
   pub fragments : List Fragment
   fragments = all_fragments b.spelled.groups
@@ -29,17 +29,17 @@ module _ (number : Option ℕ) (file : List ℕ) (kept : ℕ) (records : List (L
   unfolding fragments
   end_is = zero-add (length (fragments_text number 0 fragments)) ∙ sym (ap length b.spelled.spelled) ∙ omega (arith, length-take kept file, b.within)
 
-  pub all_stand : Stand number file 0 fragments
+  pub all_stand : HasFragments number file 0 fragments
   unfolding fragments
   all_stand = record { rest = drop kept file; there = sym (take-append-drop kept file) ∙ ap (λ (l : List ℕ). l ++ drop kept file) b.spelled.spelled; fit = b.spelled.fit }
 
--- One more for which it holds.
+-- What holds for all of a list and for one more element holds for the longer list.
 pub all_more : {A : Type 0} (P : A → Type 0) (xs : List A) (x : A) → AllByRecursion P xs → P x → AllByRecursion P (xs ++ x ∷ [])
 all_more P [] x all one = (one, tt)
 all_more P (y ∷ ys) x all one = (all.0, all_more P ys x all.1 one)
 
--- With a record that stands after them, they are one more.
-pub begins_more : (number : Option ℕ) (file : List ℕ) (kept : ℕ) (records : List (List ℕ)) (fs : List Fragment) → Begins number file kept records → AreOneRecord (kinds_of fs) → Stand number file kept fs
+-- If a record follows these records in the file, the file begins with all of them and it.
+pub begins_more : (number : Option ℕ) (file : List ℕ) (kept : ℕ) (records : List (List ℕ)) (fs : List Fragment) → Begins number file kept records → AreOneRecord (kinds_of fs) → HasFragments number file kept fs
     → Begins number file (end_of number kept fs) (records ++ record_of fs ∷ [])
 unfolding fragments
 begins_more number file kept records fs b one stands =
@@ -62,15 +62,15 @@ begins_more number file kept records fs b one stands =
       };
     }
 
--- A record that stands after them, and the others begin with them and it.
+-- this record follows the records in the file, and the others are the records, then it, then more
 pub record NextRecord (number : Option ℕ) (file : List ℕ) (kept : ℕ) (records others : List (List ℕ)) : Type 0 where
   pub fs : List Fragment
   pub one : AreOneRecord (kinds_of fs)
-  pub stands : Stand number file kept fs
+  pub stands : HasFragments number file kept fs
   pub more : List (List ℕ)
   pub others_are : others ≡ records ++ record_of fs ∷ more
 
-pub stand_front : (number : Option ℕ) (file : List ℕ) (offset : ℕ) (xs ys : List Fragment) → Stand number file offset (xs ++ ys) → Stand number file offset xs
+pub stand_front : (number : Option ℕ) (file : List ℕ) (offset : ℕ) (xs ys : List Fragment) → HasFragments number file offset (xs ++ ys) → HasFragments number file offset xs
 stand_front number file offset xs ys s = record {
   rest = fragments_text number (end_of number offset xs) ys ++ s.rest;
   there = s.there ∙ ap (λ (l : List ℕ). l ++ s.rest) (placed_append number offset xs ys) ∙ append_assoc (fragments_text number offset xs) (fragments_text number (end_of number offset xs) ys) s.rest;
@@ -81,7 +81,7 @@ pub no_shorter : (number : Option ℕ) (xs ys rest : List Fragment) → xs ≡ y
 no_shorter number xs ys rest e =
     omega (arith, ap length (ap (fragments_text number 0) e ∙ placed_append number 0 ys rest), length-append (fragments_text number 0 ys) (fragments_text number (end_of number 0 ys) rest))
 
--- Where others reach further, such a record stands there.
+-- If other records that the file begins with reach further, there is such a next record.
 pub next_record : (number : Option ℕ) (file : List ℕ) (kept further : ℕ) (records others : List (List ℕ)) → Begins number file kept records → Begins number file further others → kept < further → NextRecord number file kept records others
 unfolding fragments
 next_record number file kept further records others a b less =
@@ -97,8 +97,8 @@ next_record number file kept further records others a b less =
     by_more (g ∷ more) e =
         let front : List Fragment = all_fragments a.spelled.groups in
         let flat : all_fragments b.spelled.groups ≡ front ++ (g ++ all_fragments more) = ap all_fragments e ∙ flat_map-append (λ (l : List Fragment). l) a.spelled.groups (g ∷ more) in
-        let there : Stand number file kept (g ++ all_fragments more) =
-        subst (λ n. Stand number file n (g ++ all_fragments more)) (end_is number file kept records a) (stand_behind number file 0 front (g ++ all_fragments more) (subst (Stand number file 0) flat (all_stand number file further others b))) in
+        let there : HasFragments number file kept (g ++ all_fragments more) =
+        subst (λ n. HasFragments number file n (g ++ all_fragments more)) (end_is number file kept records a) (stand_behind number file 0 front (g ++ all_fragments more) (subst (HasFragments number file 0) flat (all_stand number file further others b))) in
         record {
           fs = g;
           one = whole_last a.spelled.groups g more (subst Whole e b.spelled.whole);

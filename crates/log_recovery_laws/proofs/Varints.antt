@@ -1,4 +1,4 @@
--- In front of bytes stands a varint32, or there is an error.
+-- Bytes begin with a varint32, or there is an error.
 use Rattle.std.proofs.Common.{◌≡◌, ◌⊎◌, inl, inr, ℕ, zero, suc, ◌+◌, ◌-◌, ◌*◌, ◌^◌, ◌<◌, ◌≤◌, List, [], ◌∷◌, length, take, slice_get, Some, refl, sym, ap, subst, arith, nat_lt, ◌==◌, pow-suc}
 use Rattle.std.proofs.Math.Seq.{take-length}
 use Rattle.std.proofs.lemmas.Bool.{ltb-true, ltb-false, eqb-true, eqb-false}
@@ -13,7 +13,8 @@ use Rattle.log_recovery_laws.specs.Reads.{AreBytes}
 abbrev pub GoOn : List ℕ → Type 0
 GoOn bytes = AllByRecursion (λ b. 128 ≤ b) bytes
 
--- what stands after bytes each of which says that another follows, where m places more may follow this one
+-- what the bytes are after bytes each of which says that another follows, where a varint may have the next byte and m
+-- more
 data Rest (m : ℕ) (bytes : List ℕ) : Type 0 where
   number : (n used : ℕ) → IsVarint (take used bytes) n → used ≤ length bytes → 0 < n → n < 16 * 128 ^ m → Rest m bytes
   short : length bytes ≤ m → GoOn bytes → Rest m bytes
@@ -24,7 +25,7 @@ some_power : (m : ℕ) → 0 < 128 ^ m
 some_power zero = omega arith
 some_power (suc m) = omega (arith, pow-suc 128 m, some_power m)
 
--- one byte more that says that another follows
+-- the same with one more byte in front, which says that another follows
 rest_more : (m b : ℕ) (bytes : List ℕ) → 128 ≤ b → b < 256 → Rest m bytes → Rest (suc m) (b ∷ bytes)
 rest_more m b bytes large fits (number n used is within some small) =
     number (b - 128 + 128 * n) (suc used) (in_front b n (b - 128 + 128 * n) (take used bytes) large fits some (omega (arith, large)) is) (omega (arith, within)) (omega (arith, some)) (omega (arith, small, fits, pow-suc 128 m))

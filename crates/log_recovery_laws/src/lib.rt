@@ -1,10 +1,11 @@
 //! Laws of reading and of recovery: each is a function of the log's bytes.
 //!
-//! The model says by relations what a log's bytes stand for. A relation might give some bytes no meaning, and then a
-//! promise of all that is recovered of them would say nothing; or it might give them two. These laws say that there is
-//! always one meaning, and only one. That there is one is said of lists of bytes, of numbers below 256.
+//! The model defines what a log's bytes mean by relations. A relation might give some bytes no meaning: then a promise
+//! about all that is recovered from them would say nothing. Or it might give them two meanings. These laws say that
+//! there is always a meaning, and only one. That there is one is promised for lists of bytes, that is of numbers below
+//! 256.
 //!
-//! Each law is the contract of a function that does nothing and is called nowhere: it is here so that the law is
+//! Each law is the contract of a function that does nothing and that nobody calls: it is here so that the law is
 //! proved with the crate.
 #![tactic(auto)]
 
@@ -20,7 +21,7 @@ ghost use Rattle.log_laws.specs.Prefixes.{IsPrefix, RecoversPrefix};
 ghost use Rattle.log_recovery_laws.specs.Images.{MeetsNoOther};
 ghost use Rattle.log_recovery_laws.specs.Reads.{AreBytes, Answer, found, ended, Reads, nothing_until};
 
-/// Reading on from any place of a log comes to a record or to an end: to one of them, and never to both.
+/// Reading a log on from any offset gives one answer, a record or an end, and never both.
 pub fn reading_is_a_function()
     ensures some { (number : Option ℕ) (file : List ℕ) (offset : ℕ) → AreBytes file
         → (answer : Answer) × Reads number file offset answer }
@@ -31,7 +32,7 @@ pub fn reading_is_a_function()
         → Reads number file offset (found start end bytes) → Reads number file offset (ended at why) → ⊥ }
 {}
 
-/// So a reader of records gets one list of them from a file: the records before the first damage.
+/// So a reader of records gets exactly one list of them from a file: the records before the first damage.
 pub fn reading_all_is_a_function()
     ensures some { (number : Option ℕ) (file : List ℕ) → AreBytes file
         → (records : List (List ℕ)) × IsRead number file records }
@@ -39,7 +40,7 @@ pub fn reading_all_is_a_function()
         → IsRead number file one → IsRead number file other → one ≡ other }
 {}
 
-/// Bytes are one batch, of one sequence and one list of records, or there is one reason why they are none.
+/// Bytes are one batch, with one first sequence and one list of records, or there is one reason why they are no batch.
 pub fn a_batch_or_one_error()
     ensures some { (bytes : List ℕ) → AreBytes bytes
         → ((first : ℕ) × (records : List Record) × IsBatch bytes first records)
@@ -52,8 +53,7 @@ pub fn a_batch_or_one_error()
         → IsBatch bytes first records → IsBatchError bytes error → ⊥ }
 {}
 
-/// Any file recovers something, and none recovers two things: its batches, how far they reach, and where and why they
-/// end.
+/// Recovery of any file has a result, and only one: the batches, how far they reach, and where and why recovery ends.
 pub fn recovery_is_a_function()
     ensures some { (number : Option ℕ) (file : List ℕ) → AreBytes file
         → (r : Recovered) × IsRecovered number file r }
@@ -61,9 +61,10 @@ pub fn recovery_is_a_function()
         → IsRecovered number file one → IsRecovered number file other → one ≡ other }
 {}
 
-/// So what a crash leaves recovers a prefix of all that was to be written, and is read as one, unless by chance: there
-/// is something that is recovered and read, beside the promise of `log_laws` that whatever is so is a prefix. Here
-/// `whole` is what the log would be once all of it were written.
+/// So recovery of what a crash leaves gives a prefix of all the records that were to be written, and so does a reader
+/// of records, unless a checksum is right by chance. `log_laws` promises that whatever is recovered or read is such a
+/// prefix; here it is promised as well that something is recovered and read. `whole` is the log as it would be if all
+/// of it had been written.
 pub fn a_crash_leaves_a_prefix()
     ensures recovered { (number : Option ℕ) (image whole : List ℕ) (records : List (List ℕ)) → AreBytes image
         → SpellsWhole number whole records → NoChance number image whole
@@ -73,15 +74,16 @@ pub fn a_crash_leaves_a_prefix()
         → (some : List (List ℕ)) × IsRead number image some × IsPrefix some records (λ n. ⊤) }
 {}
 
-/// A log may be cut behind what it recovers. Until that is safe a crash may leave the file as it was, and what stood
-/// behind, whole fragments among it. What such an image recovers is a front of what the file recovers, where its
-/// recovery meets no fragment but those that the file's recovery meets.
+/// A log may be cut after the records that recovery keeps. Until the cut is synced, a crash may leave the file as it
+/// was before, with what followed the cut, whole fragments among it. What is recovered from such an image is a prefix
+/// of what is recovered from the file, where recovery of the image meets no fragment but those that recovery of the
+/// file meets.
 pub fn an_image_of_the_file()
     ensures recovered { (number : Option ℕ) (image file : List ℕ) (r : Recovered) → IsRecovered number file r
         → MeetsNoOther number image file → RecoversPrefix number (map logged_bytes r.batches) image (λ n. ⊤) }
 {}
 
-/// Examples: the only meaning of a file without bytes, and of one of a single byte.
+/// Examples: the only result of recovery for an empty file, and for a file of a single byte, which is 0.
 pub fn short_files()
     ensures empty { (r : Recovered) → IsRecovered plain_log [] r → r ≡ nothing_until 0 Clean }
     ensures one_byte { (r : Recovered) → IsRecovered plain_log (0 ∷ []) r → r ≡ nothing_until 0 (Broken ShortHeader) }

@@ -11,7 +11,7 @@ use Rattle.log_block.proofs.Counting.{IsCount, is_count, count_behind, all_piece
 use Rattle.log_block.proofs.Cuts.{space_of, is_room, whole_are}
 use Rattle.log_block.proofs.Texts.{text_is}
 
--- a header has as many bytes as it is to have
+-- a header has the length that the format gives it
 header_len_is : (number : Option ℕ) (code : ℕ) (part : List ℕ) → length (log.header number code part) ≡ log.header_len number
 header_len_is None code part = omega arith
 header_len_is (Some n) code part = omega arith
@@ -31,7 +31,7 @@ piece_len number bytes p ordered within =
       within,
     )
 
--- the pieces behind the first, so many
+-- the text length of the n pieces after the first
 later_len : (number : Option ℕ) (bytes : List ℕ) (n start : ℕ) → start ≤ length bytes → IsCount number (length bytes - start) n
     → length (pieces_text number bytes (later_pieces number n start (length bytes))) ≡ (length bytes - start) + n * log.header_len number
 unfolding later_pieces
@@ -41,11 +41,11 @@ later_len number bytes (suc n) start within is =
     let behind = later_len number bytes n p.end (omega (arith, within)) (count_behind number start (length bytes) n within is) in
     omega (arith, within, behind, piece_len number bytes p (omega arith) (omega (arith, within)), length-append (piece_text number bytes p) (pieces_text number bytes (later_pieces number n p.end (length bytes))))
 
--- how much of the record its first fragment has room for, which begins to be looked for at that place of a block
+-- how much of the record its first fragment has room for, if it is looked for from this place of a block on
 abbrev pub first_room : Option ℕ → ℕ → ℕ
 first_room number at = log.part_len number - (at + log.trailer number at) % 32768
 
--- what a record's text has beside the record: zeros, and a header for each fragment
+-- what a record's text has in addition to the record: zeros, and a header for each fragment
 abbrev pub added_len : Option ℕ → ℕ → ℕ → ℕ
 added_len number at len = log.trailer number at + (1 + div_ceil (len - first_room number at) (log.part_len number)) * log.header_len number
 

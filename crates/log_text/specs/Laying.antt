@@ -1,6 +1,6 @@
 -- Bytes laid in a buffer.
 use Rattle.std.specs.Prelude.{ℕ, ◌+◌, List, ◌++◌, length, take, drop}
 
--- the bytes at that place, over what stood there
+-- the buffer with the bytes at this place, over those that were there
 abbrev pub laid_at : ℕ → List ℕ → List ℕ → List ℕ
 laid_at place bytes buffer = take place buffer ++ bytes ++ drop (place + length bytes) buffer

@@ -1,4 +1,4 @@
-//! A record's text, laid in a buffer.
+//! Lays a record's text in a buffer.
 
 ghost use Rattle.std.specs.Prelude.{◌≡◌, ◌+◌, ◌-◌, ◌<◌, ◌≤◌, ◌++◌, length, drop, IfSome, IfNone};
 ghost use Rattle.model_base.specs.Log as log;
@@ -8,12 +8,12 @@ ghost use Rattle.log_text.specs.Laying.{laid_at};
 use crate::lengths::text_len;
 use log_block::{BLOCK_LEN, Fragmenter, Piece, header};
 
-/// The most zeros that end a block: they are too few for a header.
+/// The most zeros that may end a block: one fewer than the longest header has bytes.
 const MAX_ZEROS: usize = 10;
 
-/// Lays the text of a record at the start of a buffer, as it stands at this offset of a log, which has a number or
-/// none. The answer is how many bytes the text has, and the bytes behind it stay as they are. Where the buffer is too
-/// small there is none, and the buffer stays as it is.
+/// Lays the text of a record at the start of a buffer, as it is at this offset of a log, which has a number or none.
+/// It answers how many bytes the text has; the bytes after the text stay as they are. If the buffer is too small, it
+/// answers `None`, and the buffer stays as it is.
 pub fn lay_record(
     number: Option<u32>,
     offset: u64,
@@ -30,14 +30,14 @@ pub fn lay_record(
     }
     let place = (offset % BLOCK_LEN as u64) as usize;
     let mut end = 0;
-    // The pieces so far stand at the buffer's start, and end at `end`. Behind them the buffer is as it was.
+    // The pieces so far are at the buffer's start, and end at `end`. After them the buffer is as it was.
     for piece in Fragmenter::new(number, place, bytes.len()) {
         end = lay_piece(number, bytes, piece, buffer, end);
     }
     Some(end)
 }
 
-/// Lays a piece of a record at this place of the buffer, and answers where it ends there.
+/// Lays a piece of a record at this place of the buffer, and answers where the piece ends there.
 fn lay_piece(number: Option<u32>, bytes: &[u8], piece: Piece, buffer: &mut [u8], at: usize) -> usize
     requires zeros { piece.zeros ≤ MAX_ZEROS }
     requires ordered { piece.start ≤ piece.end }
@@ -54,7 +54,7 @@ fn lay_piece(number: Option<u32>, bytes: &[u8], piece: Piece, buffer: &mut [u8],
     lay(part, buffer, part_at)
 }
 
-/// Lays bytes at this place of the buffer, and answers where they end there.
+/// Lays bytes at this place of the buffer, and answers where the bytes end there.
 fn lay(bytes: &[u8], buffer: &mut [u8], at: usize) -> usize
     requires { at + length bytes.now ≤ length buffer.old }
     ensures laid { buffer.new ≡ laid_at at bytes.now buffer.old }

@@ -5,8 +5,9 @@ ghost use Rattle.model_base.specs.Log as log;
 
 use log_block::{BLOCK_LEN, header_len, max_part_len};
 
-/// How many bytes the text of a record of `len` bytes has at this offset of a log, which has a number or none. Where
-/// they are more than a `u64` can say, it is the greatest `u64`. However long the record is, the answer comes at once.
+/// How many bytes the text of a record of `len` bytes has at this offset of a log, which has a number or none. If that
+/// is above the greatest `u64`, the answer is the greatest `u64`. The time that this takes doesn't depend on the
+/// record's length.
 pub fn text_len(number: Option<u32>, offset: u64, len: usize) -> u64
     ensures { (bytes : List ℕ) → length bytes ≡ len
         → result ≡ min (length (log.record_text number offset bytes)) (2 ^ 64 - 1) }
@@ -18,8 +19,8 @@ pub fn text_len(number: Option<u32>, offset: u64, len: usize) -> u64
     (len as u64).saturating_add((zeros + fragments * header_len(number)) as u64)
 }
 
-/// How many zeros stand at this place of a block before a fragment. They end the block where it has no room for a
-/// header.
+/// How many zeros come before a fragment that is written at this place of a block. They end the block if it has
+/// no room for a header.
 fn zeros_at(number: Option<u32>, place: usize) -> usize
     requires { place < BLOCK_LEN }
     ensures { result ≡ log.trailer number place }

@@ -9,11 +9,11 @@ use Rattle.base_devices.specs.declared.disk.Disk.{Ghosts}
 use Rattle.model_base.specs.Log.{Beginning, new_log}
 use Rattle.log_writer.specs.declared.writer.LogWriter.{LogWriter}
 use Rattle.log_writer.specs.Words.{disk_of}
-use Rattle.log_writer.specs.Opening.{MayBeLeftOf, SpellsInFront, LeavesOf, LeavesAsBefore, HasOpened, HasReused, HasResumed, StandsBehind, HasBegun, Keeps}
+use Rattle.log_writer.specs.Opening.{MayBeLeftOf, SpellsInFront, LeavesOf, LeavesAsBefore, HasOpened, HasReused, HasResumed, HasKeptBytes, HasBegun, Keeps}
 use Rattle.log_writer.proofs.Putting.{told_more, told_so, told_is, leaves_so, leaves_more, leaves_time, more_cause}
 use Rattle.log_writer.proofs.Surviving.{Laws}
 
--- An image of a disk with as much safe, and of no greater reach, may be left of the first one.
+-- An image of a disk that has as much safe as the first one, and no greater reach, may be left of the first one.
 lowered : (x d : Disk) (sure : ℕ) (image : List ℕ) → min x.synced sure ≤ d.synced → take (min x.synced sure) d.content ≡ take (min x.synced sure) x.content → d.reach ≤ x.reach → IsImage d image → IsImage (record x { synced = min x.synced sure }) image
 lowered x d sure image safe same reach is = record {
   synced = sym (take-take (min x.synced sure) d.synced image safe) ∙ (ap (take (min x.synced sure)) is.synced ∙ (take-take (min x.synced sure) d.synced d.content safe ∙ same));
@@ -28,7 +28,7 @@ pub left_of_self : (told : Option Disk) (sure : ℕ) (image : List ℕ) → IfSo
 left_of_self None sure image is = tt
 left_of_self (Some x) sure image is = lowered_self x sure image is
 
--- A rewind
+-- What a crash at any moment of a rewind leaves.
 
 rewound_image : {T E : Type 0} (x y : Disk) (r : Result T E) (image : List ℕ) → Rewound x y r → IsImage y image → IsImage x image
 rewound_image x y (Ok t) image e is = let same = subst (λ (d : Disk). IsImage d image) e is in record { synced = same.synced; no_shorter = same.no_shorter; no_longer = same.no_longer }
@@ -46,7 +46,7 @@ pub rewind_leaves : {D T E : Type 0} (ghosts : Ghosts D) (a b : D) (r : Result T
 rewind_leaves ghosts a b r only told time =
     leaves_time ghosts a b (λ image. IfSome (ghosts.told a) (λ d. IsImage d image)) only time (λ image is. is) (λ image is. told_image (ghosts.told a) (ghosts.told b) r image told is)
 
--- where nothing is done
+-- where nothing is done, a crash leaves what it might have left before
 pub leaves_before : {D : Type 0} (ghosts : Ghosts D) (a : D) → ((image : List ℕ) → ghosts.from a ≤ ghosts.moment a → ghosts.since a (ghosts.moment a) image → IfSome (ghosts.told a) (λ d. IsImage d image)) → LeavesAsBefore ghosts a a
 leaves_before ghosts a only = record { later = omega arith; forgets = omega arith; each = λ image known s. only image known s; before = λ t image known le s. inl s }
 
@@ -54,7 +54,7 @@ pub leaves_before_of : {D : Type 0} (ghosts : Ghosts D) (a b : D) (sure : ℕ) �
 leaves_before_of ghosts a b sure leaves =
     leaves_so ghosts.moment ghosts.from ghosts.since (λ image. IfSome (ghosts.told a) (λ d. IsImage d image)) (MayBeLeftOf (ghosts.told a) sure) a b leaves (left_of_self (ghosts.told a) sure)
 
--- A cut
+-- What a crash at any moment of a cut leaves.
 
 cut_image : {T E : Type 0} (x y : Disk) (kept : ℕ) (r : Result T E) (image : List ℕ) → Cut x y kept r → IsImage y image → IsImage (record x { synced = min x.synced kept }) image
 cut_image x y kept r image cut is = by_result r cut
@@ -92,7 +92,7 @@ cut_fails {T = T} ghosts a b kept e (Err f) only failed told time cause = record
   crash = cut_leaves {T = T} ghosts a b kept (Err e) only told time;
 }
 
--- and a sync
+-- And with a sync after the cut.
 
 all_kept : (x : Disk) (kept : ℕ) → kept ≤ length x.content → made_safe (cut_at kept x) ≡ all_safe (take kept x.content)
 all_kept x kept within =
@@ -157,13 +157,13 @@ cut_synced {S = S} {E = E} ghosts a b c kept s r laws within cut counted time ca
       (λ image left. left);
 }
 
--- The three beginnings
+-- The three ways in which a log begins.
 
-empty_behind : (a now : Option Disk) → IfSome a IsDisk → IfSome a (λ d. d.content ≡ []) → now ≡ a → Told a now (StandsBehind new_log)
-empty_behind None now is empty same = subst (λ (t : Option Disk). Told None t (StandsBehind new_log)) (sym same) tt
+empty_behind : (a now : Option Disk) → IfSome a IsDisk → IfSome a (λ d. d.content ≡ []) → now ≡ a → Told a now (HasKeptBytes new_log)
+empty_behind None now is empty same = subst (λ (t : Option Disk). Told None t (HasKeptBytes new_log)) (sym same) tt
 empty_behind (Some x) now is empty same =
     let place : x.place ≡ 0 = omega (arith, is.placed, ap length empty) in
-    subst (λ (t : Option Disk). Told (Some x) t (StandsBehind new_log)) (sym same) (record {
+    subst (λ (t : Option Disk). Told (Some x) t (HasKeptBytes new_log)) (sym same) (record {
       place = place;
       kept = ap (λ (n : ℕ). take n x.content) place;
       safe = omega arith;
@@ -173,13 +173,13 @@ empty_behind (Some x) now is empty same =
 left_same : (a now : Option Disk) (sure : ℕ) (image : List ℕ) → now ≡ a → IfSome now (λ d. IsImage d image) → MayBeLeftOf a sure image
 left_same a now sure image same is = left_of_self a sure image (subst (λ (t : Option Disk). IfSome t (λ d. IsImage d image)) same is)
 
-rewound_behind : (n : ℕ) (x y : Disk) → y ≡ rewound x → StandsBehind (record { number = Some n; kept = [] }) x y
+rewound_behind : (n : ℕ) (x y : Disk) → y ≡ rewound x → HasKeptBytes (record { number = Some n; kept = [] }) x y
 rewound_behind n x y e =
     let place : y.place ≡ 0 = ap (λ (d : Disk). d.place) e in
     let reach : y.reach ≡ x.reach = ap (λ (d : Disk). d.reach) e in
     record { place = place; kept = ap (λ (k : ℕ). take k y.content) place; safe = omega arith; reach = omega (arith, reach) }
 
-kept_behind : (b : Beginning) (x y : Disk) → IsDisk x → take (length b.kept) x.content ≡ b.kept → y ≡ all_safe (take (length b.kept) x.content) → StandsBehind b x y
+kept_behind : (b : Beginning) (x y : Disk) → IsDisk x → take (length b.kept) x.content ≡ b.kept → y ≡ all_safe (take (length b.kept) x.content) → HasKeptBytes b x y
 kept_behind b x y is kept e =
     let len : length (take (length b.kept) x.content) ≡ length b.kept = ap length kept in
     let content : y.content ≡ b.kept = ap (λ (d : Disk). d.content) e ∙ kept in
@@ -193,7 +193,7 @@ kept_behind b x y is kept e =
       reach = omega (arith, reach, length-take (length b.kept) x.content, is.within);
     }
 
-told_kept_behind : (b : Beginning) (a now : Option Disk) → IfSome a IsDisk → IfSome a (λ d. take (length b.kept) d.content ≡ b.kept) → Told a now (λ x y. y ≡ all_safe (take (length b.kept) x.content)) → Told a now (StandsBehind b)
+told_kept_behind : (b : Beginning) (a now : Option Disk) → IfSome a IsDisk → IfSome a (λ d. take (length b.kept) d.content ≡ b.kept) → Told a now (λ x y. y ≡ all_safe (take (length b.kept) x.content)) → Told a now (HasKeptBytes b)
 told_kept_behind b None None is kept told = tt
 told_kept_behind b None (Some y) is kept told = told
 told_kept_behind b (Some x) None is kept told = told
@@ -231,7 +231,7 @@ module _ {D : Type 0} {ghosts : Ghosts D} (laws : Laws ghosts) where
     crash = resumed.crash;
   }
 
--- Where the place is then
+-- Where the disk's place is once the log has begun.
 
 pub empty_place : (told : Option Disk) → IfSome told IsDisk → IfSome told (λ d. length d.content ≡ 0) → IfSome told (λ d. d.place ≡ 0)
 empty_place None is empty = tt
@@ -254,7 +254,7 @@ kept_place (Some x) None kept within same = tt
 kept_place (Some x) (Some y) kept within same =
     let place : y.place ≡ length (take kept x.content) = ap (λ (d : Disk). d.place) same in omega (arith, place, length-take kept x.content, within)
 
--- where nothing is done
+-- where nothing is done, a disk tells the same
 pub unchanged : (R : Disk → Disk → Type 0) (told : Option Disk) → ((x : Disk) → R x x) → Told told told R
 unchanged R None r = tt
 unchanged R (Some x) r = r x

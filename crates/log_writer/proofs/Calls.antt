@@ -1,4 +1,4 @@
--- What calls wrote, with one call more.
+-- What calls wrote, when there is one call more.
 use Rattle.std.proofs.Common.{◌≡◌, ℕ, zero, suc, ◌-◌, ◌≤◌, true, List, [], ◌∷◌, ◌++◌, length, drop, Option, Some, None, refl, sym, ◌∙◌, ap, subst, arith}
 use Rattle.std.proofs.Math.ListN.{drop_of_length-le}
 use Rattle.std.proofs.lemmas.List.{drop-drop}
@@ -6,7 +6,7 @@ use Rattle.std.specs.List.{AllByRecursion}
 use Rattle.log_writer.specs.Adding.{GroupCall, record_of_call}
 use Rattle.log_writer.specs.Written.{if_worked, first_fault, written_by, begun_by, HaveSynced}
 
--- Where no call failed, the next one is answered for all.
+-- Where no call failed, the first fault of all is that of the next call, if it has one.
 pub first_more : (calls : List GroupCall) (c : GroupCall) → first_fault calls ≡ None → first_fault (calls ++ c ∷ []) ≡ c.failed
 first_more [] c none = alone c.failed
   where
@@ -41,7 +41,7 @@ begun_more (d ∷ calls) c none = with_failed d.failed none (begun_more calls c)
     with_failed None none more = ap (λ (l : List (List ℕ)). record_of_call d ∷ l) (more none)
     with_failed (Some n) none more = absurd (cc)
 
--- and all that was begun is written
+-- and all that the calls began is written
 pub begun_written : (calls : List GroupCall) → first_fault calls ≡ None → begun_by calls ≡ written_by calls
 begun_written [] none = refl
 begun_written (d ∷ calls) none = with_failed d.failed none (begun_written calls)
@@ -58,13 +58,13 @@ written_len (d ∷ calls) none = with_failed d.failed none (written_len calls)
     with_failed None none more = ap (λ (n : ℕ). suc n) (more none)
     with_failed (Some n) none more = absurd (cc)
 
--- Where one failed, later ones change nothing.
+-- Where a call failed, later ones change nothing.
 pub record AreSame (calls more : List GroupCall) : Type 0 where
   pub fault : first_fault (calls ++ more) ≡ first_fault calls
   pub written : written_by (calls ++ more) ≡ written_by calls
   pub begun : begun_by (calls ++ more) ≡ begun_by calls
 
--- the same of calls behind one that had this answer
+-- the same for calls that follow one with this answer
 record AreSameBehind (d : GroupCall) (calls more : List GroupCall) (f : Option ℕ) : Type 0 where
   fault : if_worked f (first_fault (calls ++ more)) f ≡ if_worked f (first_fault calls) f
   written : if_worked f (record_of_call d ∷ written_by (calls ++ more)) [] ≡ if_worked f (record_of_call d ∷ written_by calls) []
@@ -82,7 +82,7 @@ none_more (d ∷ calls) more n failed = let same = with_failed d.failed failed (
     }
     with_failed (Some k) e later = record { fault = refl; written = refl; begun = refl }
 
--- What is written is a front of what is begun, whatever calls come later.
+-- What is written is a prefix of what is begun, whatever calls come later.
 pub begun_front : (calls more : List GroupCall) → (rest : List (List ℕ)) × (begun_by (calls ++ more) ≡ written_by calls ++ rest)
 begun_front [] more = (begun_by more, refl)
 begun_front (d ∷ calls) more = with_failed d.failed (begun_front calls more)
@@ -92,7 +92,7 @@ begun_front (d ∷ calls) more = with_failed d.failed (begun_front calls more)
     with_failed None front = (front.0, ap (λ (l : List (List ℕ)). record_of_call d ∷ l) front.1)
     with_failed (Some n) front = (record_of_call d ∷ [], refl)
 
--- which of them have synced
+-- Among which calls those that have synced are, when there is one call more.
 all_more : {A : Type 0} (P : A → Type 0) (xs : List A) (x : A) → AllByRecursion P xs → P x → AllByRecursion P (xs ++ x ∷ [])
 all_more P [] x all one = (one, tt)
 all_more P (y ∷ ys) x all one = (all.0, all_more P ys x all.1 one)
@@ -110,7 +110,7 @@ all_drop P zero xs all = all
 all_drop P (suc n) [] all = all
 all_drop P (suc n) (x ∷ xs) all = all_drop P n xs all.1
 
--- what is among the first ones is among more of them
+-- calls that are among the first m are among the first n, if that is more
 pub synced_later : (calls : List GroupCall) (m n : ℕ) → HaveSynced calls m → m ≤ n → HaveSynced calls n
 synced_later calls m n have le =
     let P : GroupCall → Type 0 = λ x. x.failed ≡ None → x.sync ≡ true → ⊥ in

@@ -9,7 +9,7 @@ use Rattle.model_base.specs.Log.{record_text, Beginning, text_after}
 use Rattle.log_writer.specs.declared.writer.LogWriter.{LogWriter}
 use Rattle.log_writer.specs.Crashes.{KeepsSafe, reach_with, MayBeLeft, HoldsUpTo}
 use Rattle.log_writer.specs.Words.{disk_of, number_of, len_of, fault_of}
-use Rattle.log_writer.specs.Opening.{MayBeLeftOf, StandsBehind, HasBegun}
+use Rattle.log_writer.specs.Opening.{MayBeLeftOf, HasKeptBytes, HasBegun}
 use Rattle.log_writer.specs.Adding.{GroupCall, record_of_call, Adds}
 use Rattle.log_writer.specs.Written.{Wrote, no_call, one_more, IsWritten, if_worked, first_fault, written_by, begun_by, HaveSynced, HoldsCalls, HoldsSynced, Stands}
 use Rattle.log_writer.proofs.Calls.{written_more, begun_more, begun_written, written_len, none_more}
@@ -18,9 +18,9 @@ use Rattle.log_writer.proofs.Putting.{leaves_so, leaves_more}
 use Rattle.log_writer.proofs.Standing.{len_after, stands_first, stands_written}
 use Rattle.log_writer.proofs.Surviving.{Laws, safe_begins}
 
--- Of the calls so far
+-- What an image holds of the calls so far.
 
--- a call that worked and was to sync is among those that have synced
+-- a call that worked and was to sync is among the first n, if all such calls are
 is_among : (calls : List GroupCall) (n k : ℕ) (c : GroupCall) → HaveSynced calls n → slice_get calls k ≡ Some c → c.failed ≡ None → c.sync ≡ true → k < n
 is_among [] n k c have at worked asked = absurd (cc)
 is_among (d ∷ calls) zero zero c have at worked asked = absurd (subst (λ (x : GroupCall). x.failed ≡ None → x.sync ≡ true → ⊥) (same_Some d c at) have.0 worked asked)
@@ -28,7 +28,7 @@ is_among (d ∷ calls) zero (suc k) c have at worked asked = let before = is_amo
 is_among (d ∷ calls) (suc n) zero c have at worked asked = omega arith
 is_among (d ∷ calls) (suc n) (suc k) c have at worked asked = let before = is_among calls n k c have at worked asked in omega (arith, before)
 
--- so an image that keeps what was safe begins with all up to its record
+-- so an image that keeps what was safe begins with the text up to the end of its record
 pub holds_synced : (b : Beginning) (reached : ℕ) (d : Disk) (calls : List GroupCall) (safe : ℕ) (image : List ℕ) → HoldsCalls b d calls safe → KeepsSafe d image → HoldsSynced b reached calls image
 holds_synced b reached d calls safe image holds keeps = λ k c at worked asked longer past.
     let among : k < safe = is_among calls safe k c holds.have_synced at worked asked in
@@ -40,20 +40,20 @@ holds_synced b reached d calls safe image holds keeps = λ k c at worked asked l
     let there : take m image ≡ text_after b (take (k + 1) all) = sym (take-take m n image (after_shorter b all (k + 1))) ∙ (ap (take m) begins.1 ∙ after_front b all (k + 1)) in
     subst (λ (l : List (List ℕ)). take (length (text_after b l)) image ≡ text_after b l) same there
 
--- With one call more
+-- What an image holds with one call more.
 
--- a call of them is one of those before, or the last
+-- a call among these is one of those before, or the last one
 in_more : (calls : List GroupCall) (c : GroupCall) (k : ℕ) (e : GroupCall) → slice_get (calls ++ c ∷ []) k ≡ Some e → (slice_get calls k ≡ Some e) ⊎ ((k ≡ length calls) × (c ≡ e))
 in_more [] c zero e at = inr (refl, same_Some c e at)
 in_more [] c (suc k) e at = absurd (cc)
 in_more (d ∷ calls) c zero e at = inl at
 in_more (d ∷ calls) c (suc k) e at = ⊎_elim (λ before. inl before) (λ last. inr (ap (λ (n : ℕ). suc n) last.0, last.1)) (in_more calls c k e at)
 
--- how far an image may come: as far as writes could come at first, or to the end of what was begun
+-- how far an image may reach: as far as writes could come at first, or to the end of what was begun
 abbrev farthest : Beginning → ℕ → List GroupCall → ℕ
 farthest b reached calls = max reached (length (text_after b (begun_by calls)))
 
--- An image that comes no further holds no less.
+-- With one call more, an image that reaches no further holds no less.
 held_more : (b : Beginning) (reached : ℕ) (calls : List GroupCall) (c : GroupCall) (image : List ℕ) → first_fault calls ≡ None → length image ≤ farthest b reached (calls ++ c ∷ []) → HoldsSynced b reached calls image
     → HoldsSynced b reached (calls ++ c ∷ []) image
 held_more b reached calls c image none within holds = λ k e at worked asked longer past. ⊎_elim
@@ -71,24 +71,24 @@ held_more b reached calls c image none within holds = λ k e at worked asked lon
     absurd (omega (arith, within, longer, past, len_after b (take (k + 1) (written_by (calls ++ c ∷ []))) (begun_by (calls ++ c ∷ [])) all)))
     (in_more calls c k e at)
 
--- After a fault there is nothing more to hold.
+-- After a fault, one call more gives nothing more to hold.
 held_dead : (b : Beginning) (reached : ℕ) (calls : List GroupCall) (c : GroupCall) (count : ℕ) (image : List ℕ) → first_fault calls ≡ Some count → c.failed ≡ Some count → HoldsSynced b reached calls image → HoldsSynced b reached (calls ++ c ∷ []) image
 held_dead b reached calls c count image dead failed holds = λ k e at worked asked. ⊎_elim
     (λ before. subst (λ (l : List (List ℕ)). HoldsUpTo reached (text_after b (take (k + 1) l)) image) (sym (none_more calls (c ∷ []) count dead).written) (holds k e before worked asked))
     (λ last. let wrong : ◌≡◌ {A = Option ℕ} None (Some count) = sym worked ∙ (ap (λ (x : GroupCall). x.failed) (sym last.1) ∙ failed) in absurd (cc))
     (in_more calls c k e at)
 
--- what is said of an image, to be carried from call to call
+-- what is known of an image, and is carried on from call to call
 record IsHeld (b : Beginning) (reached : ℕ) (calls : List GroupCall) (image : List ℕ) : Type 0 where
   holds : HoldsSynced b reached calls image
   within : length image ≤ farthest b reached calls
 
--- A call that puts its record behind those of calls that worked
+-- A call that puts its record after those of calls that all worked.
 module _ (b : Beginning) (reached : ℕ) (calls : List GroupCall) (c : GroupCall) (len : ℕ) (number : Option ℕ) (none : first_fault calls ≡ None) (same : number ≡ b.number) (len_is : len ≡ length (text_after b (written_by calls))) where
   abbrev bytes : List ℕ
   bytes = record_text number len (record_of_call c)
 
-  -- where it ends
+  -- where its record ends
   begun_len : length (text_after b (begun_by (calls ++ c ∷ []))) ≡ length (text_after b (begun_by calls)) + length bytes
   begun_len =
       let front : List ℕ = text_after b (written_by calls) in
@@ -102,7 +102,7 @@ module _ (b : Beginning) (reached : ℕ) (calls : List GroupCall) (c : GroupCall
       let within : length image ≤ farthest b reached (calls ++ c ∷ []) = omega (arith, held.within, begun_len) in
       record { holds = held_more b reached calls c image none within held.holds; within = within }
 
-  -- where the place is before it
+  -- where the disk's place is before the call
   place_is : (x : Disk) (safe : ℕ) → HoldsCalls b x calls safe → x.place ≡ length (text_after b (begun_by calls))
   place_is x safe holds = holds.place none ∙ sym (len_after b (begun_by calls) (written_by calls) (begun_written calls none))
 
@@ -118,7 +118,7 @@ module _ (b : Beginning) (reached : ℕ) (calls : List GroupCall) (c : GroupCall
   reach_in (Some x) None holds reach told = absurd told
   reach_in (Some x) (Some y) holds reach told = omega (arith, told, reach, place_is x holds.0 holds.1, begun_len)
 
--- From the opening on
+-- From the opening of the log on.
 
 module _ {D : Type 0} {ghosts : Ghosts D} (laws : Laws ghosts) (b : Beginning) (disk : D) (first : Disk) (first_is : ghosts.told disk ≡ Some first) where
   record Held (calls : List GroupCall) (log : LogWriter D ghosts) : Type 0 where
@@ -130,10 +130,10 @@ module _ {D : Type 0} {ghosts : Ghosts D} (laws : Laws ghosts) (b : Beginning) (
       let of_first : IsImage (record first { synced = min first.synced (length b.kept) }) image = subst (λ (told : Option Disk). MayBeLeftOf told (length b.kept) image) e is in
       record { holds = λ k c at worked asked. absurd (cc); within = omega (arith, of_first.no_longer) }
 
-  reach_first : (a now : Option Disk) → a ≡ Some first → Told a now (StandsBehind b) → IsSomeAnd now (λ d. d.reach ≤ farthest b first.reach [])
-  reach_first a now e told = by_now now (subst (λ (t : Option Disk). Told t now (StandsBehind b)) e told)
+  reach_first : (a now : Option Disk) → a ≡ Some first → Told a now (HasKeptBytes b) → IsSomeAnd now (λ d. d.reach ≤ farthest b first.reach [])
+  reach_first a now e told = by_now now (subst (λ (t : Option Disk). Told t now (HasKeptBytes b)) e told)
     where
-      by_now : (now : Option Disk) → Told (Some first) now (StandsBehind b) → IsSomeAnd now (λ d. d.reach ≤ farthest b first.reach [])
+      by_now : (now : Option Disk) → Told (Some first) now (HasKeptBytes b) → IsSomeAnd now (λ d. d.reach ≤ farthest b first.reach [])
       by_now None behind = absurd behind
       by_now (Some y) behind = omega (arith, behind.reach)
 
@@ -180,7 +180,7 @@ module _ {D : Type 0} {ghosts : Ghosts D} (laws : Laws ghosts) (b : Beginning) (
   held_all calls log is =
       leaves_so ghosts.moment ghosts.from ghosts.since (IsHeld b first.reach calls) (HoldsSynced b first.reach calls) disk (disk_of log) (held_calls is.begun calls log is.has_begun is.wrote).leaves (λ image held. held.holds)
 
--- where the disk tells
+-- the same, if the disk tells its content
 pub held_so : {D : Type 0} {ghosts : Ghosts D} (laws : Laws ghosts) (b : Beginning) (disk : D) (calls : List GroupCall) (log : LogWriter D ghosts) → IsWritten b disk calls log
     → IfSome (ghosts.told disk) (λ d. LeavesOnly ghosts.moment ghosts.from ghosts.since disk (disk_of log) (HoldsSynced b d.reach calls))
 held_so {ghosts = ghosts} laws b disk calls log is = by_told (ghosts.told disk) refl

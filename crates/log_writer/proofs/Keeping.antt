@@ -1,4 +1,4 @@
--- What a crash leaves, from the bytes to the records.
+-- What a crash leaves: first of bytes, and from that of records.
 use Rattle.std.proofs.Common.{◌≡◌, ℕ, ◌+◌, ◌≤◌, Bool, true, false, IsTrue, List, [], ◌∷◌, ◌++◌, length, take, drop, map, Option, Some, None, IfSome, sym, ◌∙◌, ap, subst, arith, append_assoc, length-append, length-take, add-zero}
 use Rattle.std.proofs.Math.Seq.{take-take, take-append_seam}
 use Rattle.std.proofs.lemmas.List.{take-append-le, take-append-drop, take_all, append-nil}
@@ -17,7 +17,7 @@ use Rattle.log_writer.specs.Crashes.{safe_len, KeepsSafe, KeepsWhatWasSafe, MayB
 use Rattle.log_writer.specs.Puts.{IsSynced, StandPut}
 use Rattle.log_writer.proofs.Putting.{leaves_so, leaves_now, put_there, keeps_image}
 
--- the text of records and more of them
+-- the text of records, and of more records after them
 pub text_append : (number : Option ℕ) (offset : ℕ) (xs ys : List (List ℕ)) → text_from number offset (xs ++ ys) ≡ text_from number offset xs ++ text_from number (offset + length (text_from number offset xs)) ys
 text_append number offset [] ys = ap (λ (n : ℕ). text_from number n ys) (sym (add-zero offset))
 text_append number offset (x ∷ xs) ys =
@@ -27,7 +27,7 @@ text_append number offset (x ∷ xs) ys =
     ∙ (sym (append_assoc one later (text_from number (offset + length one + length later) ys))
     ∙ ap (λ (n : ℕ). (one ++ later) ++ text_from number n ys) (omega (arith, length-append one later)))
 
--- the same behind what a log keeps
+-- the same after what a log keeps
 pub after_append : (b : Beginning) (xs ys : List (List ℕ)) → text_after b (xs ++ ys) ≡ text_after b xs ++ text_from b.number (length (text_after b xs)) ys
 after_append b xs ys =
     let first : List ℕ = text_from b.number (length b.kept) xs in
@@ -41,7 +41,7 @@ after_more b records r = after_append b records (r ∷ []) ∙ ap (λ (l : List 
 pub after_none : (b : Beginning) → text_after b [] ≡ b.kept
 after_none b = append-nil b.kept
 
--- the text of the first records stands in front
+-- the text of all records begins with the text of the first ones
 pub after_front : (b : Beginning) (records : List (List ℕ)) (n : ℕ) → take (length (text_after b (take n records))) (text_after b records) ≡ text_after b (take n records)
 after_front b records n =
     let front : List ℕ = text_after b (take n records) in
@@ -51,7 +51,7 @@ after_front b records n =
 pub after_shorter : (b : Beginning) (records : List (List ℕ)) (n : ℕ) → length (text_after b (take n records)) ≤ length (text_after b records)
 after_shorter b records n = omega (arith, ap length (after_front b records n), length-take (length (text_after b (take n records))) (text_after b records))
 
--- An image with the text of the first records in front keeps them.
+-- An image that begins with the text of the first records keeps them.
 pub keeps_prefix : (b : Beginning) (records : List (List ℕ)) (safe : ℕ) (image : List ℕ) → safe ≤ length records → BeginsWith (text_after b (take safe records)) image → KeepsPrefix b records safe image
 keeps_prefix b records safe image some begins =
     let whole : (kept : List (List ℕ)) → SpellsWhole b.number b.kept kept → SpellsWhole b.number (text_after b records) (kept ++ records) = λ kept spells. spells_on b.number b.kept kept records spells in
@@ -77,11 +77,11 @@ keeps_prefix b records safe image some begins =
           };
     }
 
--- what an image has of the bytes that were safe
+-- an image that keeps the safe bytes has each prefix of them
 pub front_kept : (d : Disk) (image : List ℕ) (n : ℕ) → n ≤ safe_len d → KeepsSafe d image → take n image ≡ take n d.content
 front_kept d image n le keeps = sym (take-take n (safe_len d) image le) ∙ (ap (take n) keeps.front ∙ take-take n (safe_len d) d.content le)
 
--- so does one that has the bytes which were safe, whatever was to be written behind
+-- an image that has the bytes which were safe keeps the records which were safe, whatever was to be written after them
 pub holds_keeps : (b : Beginning) (d : Disk) (records more : List (List ℕ)) (safe : ℕ) (image : List ℕ) → HoldsRecords b d records safe → KeepsSafe d image → KeepsPrefix b (records ++ more) safe image
 holds_keeps b d records more safe image holds keeps =
     let t : List ℕ = text_after b (take safe records) in
@@ -103,7 +103,8 @@ pub all_safe_of : (sync : Bool) (before after : Disk) → IsTrue sync → IsSync
 all_safe_of true before after asked synced = synced
 all_safe_of false before after asked synced = absurd (cc)
 
--- An image that begins with the whole text keeps each record: so it is once a record was put behind others and synced.
+-- An image that begins with the whole text keeps each record. So does every image once a record was put after others
+-- and synced.
 pub durable : (told now : Option Disk) (number : Option ℕ) (len : ℕ) (r : List ℕ) (sync : Bool) → IfSome told IsDisk → IsTrue sync → IfSome told (λ d. d.place ≡ len) → Told told now (λ x y. StandPut x y (record_text number len r) sync)
     → IfSome told (λ d. (b : Beginning) (records : List (List ℕ)) → b.number ≡ number → take d.place d.content ≡ text_after b records
     → IfSome now (λ e. (image : List ℕ) → IsImage e image → KeepsPrefix b (records ++ r ∷ []) (length records + 1) image))
@@ -125,14 +126,14 @@ durable (Some x) (Some y) number len r sync is asked len_is put = λ b records s
       ap (λ (n : ℕ). take n image) len_of_text ∙ (ap (take (x.place + length bytes)) image_is ∙ there),
     ))
 
--- the log's length is where the place is, still
+-- once bytes are put, the log's length is still the disk's place
 pub len_more : (told now : Option Disk) (len end : ℕ) (bytes : List ℕ) (sync : Bool) → IfSome told (λ d. d.place ≡ len) → Told told now (λ x y. StandPut x y bytes sync) → end ≡ len + length bytes → IfSome now (λ d. d.place ≡ end)
 len_more None None len end bytes sync len_is put end_is = tt
 len_more None (Some y) len end bytes sync len_is put end_is = absurd put
 len_more (Some x) None len end bytes sync len_is put end_is = tt
 len_more (Some x) (Some y) len end bytes sync len_is put end_is = omega (arith, len_is, put.place, end_is)
 
--- what a crash leaves of a call, from what is safe
+-- what a crash may leave during a call has what was safe
 pub left_safe : (told : Option Disk) (more : ℕ) (image : List ℕ) → MayBeLeft told more image → KeepsWhatWasSafe told image
 left_safe None more image left = tt
 left_safe (Some d) more image left = left.safe
@@ -146,7 +147,7 @@ crash_keeps moment from since None old new more leaves = tt
 crash_keeps moment from since (Some d) old new more leaves = λ b records safe holds.
     leaves_so moment from since (KeepsSafe d) (KeepsPrefix b (records ++ more) safe) old new leaves (λ image keeps. holds_keeps b d records more safe image holds keeps)
 
--- where nothing is done a crash leaves what it left
+-- where nothing is done, what a crash may leave has what was safe
 pub image_keeps : (told : Option Disk) (image : List ℕ) → IfSome told (λ d. IsImage d image) → KeepsWhatWasSafe told image
 image_keeps None image is = tt
 image_keeps (Some d) image is = keeps_image d image is

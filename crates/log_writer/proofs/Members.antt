@@ -9,14 +9,15 @@ use Rattle.model_base.specs.Batch.{Record, record_bytes, is_counted, count_of, b
 use Rattle.log_batch.specs.Contents.{Contents}
 use Rattle.log_writer.specs.Groups.{batches_of, counts_of, bodies_of, record_of_group}
 
--- the first member's bytes, and those of the members behind it
+-- the first member's bytes, and those of the members after it
 pub next_member : (members : List Contents) (first : Contents) → 1 ≤ length members → first ≡ get_or members 0 first → body first.records ++ bodies_of (take (length members - 1) (drop 1 members)) ≡ bodies_of members
 next_member [] first some e = absurd (omega arith)
 next_member (m ∷ ms) first some e =
     ap (λ (l : List Contents). body first.records ++ bodies_of l) (take_all (length (m ∷ ms) - 1) ms (omega arith))
     ∙ ap (λ (x : Contents). body x.records ++ bodies_of ms) e
 
--- bytes of which the front is moved
+-- if more is to be moved than the front, then after the whole front was moved the remaining bytes are moved from the
+-- rest
 pub moved_front : (block front rest all : List ℕ) (left : ℕ) → length front < left → block ++ take left (front ++ rest) ≡ all → (block ++ front) ++ take (left - length front) rest ≡ all
 moved_front block front rest all left more e =
     let split : left ≡ length front + (left - length front) = omega (arith, more) in
@@ -28,7 +29,7 @@ left_behind front rest all left more e =
     let split : left ≡ length front + (left - length front) = omega (arith, more) in
     sym (ap (λ (n : ℕ). drop n (front ++ rest)) split ∙ drop-append-add front rest (left - length front)) ∙ e
 
--- the members' additions one after another, and what they come to
+-- the additions of all members, one after another; and, below, their bytes and how many of them count
 joined : List Contents → List Record
 joined members = flat_map (λ records. records) (batches_of members)
 
@@ -44,13 +45,13 @@ counts_joined (m ∷ ms) =
     sum_by-append (λ r. cond (is_counted r) 1 0) m.records (joined ms)
     ∙ (ap (λ (n : ℕ). count_of m.records + n) (counts_joined ms) ∙ sym (sum_by-cons (λ (x : Contents). count_of x.records) m ms))
 
--- the group's record is a header of the sum of the counts, and the members' bytes
+-- the group's record is a header with the sum of the counts, and the members' bytes
 pub record_is : (first : ℕ) (members : List Contents) → header first (counts_of members) ++ bodies_of members ≡ record_of_group first members
 unfolding joined
 record_is first members =
     ap (λ (n : ℕ). header first n ++ bodies_of members) (sym (counts_joined members)) ∙ ap (λ (l : List ℕ). header first (count_of (joined members)) ++ l) (sym (bodies_joined members))
 
--- the record of one batch that has the sequence is the batch
+-- the record of a group of one batch that has this sequence already is the batch
 pub only_member : (members : List Contents) (m : Contents) (first : ℕ) → length members ≡ 1 → m ≡ get_or members 0 m → m.sequence ≡ first → batch m.sequence m.records ≡ record_of_group first members
 only_member [] m first one e s = absurd (omega (arith, one))
 only_member (x ∷ []) m first one e s =

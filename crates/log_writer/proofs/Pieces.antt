@@ -10,11 +10,11 @@ use Rattle.base_devices.specs.declared.failed.Failed.{Failed}
 use Rattle.model_base.specs.Log as log
 use Rattle.log_laws.proofs.Seen.{header_small}
 use Rattle.log_block.specs.declared.pieces.Piece.{Piece}
-use Rattle.log_block.specs.Pieces.{piece_text, pieces_text, CoverRecord, StandsInBlock, StandInBlocks, end_in_block}
+use Rattle.log_block.specs.Pieces.{piece_text, pieces_text, CoverRecord, LiesInBlock, LieInBlocks, end_in_block}
 use Rattle.log_writer.specs.Puts.{Puts}
 use Rattle.log_writer.proofs.Putting.{puts_none, puts_more, puts_cut}
 
--- what is put of a piece, whose part is the front of what is left of the record
+-- what is put for a piece, whose part is the first bytes of what is left of the record
 abbrev pub put_of : Option ℕ → List ℕ → Piece → List ℕ
 put_of number rest p = let part = take (p.end - p.start) rest in replicate p.zeros 0 ++ (log.header number p.kind part ++ part)
 
@@ -28,12 +28,12 @@ pub record IsSoFar {D : Type 0} (ghosts : Ghosts D) (number : Option ℕ) (bytes
   pub rest_is : rest ≡ drop from bytes
   pub cut : CoverRecord (length bytes) from pieces
   pub at : ℕ
-  pub laid : StandInBlocks number at pieces
+  pub laid : LieInBlocks number at pieces
 
--- None of it is put yet.
+-- Nothing of it is put yet.
 pub starts_so : {D : Type 0} (ghosts : Ghosts D) (number : Option ℕ) (bytes : List ℕ) (offset at : ℕ) (start : D) (pieces : List Piece)
     → ((image : List ℕ) → ghosts.from start ≤ ghosts.moment start → ghosts.since start (ghosts.moment start) image → IfSome (ghosts.told start) (λ d. IsImage d image))
-    → pieces_text number bytes pieces ≡ log.record_text number offset bytes → CoverRecord (length bytes) 0 pieces → StandInBlocks number at pieces → IsSoFar ghosts number bytes offset start start bytes pieces offset
+    → pieces_text number bytes pieces ≡ log.record_text number offset bytes → CoverRecord (length bytes) 0 pieces → LieInBlocks number at pieces → IsSoFar ghosts number bytes offset start start bytes pieces offset
 starts_so ghosts number bytes offset at start pieces only text cut laid = record {
   done = [];
   text = text;
@@ -46,7 +46,7 @@ starts_so ghosts number bytes offset at start pieces only text cut laid = record
   laid = laid;
 }
 
--- a piece may be put
+-- what must hold of a piece that is put
 pub record MayBePut (number : Option ℕ) (rest : List ℕ) (p : Piece) : Type 0 where
   pub zeros : p.zeros ≤ 10
   pub ordered : p.start ≤ p.end
@@ -60,7 +60,7 @@ few_zeros number at = by_room (nat_lt (log.room at) (log.header_len number)) ref
     by_room true e = let less : log.room at < log.header_len number = ltb-true (log.room at) (log.header_len number) e in omega (arith, less, header_small number)
     by_room false e = omega arith
 
--- a header has as many bytes as it is to have
+-- a header has as many bytes as `header_len` says
 pub header_len_is : (number : Option ℕ) (code : ℕ) (part : List ℕ) → length (log.header number code part) ≡ log.header_len number
 header_len_is None code part = omega arith
 header_len_is (Some n) code part = omega arith
@@ -71,7 +71,7 @@ module _ {D : Type 0} (ghosts : Ghosts D) (number : Option ℕ) (bytes : List �
 
   pub may_be_put : MayBePut number rest p
   may_be_put =
-      let stands : StandsInBlock number so_far.at p = (so_far.laid).0 in
+      let stands : LiesInBlock number so_far.at p = (so_far.laid).0 in
       record {
         zeros = omega (arith, stands.zeros, few_zeros number so_far.at);
         ordered = stands.ordered;
@@ -79,7 +79,7 @@ module _ {D : Type 0} (ghosts : Ghosts D) (number : Option ℕ) (bytes : List �
         there = omega (arith, ap length so_far.rest_is, length-drop so_far.from bytes, from_is, (so_far.cut).2);
       }
 
-  -- it is the record's
+  -- what is put for the next piece is what the record has there
   same_text : put_of number rest p ≡ piece_text number bytes p
   same_text = ap (λ (l : List ℕ). put_of number l p) (so_far.rest_is ∙ ap (λ (n : ℕ). drop n bytes) (sym from_is))
 
@@ -98,7 +98,7 @@ module _ {D : Type 0} (ghosts : Ghosts D) (number : Option ℕ) (bytes : List �
       puts_same : {T : Type 0} {t : T} → Puts {E = Failed} ghosts start then (so_far.done ++ put_of number rest p) false (Ok t) → Puts {T = Unit {0}} {E = Failed} ghosts start then (so_far.done ++ put_of number rest p) false (Ok tt)
       puts_same q = record { are_put = q.are_put; counted = q.counted; cause = record { later = (q.cause).later; failed = tt; worked = (q.cause).worked }; reached = q.reached; crash = q.crash }
 
-  -- one more is put
+  -- one more piece is put
   pub goes_on : {T : Type 0} (then : D) (rest' : List ℕ) (end' : ℕ) (t : T) → IfSome (ghosts.told start) IsDisk → Puts {E = Failed} ghosts now then (put_of number rest p) false (Ok t)
       → rest' ≡ drop (p.end - p.start) rest → end' ≡ end + (p.zeros + (log.header_len number + (p.end - p.start))) → IsSoFar ghosts number bytes offset start then rest' ps end'
   goes_on then rest' end' t is more rest_is end_is = record {
@@ -113,20 +113,20 @@ module _ {D : Type 0} (ghosts : Ghosts D) (number : Option ℕ) (bytes : List �
     laid = (so_far.laid).2;
   }
 
-  -- or it fails, and the record is put no further
+  -- or that fails, and then putting the whole record has failed
   pub breaks_off : {T U : Type 0} (then : D) (e : Failed) (r : Result U Failed) → IfSome (ghosts.told start) IsDisk → IsErr r → Puts {T = T} ghosts now then (put_of number rest p) false (Err e)
       → Puts ghosts start then (log.record_text number offset bytes) false r
   breaks_off {T = T} then e r is failed more =
       subst (λ (l : List ℕ). Puts ghosts start then l false r) text_more
       (puts_cut ghosts start then (so_far.done ++ put_of number rest p) (pieces_text number bytes ps) false e r failed (puts_more {T = T} ghosts start now then so_far.done (put_of number rest p) false tt (Err e) is so_far.put more))
 
--- so may the first of those that are to come
+-- so the first of the pieces to come may be put
 pub may_put_next : {D : Type 0} (ghosts : Ghosts D) (number : Option ℕ) (bytes : List ℕ) (offset : ℕ) (start now : D) (rest : List ℕ) (end : ℕ) (pieces : List Piece) (p : Piece) (ps : List Piece)
     → pieces ≡ p ∷ ps → IsSoFar ghosts number bytes offset start now rest pieces end → MayBePut number rest p
 may_put_next ghosts number bytes offset start now rest end pieces p ps first so_far =
     may_be_put ghosts number bytes offset start now rest p ps end (subst (λ (l : List Piece). IsSoFar ghosts number bytes offset start now rest l end) first so_far)
 
--- all is put
+-- all pieces are put
 pub puts_whole : {D U : Type 0} (ghosts : Ghosts D) (number : Option ℕ) (bytes : List ℕ) (offset : ℕ) (start now : D) (rest : List ℕ) (end : ℕ) (u : U) → IsSoFar ghosts number bytes offset start now rest [] end → Puts {E = Failed} ghosts start now (log.record_text number offset bytes) false (Ok u)
 puts_whole ghosts number bytes offset start now rest end u so_far =
     let whole : so_far.done ≡ log.record_text number offset bytes = sym (append-nil so_far.done) ∙ so_far.text in

@@ -1,4 +1,4 @@
--- Bytes put at the place of a disk, and more behind them.
+-- Bytes put at the place of a disk, and more bytes after them.
 use Rattle.std.proofs.Common.{◌≡◌, inl, inr, ⊎_elim, ℕ, ◌+◌, ◌≤◌, Bool, true, false, List, [], ◌++◌, length, take, drop, min, Option, Some, None, Result, Ok, Err, MatchResult, IfSome, refl, sym, ◌∙◌, ap, subst, arith, append_assoc, length-append, length-take, length-drop, add-zero}
 use Rattle.std.proofs.Math.Seq.{take-take, take-append_seam, drop-append-add}
 use Rattle.std.proofs.lemmas.List.{take-append-le, take-append-drop, drop-drop, append-nil}
@@ -9,7 +9,7 @@ use Rattle.base_devices.specs.declared.disk.Disk.{Ghosts}
 use Rattle.log_writer.specs.Crashes.{safe_len, KeepsSafe, KeepsWhatWasSafe, reach_with, IsLeft, MayBeLeft}
 use Rattle.log_writer.specs.Puts.{IsSynced, StandPut, StaysInFront, ArePut, Puts}
 
--- what is told of three disks, from what is told of two and two
+-- what relates the first of three disks to the last, from what relates the first to the second, and that to the last
 pub told_more : {R S Q : Disk → Disk → Type 0} (a b c : Option Disk) → Told a b R → Told b c S → ((x y z : Disk) → R x y → S y z → Q x z) → Told a c Q
 told_more None None None r s f = tt
 told_more None None (Some z) r s f = absurd s
@@ -24,7 +24,7 @@ told_so None (Some y) r f = absurd r
 told_so (Some x) None r f = absurd r
 told_so (Some x) (Some y) r f = f x y r
 
--- what a crash leaves of two steps
+-- what a crash leaves during two steps
 pub leaves_more : {D : Type 0} (moment from : D → ℕ) (since : D → ℕ → List ℕ → Type 0) (P Q : List ℕ → Type 0) (a b c : D) → LeavesOnly moment from since a b P → LeavesOnly moment from since b c Q
     → ((image : List ℕ) → Q image → P image) → LeavesOnly moment from since a c P
 leaves_more moment from since P Q a b c first second to =
@@ -36,7 +36,7 @@ leaves_more moment from since P Q a b c first second to =
       before = λ t image told le s. ⊎_elim (λ earlier. first.before t image (omega (arith, told, second.forgets)) le earlier) (λ q. inr (to image q)) (second.before t image told (omega (arith, le, first.later)) s);
     }
 
--- what a crash leaves, in other words
+-- what a crash leaves, with a weaker claim about its images
 pub leaves_so : {D : Type 0} (moment from : D → ℕ) (since : D → ℕ → List ℕ → Type 0) (P Q : List ℕ → Type 0) (a b : D) → LeavesOnly moment from since a b P → ((image : List ℕ) → P image → Q image) → LeavesOnly moment from since a b Q
 leaves_so moment from since P Q a b leaves to = record {
   later = leaves.later;
@@ -45,12 +45,12 @@ leaves_so moment from since P Q a b leaves to = record {
   before = λ t image told le s. ⊎_elim (λ earlier. inl earlier) (λ p. inr (to image p)) (leaves.before t image told le s);
 }
 
--- where nothing is done a crash leaves what it leaves now
+-- where nothing is done, a crash leaves an image of the disk as it is now
 pub leaves_now : {D : Type 0} (ghosts : Ghosts D) (a : D) → ((image : List ℕ) → ghosts.from a ≤ ghosts.moment a → ghosts.since a (ghosts.moment a) image → IfSome (ghosts.told a) (λ d. IsImage d image))
     → LeavesOnly ghosts.moment ghosts.from ghosts.since a a (λ image. IfSome (ghosts.told a) (λ d. IsImage d image))
 leaves_now ghosts a only = record { later = omega arith; forgets = omega arith; each = λ image known s. only image known s; before = λ t image known le s. inl s }
 
--- what a crash leaves of one call, by what the disk tells of its time
+-- what a crash leaves during one call, from what the disk tells of its time
 pub leaves_time : {D : Type 0} (ghosts : Ghosts D) (a b : D) (P : List ℕ → Type 0) → ((image : List ℕ) → ghosts.from a ≤ ghosts.moment a → ghosts.since a (ghosts.moment a) image → IfSome (ghosts.told a) (λ d. IsImage d image))
     → TimePasses ghosts.told ghosts.moment ghosts.from ghosts.since a b → ((image : List ℕ) → IfSome (ghosts.told a) (λ d. IsImage d image) → P image)
     → ((image : List ℕ) → IfSome (ghosts.told b) (λ d. IsImage d image) → P image) → LeavesOnly ghosts.moment ghosts.from ghosts.since a b P
@@ -61,9 +61,9 @@ leaves_time ghosts a b P only time of_old of_new = record {
   before = λ t image known le s. ⊎_elim (λ past. inl past) (λ is. inr (of_new image is)) (time.nothing_else t image known le s);
 }
 
--- Bytes put over bytes
+-- Bytes put over other bytes.
 
--- what stands in front of the place stays
+-- what is in front of the place stays
 pub put_front : (n place : ℕ) (bytes content : List ℕ) → n ≤ place → place ≤ length content → take n (put_at place bytes content) ≡ take n content
 put_front n place bytes content le within =
     let front : List ℕ = take place content in
@@ -74,14 +74,14 @@ pub put_len : (place : ℕ) (bytes content : List ℕ) → place ≤ length cont
 put_len place bytes content within =
     omega (arith, length-append (take place content ++ bytes) (drop (place + length bytes) content), length-append (take place content) bytes, length-take place content, within)
 
--- with the bytes
+-- up to their end the content is what was in front of the place, and then the bytes
 pub put_there : (place : ℕ) (bytes content : List ℕ) → place ≤ length content → take (place + length bytes) (put_at place bytes content) ≡ take place content ++ bytes
 put_there place bytes content within =
     let front : List ℕ = take place content in
     let len : place + length bytes ≡ length (front ++ bytes) = omega (arith, length-append front bytes, length-take place content, within) in
     ap (λ (n : ℕ). take n (put_at place bytes content)) len ∙ take-append_seam (front ++ bytes) (drop (place + length bytes) content)
 
--- and behind them what stood there
+-- and after them is what was there
 pub put_behind : (place more : ℕ) (bytes content : List ℕ) → place ≤ length content → drop (place + length bytes + more) (put_at place bytes content) ≡ drop (place + length bytes + more) content
 put_behind place more bytes content within =
     let front : List ℕ = take place content in
@@ -101,7 +101,7 @@ put_nothing : (place : ℕ) (content : List ℕ) → put_at place [] content ≡
 put_nothing place content =
     ap (λ (l : List ℕ). l ++ drop (place + 0) content) (append-nil (take place content)) ∙ (ap (λ (n : ℕ). take place content ++ drop n content) (add-zero place) ∙ take-append-drop place content)
 
--- What stands in front of the place stays, and what is safe of it.
+-- Where two steps leave what is in front of the place, and as much of it safe, both together do.
 pub stays_more : (x y z : Disk) → StaysInFront x y → StaysInFront y z → StaysInFront x z
 stays_more x y z first second =
     let le : x.place ≤ y.place = first.place in
@@ -125,7 +125,7 @@ put_stays x y bytes sync is put = record {
     by_sync true all = omega (arith, all.synced, ap length put.content, put_len x.place bytes x.content is.placed)
     by_sync false safe = safe
 
--- so an image that keeps what is safe keeps what was
+-- so an image that keeps what is safe after a step keeps what was safe before it
 pub keeps_before : (x y : Disk) (image : List ℕ) → StaysInFront x y → KeepsSafe y image → KeepsSafe x image
 keeps_before x y image stays keeps =
     let n : ℕ = safe_len x in
@@ -145,9 +145,9 @@ keeps_image d image is =
       no_shorter = omega (arith, is.no_shorter);
     }
 
--- One put behind another
+-- Bytes put after other bytes.
 
--- the reach grows by what is put behind
+-- the reach grows by the bytes that are put after the others
 reach_more : (x y : Disk) (xs ys : List ℕ) → y.place ≡ x.place + length xs → y.reach ≤ reach_with x (length xs) → reach_with y (length ys) ≤ reach_with x (length (xs ++ ys))
 reach_more x y xs ys place reached = omega (arith, reached, place, length-append xs ys)
 
@@ -160,7 +160,7 @@ left_more (Some x) (Some y) xs ys image is told reached left = record {
   no_longer = omega (arith, left.no_longer, reach_more x y xs ys told.place reached);
 }
 
--- what may be left of some bytes may be left of more
+-- what may be left while some bytes are put may be left while more are put
 left_of_more : (a : Option Disk) (few many : ℕ) (image : List ℕ) → few ≤ many → MayBeLeft a few image → MayBeLeft a many image
 left_of_more None few many image le left = tt
 left_of_more (Some x) few many image le left = record { safe = left.safe; no_longer = omega (arith, left.no_longer, le) }
@@ -171,7 +171,7 @@ both_told None (Some y) r s f = absurd r
 both_told (Some x) None r s f = absurd r
 both_told (Some x) (Some y) r s f = f x y r s
 
--- what is told of two disks, of which the first is a disk
+-- what relates two disks, where it is known of the first that it is a disk
 pub told_is : {R Q : Disk → Disk → Type 0} (a b : Option Disk) → IfSome a IsDisk → Told a b R → ((x y : Disk) → IsDisk x → R x y → Q x y) → Told a b Q
 told_is None None is r f = tt
 told_is None (Some y) is r f = absurd r
@@ -184,7 +184,7 @@ reached_more a b c xs ys put first second =
     let R : Disk → Disk → Type 0 = λ x y. (y.place ≡ x.place + length xs) × (y.reach ≤ reach_with x (length xs)) in
     told_more {R = R} a b c (both_told {Q = R} a b put first (λ x y p r. (p.place, r))) second (λ x y z p r. let more = reach_more x y xs ys p.0 p.1 in omega (arith, r, more))
 
--- one put behind another
+-- two pieces put one after the other are put as one
 more_put : {T E : Type 0} (x y z : Disk) (xs ys : List ℕ) (sync : Bool) (r : Result T E) → IsDisk x → StandPut x y xs false → ArePut y z ys sync r → ArePut x z (xs ++ ys) sync r
 more_put x y z xs ys sync (Ok t) is first second = record {
   content = second.content
@@ -224,7 +224,7 @@ puts_more ghosts a b c xs ys sync s r is first second = record {
       (λ image left. left_more (ghosts.told a) (ghosts.told b) xs ys image is first.are_put first.reached left);
 }
 
--- where putting them failed, more of them weren't put either
+-- where putting some bytes failed, putting these and more has failed too
 pub puts_cut : {D T U E F : Type 0} (ghosts : Ghosts D) (a b : D) (xs ys : List ℕ) (sync : Bool) (e : E) (r : Result U F) → IsErr r → Puts {T = T} ghosts a b xs false (Err e) → Puts ghosts a b (xs ++ ys) sync r
 puts_cut ghosts a b xs ys sync e (Ok t) failed first = absurd (cc)
 puts_cut ghosts a b xs ys sync e (Err f) failed first = record {
@@ -244,7 +244,7 @@ left_now : (told : Option Disk) (image : List ℕ) → IfSome told (λ d. IsImag
 left_now None image is = tt
 left_now (Some d) image is = record { safe = keeps_image d image is; no_longer = omega (arith, is.no_longer) }
 
--- where nothing is done nothing is put
+-- where nothing is done, no bytes are put
 pub puts_none : {D E : Type 0} (ghosts : Ghosts D) (a : D) → ((image : List ℕ) → ghosts.from a ≤ ghosts.moment a → ghosts.since a (ghosts.moment a) image → IfSome (ghosts.told a) (λ d. IsImage d image))
     → Puts {T = Unit {0}} {E = E} ghosts a a [] false (Ok tt)
 puts_none {E = E} ghosts a only = record {
@@ -255,7 +255,7 @@ puts_none {E = E} ghosts a only = record {
   crash = leaves_so ghosts.moment ghosts.from ghosts.since (λ image. IfSome (ghosts.told a) (λ d. IsImage d image)) (MayBeLeft (ghosts.told a) 0) a a (leaves_now ghosts a only) (left_now (ghosts.told a));
 }
 
--- another answer of the same kind
+-- another answer of the same kind says the same
 pub puts_ok : {D T U E F : Type 0} (ghosts : Ghosts D) (a b : D) (xs : List ℕ) (sync : Bool) (t : T) (u : U) → Puts {E = E} ghosts a b xs sync (Ok t) → Puts {E = F} ghosts a b xs sync (Ok u)
 puts_ok ghosts a b xs sync t u first = record { are_put = first.are_put; counted = first.counted; cause = record { later = (first.cause).later; failed = tt; worked = (first.cause).worked }; reached = first.reached; crash = first.crash }
 
@@ -263,14 +263,14 @@ pub puts_err : {D T U E F : Type 0} (ghosts : Ghosts D) (a b : D) (xs : List ℕ
 puts_err ghosts a b xs some all e (Ok t) failed first = absurd (cc)
 puts_err ghosts a b xs some all e (Err f) failed first = record { are_put = first.are_put; counted = first.counted; cause = record { later = (first.cause).later; failed = (first.cause).failed; worked = tt }; reached = first.reached; crash = first.crash }
 
--- a sync behind them
+-- a sync after the bytes
 pub puts_synced : {D S T E : Type 0} (ghosts : Ghosts D) (a b c : D) (xs : List ℕ) (sync : Bool) (s : S) (r : Result T E) → IfSome (ghosts.told a) IsDisk
     → Puts {T = S} {E = E} ghosts a b xs false (Ok s) → Puts ghosts b c [] sync r → Puts ghosts a c xs sync r
 puts_synced ghosts a b c xs sync s r is first second = subst (λ (l : List ℕ). Puts ghosts a c l sync r) (append-nil xs) (puts_more ghosts a b c xs [] sync s r is first second)
 
--- One call of the disk
+-- One call of the disk.
 
--- an append puts its piece
+-- an append puts its bytes
 appended_put : {T E : Type 0} (x y : Disk) (bytes : List ℕ) (r : Result T E) → Appended x y bytes r → ArePut x y bytes false r
 appended_put x y bytes (Ok t) app = record { content = app.content; place = app.place; synced = omega (arith, app.synced) }
 appended_put x y bytes (Err e) app = let same : y.place ≡ x.place = app.place in record { content = app.content; place = omega (arith, same); synced = omega (arith, app.synced) }

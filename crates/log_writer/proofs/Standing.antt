@@ -1,4 +1,4 @@
--- How a log stands after calls of `add_group`.
+-- What a log is after calls of `add_group`.
 use Rattle.std.proofs.Common.{◌≡◌, ℕ, ◌+◌, ◌≤◌, Bool, true, false, List, [], ◌∷◌, ◌++◌, length, take, drop, Option, Some, None, IfSome, MatchOption, refl, sym, ◌∙◌, ap, subst, arith, append_assoc, length-append, length-take, add-zero}
 use Rattle.std.proofs.Math.Seq.{drop-append-add, take-append_seam}
 use Rattle.std.proofs.lemmas.List.{take-append-le, take-append-drop, take_all, append-nil, drop-drop}
@@ -10,7 +10,7 @@ use Rattle.log_writer.specs.declared.writer.LogWriter.{LogWriter}
 use Rattle.log_writer.specs.Crashes.{safe_len}
 use Rattle.log_writer.specs.Puts.{IsSynced, StandPut, StaysInFront, ArePut}
 use Rattle.log_writer.specs.Words.{disk_of, number_of, len_of, fault_of}
-use Rattle.log_writer.specs.Opening.{StandsBehind, HasBegun}
+use Rattle.log_writer.specs.Opening.{HasKeptBytes, HasBegun}
 use Rattle.log_writer.specs.Adding.{GroupCall, record_of_call, answer_of, Grows, Stops, Adds}
 use Rattle.log_writer.specs.Written.{Wrote, no_call, one_more, IsWritten, if_worked, first_fault, written_by, HaveSynced, HoldsCalls, IsTextOver, Stands}
 use Rattle.log_writer.proofs.Calls.{first_more, written_more, written_len, none_more, synced_more, synced_all}
@@ -40,11 +40,11 @@ module _ (b : Beginning) (x y : Disk) (calls : List GroupCall) (c : GroupCall) (
   text_len : length (text_after b records) ≡ x.place + length bytes
   text_len = omega (arith, ap length text_is, length-append (take x.place x.content) bytes, length-take x.place x.content, is.placed)
 
-  -- what was safe is so still
+  -- what was safe is still safe
   still_safe : safe_len x ≤ y.synced → length (text_after b (take safe (written_by calls))) ≤ y.synced
   still_safe synced = omega (arith, synced, holds.synced, holds.place is_none, after_shorter b (written_by calls) safe)
 
-  -- with the call that put it
+  -- what holds with the call that put the record
   module _ (worked : c.failed ≡ None) (put : StandPut x y bytes c.sync) where
     written : written_by (calls ++ c ∷ []) ≡ records
     written = written_more calls c is_none ∙ ap (λ (f : Option ℕ). written_by calls ++ if_worked f (record_of_call c ∷ []) []) worked
@@ -103,7 +103,7 @@ module _ (b : Beginning) (x y : Disk) (calls : List GroupCall) (c : GroupCall) (
   put_behind None worked put = whole_put worked put c.sync refl put.synced
   put_behind (Some count) failed put = (safe, part_put count failed put)
 
--- the same where the disk tells
+-- the same, if the disk tells its content
 told_behind : (b : Beginning) (told now : Option Disk) (calls : List GroupCall) (c : GroupCall) (len : ℕ) → IfSome told IsDisk → first_fault calls ≡ None → len ≡ length (text_after b (written_by calls))
     → IfSome told (λ d. (safe : ℕ) × HoldsCalls b d calls safe) → Told told now (λ x y. ArePut x y (record_text b.number len (record_of_call c)) c.sync (answer_of c.failed)) → IfSome now (λ d. (safe : ℕ) × HoldsCalls b d (calls ++ c ∷ []) safe)
 told_behind b None None calls c len is is_none len_is holds put = tt
@@ -111,7 +111,7 @@ told_behind b None (Some y) calls c len is is_none len_is holds put = absurd put
 told_behind b (Some x) None calls c len is is_none len_is holds put = tt
 told_behind b (Some x) (Some y) calls c len is is_none len_is holds put = put_behind b x y calls c len holds.0 is is_none len_is holds.1 c.failed refl put
 
--- a call more that failed, as all do after a fault
+-- one call more that failed, as all do after a fault
 stays : (b : Beginning) (d : Disk) (calls : List GroupCall) (c : GroupCall) (count safe : ℕ) → first_fault calls ≡ Some count → c.failed ≡ Some count → HoldsCalls b d calls safe → HoldsCalls b d (calls ++ c ∷ []) safe
 stays b d calls c count safe dead failed holds =
     let same = none_more calls (c ∷ []) count dead in
@@ -129,12 +129,12 @@ told_stays : (b : Beginning) (told : Option Disk) (calls : List GroupCall) (c : 
 told_stays b None calls c count dead failed holds = tt
 told_stays b (Some d) calls c count dead failed holds = (holds.0, stays b d calls c count holds.0 dead failed holds.1)
 
--- One call more
+-- One call more.
 module _ {D : Type 0} {ghosts : Ghosts D} (is_disk : (disk : D) → IfSome (ghosts.told disk) IsDisk) (b : Beginning) (calls : List GroupCall) (c : GroupCall) (now new : LogWriter D ghosts) (stands : Stands b calls now) (adds : Adds c now new) where
   abbrev text_put : Option ℕ → List ℕ
   text_put number = record_text number (len_of now) (record_of_call c)
 
-  -- what is put is of the log's format
+  -- what is put is in the log's format
   told_put : fault_of now ≡ None → first_fault calls ≡ None → IfSome (ghosts.told (disk_of new)) (λ d. (safe : ℕ) × HoldsCalls b d (calls ++ c ∷ []) safe)
   told_put is_none before = told_behind b (ghosts.told (disk_of now)) (ghosts.told (disk_of new)) calls c (len_of now) (is_disk (disk_of now)) before stands.len stands.told
       (subst (λ (m : Option ℕ). Told (ghosts.told (disk_of now)) (ghosts.told (disk_of new)) (λ x y. ArePut x y (text_put m) c.sync (answer_of c.failed))) stands.number_is (adds.put is_none).are_put)
@@ -180,8 +180,8 @@ module _ {D : Type 0} {ghosts : Ghosts D} (is_disk : (disk : D) → IfSome (ghos
   pub stands_more : Stands b (calls ++ c ∷ []) new
   stands_more = by_fault (fault_of now) refl adds.dead
 
--- at first
-kept_in_front : (b : Beginning) (x y : Disk) → StandsBehind b x y → BeginsWith (text_after b []) y.content
+-- once the log has begun, its disk's content begins with what it keeps
+kept_in_front : (b : Beginning) (x y : Disk) → HasKeptBytes b x y → BeginsWith (text_after b []) y.content
 kept_in_front b x y behind =
     let same : text_after b [] ≡ b.kept = after_none b in
     subst (λ (t : List ℕ). BeginsWith t y.content) (sym same) (
@@ -189,7 +189,7 @@ kept_in_front b x y behind =
       ap (λ (n : ℕ). take n y.content) (sym behind.place) ∙ behind.kept,
     )
 
-told_first : (b : Beginning) (told now : Option Disk) → Told told now (StandsBehind b) → IfSome now (λ d. (safe : ℕ) × HoldsCalls b d [] safe)
+told_first : (b : Beginning) (told now : Option Disk) → Told told now (HasKeptBytes b) → IfSome now (λ d. (safe : ℕ) × HoldsCalls b d [] safe)
 told_first b None None behind = tt
 told_first b None (Some y) behind = absurd behind
 told_first b (Some x) None behind = tt
@@ -222,9 +222,9 @@ module _ {D : Type 0} {ghosts : Ghosts D} (is_disk : (disk : D) → IfSome (ghos
   pub stands_so : (disk : D) (calls : List GroupCall) (log : LogWriter D ghosts) → IsWritten b disk calls log → Stands b calls log
   stands_so disk calls log is = stands_written is.begun calls log (stands_first b disk is.begun is.has_begun) is.wrote
 
--- The content, where no call failed
+-- The content of the disk, where no call failed.
 
--- then none of the calls before failed either, nor the last one
+-- then no call before the last one failed, nor the last one
 none_before : (calls : List GroupCall) (c : GroupCall) → first_fault (calls ++ c ∷ []) ≡ None → (first_fault calls ≡ None) × (c.failed ≡ None)
 none_before calls c none = by_first (first_fault calls) refl
   where
@@ -232,18 +232,18 @@ none_before calls c none = by_first (first_fault calls) refl
     by_first None e = (e, sym (first_more calls c e) ∙ none)
     by_first (Some count) e = let wrong : ◌≡◌ {A = Option ℕ} None (Some count) = sym none ∙ ((none_more calls (c ∷ []) count e).fault ∙ e) in absurd (cc)
 
-text_over_first : (b : Beginning) (x y : Disk) → StandsBehind b x y → IsTextOver (text_after b []) y y
+text_over_first : (b : Beginning) (x y : Disk) → HasKeptBytes b x y → IsTextOver (text_after b []) y y
 text_over_first b x y behind = let begins = kept_in_front b x y behind in
     let t : List ℕ = text_after b [] in
     sym (take-append-drop (length t) y.content) ∙ ap (λ (l : List ℕ). l ++ drop (length t) y.content) begins.1
 
-told_over_first : (b : Beginning) (told now : Option Disk) → Told told now (StandsBehind b) → Told now now (IsTextOver (text_after b []))
+told_over_first : (b : Beginning) (told now : Option Disk) → Told told now (HasKeptBytes b) → Told now now (IsTextOver (text_after b []))
 told_over_first b None None behind = tt
 told_over_first b None (Some y) behind = absurd behind
 told_over_first b (Some x) None behind = tt
 told_over_first b (Some x) (Some y) behind = text_over_first b x y behind
 
--- bytes that are put behind a text stand over what stood there
+-- bytes that are put after a text are over what was there, and what follows them is as it was
 over_more : (t bytes old : List ℕ) (x y : Disk) → x.content ≡ t ++ drop (length t) old → x.place ≡ length t → y.content ≡ put_at x.place bytes x.content → y.content ≡ (t ++ bytes) ++ drop (length (t ++ bytes)) old
 over_more t bytes old x y text_over place put =
     let rest : List ℕ = drop (length t) old in

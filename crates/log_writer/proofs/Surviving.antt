@@ -75,7 +75,7 @@ module _ {D : Type 0} {ghosts : Ghosts D} (laws : Laws ghosts) where
   survives old calls new no_call = survives_none old
   survives old calls new (one_more {calls = before} {now = now} c wrote adds) = survives_more old now new (survives old before now wrote) (survives_call c now new adds)
 
-  -- the cause of a fault
+  -- with one call more, a fault still has its cause in one of the calls
   caused_call : (disk : D) (c : GroupCall) (now new : LogWriter D ghosts) → HasCauseSince disk now → Adds c now new → HasCauseSince disk new
   caused_call disk c now new since adds = by_fault (fault_of now) refl adds.dead
     where
@@ -110,7 +110,7 @@ module _ {D : Type 0} {ghosts : Ghosts D} (laws : Laws ghosts) where
       })
       is.wrote
 
--- What was safe of the records stands in front of each image.
+-- Each image begins with the text of the records that were safe.
 pub safe_begins : (b : Beginning) (d : Disk) (calls : List GroupCall) (safe : ℕ) (image : List ℕ) → HoldsCalls b d calls safe → KeepsSafe d image → BeginsWith (text_after b (take safe (written_by calls))) image
 safe_begins b d calls safe image holds keeps =
     let t : List ℕ = text_after b (take safe (written_by calls)) in
@@ -131,7 +131,7 @@ holds_calls_keeps b d calls more safe image holds keeps =
     keeps_prefix b all safe image (omega (arith, holds.some, ap length behind.1, length-append (written_by calls) behind.0))
     (subst (λ (l : List (List ℕ)). BeginsWith (text_after b l) image) (sym same) (safe_begins b d calls safe image holds keeps))
 
--- at any moment of calls behind some
+-- the same at any moment of calls that follow some others
 pub told_keeps : {D : Type 0} (moment from : D → ℕ) (since : D → ℕ → List ℕ → Type 0) (told : Option Disk) (old new : D) (b : Beginning) (before after : List GroupCall) → LeavesOnly moment from since old new (KeepsWhatWasSafe told)
     → IfSome told (λ d. (safe : ℕ) → HoldsCalls b d before safe → LeavesOnly moment from since old new (KeepsPrefix b (begun_by (before ++ after)) safe))
 told_keeps moment from since None old new b before after leaves = tt
@@ -144,7 +144,7 @@ told_begins moment from since None old new b before leaves = tt
 told_begins moment from since (Some d) old new b before leaves = λ safe holds.
     leaves_so moment from since (KeepsSafe d) (BeginsWith (text_after b (take safe (written_by before)))) old new leaves (λ image keeps. safe_begins b d before safe image holds keeps)
 
--- and of what may be left now
+-- and in each image that a crash may leave now
 pub image_now : (told : Option Disk) (b : Beginning) (calls : List GroupCall) → IfSome told (λ d. (safe : ℕ) → HoldsCalls b d calls safe → (image : List ℕ) → IsImage d image → KeepsPrefix b (begun_by calls) safe image)
 image_now None b calls = tt
 image_now (Some d) b calls = λ safe holds image left.

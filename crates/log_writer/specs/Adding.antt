@@ -14,7 +14,7 @@ abbrev pub count_of_fault : {T : Type 0} → Result T Fault → Option ℕ
 count_of_fault (Ok x) = None
 count_of_fault (Err fault) = Some fault.count
 
--- the call of these arguments that had this answer
+-- the call with these arguments and this answer
 abbrev pub call_of : {T : Type 0} → ℕ → List Contents → Bool → Result T Fault → GroupCall
 call_of first members sync result = record {
   first = first;
@@ -23,13 +23,13 @@ call_of first members sync result = record {
   failed = count_of_fault result;
 }
 
--- whether it worked, as an answer
+-- the fault of a call, if it had one, as an answer
 abbrev pub answer_of : Option ℕ → Result (Unit {0}) ℕ
 answer_of None = Ok tt
 answer_of (Some count) = Err count
 
 module _ {D : Type 0} {ghosts : Ghosts D} where
-  -- the log is longer by these bytes
+  -- the log is longer by these bytes, and has no fault
   pub record Grows (bytes : List ℕ) (old new : LogWriter D ghosts) : Type 0 where
     pub len : len_of new ≡ len_of old + length bytes
     pub fault : fault_of new ≡ None
@@ -40,12 +40,12 @@ module _ {D : Type 0} {ghosts : Ghosts D} where
     pub fault : fault_of new ≡ Some count
     pub count_is : count ≡ ghosts.faults (disk_of new)
 
-  -- the text of the call's record at the end of the log
+  -- the text of the call's record, as it is at the end of the log
   abbrev pub text_at_end : GroupCall → LogWriter D ghosts → List ℕ
   text_at_end c log = record_text (number_of log) (len_of log) (record_of_call c)
 
-  -- The call put the record's text at the end of the log, and synced it if that was asked. After a fault nothing is
-  -- done.
+  -- The call put the record's text at the end of the log, and synced it if that was asked; or it failed, and the log
+  -- takes no more. After an earlier fault nothing is done.
   pub record Adds (c : GroupCall) (old new : LogWriter D ghosts) : Type 0 where
     pub number : number_of new ≡ number_of old
     pub dead : IfSome (fault_of old) (λ count. (c.failed ≡ Some count) × (new ≡ old))

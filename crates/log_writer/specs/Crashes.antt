@@ -22,7 +22,7 @@ pub record KeepsSafe (d : Disk) (image : List ℕ) : Type 0 where
 abbrev pub KeepsWhatWasSafe : Option Disk → List ℕ → Type 0
 KeepsWhatWasSafe told image = IfSome told (λ d. KeepsSafe d image)
 
--- how far writes may come while so many bytes are put at the place: as far as before, or to their end
+-- how far writes may come while `more` bytes are put at the place: as far as before, or to the end of these bytes
 abbrev pub reach_with : Disk → ℕ → ℕ
 reach_with d more = max d.reach (d.place + more)
 
@@ -35,8 +35,8 @@ pub record IsLeft (d : Disk) (more : ℕ) (image : List ℕ) : Type 0 where
 abbrev pub MayBeLeft : Option Disk → ℕ → List ℕ → Type 0
 MayBeLeft told more image = IfSome told (λ d. IsLeft d more image)
 
--- The disk has the text of these records up to its place, in a log of this beginning, and the first of them, so many,
--- are safe. What stands behind the place is no part of the log.
+-- The disk has the text of these records up to its place, in a log of this beginning, and the first `safe` of them are
+-- safe. What is after the place is no part of the log.
 pub record HoldsRecords (b : Beginning) (d : Disk) (records : List (List ℕ)) (safe : ℕ) : Type 0 where
   pub content : take d.place d.content ≡ text_after b records
   pub some : safe ≤ length records
@@ -49,9 +49,9 @@ pub record AreRisingBatches (records : List (List ℕ)) : Type 0 where
   pub each : AllByRecursion (λ b. IsBatch (logged_bytes b) b.first b.records) batches
   pub rising : AreInOrder 0 batches
 
--- With no chance, recovery and a reader of the image find a prefix of the records that the log kept and of these, and
--- of these at least so many. Recovery looks at batches, so it is said of recovery where those are batches whose runs
--- rise.
+-- Unless a checksum matches by chance, recovery of the image and a reader of it find a prefix of the records that the
+-- log kept, followed by these, with at least the first `safe` of these. Recovery looks at batches, so it is said of
+-- recovery only where the kept records and the safe ones are batches whose runs rise.
 pub record KeepsPrefix (b : Beginning) (records : List (List ℕ)) (safe : ℕ) (image : List ℕ) : Type 0 where
   pub recovered : (kept : List (List ℕ)) → SpellsWhole b.number b.kept kept
       → AreRisingBatches (kept ++ take safe records) → NoChance b.number image (text_after b records)
@@ -60,14 +60,14 @@ pub record KeepsPrefix (b : Beginning) (records : List (List ℕ)) (safe : ℕ) 
       → NoChanceForReader b.number image (text_after b records)
       → ReadsPrefix b.number (kept ++ records) image (λ n. length kept + safe ≤ n)
 
--- A crash at any moment of a call that adds a record leaves a prefix of the records before and of this one, with all
--- that was safe.
+-- A crash at any moment of a call that adds a record leaves a prefix of the earlier records followed by this one, with
+-- all that was safe.
 abbrev pub LeavesPrefix : {D : Type 0} → Ghosts D → D → D → List ℕ → Type 0
 LeavesPrefix ghosts old new record_bytes = IfSome (ghosts.told old) (λ d.
     (b : Beginning) (records : List (List ℕ)) (safe : ℕ) → HoldsRecords b d records safe
     → LeavesOnly ghosts.moment ghosts.from ghosts.since old new (KeepsPrefix b (records ++ record_bytes ∷ []) safe))
 
--- Now that it has returned a crash leaves the records before and this one.
+-- Now that the call has returned, a crash leaves all the earlier records and this one.
 abbrev pub IsDurable : {D : Type 0} → Ghosts D → Option ℕ → D → D → List ℕ → Type 0
 IsDurable ghosts number old new record_bytes = IfSome (ghosts.told old) (λ d.
     (b : Beginning) (records : List (List ℕ)) → b.number ≡ number → take d.place d.content ≡ text_after b records

@@ -8,11 +8,11 @@ use Rattle.log_batch.specs.Contents.{Contents}
 abbrev pub batches_of : List Contents → List (List Record)
 batches_of members = map (λ (m : Contents). m.records) members
 
--- how many of the additions count, each of which takes a sequence
+-- how many of the additions count; each of these takes a sequence
 abbrev pub counts_of : List Contents → ℕ
 counts_of members = sum_by (λ (m : Contents). count_of m.records) members
 
--- the bytes of the members after their headers, joined, and how many they are
+-- the bytes of the members after their headers, joined; and, below, how many bytes these are
 abbrev pub bodies_of : List Contents → List ℕ
 bodies_of members = flat_map (λ (m : Contents). body m.records) members
 

@@ -5,24 +5,25 @@ use Rattle.base_devices.specs.Faults.{HasCause}
 use Rattle.base_devices.specs.declared.disk.Disk.{Ghosts}
 use Rattle.log_writer.specs.Crashes.{safe_len, reach_with, MayBeLeft}
 
--- all the content is safe, if that was asked, and else as much as before
+-- all the content is safe, if a sync was asked for; otherwise at least what was safe in front of the place
 abbrev pub IsSynced : Bool → Disk → Disk → Type 0
 IsSynced true before after = IsAllSafe after
 IsSynced false before after = safe_len before ≤ after.synced
 
--- the bytes stand where the place was, over what stood there, and the place is behind them
+-- the bytes are where the place was, over what was there, and the place is after them
 pub record StandPut (before after : Disk) (bytes : List ℕ) (sync : Bool) : Type 0 where
   pub content : after.content ≡ put_at before.place bytes before.content
   pub place : after.place ≡ before.place + length bytes
   pub synced : IsSynced sync before after
 
--- what stood in front of the place stands there still, whatever stands behind it, and as much is safe
+-- what was in front of the place is there still, whatever follows it, and as much of it is safe; the place hasn't moved
+-- back
 pub record StaysInFront (before after : Disk) : Type 0 where
   pub content : take before.place after.content ≡ take before.place before.content
   pub place : before.place ≤ after.place
   pub synced : safe_len before ≤ after.synced
 
--- They are put, or where that failed, nothing in front of the place has changed.
+-- The bytes are put; or where that failed, nothing in front of the place has changed.
 abbrev pub ArePut : {T E : Type 0} → Disk → Disk → List ℕ → Bool → Result T E → Type 0
 ArePut before after bytes sync result =
     MatchResult result (λ _. StandPut before after bytes sync) (λ _. StaysInFront before after)
@@ -36,6 +37,6 @@ pub record Puts {D T E : Type 0} (ghosts : Ghosts D) (old new : D) (bytes : List
   pub cause : HasCause (ghosts.faults old) (ghosts.faults new) result
   pub reached : Told (ghosts.told old) (ghosts.told new)
       (λ before after. after.reach ≤ reach_with before (length bytes))
-  -- a crash at any moment of it leaves what was safe in front of the place, and nothing past where these bytes end or
-  -- writes could come before
+  -- what a crash at any moment of it leaves has what was safe in front of the place, and reaches no further than the
+  -- end of these bytes, or, if that is further, than writes could come before
   pub crash : LeavesOnly ghosts.moment ghosts.from ghosts.since old new (MayBeLeft (ghosts.told old) (length bytes))

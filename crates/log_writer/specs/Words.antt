@@ -10,7 +10,7 @@ disk_of w = w.disk
 abbrev pub number_of : {D : Type 0} {ghosts : Ghosts D} → LogWriter D ghosts → Option ℕ
 number_of w = w.number
 
--- the bytes that it kept, and those of the groups that were written whole
+-- the length of the log: the bytes that it kept, and those of the groups that were written whole
 abbrev pub len_of : {D : Type 0} {ghosts : Ghosts D} → LogWriter D ghosts → ℕ
 len_of w = w.len
 

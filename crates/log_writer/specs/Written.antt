@@ -20,20 +20,20 @@ pub data Wrote {D : Type 0} {ghosts : Ghosts D} (old : LogWriter D ghosts)
   one_more : {calls : List GroupCall} {now new : LogWriter D ghosts} (c : GroupCall)
       → Wrote old calls now → Adds c now new → Wrote old (calls ++ c ∷ []) new
 
--- the log began so on this disk, and these calls wrote it
+-- the log began like this on the disk, and these calls wrote it
 pub record IsWritten {D : Type 0} {ghosts : Ghosts D} (b : Beginning) (disk : D) (calls : List GroupCall)
     (log : LogWriter D ghosts) : Type 0 where
   pub begun : LogWriter D ghosts
   pub has_begun : HasBegun b disk begun
   pub wrote : Wrote begun calls log
 
--- the log that began on one disk was written by these calls, and then the other disk was handed back
+-- the log that began on the disk `begun` was written by these calls, and then the disk `ended` was handed back
 abbrev pub IsWrittenFrom : {D : Type 0} (ghosts : Ghosts D) → Beginning → D → D → List GroupCall → Type 0
 IsWrittenFrom {D} ghosts b begun ended calls =
     (log : LogWriter D ghosts) × IsWritten b begun calls log × (disk_of log ≡ ended)
 
--- A crash may have left this image once the first of these calls had returned, while the others went on or after them,
--- and the disk that was handed back still tells of it.
+-- A crash may have left this image once the calls `before` had all returned, during the calls `after` or after them,
+-- and the disk that was handed back still tells of that time.
 pub record IsLeftSince {D : Type 0} (ghosts : Ghosts D) (b : Beginning) (begun ended : D)
     (before after : List GroupCall) (image : List ℕ) : Type 0 where
   pub between : LogWriter D ghosts
@@ -44,37 +44,39 @@ pub record IsLeftSince {D : Type 0} (ghosts : Ghosts D) (b : Beginning) (begun e
   pub remembered : ghosts.from ended ≤ ghosts.moment (disk_of between)
   pub left : ghosts.since ended (ghosts.moment (disk_of between)) image
 
--- one or the other, as a call worked or failed
+-- one value where a call worked, and the other where it failed
 abbrev pub if_worked : {A : Type 0} → Option ℕ → A → A → A
 if_worked None worked failed = worked
 if_worked (Some count) worked failed = failed
 
--- the first fault that a call was answered
+-- the fault of the first call that failed, if one did
 abbrev pub first_fault : List GroupCall → Option ℕ
 first_fault [] = None
 first_fault (c ∷ calls) = if_worked c.failed (first_fault calls) c.failed
 
--- the records of the calls before it, which are in the log whole
+-- the records of the calls before the first that failed; they are in the log whole
 abbrev pub written_by : List GroupCall → List (List ℕ)
 written_by [] = []
 written_by (c ∷ calls) = if_worked c.failed (record_of_call c ∷ written_by calls) []
 
--- and with the record of the call that had it, which may be there in part
+-- these records and that of the call that failed, which may be there in part
 abbrev pub begun_by : List GroupCall → List (List ℕ)
 begun_by [] = []
 begun_by (c ∷ calls) = record_of_call c ∷ if_worked c.failed (begun_by calls) []
 
--- of these calls each that worked and was to sync is among the first n
+-- each of these calls that worked and was to sync is among the first n
 abbrev pub HaveSynced : List GroupCall → ℕ → Type 0
 HaveSynced calls n = AllByRecursion (λ (c : GroupCall). c.failed ≡ None → c.sync ≡ true → ⊥) (drop n calls)
 
--- Of each of these calls that worked and was to sync, an image holds all up to the end of its record.
+-- For each of these calls that worked and was to sync, an image holds all up to the end of its record, as far as
+-- `HoldsUpTo` says.
 abbrev pub HoldsSynced : Beginning → ℕ → List GroupCall → List ℕ → Type 0
 HoldsSynced b reached calls image = (k : ℕ) (c : GroupCall) → slice_get calls k ≡ Some c → c.failed ≡ None
     → c.sync ≡ true → HoldsUpTo reached (text_after b (take (k + 1) (written_by calls))) image
 
--- The disk's content begins with the text of all that was written, and its place is there, or once a call has failed,
--- there or after it. The first records, so many, are safe, and those that were to be synced are among them.
+-- The disk's content begins with the text of all that was written. Its place is at the end of this text, or, once a
+-- call has failed, there or after it. The first `safe` records are safe, and those that were to be synced are among
+-- them.
 pub record HoldsCalls (b : Beginning) (d : Disk) (calls : List GroupCall) (safe : ℕ) : Type 0 where
   pub content : BeginsWith (text_after b (written_by calls)) d.content
   pub behind : length (text_after b (written_by calls)) ≤ d.place
@@ -83,7 +85,7 @@ pub record HoldsCalls (b : Beginning) (d : Disk) (calls : List GroupCall) (safe 
   pub synced : length (text_after b (take safe (written_by calls))) ≤ d.synced
   pub have_synced : HaveSynced calls safe
 
--- the log has the first fault of these calls, and what they wrote
+-- the log has the first fault of these calls, and its disk has what they wrote
 pub record Stands {D : Type 0} {ghosts : Ghosts D} (b : Beginning) (calls : List GroupCall) (log : LogWriter D ghosts)
     : Type 0 where
   pub number_is : number_of log ≡ b.number
@@ -91,11 +93,12 @@ pub record Stands {D : Type 0} {ghosts : Ghosts D} (b : Beginning) (calls : List
   pub len : len_of log ≡ length (text_after b (written_by calls))
   pub told : IfSome (ghosts.told (disk_of log)) (λ d. (safe : ℕ) × HoldsCalls b d calls safe)
 
--- what stands there now is the text, and behind it what stood there as the log began
+-- the content now is the text, and after it what was there when the log began
 abbrev pub IsTextOver : List ℕ → Disk → Disk → Type 0
 IsTextOver t before now = now.content ≡ t ++ drop (length t) before.content
 
--- the fault came in one of the calls: the disk's count rose to it since then, and where there is none it stands
+-- since the log was opened on this disk, the disk's count of faults hasn't fallen; if the log has a fault, the count
+-- rose to the fault's count, and is at least that now; if it has none, the count is as before
 pub record HasCauseSince {D : Type 0} {ghosts : Ghosts D} (disk : D) (log : LogWriter D ghosts) : Type 0 where
   pub later : ghosts.faults disk ≤ ghosts.faults (disk_of log)
   pub rose : IfSome (fault_of log) (λ count. Rose (ghosts.faults disk) count × (count ≤ ghosts.faults (disk_of log)))

@@ -5,10 +5,10 @@ use thiserror::Error;
 /// Why a log was not opened.
 #[derive(Clone, Copy, Debug, PartialEq, Eq, Error)]
 pub enum OpenError {
-    /// The disk failed, for the how many-th time.
+    /// The disk failed, and this is its count of faults.
     #[error("fault {count} of the disk")]
     Fault { count: u64 },
-    /// The disk has so many bytes.
+    /// The disk isn't empty, and has this number of bytes.
     #[error("the disk has {len} bytes")]
     NotEmpty { len: u64 },
     /// There was no memory.
@@ -16,7 +16,7 @@ pub enum OpenError {
     NoMemory,
 }
 
-/// A write failed, for the how many-th time of the disk, and the log takes no more.
+/// A write failed, and this is the disk's count of faults. The log takes no more.
 #[derive(Clone, Copy, Debug, PartialEq, Eq, Error)]
 #[error("fault {count} of the disk")]
 pub struct Fault {

@@ -1,4 +1,4 @@
-//! The bytes of a group's record, which stand apart in the members.
+//! The bytes of a group's record, which are spread over its members.
 
 ghost use Rattle.std.specs.Prelude.{◌≡◌, ◌+◌, ◌≤◌, ◌<◌, ◌^◌, ◌++◌, length, take, drop};
 ghost use Rattle.model_base.specs.Batch as model;
@@ -35,7 +35,7 @@ impl<'a> GroupBytes<'a> {
         }
     }
 
-    /// Moves the first bytes into `part`, as many as it has.
+    /// Moves the first bytes into `part`, as many as `part` has.
     pub(crate) fn move_to(&mut self, part: &mut [u8])
         requires there { length part.old ≤ length self.old }
         ensures moved { part.new ≡ take (length part.old) self.old }
@@ -74,7 +74,7 @@ pub(crate) fn count_of(members: &[Batch]) -> u32
     members.iter().map(|member| member.count()).sum()
 }
 
-/// The bytes of the members after their headers.
+/// How many bytes the members have after their headers.
 pub(crate) fn bodies_len(members: &[Batch]) -> usize
     requires { body_lens_of members.now < 2 ^ 63 }
     ensures { result ≡ body_lens_of members.now }

@@ -13,7 +13,7 @@ ghost use Rattle.log_writer.specs.Written.{Wrote, IsWritten, written_by, begun_b
 
 use base_devices::Disk;
 
-/// A log begins in three ways: on an empty disk, over old bytes with a number, or behind bytes that it keeps.
+/// A log begins in three ways: on an empty disk, with a number over old bytes, or after bytes that it keeps.
 pub fn beginnings<D: Disk>()
     ensures opened { (disk : D) (log : Log D ⟦<D as Disk>⟧) → HasOpened disk log → HasBegun new_log disk log }
     ensures reused { (disk : D) (n : ℕ) (log : Log D ⟦<D as Disk>⟧) → HasReused disk n log
@@ -23,8 +23,8 @@ pub fn beginnings<D: Disk>()
         → IfSome (D.told disk) (λ d. take (length b.kept) d.content ≡ b.kept) → HasBegun b disk log }
 {}
 
-/// A log that has begun is written by no calls, and each call writes on. What the log has then is what it kept and what
-/// the calls wrote.
+/// A log that has begun is written by no calls, and each call after that makes it one that is written by one call
+/// more. What the log has then is what it kept and what the calls wrote.
 pub fn written_by_calls<D: Disk>()
     ensures no_call { (b : Beginning) (disk : D) (log : Log D ⟦<D as Disk>⟧)
         → HasBegun b disk log → IsWritten b disk [] log }
@@ -33,7 +33,7 @@ pub fn written_by_calls<D: Disk>()
         → IsWritten b disk (calls ++ c ∷ []) new }
     ensures stands { (b : Beginning) (disk : D) (calls : List GroupCall) (log : Log D ⟦<D as Disk>⟧)
         → IsWritten b disk calls log → Stands b calls log }
-    // Where no call failed, that is written over what stood there, and nothing else has changed.
+    // Where no call failed, that text is written over what was there, and nothing else has changed.
     ensures content { (b : Beginning) (disk : D) (calls : List GroupCall) (begun log : Log D ⟦<D as Disk>⟧)
         → HasBegun b disk begun → Wrote begun calls log → first_fault calls ≡ None
         → Told (D.told (disk_of begun)) (D.told (disk_of log)) (IsTextOver (text_after b (written_by calls))) }
@@ -41,27 +41,28 @@ pub fn written_by_calls<D: Disk>()
         → IsWritten b disk calls log → HasCauseSince disk log }
 {}
 
-/// What a crash leaves of such a log is a prefix of what was written and of the record that was begun, behind the
-/// records that it kept, with all that was safe.
+/// Unless a checksum matches by chance, what a crash leaves of such a log is a prefix of its records: those that it
+/// kept, then those that were written, then the one that was begun. All that was safe is in this prefix.
 pub fn crashes_between_calls<D: Disk>()
-    // It is so at any moment of later calls, for what earlier calls had made safe.
+    // This holds at any moment of later calls, for what earlier calls had made safe.
     ensures any_moment { (b : Beginning) (before after : List GroupCall) (old new : Log D ⟦<D as Disk>⟧)
         → Wrote old after new → IfSome (D.told (disk_of old)) (λ d. (safe : ℕ) → HoldsCalls b d before safe
         → LeavesOnly D.moment D.from D.since (disk_of old) (disk_of new)
         (KeepsPrefix b (begun_by (before ++ after)) safe)) }
-    // The text of that stands in front of each image then.
+    // Then each image begins with the text of the records that were safe.
     ensures begins { (b : Beginning) (before after : List GroupCall) (old new : Log D ⟦<D as Disk>⟧)
         → Wrote old after new → IfSome (D.told (disk_of old)) (λ d. (safe : ℕ) → HoldsCalls b d before safe
         → LeavesOnly D.moment D.from D.since (disk_of old) (disk_of new)
         (BeginsWith (text_after b (take safe (written_by before))))) }
-    // And it is so once they have returned, for all of them.
+    // And it holds once the calls have returned, for all of them.
     ensures at_end { (b : Beginning) (calls : List GroupCall) (log : Log D ⟦<D as Disk>⟧)
         → IfSome (D.told (disk_of log)) (λ d. (safe : ℕ) → HoldsCalls b d calls safe
         → (image : List ℕ) → IsImage d image → KeepsPrefix b (begun_by calls) safe image) }
-    // Where the calls that were to sync are among the first so many, they are among more.
+    // Where the calls that were to sync are among the first `safe` calls, they are among the first `n`, if that is
+    // more.
     ensures synced { (calls : List GroupCall) (safe n : ℕ) → HaveSynced calls safe → safe ≤ n → HaveSynced calls n }
-    // At any moment since the log was opened, what is longer than the text up to the end of a call that synced begins
-    // with that text, unless writes could come so far before it was opened.
+    // At any moment since the log was opened: an image that is longer than the text up to the end of a call that
+    // synced, and reaches further than writes could come before the log was opened, begins with that text.
     ensures held { (b : Beginning) (disk : D) (calls : List GroupCall) (log : Log D ⟦<D as Disk>⟧)
         → IsWritten b disk calls log → IfSome (D.told disk) (λ d.
         LeavesOnly D.moment D.from D.since disk (disk_of log) (HoldsSynced b d.reach calls)) }

@@ -1,4 +1,4 @@
-//! What is put at the place of a log's disk, and what is kept of it.
+//! What is put on a log's disk at its place, and what is kept of the disk.
 
 ghost use Rattle.std.specs.Prelude.{◌≡◌, ◌+◌, ◌-◌, ◌^◌, ◌<◌, ◌≤◌, [], ◌++◌, length, take, drop, replicate, true, false, OnOk, IfOk, IfSome};
 ghost use Rattle.model_base.specs.Log as log;
@@ -39,8 +39,8 @@ pub(crate) fn sync_if<D: Disk>(disk: &mut D, sync: bool) -> Result<(), Failed>
     if sync { disk.sync() } else { Ok(()) }
 }
 
-/// Puts a fragment together in the block: its header, and a part of so many bytes, which are moved out of the group's.
-/// The checksum is taken of the part where it stands then, since these bytes have just come into the processor's cache.
+/// Puts a fragment together in the block: its header, and a part of `len` bytes, which are moved out of the group's.
+/// The checksum is computed of the part at its new place, since these bytes have just come into the processor's cache.
 fn fill(block: &mut [u8], number: Option<u32>, rest: &mut GroupBytes<'_>, kind: u8, len: usize)
     requires room { length block.old ≡ BLOCK_LEN }
     requires fits { log.header_len number + len ≤ BLOCK_LEN }
@@ -80,7 +80,7 @@ fn put_piece<D: Disk>(
     append(disk, &block[..header_len(number) + len])
 }
 
-/// How many bytes a piece makes.
+/// How many bytes a piece takes in the log.
 fn piece_len(number: Option<u32>, piece: Piece) -> u64
     requires zeros { piece.zeros ≤ MAX_ZEROS }
     requires ordered { piece.start ≤ piece.end }
@@ -90,7 +90,7 @@ fn piece_len(number: Option<u32>, piece: Piece) -> u64
     (piece.zeros + header_len(number) + (piece.end - piece.start)) as u64
 }
 
-/// Writes a record of so many bytes where the log ends, at this offset, and answers where it ends then.
+/// Writes a record of `len` bytes at the end of the log, which is this offset, and answers where the log ends then.
 fn put_record<D: Disk>(
     disk: &mut D,
     block: &mut [u8],
@@ -114,8 +114,8 @@ fn put_record<D: Disk>(
     Ok(end)
 }
 
-/// Writes a group's record where the log ends, at this offset, and answers where it ends then. The record of one batch
-/// that has this sequence already is the batch's own bytes.
+/// Writes a group's record at the end of the log, which is this offset, and answers where the log ends then. Where the
+/// group is one batch that has this sequence already, its record is the batch's own bytes.
 fn put_members<D: Disk>(
     disk: &mut D,
     block: &mut [u8],
@@ -146,8 +146,8 @@ fn put_members<D: Disk>(
     put_record(disk, block, number, offset, &mut rest, len)
 }
 
-/// Writes a group's record where the log ends, at this offset, and syncs it if that is asked. The answer is where the
-/// log ends then.
+/// Writes a group's record at the end of the log, which is this offset, and syncs it if that is asked. The answer is
+/// where the log ends then.
 pub(crate) fn put_group<D: Disk>(
     disk: &mut D,
     block: &mut [u8],
@@ -171,7 +171,7 @@ pub(crate) fn put_group<D: Disk>(
     Ok(end)
 }
 
-/// Cuts the disk off behind its first bytes, so many, and makes them safe.
+/// Cuts the disk off after its first `kept` bytes, and makes these safe.
 pub(crate) fn keep<D: Disk>(disk: &mut D, kept: u64) -> Result<(), Failed>
     requires there { IfSome (D.told disk.old) (λ d. kept ≤ length d.content) }
     ensures { Keeps ⟦<D as Disk>⟧ disk.old disk.new kept result }

@@ -18,9 +18,9 @@ pub struct LogWriter<D: Disk> {
     block: Vec<u8>,
     /// The log's number, if it has one.
     number: Option<u32>,
-    /// The bytes that the log kept, and those of the groups that were written whole.
+    /// The length of the log: the bytes that it kept, and those of the groups that were written whole.
     len: u64,
-    /// The count of the fault, where a write failed.
+    /// The disk's count of faults when a write or a sync failed, if one did.
     fault: Option<u64>,
     ghost room: { vec_len block ≡ 32768 },
     ghost within: { len ≤ D.added disk },
@@ -63,13 +63,13 @@ impl<D: Disk> LogWriter<D> {
         }
     }
 
-    /// Opens a log with a number that is written over what stands on the disk, from its start on, as RocksDB recycles
-    /// log files (`recycle_log_file_num`). The disk is only rewound: the bytes of the log that stood there go as they
-    /// are written over, and a reader knows them by their number. So the number must be one that no log on this disk
-    /// had.
+    /// Opens a log with a number that is written over what is on the disk, from its start on, as RocksDB recycles log
+    /// files (`recycle_log_file_num`). The disk is only rewound: the bytes of an older log stay until they are written
+    /// over, and a reader tells them from the new ones by their number. So the number must be one that no log on this
+    /// disk had.
     ///
-    /// It is answered with the disk where that fails, by a fault of the disk, or for want of memory, which is asked for
-    /// first: then the disk is as it was.
+    /// Where that fails, by a fault of the disk or for want of memory, the disk is handed back with the error. Memory
+    /// is asked for first: where there is none, the disk is as it was.
     pub fn reuse(alloc: Global, mut disk: D, number: u32) -> Result<LogWriter<D>, (D, OpenError)>
         ensures ok { IfOk result (HasReused disk number) }
         ensures err { IfErr result (λ e. IsReuseError ⟦<D as Disk>⟧ disk e.0 e.1) }
@@ -93,12 +93,12 @@ impl<D: Disk> LogWriter<D> {
         }
     }
 
-    /// Opens the log with this number, or with none, behind the first `kept` bytes of the disk, which are records of
-    /// such a log. What stands behind them is cut off, and what is kept is synced: so a crash can't bring back what
-    /// was cut off, in front of what is written then.
+    /// Opens the log with this number, or with none, after the first `kept` bytes of the disk, which are records of
+    /// such a log. What follows them is cut off, and what is kept is synced: so a crash can't bring back what was cut
+    /// off, in front of what is written later.
     ///
-    /// It is answered with the disk where that fails, by a fault of the disk, or for want of memory, which is asked for
-    /// first: then the disk is as it was.
+    /// Where that fails, by a fault of the disk or for want of memory, the disk is handed back with the error. Memory
+    /// is asked for first: where there is none, the disk is as it was.
     pub fn resume(
         alloc: Global,
         mut disk: D,
@@ -132,12 +132,12 @@ impl<D: Disk> LogWriter<D> {
     /// sequence `first` and the sum of the members' counts, and then the members' bytes after their headers. There is
     /// one append for each block that the record touches, and one sync if that is asked. It takes no memory.
     ///
-    /// A fault of the disk ends the log: each later call is answered with the count that is kept then, and leaves the
-    /// disk alone, since nobody knows what stands after the log's end. A write or a sync that failed is never tried
-    /// again.
+    /// A fault of the disk ends the log: each later call is answered with the count of faults that was kept, and
+    /// leaves the disk alone, since nobody knows what is after the log's end. A write or a sync that failed is never
+    /// tried again.
     ///
-    /// A crash at any moment of the call leaves a prefix of the records before and of this one, with all that was safe.
-    /// Once a call that syncs has returned, a crash leaves all of them.
+    /// Unless a checksum matches by chance, a crash at any moment of the call leaves a prefix of the earlier records
+    /// followed by this one, with all that was safe. Once a call that syncs has worked, a crash leaves all of them.
     pub fn add_group(&mut self, first: u64, members: &[Batch], sync: bool) -> Result<(), Fault>
         requires some { 0 < length members.now }
         requires counts { counts_of members.now < 2 ^ 32 }
@@ -176,7 +176,7 @@ impl<D: Disk> LogWriter<D> {
         }
     }
 
-    /// The bytes that the log kept, and those of the groups that were written whole.
+    /// The length of the log: the bytes that it kept, and those of the groups that were written whole.
     pub fn len(&self) -> u64
         ensures { result ≡ len_of self.now }
     {
@@ -212,7 +212,7 @@ impl<D: Disk> LogWriter<D> {
     }
 }
 
-/// As many bytes as a block has.
+/// Room to put a fragment together: as many bytes as a block has.
 fn empty_block(alloc: Global) -> Result<Vec<u8>, NoMemory>
     ensures { IfOk result (λ block. vec_len block ≡ BLOCK_LEN) }
 {

@@ -1,4 +1,4 @@
--- What a write path gives up at its closing, and each client's own run, are a legal outcome.
+-- What a write path says at its closing, and each client's own run, make a legal outcome.
 use Rattle.std.proofs.Common.{◌≡◌, inl, inr, ℕ, ◌+◌, ◌≤◌, Option, Some, None, List, length, slice_get, refl, ap, sym, ◌∙◌, subst, arith}
 use Rattle.std.proofs.lemmas.Option.{slice_get-map, slice_get_cases}
 use Rattle.std.proofs.lemmas.List.{length-map}

@@ -1,4 +1,5 @@
--- What each call says of its client is a step of the client, in each trace of which it may have seen what it has seen.
+-- Each call, by what it says of its client, is a step of the client, in each trace of which the client may have seen
+-- what it has seen.
 use Rattle.std.proofs.Common.{◌≡◌, ◌⊎◌, inl, inr, ℕ, ◌+◌, ◌≤◌, Bool, true, false, if◌then◌else◌, Option, Some, None, List, [], ◌∷◌, ◌++◌, length, map, max, MatchOption, refl, ap, sym, ◌∙◌, subst, arith}
 use Rattle.std.proofs.lemmas.Option.{slice_get_cases}
 use Rattle.model_base.specs.declared.write.WriteOptions.{WriteOptions}
@@ -22,7 +23,7 @@ use Rattle.model_accounts.specs.Accounts.{Account, progress_at, Keeps, Wrote, Is
 use Rattle.model_accounts.specs.ClientRuns.{Goes, Lacks}
 use Rattle.model_accounts.proofs.Seeing.{sees_self, last_rises, seen_ends, seen_map}
 
--- a progress by its parts
+-- a progress, given by its parts
 stands_by : (w : Account) (pending : List Record) (seen_up_to : ℕ) (mine : List Entry) (asked : List Action) (attempts : List Attempt) → w.mine ≡ mine → w.asked ≡ asked → w.attempts ≡ attempts
     → progress_at w pending seen_up_to ≡ record { pending = pending; mine = mine; asked = asked; attempts = attempts; seen_up_to = seen_up_to; known = length w.seen.controller_calls }
 stands_by w pending seen_up_to mine asked attempts m a h = rw (m, a, h) refl
@@ -30,7 +31,7 @@ stands_by w pending seen_up_to mine asked attempts m a h = rw (m, a, h) refl
 stays : (v w : Account) → Keeps v w → (pending : List Record) (seen_up_to : ℕ) → Stays (progress_at v pending seen_up_to) (progress_at w pending seen_up_to)
 stays v w k pending seen_up_to = stands_by w pending seen_up_to v.mine v.asked v.attempts k.mine k.asked k.attempts
 
--- a step, by the replies that may come
+-- a step, from the replies that may come
 goes_by : (settings : Settings) (v : Account) (before : List Record) (command : Command) (reply : Reply) (w : Account) (after : List Record) → w.number ≡ v.number → Sees v.seen w.seen
     → ((shown : ℕ) → shown ≤ last_seen v.seen → (seen_up_to : ℕ) × (seen_up_to ≤ last_seen w.seen)
     × InEachTrace w.seen (λ trace. Replies settings trace v.number (progress_at v before shown) command reply (progress_at w after seen_up_to)))
@@ -57,7 +58,7 @@ module _ (settings : Settings) (v : Account) (pending : List Record) where
   pub goes_clear : Goes settings v pending clear quiet v []
   goes_clear = goes_by settings v pending clear quiet v [] refl (sees_self v.seen) (λ shown low. (shown, low, λ trace is_history saw. refl))
 
-  -- a commit, by its refusal at once, if there is one
+  -- a commit that may be refused at once: `early` is that refusal, if there is one
   abbrev Committed : Trace → WriteOptions → Reply → Progress → Progress → Option Refusal → Type 0
   Committed trace how reply p q early = MatchOption early (IsAttempted trace v.number p how reply q) (λ why. (reply ≡ refused why) × Stays p q)
 
@@ -103,7 +104,7 @@ module _ (settings : Settings) (v : Account) (pending : List Record) where
             λ trace is_history saw. subst (Committed trace how (refused why) (progress_at v pending shown) (progress_at w pending shown)) (sym e) (ap refused s.0, stays v w s.1 pending shown),
           ))
 
-  -- a read's answer is of what the client has now seen published
+  -- a read's answer is that of what the client has now seen published
   reads_end : (w : Account) (at : ℕ) (answers : Pairs → Type 0) → Keeps v w → Reads at answers w → (shown : ℕ) → shown ≤ last_seen v.seen
       → InEachTrace w.seen (λ trace. ReadsAt trace (progress_at v pending shown) at answers (progress_at w pending at))
   reads_end w at answers k r shown low trace is_history saw = record {
@@ -114,7 +115,7 @@ module _ (settings : Settings) (v : Account) (pending : List Record) where
     after = stands_by w pending at _ _ _ k.mine k.asked k.attempts;
   }
 
-  -- a read, by the reply that it makes of its answer
+  -- a read, whose answer makes this reply
   read_on : (c : Command) (reply : Reply) (w : Account) (at : ℕ) (answers : Pairs → Type 0) → Keeps v w → Reads at answers w
       → ((trace : Trace) (shown : ℕ) → ReadsAt trace (progress_at v pending shown) at answers (progress_at w pending at) → Replies settings trace v.number (progress_at v pending shown) c reply (progress_at w pending at))
       → Goes settings v pending c reply w pending
@@ -133,7 +134,7 @@ module _ (settings : Settings) (v : Account) (pending : List Record) where
   pub goes_scan : (lo hi : List ℕ) (at : ℕ) (pairs : Pairs) (w : Account) → Keeps v w → Reads at (λ m. pairs ≡ rows_within lo hi m) w → Goes settings v pending (scan lo hi) (rows at pairs) w pending
   goes_scan lo hi at pairs w k r = read_on (scan lo hi) (rows at pairs) w at (λ m. pairs ≡ rows_within lo hi m) k r (λ trace shown h. h)
 
-  -- a call of the controller that was done
+  -- a call of the controller that was answered `done`
   asks_done : (a : Action) (w : Account) → Asks v a w → (shown : ℕ) → InEachTrace w.seen (λ trace. IsDone trace v.number (progress_at v pending shown) a (progress_at w pending shown))
   asks_done a w k shown trace is_history saw = record {
     place = k.place;
@@ -145,7 +146,7 @@ module _ (settings : Settings) (v : Account) (pending : List Record) where
     after = stands_by w pending shown _ _ _ k.mine k.asked k.attempts;
   }
 
-  -- it asked, or kept all, and was shown no more
+  -- the client called the controller, or changed nothing, and was shown no more
   asked_on : (c : Command) (r : Reply) (w : Account) → w.number ≡ v.number → Sees v.seen w.seen
       → ((shown : ℕ) → InEachTrace w.seen (λ trace. Replies settings trace v.number (progress_at v pending shown) c r (progress_at w pending shown))) → Goes settings v pending c r w pending
   asked_on c r w number seen right = goes_by settings v pending c r w pending number seen (λ shown low. (shown, (let rises = last_rises v.seen w.seen seen in omega (arith, rises, low)), right shown))
@@ -174,7 +175,7 @@ module _ (settings : Settings) (v : Account) (pending : List Record) where
   pub goes_unslow_not_held : (w : Account) → holds_slow v.asked ≡ false → Keeps v w → Goes settings v pending unslow not_held w pending
   goes_unslow_not_held w h k = asked_on unslow not_held w k.number k.seen (λ shown trace is_history saw. (h, stays v w k pending shown))
 
--- out of memory comes past the early checks alone, and changes nothing
+-- a commit finds no memory only after the early checks, and that changes nothing
 
 none_is_memory : (b : Bool) (x y : Option Refusal) → (x ≡ Some NoMemory → ⊥) → (y ≡ Some NoMemory → ⊥) → (if b then x else y) ≡ Some NoMemory → ⊥
 none_is_memory true x y p q e = p e

@@ -1,11 +1,11 @@
--- The groups of an outcome, from what the log's holder knows.
+-- The groups of an outcome, from what the holder of the log knows.
 use Rattle.std.proofs.Common.{◌≡◌, inl, inr, ◌≢◌, ℕ, zero, suc, ◌+◌, ◌-◌, ◌<◌, ◌≤◌, Bool, true, false, cond, Some, List, [], ◌∷◌, ◌++◌, length, map, filter, slice_get, ◌==◌, refl, ap, sym, ◌∙◌, subst, arith, append_assoc, length-append}
 use Rattle.std.specs.List.{AllByRecursion, AllZip}
 use Rattle.std.proofs.lemmas.Option.{slice_get_cases}
 use Rattle.std.proofs.lemmas.List.{append-nil, length-map}
 use Rattle.model_base.specs.Controller.{ControllerCall}
 use Rattle.model_base.specs.Attempts.{Attempt, WriteStatus, slowed, item_of}
-use Rattle.model_base.specs.Groups.{Member, Group, IsAskedFor, IsCommit, AreOfOthers, AreApart, AreAllApart, AreGroups, StandTogether, StandsTogether, Holds, items_of, members_of}
+use Rattle.model_base.specs.Groups.{Member, Group, IsAskedFor, IsCommit, AreOfOthers, AreApart, AreAllApart, AreGroups, HaveOneFate, HasOneFate, Holds, items_of, members_of}
 use Rattle.model_accounts.specs.Led.{Taken, Led, HaveOwnClients, items_in, all_taken, is_of, count_of_client, attempts_of, members_after, groups_after, groups_of, IsLed, AreLed}
 
 -- Lists
@@ -34,7 +34,7 @@ left_of_zip P Q [] ys h = tt
 left_of_zip P Q (x ∷ xs) [] h = absurd h
 left_of_zip P Q (x ∷ xs) (y ∷ ys) h = (h.0.0, left_of_zip P Q xs ys h.1)
 
--- The members one after another are those of all groups
+-- The members of some commits and then of others are the members of all of these
 members_append : (before ts us : List Taken) → members_after before (ts ++ us) ≡ members_after before ts ++ members_after (before ++ ts) us
 members_append before [] us = ap (λ b. members_after b us) (sym (append-nil before))
 members_append before (t ∷ ts) us =
@@ -53,7 +53,7 @@ length_after : (before ts : List Taken) → length (members_after before ts) ≡
 length_after before [] = refl
 length_after before (t ∷ ts) = let e = length_after (before ++ t ∷ []) ts in omega arith
 
--- Other clients make other members
+-- Commits of other clients make members of other clients
 unlike_after : (client : ℕ) (before ts : List Taken) → AllByRecursion (λ (u : Taken). client ≢ u.client) ts → AllByRecursion (λ (n : Member). client ≢ n.client) (members_after before ts)
 unlike_after client before [] h = tt
 unlike_after client before (t ∷ ts) h = (h.0, unlike_after client (before ++ t ∷ []) ts h.1)
@@ -62,7 +62,7 @@ others_after : (before ts : List Taken) → HaveOwnClients ts → AreOfOthers (m
 others_after before [] h = tt
 others_after before (t ∷ ts) h = (unlike_after t.client (before ++ t ∷ []) ts h.0, others_after (before ++ t ∷ []) ts h.1)
 
--- Each group was asked for
+-- A delay was asked for each group
 asked_after : (group_bytes : ℕ) (controller_calls : List ControllerCall) (before : List Taken) (led : List Led) → AllByRecursion (IsLed group_bytes controller_calls) led → AllByRecursion (IsAskedFor group_bytes controller_calls) (groups_after before led)
 asked_after group_bytes controller_calls before [] h = tt
 asked_after group_bytes controller_calls before (g ∷ led) h = (
@@ -76,7 +76,7 @@ asked_after group_bytes controller_calls before (g ∷ led) h = (
   asked_after group_bytes controller_calls (before ++ g.commits) led h.1,
 )
 
--- No commit stands twice: the later one of a client has the greater number
+-- No commit is there twice: of two commits of one client the later one has the greater number
 pub own_is : (t : Taken) → is_of t.client t ≡ true
 own_is t = nat_same t.client
   where
@@ -145,10 +145,10 @@ module _ (attempts : List (List Attempt)) (all : List Taken) (of_client : (i : �
     statuses_after (before ++ t ∷ []) ts after (append_assoc before (t ∷ []) (ts ++ after) ∙ split) h.1,
   )
 
-  -- each group with its statuses, where it stands together among all
+  -- each group goes on or is refused as a whole, by the statuses of its commits
   together_after : (controller_calls : List ControllerCall) (groups : List Group) (before : List Taken) (led : List Led) → before ++ all_taken led ≡ all → AreOfClients (all_taken led)
-      → AllByRecursion (λ (g : Led). StandTogether controller_calls (map (λ (h : Group). h.place) groups) g.place (items_in g.commits) (map (λ (t : Taken). t.attempt.status) g.commits)) led
-      → AllByRecursion (StandsTogether controller_calls groups attempts) (groups_after before led)
+      → AllByRecursion (λ (g : Led). HaveOneFate controller_calls (map (λ (h : Group). h.place) groups) g.place (items_in g.commits) (map (λ (t : Taken). t.attempt.status) g.commits)) led
+      → AllByRecursion (HasOneFate controller_calls groups attempts) (groups_after before led)
   together_after controller_calls groups before [] split clients h = tt
   together_after controller_calls groups before (g ∷ led) split clients h = (
     record {
@@ -159,7 +159,7 @@ module _ (attempts : List (List Attempt)) (all : List Taken) (of_client : (i : �
     together_after controller_calls groups (before ++ g.commits) led (append_assoc before g.commits (all_taken led) ∙ split) (all_right _ g.commits (all_taken led) clients) h.1,
   )
 
--- A client's commits stand in the groups, and who was slowed in the one whose delay told it so
+-- A client's commits are in the groups, and a slowed one is in the group whose delay slowed it
 
 same_client : (a b : ℕ) → (a == b) ≡ true → a ≡ b
 same_client a b h = grind arith
@@ -188,7 +188,7 @@ all_at P [] k x h e = absurd (cc e)
 all_at P (y ∷ xs) zero x h e = let is : y ≡ x = cc e in subst P is h.0
 all_at P (y ∷ xs) (suc k) x h e = all_at P xs k x h.1 e
 
--- a client's k-th commit among these, and the member that stands for it
+-- a client's k-th commit among these, and the member that it makes
 record Stands (client : ℕ) (before ts : List Taken) (k : ℕ) (h : Attempt) : Type 0 where
   at : ℕ
   taken : Taken
@@ -242,7 +242,7 @@ stands client before (t ∷ ts) k h e = by_test (is_of client t) refl k e (λ j.
         let one : count_of_client client (t ∷ []) ≡ 0 = rw own refl in
         stands_later client before t ts k k h (omega (arith, more, one)) (later k rest)
 
--- A group among these holds a client's commit, and who was slowed was told so by its delay
+-- One of these groups has a client's commit, and if the commit was slowed, that was by this group's delay
 abbrev HoldsIn : List Group → ℕ → ℕ → Attempt → Type 0
 HoldsIn groups client call h = (place : ℕ) × Holds groups place client call × ((told : ℕ) → h.status ≡ slowed told → told ≡ place)
 

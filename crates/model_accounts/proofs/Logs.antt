@@ -1,4 +1,4 @@
--- What a write path says at its closing of the calls that wrote its log is what a crash's claims are about.
+-- What a write path says at its closing about the calls that wrote its log is what the claims about crashes need.
 use Rattle.std.proofs.Common.{◌≡◌, ℕ, ◌<◌, true, IsTrue, ◌||◌, List, [], ◌∷◌, length, map, flat_map, Some, refl, ap, sym, ◌∙◌, ◌+◌, arith}
 use Rattle.std.specs.List.{AllByRecursion, AllZip, list_any}
 use Rattle.model_base.specs.declared.history.Flag.{Flag}
@@ -28,7 +28,7 @@ same_records [] (c ∷ calls) h = absurd h
 same_records (part ∷ parts) [] h = absurd h
 same_records (part ∷ parts) (c ∷ calls) h = ap (λ r. r ∷ map record_of_call calls) (same_record part c h.0) ∙ ap (λ rs. record_of_entries part ∷ rs) (same_records parts calls h.1)
 
--- it synced where one of them was to be synced
+-- a call that wrote these entries synced if one of them was to be synced
 pub has_synced : (part : List Entry) (c : GroupCall) → WroteEntries part c → HasSync part → c.sync ≡ true
 has_synced part c h some = by_entries part h.synced some
   where
@@ -46,7 +46,7 @@ pub parts_are_groups : (entries : List Entry) (parts : List (List Entry)) (calls
     → AllZip WroteEntries parts calls → AreGroupsOf entries parts
 parts_are_groups entries parts calls cut runs each = record { cut = sym cut; none_empty = none_empty parts calls each; runs = runs }
 
--- where the log has a fault, the call that failed was to write the record of a lost group
+-- if the log has a fault, the call that failed was to write the record of a lost group
 pub lost_record : (group_bytes : ℕ) (attempts : List (List Attempt)) (count last : ℕ) (lost : List GroupCall) → AreLost group_bytes attempts (Some count) last lost
     → (c : GroupCall) × (lost ≡ c ∷ []) × (c.failed ≡ Some count) × IsLostGroup group_bytes attempts count last c.batches × (record_of_call c ≡ group_record (last + 1) c.batches)
 lost_record group_bytes attempts count last lost l = (l.0, l.1, l.2.failed, l.2.batches, ap (λ n. group_record n (l.0).batches) l.2.first)

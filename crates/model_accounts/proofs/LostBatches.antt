@@ -1,4 +1,4 @@
--- The batches of the group whose log write failed are those of commits that were answered so.
+-- The batches of the group whose log write failed are those of commits that were answered the log's fault.
 use Rattle.std.proofs.Common.{◌≡◌, inl, inr, ℕ, ◌+◌, ◌<◌, false, Some, List, [], ◌∷◌, ◌++◌, length, slice_get, ap, sym, ◌∙◌, subst, arith, append_assoc}
 use Rattle.std.proofs.lemmas.Option.{slice_get_cases}
 use Rattle.model_base.specs.declared.write.Refusal.TheVariants as no
@@ -14,7 +14,7 @@ use Rattle.model_runs.specs.Lost.{IsLost, IsFaultedBatch}
 use Rattle.model_accounts.specs.Answered.{Tells, IsAmong}
 use Rattle.model_accounts.proofs.Visible.{attempts_visible}
 
--- also in a transcript that ended out of memory
+-- this is so even in a transcript that ended without memory
 pub transcript_visible : (settings : Settings) (trace : Trace) (client : ℕ) (commands : List Command) (calls : List Call) (end : Progress) → IsTranscript settings trace client commands calls end
     → (k : ℕ) (h : Attempt) → slice_get end.attempts k ≡ Some h → IsAmong [] calls h
 transcript_visible settings trace client commands calls end (whole all run) k h e = attempts_visible settings trace client calls end run k h e

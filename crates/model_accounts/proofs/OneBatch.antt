@@ -23,7 +23,7 @@ use Rattle.model_accounts.proofs.Passing.{went_none, went_more, has_run}
 pub whole : Saw (sight_of (first_version ∷ second_version ∷ [])) one_batch
 whole = record { start = refl; opening = refl; entries = one_entry ∷ []; begins = ([], refl); groups = (one_entry ∷ [], [], refl, refl, refl); controller_calls = ([], refl) }
 
--- the first entries of one make all of its versions, or none
+-- the first entries of a history of one entry make all of its versions, or none
 not_half : (first rest : List Entry) → first ++ rest ≡ one_entry ∷ [] → made_by versions_of_entry first ≡ first_version ∷ [] → ⊥
 not_half [] rest all made = absurd (cc made)
 not_half (e ∷ []) rest all made =

@@ -1,4 +1,4 @@
--- Two clients in one group, and what each is told of its end.
+-- Two clients in one group, and what each of them learns of its end.
 use Rattle.std.proofs.Common.{◌≡◌, inl, inr, ℕ, zero, suc, ◌+◌, ◌<◌, List, [], ◌∷◌, length, flat_map, map, Some, None, slice_get, refl, sym, ◌∙◌, subst, arith, append-nil}
 use Rattle.std.specs.List.{AllByRecursion, AllZip}
 use Rattle.std.proofs.Math.Dec.{lit≤}
@@ -107,7 +107,7 @@ closing = record {
     each (suc zero) a there = let is : account_with second_records (entry_with 2 2 second_records) 2 ≡ a = cc there in subst OfTrace is second
     each (suc (suc i)) a there = absurd (cc there)
 
--- One delay alone was asked, so all stand in one group, whose part is the whole history
+-- Only one delay was asked for, so all commits are in one group, whose part is the whole history
 
 first_place : (g : Group) → IsAskedFor pair_settings.group_bytes (pair_delay ∷ []) g → g.place ≡ 0
 first_place g asked =

@@ -1,4 +1,4 @@
--- Which entries each group made, from what the log's holder knows.
+-- Which entries each group made, from what the holder of the log knows.
 use Rattle.std.proofs.Common.{◌≡◌, inl, inr, ℕ, zero, suc, ◌+◌, ◌-◌, ◌≤◌, Bool, false, Some, List, [], ◌∷◌, ◌++◌, length, map, filter, flat_map, take, get_or, slice_get, refl, ap, sym, ◌∙◌, arith, append_assoc}
 use Rattle.std.specs.List.{AllByRecursion, AllZip}
 use Rattle.std.proofs.lemmas.Option.{slice_get_cases}
@@ -11,13 +11,13 @@ use Rattle.model_accounts.specs.Led.{Taken, Led, all_taken, is_of, count_of_clie
 use Rattle.model_accounts.specs.Parts.{is_success, successes, name_behind, name_made, names_made, name_of}
 use Rattle.model_accounts.proofs.Leading.{all_left, all_right, attempts_append, own_is}
 
--- the names of the entries that these commits made, behind those before
+-- the names of the entries that these commits made, after the commits `before`
 abbrev pub names_after : List Taken → List Taken → List (ℕ × ℕ)
 names_after before [] = []
 names_after before (t ∷ ts) = name_behind t.client (successes (attempts_of t.client before)) (is_success t.attempt.status)
     ++ names_after (before ++ t ∷ []) ts
 
--- each part has just the names of its group
+-- each part has just the names of its group's entries
 abbrev pub AreNamed : List Taken → List Led → List (List Entry) → Type 0
 AreNamed before [] [] = Unit {0}
 AreNamed before [] (part ∷ parts) = ⊥
@@ -29,7 +29,7 @@ got [] i d x e = absurd (cc e)
 got (y ∷ xs) zero d x e = cc e
 got (y ∷ xs) (suc i) d x e = got xs i d x e
 
--- a client's commits, with one of them among all
+-- whether each of a client's commits succeeded, with one commit in the middle
 successes_at : (before : List Taken) (t : Taken) (after : List Taken)
     → successes (attempts_of t.client (before ++ t ∷ after)) ≡ successes (attempts_of t.client before) ++ is_success t.attempt.status ∷ successes (attempts_of t.client after)
 successes_at before t after =
@@ -41,7 +41,7 @@ place_is : (client : ℕ) (before : List Taken) → length (successes (attempts_
 place_is client before =
     length-map (attempts_of client before) (λ (h : Attempt). is_success h.status) ∙ length-map (filter (is_of client) before) (λ (t : Taken). t.attempt)
 
--- the name at such a place
+-- the name of the entry that the commit in the middle made
 name_at : (client : ℕ) (before after : List Bool) (success : Bool) → name_behind client (take (length before) (before ++ success ∷ after)) (get_or (before ++ success ∷ after) (length before) false) ≡ name_behind client before success
 name_at client before after success = λ i. name_behind client (take-append_seam before (success ∷ after) i) (get_or-append_seam before success after false i)
 

@@ -27,7 +27,7 @@ went_more settings calls v before c r w after so_far goes =
           (so_far.run trace is_history (saw_earlier v.seen w.seen goes.seen trace saw)) (next.2 trace is_history saw));
     }
 
--- all commands were answered, and the client gave back what it held
+-- all commands were answered, and the client gave back the tokens that it held
 pub has_run : (settings : Settings) (calls : List Call) (v : Account) (pending : List Record) (w : Account)
     → Went settings calls v pending → GivesBack v w → HasRun settings v.number (commands_of calls) calls w
 has_run settings calls v pending w went back = record {

@@ -1,4 +1,4 @@
--- What was seen of a trace at some time, and what was seen of it earlier.
+-- What was seen of a trace at some time, and what was seen of it before that.
 use Rattle.std.proofs.Common.{◌≡◌, ℕ, ◌≤◌, List, [], ◌∷◌, ◌++◌, length, map, refl, ap, sym, ◌∙◌, subst, arith, append_assoc}
 use mathlib.Core.List.{IsPrefix}
 use Rattle.model_base.specs.History.{Entry, IsHistory, last_of as last_of_entry, last_sequence, map_over}
@@ -27,11 +27,11 @@ sees_on u v w a b = record {
   controller_calls = prefix_trans u.controller_calls v.controller_calls w.controller_calls a.controller_calls b.controller_calls;
 }
 
--- what was seen published doesn't fall
+-- the last sequence that was seen published doesn't fall
 pub last_rises : (v w : Sight) → Sees v w → last_seen v ≤ last_seen w
 last_rises v w s = let more = longer v.published w.published s.published in let start = s.start in omega (arith, more, start)
 
--- the first of some groups, each made by entries of its own, are made by the first of the entries
+-- if each of these groups was made by entries of its own, the first groups were made by the first entries
 cut : (entries : List Entry) (some groups : List (List MemberVersions)) → Images versions_of_entry entries groups → Begins some groups
     → (first : List Entry) × IsPrefix first entries × Images versions_of_entry first some
 cut entries [] groups are begins = ([], (entries, refl), refl)
@@ -43,18 +43,20 @@ cut entries (g ∷ some) groups are begins =
       (all.0, rest.0, refl, all.3, rest.2),
     )
 
--- who has seen the first of all published groups has seen some of the trace whose entries made them
+-- if the groups that were seen published are the first ones of all published groups, they may have been seen of the
+-- trace whose entries made all those
 pub saw_published : (trace : Trace) (history : List (List MemberVersions)) → Images versions_of_entry trace.entries history → (sight : Sight) → sight.start ≡ trace.start → sight.opening ≡ trace.opening
     → Begins sight.published history → IsPrefix sight.controller_calls trace.controller_calls → Saw sight trace
 saw_published trace history are sight start opening begins calls =
     let first = cut trace.entries sight.published history are begins in
     record { start = start; opening = opening; entries = first.0; begins = first.1; groups = first.2; controller_calls = calls }
 
--- and where some versions made the map before them, all together make the map that was seen
+-- if some versions made the map before these groups, then these versions and the groups' ones make the map that was
+-- seen
 pub seen_of_all : (sight : Sight) (before : List Version) → sight.opening ≡ map_of_versions before → map_of_versions (before ++ versions_of sight.published) ≡ map_seen sight
 seen_of_all sight before is = after_append [] before (versions_of sight.published) ∙ ap (λ (m : Pairs). after_records m (map record_of (versions_of sight.published))) (sym is)
 
--- what was seen earlier was seen of the same trace
+-- what was seen earlier may have been seen of the same trace
 pub saw_earlier : (v w : Sight) → Sees v w → (trace : Trace) → Saw w trace → Saw v trace
 saw_earlier v w sees trace saw =
     let first = cut saw.entries v.published w.published saw.groups sees.published in
@@ -67,7 +69,7 @@ saw_earlier v w sees trace saw =
       controller_calls = prefix_trans v.controller_calls w.controller_calls trace.controller_calls sees.controller_calls saw.controller_calls;
     }
 
--- What was seen published is what some first entries of the trace make
+-- What was seen published was made by the trace's first entries
 
 history_before : (start : ℕ) (first rest : List Entry) → IsHistory start (first ++ rest) → IsHistory start first
 history_before start [] rest is = tt

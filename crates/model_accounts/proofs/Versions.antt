@@ -1,4 +1,4 @@
--- The versions that entries make are as many as their runs are long, and make the same map.
+-- The versions that entries make: there are as many as their runs are long, and they make the same map.
 use Rattle.std.proofs.Common.{◌≡◌, ℕ, ◌+◌, if◌then◌else◌, List, [], ◌∷◌, ◌++◌, length, map, refl, ap, sym, ◌∙◌, arith, length-append}
 use Rattle.std.proofs.lemmas.List.Sums.{sum_by-cons}
 use Rattle.model_base.specs.Batch.{Record, value, deletion, single_deletion, log_data, is_counted, count_of}
@@ -26,7 +26,7 @@ numbered_length : (first : ℕ) (versions : List Version) → length (number_fro
 numbered_length first [] = refl
 numbered_length first (v ∷ versions) = let h = numbered_length (first + 1) versions in omega (arith, h)
 
--- they reach from the sequence before the first entry to that given last
+-- they go from the sequence before the first entry to the one that was given last
 pub versions_reach : (start : ℕ) (entries : List Entry) → IsHistory start entries → start + length (versions_of_entries entries) ≡ last_sequence start entries
 versions_reach start [] is = omega arith
 versions_reach start (e ∷ entries) is =

@@ -1,4 +1,5 @@
--- A client's commits that a leader took in hand are commits of its transcript, and their statuses are the replies there.
+-- A client's commits that leaders took into their groups are commits of its transcript, and their replies are those of
+-- their statuses.
 use Rattle.std.proofs.Common.{◌≡◌, ◌⊎◌, inl, inr, ℕ, ◌≤◌, Option, Some, None, List, [], ◌∷◌, ◌++◌, length, slice_get, MatchOption, refl, ap, sym, ◌∙◌, subst, arith, length-append}
 use Rattle.std.proofs.lemmas.Option.{slice_get_cases}
 use Rattle.std.proofs.lemmas.Bool.{cases_lt}
@@ -20,7 +21,7 @@ use Rattle.model_base.specs.Calls.{Command, add, clear, commit, get, many, scan,
 abbrev attempt : Progress → WriteOptions → WriteStatus → Attempt
 attempt p how status = record { records = p.pending; options = how; status = status }
 
--- a step puts no commit into a leader's hand, or its own one
+-- a step adds no attempt, or adds the step's own commit, with a reply that fits its status
 abbrev Hands : Progress → Command → Reply → Progress → Type 0
 Hands p c r q = (q.attempts ≡ p.attempts)
     ⊎ ((how : WriteOptions) × (status : WriteStatus) × (c ≡ commit how) × (q.attempts ≡ p.attempts ++ attempt p how status ∷ []) × Tells status p.pending r)
@@ -29,7 +30,7 @@ record Moves (p : Progress) (c : Command) (r : Reply) (q : Progress) : Type 0 wh
   pending : q.pending ≡ added_by p.pending c r
   hands : Hands p c r q
 
--- nothing of both moved
+-- neither the batch nor the attempts have changed
 same_both : (p : Progress) (c : Command) (r : Reply) (q : Progress) → added_by p.pending c r ≡ p.pending → q.pending ≡ p.pending → q.attempts ≡ p.attempts → Moves p c r q
 same_both p c r q none a b = record { pending = a ∙ sym none; hands = inl b }
 
@@ -66,7 +67,7 @@ commit_moves trace client p how _ q None s = absurd s
 commit_moves trace client p how r q (Some why) s =
     same_both p (commit how) r q (ap (added_by p.pending (commit how)) s.0) (ap (λ (x : Progress). x.pending) s.1) (ap (λ (x : Progress). x.attempts) s.1)
 
--- where the step is an equation on the new progress that leaves both
+-- steps that give the new progress by an equation, where the attempts stay as they are
 module _ (p : Progress) (q : Progress) where
   adds : (x : Record) (r : Reply) → Adds p x r q → Moves p (add x) r q
   adds x quiet s = record { pending = ap (λ (x : Progress). x.pending) s; hands = inl (ap (λ (x : Progress). x.attempts) s) }
@@ -173,7 +174,8 @@ among settings trace client p (c ∷ calls) q run k h past e =
       ]
     ]
 
--- each commit that a leader took in hand stands in the transcript, with the batch that it had there and the reply that its status says
+-- each commit that a leader took into a group is in the transcript, with the batch that it had there and the reply of
+-- its status
 pub attempts_visible : (settings : Settings) (trace : Trace) (client : ℕ) (calls : List Call) (end : Progress) → Run settings trace client fresh calls end
     → (k : ℕ) (h : Attempt) → slice_get end.attempts k ≡ Some h → IsAmong [] calls h
 attempts_visible settings trace client calls end run k h e = among settings trace client fresh calls end run k h (omega arith) e

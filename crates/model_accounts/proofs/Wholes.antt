@@ -1,4 +1,5 @@
--- What grouping takes from the head of a queue is by itself a whole group: nothing after it is needed to see that.
+-- What grouping takes from the front of a queue is a whole group by itself: the rest of the queue isn't needed to see
+-- that.
 use Rattle.std.proofs.Common.{◌≡◌, ℕ, zero, suc, ◌+◌, ◌-◌, ◌<◌, ◌≤◌, Bool, true, false, List, [], ◌∷◌, length, take, take_while, slice_get, refl, ap, ◌∙◌, arith}
 use Rattle.std.specs.List.{range_with_len}
 use Rattle.std.proofs.lemmas.List.Sums.{take_while-cons}
@@ -22,7 +23,7 @@ length_prefix zero xs h = refl
 length_prefix (suc n) [] h = absurd (omega arith)
 length_prefix (suc n) (x ∷ xs) h = let e = length_prefix n xs (omega arith) in omega arith
 
--- how many places from s on, of k, pass a test
+-- how many of the k places from s on pass a test, up to the first that doesn't
 abbrev run : (ℕ → Bool) → ℕ → ℕ → ℕ
 run p s k = length (take_while p (range_with_len s k))
 
@@ -40,7 +41,7 @@ run_within p s (suc k) = by_test (p s) refl (run_within p (s + 1) k)
     by_test true e h = let r = run_true p s k e in omega arith
     by_test false e h = let r = run_false p s k e in omega arith
 
--- a test that agrees as far as the first one passes, passes as far
+-- a second test that agrees with the first one as far as that passes, passes as far
 same_run : (p q : ℕ → Bool) (s k : ℕ) → ((i : ℕ) → s ≤ i → i < s + run p s k → q i ≡ p i) → run q s (run p s k) ≡ run p s k
 same_run p q s zero h = refl
 same_run p q s (suc k) h = by_test (p s) refl (λ e. same_run p q (s + 1) k (λ i low high. h i (omega arith) (let r = run_true p s k e in omega arith)))

@@ -1,4 +1,4 @@
--- What the calls of a write path say of one client.
+-- What the calls of a write path say about one client.
 use Rattle.std.specs.Prelude.{◌≡◌, ◌⊎◌, ℕ, ◌+◌, ◌<◌, ◌≤◌, false, List, [], ◌∷◌, ◌++◌, length, Option, Some, None, MatchOption}
 use Rattle.model_base.specs.declared.write.WriteOptions.{WriteOptions}
 use Rattle.model_base.specs.declared.write.Refusal.{Refusal}
@@ -9,13 +9,13 @@ use Rattle.model_base.specs.Map.{Pairs}
 use Rattle.model_base.specs.Controller.{Action}
 use Rattle.model_base.specs.Tokens.{holds_stop, given_back}
 use Rattle.model_base.specs.Trace.{Settings}
-use Rattle.model_base.specs.Attempts.{Attempt, WriteStatus, succeeded, with_attempt, knows_dead}
+use Rattle.model_base.specs.Attempts.{Attempt, WriteStatus, succeeded, with_attempt, knows_log_failed}
 use Rattle.model_base.specs.Progress.{Progress, next_entry, early_refusal}
 use Rattle.model_base.specs.Replies.{IsLater, AreFullBelow, MayRefuse}
 use Rattle.model_accounts.specs.Sights.{Sight, unseen, last_seen, map_seen, Sees}
 
 -- One client: its accepted batches, for each of them the last sequence of its group, its calls of the controller that
--- were done, its commits that a leader took in hand, and what it has seen of the run
+-- were answered `done`, its commits that leaders took into their groups, and what it has seen of the run
 pub record Account : Type 0 where
   pub number : ℕ
   pub mine : List Entry
@@ -34,8 +34,8 @@ newcomer start opening number = record {
   seen = unseen start opening;
 }
 
--- where a client stands that has this account, this batch in the making, and was shown what is published up to
--- `seen_up_to`
+-- the progress of a client that has this account, has `pending` as its unfinished batch, and was shown what is
+-- published up to `seen_up_to`
 abbrev pub progress_at : Account → List Record → ℕ → Progress
 progress_at a pending seen_up_to = record {
   pending = pending;
@@ -46,7 +46,7 @@ progress_at a pending seen_up_to = record {
   known = length a.seen.controller_calls;
 }
 
--- it has done no more, and has seen no less
+-- from v to w the client has done nothing more, and has seen no less
 pub record Keeps (v w : Account) : Type 0 where
   pub number : w.number ≡ v.number
   pub mine : w.mine ≡ v.mine
@@ -55,8 +55,9 @@ pub record Keeps (v w : Account) : Type 0 where
   pub attempts : w.attempts ≡ v.attempts
   pub seen : Sees v.seen w.seen
 
--- A batch has its run: one entry more. The run is above all that the client had seen published, and above each sequence
--- behind which there was no room for a batch of its. It has seen the batch's group published, up to the group's end.
+-- A batch was accepted: one entry more. It had passed the early checks, and the client didn't know of a fault of the
+-- log. Its run is above all that the client had seen published, and above each sequence after which there was no room
+-- for an earlier batch of this client. The client has now seen the batch's group published, up to the group's end.
 pub record Wrote (settings : Settings) (v : Account) (records : List Record) (how : WriteOptions) (first group_last : ℕ)
     (w : Account) : Type 0 where
   pub number : w.number ≡ v.number
@@ -69,11 +70,11 @@ pub record Wrote (settings : Settings) (v : Account) (records : List Record) (ho
   pub passed : early_refusal settings.batch_bytes (holds_stop v.asked) records how ≡ None
   pub above : last_seen v.seen < first
   pub behind : AreFullBelow first v.attempts
-  pub alive : knows_dead v.attempts ≡ false
+  pub alive : knows_log_failed v.attempts ≡ false
   pub within : first + count_of records ≤ group_last + 1
   pub reached : group_last ≤ last_seen w.seen
 
--- a batch that passed the early checks has no run
+-- a commit that passed the early checks was refused, and its batch has no run
 pub record IsRefused (v : Account) (records : List Record) (how : WriteOptions) (why : Refusal)
     (w : Account) : Type 0 where
   pub status : Option WriteStatus
@@ -87,7 +88,7 @@ pub record IsRefused (v : Account) (records : List Record) (how : WriteOptions) 
   pub attempts : w.attempts ≡ with_attempt v.attempts records how status
   pub seen : Sees v.seen w.seen
 
--- past the early checks out of memory may come before a refusal that needs the queue
+-- after the early checks a commit may also find no memory, and then the client has done nothing more
 abbrev pub IsRefusedLate : Account → List Record → WriteOptions → Refusal → Account → Type 0
 IsRefusedLate v records how why w = ((why ≡ NoMemory) × Keeps v w) ⊎ IsRefused v records how why w
 
@@ -96,12 +97,12 @@ Refuses settings v records how why w =
     MatchOption (early_refusal settings.batch_bytes (holds_stop v.asked) records how)
     (IsRefusedLate v records how why w) (λ (early : Refusal). (why ≡ early) × Keeps v w)
 
--- a read is at the end of what the client has now seen published, and answers what the map there has
+-- a read is at the last sequence that the client has now seen published, and its answer is that of the map there
 pub record Reads (at : ℕ) (answers : Pairs → Type 0) (w : Account) : Type 0 where
   pub at_is : at ≡ last_seen w.seen
   pub answer : answers (map_seen w.seen)
 
--- it made this call of the controller, after all that it had seen
+-- the client made this call of the controller, after all that it had seen
 pub record Asks (v : Account) (action : Action) (w : Account) : Type 0 where
   pub number : w.number ≡ v.number
   pub mine : w.mine ≡ v.mine
@@ -113,7 +114,7 @@ pub record Asks (v : Account) (action : Action) (w : Account) : Type 0 where
   pub is_later : IsLater w.seen.controller_calls (length v.seen.controller_calls) place
       (record { client = v.number; action = action; told = None })
 
--- it gave back what it held
+-- the client gave back the tokens that it held
 pub record GivesBack (v w : Account) : Type 0 where
   pub number : w.number ≡ v.number
   pub mine : w.mine ≡ v.mine

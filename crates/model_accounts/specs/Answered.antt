@@ -1,4 +1,4 @@
--- What a client's transcript shows of a commit that a leader took in hand.
+-- What a client's transcript shows of a commit that a leader took into its group.
 use Rattle.std.specs.Prelude.{◌≡◌, ℕ, List, ◌∷◌, ◌++◌, fold}
 use Rattle.model_base.specs.declared.write.Refusal.TheVariants as no
 use Rattle.model_base.specs.Batch.{Record}
@@ -6,7 +6,7 @@ use Rattle.model_base.specs.Attempts.{Attempt, WriteStatus, succeeded, slowed, f
 use Rattle.model_base.specs.Progress.{added_by}
 use Rattle.model_base.specs.Calls.{commit, Reply, accepted, refused, Call}
 
--- the reply that a status stands for
+-- the reply to a commit with this status
 abbrev pub Tells : WriteStatus → List Record → Reply → Type 0
 Tells succeeded records reply = (first : ℕ) × (last : ℕ) × (reply ≡ accepted first last records)
 Tells (slowed place) records reply = (stops : ℕ) × (delays : ℕ) × (wait : ℕ)
@@ -14,7 +14,7 @@ Tells (slowed place) records reply = (stops : ℕ) × (delays : ℕ) × (wait : 
 Tells (faulted count) records reply = reply ≡ refused (no.LogFault count)
 Tells (full last) records reply = reply ≡ refused (no.SequenceFull last)
 
--- One of these calls is this commit, with the reply of its status. Before them the client's batch had `records`.
+-- One of these calls is this commit, with the reply of its status. Before these calls the client's batch had `records`.
 pub record IsAmong (records : List Record) (calls : List Call) (attempt : Attempt) : Type 0 where
   pub before : List Call
   pub reply : Reply

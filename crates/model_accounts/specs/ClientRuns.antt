@@ -1,17 +1,17 @@
--- How a client goes on, call by call, whatever the write path that it calls.
+-- How a client goes on, call by call, with any write path.
 use Rattle.std.specs.Prelude.{◌≡◌, ℕ, ◌+◌, ◌≤◌, List, [], ◌∷◌, ◌++◌, length, Some, slice_get}
 use Rattle.model_base.specs.Batch.{Record}
 use Rattle.model_base.specs.Tokens.{given_back}
 use Rattle.model_base.specs.Trace.{Settings}
 use Rattle.model_base.specs.Progress.{Progress, fresh}
-use Rattle.model_base.specs.Replies.{MayLackMemory}
+use Rattle.model_base.specs.Replies.{MayFindNoMemory}
 use Rattle.model_base.specs.Runs.{Step, Run, IsTranscript}
 use Rattle.model_base.specs.Calls.{Command, Reply, Call}
 use Rattle.model_accounts.specs.Sights.{last_seen, Sees, InEachTrace}
 use Rattle.model_accounts.specs.Accounts.{Account, Keeps, progress_at}
 
--- Whatever it was shown before, it goes on by this command and reply, in each trace of which it may have seen what it
--- now has seen.
+-- The client gets this reply to this command, and goes from v to w. This is a step in each trace of which it may have
+-- seen what it has now seen, whatever it was shown before.
 pub record Goes (settings : Settings) (v : Account) (before : List Record) (command : Command) (reply : Reply)
     (w : Account) (after : List Record) : Type 0 where
   pub number : w.number ≡ v.number
@@ -20,24 +20,24 @@ pub record Goes (settings : Settings) (v : Account) (before : List Record) (comm
       × InEachTrace w.seen (λ trace. Step settings trace v.number (progress_at v before shown) command reply
       (progress_at w after seen_up_to))
 
--- its call found no memory, where that may be, and changed nothing
+-- the client's call found no memory, if it is one that may, and changed nothing
 pub record Lacks (settings : Settings) (v : Account) (before : List Record) (command : Command)
     (w : Account) : Type 0 where
   pub keeps : Keeps v w
-  pub may : (shown : ℕ) → MayLackMemory settings (progress_at v before shown) command
+  pub may : (shown : ℕ) → MayFindNoMemory settings (progress_at v before shown) command
 
--- a call more, with its reply
+-- the calls, and one more with its reply
 abbrev pub with_call : List Call → Command → Reply → List Call
 with_call calls command reply = calls ++ record { command = command; reply = reply } ∷ []
 
--- its calls so far brought it there
+-- the client's calls so far brought it to this account and this unfinished batch
 pub record Went (settings : Settings) (calls : List Call) (a : Account) (pending : List Record) : Type 0 where
   pub seen_up_to : ℕ
   pub shown : seen_up_to ≤ last_seen a.seen
   pub run : InEachTrace a.seen (λ trace. Run settings trace a.number fresh calls (progress_at a pending seen_up_to))
 
--- All its calls, as far as it alone can tell: a transcript in each trace of which it may have seen what it has seen,
--- that leaves what it has done
+-- All calls of a client, as far as it alone can tell: they are a transcript in each trace of which it may have seen
+-- what it has seen, and at its end the client has done what its account says
 pub record HasRun (settings : Settings) (client : ℕ) (commands : List Command) (calls : List Call)
     (a : Account) : Type 0 where
   pub end : Progress

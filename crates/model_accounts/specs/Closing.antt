@@ -1,4 +1,4 @@
--- What the closing of a write path says of all its clients.
+-- What the closing of a write path says about all its clients.
 use Rattle.std.specs.Prelude.{◌≡◌, ℕ, ◌+◌, ◌≤◌, List, length, map, Option, Some, slice_get, IfSome}
 use Rattle.model_base.specs.History.{Entry, last_sequence}
 use Rattle.model_base.specs.Counts.{Rose}
@@ -13,14 +13,14 @@ use Rattle.model_accounts.specs.Sights.{Saw}
 use Rattle.model_accounts.specs.Accounts.{Account}
 use Rattle.model_accounts.specs.Parts.{AreParts, ends_in}
 
--- these are all clients, in their order
+-- these are all clients, in the order of their numbers
 pub record AreOurs {C : Type 0} (belongs : C → Type 0) (account : C → Account) (clients : ℕ)
     (cs : List C) : Type 0 where
   pub number_of : length cs ≡ clients
   pub each : (i : ℕ) (c : C) → slice_get cs i ≡ Some c → belongs c × ((account c).number ≡ i + 1)
 
--- What a client has done is just its part of the trace, what it has seen was seen of the trace, and it was told the
--- last sequence of each of its batches' groups, whose entries are these parts.
+-- What a client has done is just its part of the trace. What it has seen may have been seen of the trace. It has
+-- learned, for each of its batches, the last sequence of the batch's group; `parts` are the entries of the groups.
 pub record IsAccountOf (trace : Trace) (groups : List Group) (parts : List (List Entry)) (fault : Option ℕ)
     (a : Account) : Type 0 where
   pub accepted : entries_of_client a.number trace.entries ≡ a.mine
@@ -29,16 +29,16 @@ pub record IsAccountOf (trace : Trace) (groups : List Group) (parts : List (List
   pub statuses : AreStatuses trace groups fault a.number 0 a.attempts
   pub seen : Saw a.seen trace
 
--- the clients' commits that came to a leader's hand
+-- for each client its commits that leaders took into their groups
 abbrev pub all_attempts : List Account → List (List Attempt)
 all_attempts accounts = map (λ (a : Account). a.attempts) accounts
 
--- if the log has a fault, the disk's count rose to it in this run
+-- if the log has a fault, the disk's count of faults rose to it in this run
 abbrev pub RoseInRun : Settings → ℕ → Option ℕ → Type 0
 RoseInRun settings ended fault = IfSome fault (λ count. Rose settings.opened count × (count ≤ ended))
 
--- There was one trace, and groups of commits beside it, each of which made a part of the trace's entries, and of these
--- the accounts are what each client did and saw.
+-- There was one trace, and there were groups of commits, each of which made a part of the trace's entries. The accounts
+-- are what each client did and saw of these.
 pub record IsClosing (settings : Settings) (ended : ℕ) (trace : Trace) (groups : List Group) (accounts : List Account)
     (last : ℕ) (fault : Option ℕ) : Type 0 where
   pub is_trace : IsTrace settings trace
@@ -49,8 +49,8 @@ pub record IsClosing (settings : Settings) (ended : ℕ) (trace : Trace) (groups
   pub last_is : last ≡ last_sequence trace.start trace.entries
   pub fault_is : RoseInRun settings ended fault
 
--- Of all that the clients did and saw there is one trace, and the log was written by just the calls that wrote its
--- history.
+-- There is one trace of all that the clients did and saw, and the log was written by just the calls that wrote this
+-- trace's history.
 abbrev pub HasOneTrace : Settings → ℕ → List Account → ℕ → Option ℕ → (List GroupCall → Type 0) → Type 0
 HasOneTrace settings ended accounts last fault wrote = (trace : Trace) × (groups : List Group)
     × IsClosing settings ended trace groups accounts last fault

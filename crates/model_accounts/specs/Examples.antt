@@ -46,14 +46,14 @@ one_attempt = record { records = two_records; options = plain; status = succeede
 abbrev pub one_group : Group
 one_group = record { place = 0; members = record { client = 1; call = 0; item = item_of one_attempt } ∷ [] }
 
--- the versions that it makes
+-- the versions that this batch makes
 abbrev pub first_version : Version
 first_version = record { key = codes "a"; value = Some (codes "1"); sequence = 1 }
 
 abbrev pub second_version : Version
 second_version = record { key = codes "b"; value = Some (codes "2"); sequence = 2 }
 
--- these versions, as a group that was published once the controller was asked
+-- what is seen where these versions were published as one group, once the controller was asked
 abbrev pub sight_of : List Version → Sight
 sight_of versions = record {
   start = 0;
@@ -133,7 +133,7 @@ pair_published =
 abbrev pub pair_sight : Sight
 pair_sight = record { start = 0; opening = []; published = pair_published ∷ []; controller_calls = pair_delay ∷ [] }
 
--- the account of a client that wrote these records as this entry, and was told that its group ends there
+-- the account of a client that wrote these records as this entry, and learned that its group ends at `group_last`
 abbrev pub account_with : List Record → Entry → ℕ → Account
 account_with records entry group_last = record {
   number = entry.client;
@@ -144,13 +144,13 @@ account_with records entry group_last = record {
   seen = pair_sight;
 }
 
--- both accounts, where the first client was told that its group ends there
+-- both accounts, where the first client learned that its group ends at `group_last`
 abbrev pub pair_accounts : ℕ → List Account
 pair_accounts group_last =
     account_with first_records (entry_with 1 1 first_records) group_last
     ∷ account_with second_records (entry_with 2 2 second_records) 2 ∷ []
 
--- A client whose second commit of three was refused, and groups of one of them alone
+-- A client whose second commit of three was refused, and groups of one commit each
 
 abbrev pub three_attempts : List Attempt
 three_attempts = one_attempt ∷ record one_attempt { status = slowed 0 } ∷ one_attempt ∷ []

@@ -1,14 +1,14 @@
--- What the log's one holder at a time knows: the groups that were taken in hand, one after another, each with the place
--- of its delay. From this the groups of an outcome are had at its closing.
+-- What the current holder of the log knows: the groups that leaders took, one after another, each with the place of its
+-- delay. At the closing the groups of an outcome are made from this.
 use Rattle.std.specs.Prelude.{◌≡◌, ◌≢◌, ℕ, ◌+◌, ◌≤◌, ⊤, Bool, List, [], ◌∷◌, ◌++◌, length, map, filter, flat_map, slice_get, ◌==◌, Option, Some}
 use Rattle.std.specs.List.{AllByRecursion}
 use Rattle.model_base.specs.declared.group.Item.{Item}
 use Rattle.model_base.specs.Grouping.{size_of, group_len}
 use Rattle.model_base.specs.Controller.{ControllerCall, delay, Look}
 use Rattle.model_base.specs.Attempts.{Attempt, slowed, item_of}
-use Rattle.model_base.specs.Groups.{Member, Group, HaveOwnPlaces, AreAsked, StandTogether}
+use Rattle.model_base.specs.Groups.{Member, Group, HaveOwnPlaces, AreAsked, HaveOneFate}
 
--- a commit in a leader's hand, with its client's number
+-- a commit in a leader's group, with its client's number
 pub record Taken : Type 0 where
   pub client : ℕ
   pub attempt : Attempt
@@ -17,14 +17,14 @@ pub record Led : Type 0 where
   pub place : ℕ
   pub commits : List Taken
 
--- what grouping sees of them
+-- what grouping sees of these commits
 abbrev pub items_in : List Taken → List Item
 items_in ts = map (λ (t : Taken). item_of t.attempt) ts
 
 abbrev pub all_taken : List Led → List Taken
 all_taken led = flat_map (λ (g : Led). g.commits) led
 
--- the commits of a client among them, in order
+-- the commits of one client among these, in order
 abbrev pub is_of : ℕ → Taken → Bool
 is_of client t = t.client == client
 
@@ -34,7 +34,7 @@ count_of_client client ts = length (filter (is_of client) ts)
 abbrev pub attempts_of : ℕ → List Taken → List Attempt
 attempts_of client ts = map (λ (t : Taken). t.attempt) (filter (is_of client) ts)
 
--- each commit by its client and its number among that client's, after those before it
+-- each commit as a member: its client, and its number among that client's commits, where `before` are the earlier ones
 abbrev pub members_after : List Taken → List Taken → List Member
 members_after before [] = []
 members_after before (t ∷ ts) =
@@ -49,12 +49,13 @@ groups_after before (g ∷ led) =
 abbrev pub groups_of : List Led → List Group
 groups_of led = groups_after [] led
 
--- no client is twice among them
+-- no two of these commits are of one client
 abbrev pub HaveOwnClients : List Taken → Type 0
 HaveOwnClients [] = ⊤
 HaveOwnClients (t ∷ ts) = AllByRecursion (λ (u : Taken). t.client ≢ u.client) ts × HaveOwnClients ts
 
--- a leader took a whole group, and asked for a delay of its sizes; who of it was slowed was told so by that delay
+-- A leader took a whole group, and asked for a delay for the sum of its sizes. If a commit of the group was slowed, it
+-- was by that delay.
 pub record IsLed (group_bytes : ℕ) (controller_calls : List ControllerCall) (g : Led) : Type 0 where
   pub by : ℕ
   pub now : ℕ
@@ -67,14 +68,15 @@ pub record IsLed (group_bytes : ℕ) (controller_calls : List ControllerCall) (g
   pub slowed_here : AllByRecursion
       (λ (t : Taken). (place : ℕ) → t.attempt.status ≡ slowed place → place ≡ g.place) g.commits
 
--- these are all groups, and all that became of the clients' commits
+-- These are all groups that leaders took. Each goes on or is refused as a whole, and together they have all the
+-- clients' attempts.
 pub record AreLed (group_bytes : ℕ) (controller_calls : List ControllerCall) (led : List Led)
     (attempts : List (List Attempt)) : Type 0 where
   pub each : AllByRecursion (IsLed group_bytes controller_calls) led
   pub places : HaveOwnPlaces (groups_of led)
   pub all : AreAsked (groups_of led) 0 controller_calls
   pub clients : AllByRecursion (λ (t : Taken). (1 ≤ t.client) × (t.client ≤ length attempts)) (all_taken led)
-  pub together : AllByRecursion (λ (g : Led). StandTogether controller_calls (map (λ (h : Led). h.place) led) g.place
+  pub together : AllByRecursion (λ (g : Led). HaveOneFate controller_calls (map (λ (h : Led). h.place) led) g.place
       (items_in g.commits) (map (λ (t : Taken). t.attempt.status) g.commits)) led
   pub of_client : (i : ℕ) (own : List Attempt) → slice_get attempts i ≡ Some own
       → own ≡ attempts_of (i + 1) (all_taken led)

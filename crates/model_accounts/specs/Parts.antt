@@ -1,4 +1,4 @@
--- Which entries each group of commits made. A group's last sequence is the one that it was given last.
+-- Which entries each group of commits made. A group's last sequence is the last one that it was given.
 use Rattle.std.specs.Prelude.{◌≡◌, ℕ, ◌+◌, ◌-◌, Bool, true, false, List, [], ◌∷◌, length, map, filter, take, get_or, flat_map, if◌then◌else◌}
 use Rattle.std.specs.List.{AllZip}
 use Rattle.model_base.specs.History.{Entry, last_sequence}
@@ -16,18 +16,19 @@ is_success (full last) = false
 abbrev pub successes : List Attempt → List Bool
 successes attempts = map (λ (h : Attempt). is_success h.status) attempts
 
--- the client's number and the ordinal of the entry that a commit makes behind these before it, if it succeeds
+-- the client's number and the ordinal of the entry that a commit makes, if it succeeds; `before` says of the client's
+-- earlier commits whether they did
 abbrev pub name_behind : ℕ → List Bool → Bool → List (ℕ × ℕ)
 name_behind client before success =
     if success then (client, 1 + length (filter (λ (b : Bool). b) before)) ∷ [] else []
 
--- the same of a group's member, among the commits of all clients: a commit that failed made no entry
+-- the same for a group's member, among the commits of all clients; a commit that failed made no entry
 abbrev pub name_made : List (List Attempt) → Member → List (ℕ × ℕ)
 name_made attempts m =
     let own = successes (get_or attempts (m.client - 1) []) in
     name_behind m.client (take m.call own) (get_or own m.call false)
 
--- the entries of a group, in the order of its members
+-- the same for all members of a group, in their order
 abbrev pub names_made : List (List Attempt) → Group → List (ℕ × ℕ)
 names_made attempts g = flat_map (name_made attempts) g.members
 

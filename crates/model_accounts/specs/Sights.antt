@@ -9,8 +9,8 @@ use Rattle.table_rule.specs.declared.content.MemberVersions.{MemberVersions}
 use Rattle.table_rule.specs.Histories.{Begins, Images, versions_of, record_of, last_of}
 use Rattle.model_accounts.specs.Versions.{versions_of_entry}
 
--- The groups that were published, by its reads, and the controller's calls, by its pass. A published group has
--- versions: they tell neither whose they are nor how they were committed. So this is no trace.
+-- The published groups, as its reads showed them, and the controller's calls, as its pass saw them. A published group
+-- has versions, which tell neither whose they are nor how they were committed. So this isn't a trace.
 pub record Sight : Type 0 where
   -- the sequence before the first batch, and the map there
   pub start : ℕ
@@ -25,19 +25,19 @@ unseen start opening = record { start = start; opening = opening; published = []
 abbrev pub last_seen : Sight → ℕ
 last_seen sight = last_of sight.start sight.published
 
--- the map that was seen there
+-- the map at that sequence
 abbrev pub map_seen : Sight → Pairs
 map_seen sight = after_records sight.opening (map record_of (versions_of sight.published))
 
--- one sight is what was seen of a run at some time, and the other what was seen later
+-- v is what was seen of a run at some time, and w what was seen of it then or later
 pub record Sees (v w : Sight) : Type 0 where
   pub start : w.start ≡ v.start
   pub opening : w.opening ≡ v.opening
   pub published : Begins v.published w.published
   pub controller_calls : IsPrefix v.controller_calls w.controller_calls
 
--- It was seen of this trace: the entries with which the trace begins made the published groups, each group some of
--- them, whole.
+-- This may have been seen of the trace: the trace's first entries made the published groups, one after another, and
+-- each of these entries is in one group as a whole. The controller's calls are the trace's first ones.
 pub record Saw (sight : Sight) (trace : Trace) : Type 0 where
   pub start : sight.start ≡ trace.start
   pub opening : sight.opening ≡ trace.opening
@@ -46,6 +46,6 @@ pub record Saw (sight : Sight) (trace : Trace) : Type 0 where
   pub groups : Images versions_of_entry entries sight.published
   pub controller_calls : IsPrefix sight.controller_calls trace.controller_calls
 
--- P holds in each trace, of one history of whole batches, of which this may have been seen
+-- P holds in each trace of which this may have been seen, if its history is one of whole batches
 abbrev pub InEachTrace : Sight → (Trace → Type 0) → Type 0
 InEachTrace sight P = (trace : Trace) → IsHistory trace.start trace.entries → Saw sight trace → P trace

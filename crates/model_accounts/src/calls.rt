@@ -1,4 +1,4 @@
-//! What each kind of call says of its client is a step of the client.
+//! Each kind of call, by what it says of its client, is a step of the client.
 
 ghost use Rattle.std.specs.Prelude.{◌≡◌, ◌+◌, ◌++◌, ℕ, true, false, List, [], ◌∷◌, Option, map};
 ghost use Rattle.model_base.specs.declared.write.WriteOptions.{WriteOptions};
@@ -33,7 +33,7 @@ pub fn commits_are_steps()
         → Refuses settings v pending how NoMemory w → Lacks settings v pending (commit how) w }
 {}
 
-/// A read with its answer, at the end of what the client has then seen published.
+/// A read with its answer, at the last sequence that the client has then seen published.
 pub fn reads_are_steps()
     ensures get { (settings : Settings) (v : Account) (pending : List Record)
         (key : List ℕ) (at : ℕ) (value : Option (List ℕ)) (w : Account)
@@ -49,7 +49,7 @@ pub fn reads_are_steps()
         → Goes settings v pending (scan lo hi) (rows at pairs) w pending }
 {}
 
-/// A token that stops writes is taken or given back, or is held already, or isn't held.
+/// A stop token is taken or given back, or is already held, or isn't held.
 pub fn stops_are_steps()
     ensures taken { (settings : Settings) (v : Account) (pending : List Record) (w : Account)
         → holds_stop v.asked ≡ false → Asks v controller.stop w → Goes settings v pending stop done w pending }
@@ -61,7 +61,7 @@ pub fn stops_are_steps()
         → holds_stop v.asked ≡ false → Keeps v w → Goes settings v pending unstop not_held w pending }
 {}
 
-/// The same of a token that slows writes.
+/// The same for a slow token.
 pub fn slowdowns_are_steps()
     ensures taken { (settings : Settings) (v : Account) (pending : List Record) (rate : ℕ) (w : Account)
         → holds_slow v.asked ≡ false → Asks v (controller.slow rate) w

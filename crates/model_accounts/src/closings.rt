@@ -25,8 +25,8 @@ ghost use Rattle.model_accounts.specs.Led.{Led, groups_of, AreLed};
 ghost use Rattle.model_runs.specs.Written.{WroteEntries, AreLost};
 ghost use Rattle.model_accounts.specs.Answered.{IsAmong};
 
-/// Where each client has run its part of the script, and the closing says that their accounts are parts of one trace,
-/// that is a legal outcome.
+/// If each client has run its part of the script, and the closing says that their accounts are parts of one trace, the
+/// outcome is legal.
 pub fn closed_runs_are_legal()
     ensures legal { (settings : Settings) (ended : ℕ) (script : Script) (calls : List (List Call))
         (accounts : List Account) (trace : Trace) (groups : List Group) (last log_len : ℕ) (fault : Option ℕ)
@@ -35,9 +35,9 @@ pub fn closed_runs_are_legal()
         → IsLegalIn settings ended script trace (all_attempts accounts) (outcome_of trace calls last log_len fault) }
 {}
 
-/// The groups of an outcome, from what the log's holder knew, one leader after another.
+/// The groups of an outcome, from what the holder of the log knew, one leader after another.
 pub fn led_groups()
-    // what the rule of grouping takes of a queue is a whole group by itself
+    // what the rule of grouping takes from a queue is a whole group by itself
     ensures whole { (group_bytes : ℕ) (queue : List Item) → 0 < length queue
         → group_len group_bytes (take (group_len group_bytes queue) queue)
         ≡ length (take (group_len group_bytes queue) queue) }
@@ -52,20 +52,20 @@ pub fn led_groups()
         → slice_get own k ≡ Some attempt → attempt.status ≡ slowed place → Holds (groups_of led) place (i + 1) k }
 {}
 
-/// Each commit that a leader took in hand stands in its client's transcript, with its batch and the reply of its
+/// Each commit that a leader took into its group is in its client's transcript, with its batch and the reply of its
 /// status.
 pub fn attempts_are_shown()
     ensures shown { (settings : Settings) (trace : Trace) (client : ℕ) (commands : List Command) (calls : List Call)
         (end : Progress) → IsTranscript settings trace client commands calls end
         → (k : ℕ) (attempt : Attempt) → slice_get end.attempts k ≡ Some attempt → IsAmong [] calls attempt }
-    // so each batch of the group whose log write failed is one that was answered so
+    // so each batch of the group whose log write failed is in a transcript as a commit that was answered that fault
     ensures lost { (settings : Settings) (ended : ℕ) (script : List (List Command)) (trace : Trace)
         (attempts : List (List Attempt)) (o : Outcome) → IsLegalIn settings ended script trace attempts o
         → (count : ℕ) (m : Member) (records : List Record) → IsLost attempts count m records
         → IsFaultedBatch o count records }
 {}
 
-/// The calls that wrote the closed log wrote the groups of the history, one record each.
+/// The calls that wrote the closed log wrote the groups of the history, one record for each.
 pub fn logs_hold_the_history()
     ensures groups { (entries : List Entry) (parts : List (List Entry)) (calls : List GroupCall)
         → flat_map (λ part. part) parts ≡ logged_entries entries → AllByRecursion RunsFollow parts
@@ -73,7 +73,7 @@ pub fn logs_hold_the_history()
     ensures records { (parts : List (List Entry)) (calls : List GroupCall) → AllZip WroteEntries parts calls
         → map record_of_call calls ≡ records_of parts }
     ensures synced { (part : List Entry) (c : GroupCall) → WroteEntries part c → HasSync part → c.sync ≡ true }
-    // where the log has a fault, the call that failed was to write the record of the lost group
+    // if the log has a fault, the call that failed was to write the record of the lost group
     ensures lost { (group_bytes : ℕ) (attempts : List (List Attempt)) (count last : ℕ) (lost : List GroupCall)
         → AreLost group_bytes attempts (Some count) last lost
         → (c : GroupCall) × (lost ≡ c ∷ []) × (c.failed ≡ Some count)

@@ -1,5 +1,5 @@
-//! Examples: what can be seen of a batch, a client that commits one, two clients in one group, and which entries groups
-//! made.
+//! Examples: what can be seen of a batch; a client that commits one; two clients in one group; and which entries
+//! groups made.
 
 ghost use Rattle.std.specs.Prelude.{◌≡◌, List, [], ◌∷◌, None};
 ghost use Rattle.model_base.specs.Groups.{Group};
@@ -24,16 +24,16 @@ pub fn one_commit()
     ensures closing { IsClosing settings 0 one_batch (one_group ∷ []) (after ∷ []) 2 None }
 {}
 
-/// Two clients whose batches, of one record each, went as one group. Each is told the group's end. Where one is told
-/// the end of its own batch, it is no closing, whatever the groups.
+/// Two clients whose batches, of one record each, went as one group. Each of them learns the group's end. If the first
+/// one learned the end of its own batch instead, this would be no closing, whatever the groups.
 pub fn two_in_a_group()
     ensures closing { IsClosing pair_settings 0 pair_trace (pair_group ∷ []) (pair_accounts 2) 2 None }
     ensures own_end { (groups : List Group)
         → IsClosing pair_settings 0 pair_trace groups (pair_accounts 1) 2 None → ⊥ }
 {}
 
-/// A group made the entries of those of its members that succeeded: of a client's commits that were accepted, refused
-/// and accepted the second made none, and the third the client's second entry.
+/// A group made entries only for those of its members that succeeded. Of a client's commits that were accepted,
+/// refused and accepted, the second made no entry, and the third made the client's second entry.
 pub fn entries_of_groups()
     ensures none { names_made (three_attempts ∷ []) (group_of_call 1) ≡ [] }
     ensures second { names_made (three_attempts ∷ []) (group_of_call 2) ≡ (1, 2) ∷ [] }

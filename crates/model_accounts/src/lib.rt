@@ -1,9 +1,9 @@
-//! What the clients of a write path can say of it, each of itself, and what follows once it is closed.
+//! What each client of a write path can say about itself, and what follows once the write path is closed.
 //!
-//! Each client calls the write path in a thread of its own, and no one sees the whole run while it goes on. So each
-//! client has an account of what it did and saw. A call says how it changes its client's account, the closing says that
-//! all accounts are parts of one trace, and the laws of this crate say that the clients' replies are then a legal
-//! outcome. They hold of any write path.
+//! Each client calls the write path in a thread of its own, and nobody sees the whole run while it goes on. So each
+//! client has an account of what it did and saw. A call says how it changes its client's account. The closing says
+//! that all accounts are parts of one trace. The laws of this crate say that the clients' replies are then a legal
+//! outcome. They hold for any write path.
 //!
 //! - `specs/Sights`: what a client sees while a run goes on, and of which traces that may have been seen.
 //!   `specs/Versions` has the versions of entries.
@@ -11,11 +11,11 @@
 //! - `specs/Parts`: which entries each group of commits made.
 //! - `specs/Closing`: what the closing says of all accounts.
 //! - `specs/ClientRuns`: a client's calls one after another, and its whole run.
-//! - `specs/Led`: what the log's holder at the time knows of the groups that it took in hand.
-//! - `specs/Answered`: where a transcript shows a commit that a leader took in hand.
+//! - `specs/Led`: what the current holder of the log knows of the groups that leaders took.
+//! - `specs/Answered`: where a transcript shows a commit that a leader took into its group.
 //!
-//! Each law is a clause of a function that does nothing, in [`sights`], [`calls`], [`runs`] and [`closings`]. Who needs
-//! one calls the function.
+//! Each law is a clause of a function that does nothing, in [`sights`], [`calls`], [`runs`] and [`closings`]. A proof
+//! that needs a law calls its function.
 #![tactic(auto)]
 
 mod calls;

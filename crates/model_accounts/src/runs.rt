@@ -9,7 +9,7 @@ ghost use Rattle.model_base.specs.Calls.{Command, Reply, no_memory, Call};
 ghost use Rattle.model_accounts.specs.Accounts.{Account, newcomer, GivesBack};
 ghost use Rattle.model_accounts.specs.ClientRuns.{Goes, Lacks, Went, HasRun, with_call};
 
-/// A client starts with nothing, and each step brings it on.
+/// A client starts with nothing, and each step takes it on.
 pub fn calls_one_after_another()
     ensures no_call { (settings : Settings) (start : ℕ) (opening : Pairs) (number : ℕ)
         → Went settings [] (newcomer start opening number) [] }
@@ -20,8 +20,8 @@ pub fn calls_one_after_another()
         → Went settings (with_call calls c r) w after }
 {}
 
-/// A client's run ends where all its commands were answered, or where one found no memory. By then it has given back
-/// what it held.
+/// A client's run ends when all its commands were answered, or when one found no memory. By then it has given back the
+/// tokens that it held.
 pub fn runs_end()
     ensures whole { (settings : Settings) (calls : List Call) (v : Account) (pending : List Record) (w : Account)
         → Went settings calls v pending → GivesBack v w → HasRun settings v.number (commands_of calls) calls w }

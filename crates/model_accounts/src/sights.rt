@@ -10,7 +10,8 @@ ghost use Rattle.table_rule.specs.Histories.{Begins, Images, versions_of, map_of
 ghost use Rattle.model_accounts.specs.Versions.{versions_of_entry};
 ghost use Rattle.model_accounts.specs.Sights.{Sight, last_seen, map_seen, Sees, Saw};
 
-/// What was seen earlier is no more than what is seen later, and was seen of the same traces.
+/// What was seen earlier is no more than what is seen later. It may have been seen of each trace of which the later
+/// sight may.
 pub fn earlier_sights()
     ensures same { (v : Sight) → Sees v v }
     ensures on { (u v w : Sight) → Sees u v → Sees v w → Sees u w }
@@ -18,21 +19,21 @@ pub fn earlier_sights()
     ensures saw { (v w : Sight) → Sees v w → (trace : Trace) → Saw w trace → Saw v trace }
 {}
 
-/// Who has seen the first of all groups that were published has seen some of each trace whose entries made those
-/// groups.
+/// If the groups that a client has seen published are the first ones of all that were published, it may have seen them
+/// of each trace whose entries made all those groups and whose controller's calls begin with the ones that it saw.
 pub fn sights_of_the_table()
     ensures saw { (trace : Trace) (history : List (List MemberVersions))
         → Images versions_of_entry trace.entries history
         → (sight : Sight) → sight.start ≡ trace.start → sight.opening ≡ trace.opening
         → Begins sight.published history
         → IsPrefix sight.controller_calls trace.controller_calls → Saw sight trace }
-    // where some versions made the map before the first group, all that stands in the table makes the map that was seen
+    // if some versions made the map before the first group, then these and the published ones make the map that was
+    // seen
     ensures map { (sight : Sight) (before : List Version) → sight.opening ≡ map_of_versions before
         → map_of_versions (before ++ versions_of sight.published) ≡ map_seen sight }
 {}
 
-/// What was seen published is what the first entries of the trace made: it ends at a batch's end, and its map is
-/// theirs.
+/// What was seen published was made by the first entries of the trace: its last sequence and its map are theirs.
 pub fn sights_of_traces()
     ensures ends { (sight : Sight) (trace : Trace) → IsHistory trace.start trace.entries → (saw : Saw sight trace)
         → last_seen sight ≡ last_sequence trace.start saw.entries }

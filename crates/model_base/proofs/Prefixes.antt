@@ -1,4 +1,4 @@
--- Beginnings of one list, and of one trace.
+-- Prefixes of one list, and of one trace.
 use Rattle.std.proofs.Common.{◌≡◌, ℕ, zero, suc, ◌≤◌, Some, List, [], ◌∷◌, ◌++◌, length, slice_get, refl, ap, sym, ◌∙◌, arith, append_assoc, length-append}
 use mathlib.Core.List.{IsPrefix}
 use Rattle.model_base.specs.Trace.{Trace, Begins}
@@ -13,7 +13,7 @@ prefix_trans xs ys zs p q = (p.0 ++ q.0, sym (append_assoc xs p.0 q.0) ∙ (ap (
 pub prefix_length : {A : Type 0} (xs ys : List A) → IsPrefix xs ys → length xs ≤ length ys
 prefix_length xs ys p = let e : length (xs ++ p.0) ≡ length ys = ap length p.1 in omega (arith, length-append xs p.0, e)
 
--- what stands in a beginning stands there in the whole
+-- what is in a prefix is at the same place of the whole list
 at_front : {A : Type 0} (xs rest : List A) (i : ℕ) (x : A) → slice_get xs i ≡ Some x → slice_get (xs ++ rest) i ≡ Some x
 at_front [] rest i x h = absurd (cc h)
 at_front (y ∷ xs) rest zero x h = h

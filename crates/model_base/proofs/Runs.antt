@@ -1,4 +1,4 @@
--- Runs of calls: a longer trace, and one more call.
+-- Runs of calls: what holds in a trace holds in a longer one; and one more call.
 use Rattle.std.proofs.Common.{◌≡◌, ℕ, ◌≤◌, Option, Some, None, List, [], ◌∷◌, ◌++◌, MatchOption, refl, ap, sym, ◌∙◌, subst, arith, append_assoc}
 use mathlib.Core.List.{IsPrefix}
 use Rattle.model_base.specs.declared.write.WriteOptions.{WriteOptions}
@@ -28,7 +28,7 @@ told_in xs ys p knew knows numbers (Some succeeded) s = absurd s
 told_in xs ys p knew knows numbers (Some (faulted c)) s = absurd s
 told_in xs ys p knew knows numbers (Some (full l)) s = absurd s
 
--- also for a client that was shown less
+-- a refusal that is right stays so in the longer history, even for a client that was shown less
 pub refuse_in : (xs ys : List ControllerCall) → IsPrefix xs ys → (p : Progress) (shown knows : ℕ) → shown ≤ p.seen_up_to → (how : WriteOptions) (why : Refusal) (status : Option WriteStatus)
     → MayRefuse xs p knows how why status → MayRefuse ys (record p { seen_up_to = shown }) knows how why status
 refuse_in xs ys pre p shown knows low how (no.Incomplete a b c) status s = (s.0, s.1, told_in xs ys pre p.known knows _ status s.2)
@@ -40,7 +40,7 @@ refuse_in xs ys pre p shown knows low how no.SyncWithoutLog status s = s
 refuse_in xs ys pre p shown knows low how no.SelfStop status s = s
 refuse_in xs ys pre p shown knows low how no.NoMemory status s = s
 
--- what is right where there is none
+-- what follows where there is no early refusal
 in_none : {A : Type 0} (X Y : Type 0) (Q : A → Type 0) (o : Option A) → (X → Y) → MatchOption o X Q → MatchOption o Y Q
 in_none X Y Q None f s = f s
 in_none X Y Q (Some a) f s = s
@@ -116,7 +116,7 @@ module _ (v w : Trace) (b : Begins v w) where
   pub step_in : (settings : Settings) (client : ℕ) (p : Progress) (c : Command) (r : Reply) (q : Progress) → Step settings v client p c r q → Step settings w client p c r q
   step_in settings client p c r q s = record { replies = replies_in settings client p c r q s.replies; rises = s.rises; within = (let n = s.within in let m = prefix_length v.controller_calls w.controller_calls b.controller_calls in omega arith) }
 
-  -- a run in a trace is one in each that it begins
+  -- a run of calls in a trace is one in each longer trace too
   pub run_in : (settings : Settings) (client : ℕ) (p : Progress) (calls : List Call) (q : Progress) → Run settings v client p calls q → Run settings w client p calls q
   run_in settings client p [] q s = s
   run_in settings client p (c ∷ calls) q s = (s.0, step_in settings client p c.command c.reply s.0 s.1, run_in settings client s.0 calls q s.2)

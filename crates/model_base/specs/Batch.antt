@@ -1,6 +1,7 @@
--- A write batch, as the head of RocksDB's db/write_batch.cc gives it: a header of 12 bytes, and then records.
+-- A write batch, as the comment at the head of RocksDB's db/write_batch.cc describes it: a header of 12 bytes, and then
+-- records.
 --     sequence: fixed64, count: fixed32, records
--- A record is a tag and one or two strings, each behind its length as a varint32.
+-- A record is a tag and one or two strings, each with its length as a varint32 before it.
 use Rattle.std.specs.Prelude.{◌≡◌, ◌⊎◌, ◌≢◌, ℕ, ◌+◌, ◌^◌, ◌<◌, ◌≤◌, Bool, true, false, IsTrue, List, [], ◌∷◌, ◌++◌, length, take, drop, count_by, flat_map, ◌==◌, if◌then◌else◌}
 use Rattle.std.specs.List.{AllByRecursion, list_any}
 use Rattle.std.specs.Int.{w32, w64, to_le_bytes, from_le_bytes}
@@ -9,7 +10,7 @@ use Rattle.model_base.specs.declared.batch.BatchError.{BatchError}
 use Rattle.model_base.specs.declared.batch.BatchError.TheVariants.{Short, BadVarint, Tag, Count}
 use Rattle.model_base.specs.Varint.{varint, BeginsVarint, IsCodeError}
 
--- what a batch holds
+-- a record of a batch
 pub data Record : Type 0 where
   value : List ℕ → List ℕ → Record
   deletion : List ℕ → Record
@@ -23,21 +24,21 @@ tag_of (value key v) = 1
 tag_of (log_data blob) = 3
 tag_of (single_deletion key) = 7
 
--- the strings behind it
+-- the strings after that byte
 abbrev pub strings_of : Record → List (List ℕ)
 strings_of (deletion key) = key ∷ []
 strings_of (value key v) = key ∷ v ∷ []
 strings_of (log_data blob) = blob ∷ []
 strings_of (single_deletion key) = key ∷ []
 
--- The tags that are read. A tag that is left out here is refused by its number.
+-- The tags that are read. Any other tag is refused, and the refusal names it.
 abbrev pub tags : List ℕ
 tags = 0 ∷ 1 ∷ 3 ∷ 7 ∷ []
 
 abbrev pub is_tag : ℕ → Bool
 is_tag t = list_any (λ u. u == t) tags
 
--- how many strings stand behind a tag
+-- how many strings follow a tag
 abbrev pub strings_after : ℕ → ℕ
 strings_after t = if t == 1 then 2 else 1
 
@@ -68,7 +69,7 @@ body records = flat_map record_bytes records
 abbrev pub batch : ℕ → List Record → List ℕ
 batch sequence records = header sequence (count_of records) ++ body records
 
--- what has a spelling that is read
+-- a record whose bytes can be read
 pub record IsReadable (r : Record) : Type 0 where
   pub tag : IsTrue (is_tag (tag_of r))
   pub lengths : AllByRecursion (λ s. length s < 2 ^ 32) (strings_of r)
@@ -88,7 +89,7 @@ size_of_batch records = length (batch 0 records)
 abbrev pub group_record : ℕ → List (List Record) → List ℕ
 group_record first members = batch first (flat_map (λ records. records) members)
 
--- no varstring stands in front of these bytes, and why: its length doesn't read, or passes the end
+-- these bytes don't begin with a varstring, and why: its length can't be read, or goes past the end
 abbrev pub NoVarstring : List ℕ → BatchError → Type 0
 NoVarstring bytes Short = IsCodeError bytes code.Short
     ⊎ ((n : ℕ) × (used : ℕ) × BeginsVarint bytes n used × (length bytes < used + n))
@@ -96,13 +97,13 @@ NoVarstring bytes BadVarint = IsCodeError bytes code.NotShortest ⊎ IsCodeError
 NoVarstring bytes (Tag t) = ⊥
 NoVarstring bytes (Count said found) = ⊥
 
--- of the n varstrings that should stand in front of these bytes, some do, and the next doesn't
+-- of the n varstrings that these bytes should begin with, some are there, and the next one isn't
 abbrev pub StringsBreak : ℕ → List ℕ → BatchError → Type 0
 StringsBreak n bytes error = (whole : List (List ℕ)) × (rest : List ℕ) × (length whole < n)
     × AllByRecursion (λ s. length s < 2 ^ 32) whole
     × (bytes ≡ flat_map varstring whole ++ rest) × NoVarstring rest error
 
--- no record stands in front of these bytes, and why
+-- these bytes don't begin with a record, and why
 abbrev pub NoRecord : List ℕ → BatchError → Type 0
 NoRecord [] error = ⊥
 NoRecord (t ∷ bytes) error = (IsTrue (is_tag t) × StringsBreak (strings_after t) bytes error)
@@ -112,11 +113,11 @@ NoRecord (t ∷ bytes) error = (IsTrue (is_tag t) × StringsBreak (strings_after
 pub data IsBatchError (bytes : List ℕ) : BatchError → Type 0 where
   -- fewer bytes than a header
   no_header : length bytes < 12 → IsBatchError bytes Short
-  -- records, and then none
+  -- some records, none or more, and then bytes that don't begin with one
   no_record : {error : BatchError} (records : List Record) (rest : List ℕ) → 12 ≤ length bytes
       → AllByRecursion IsReadable records
       → drop 12 bytes ≡ body records ++ rest → NoRecord rest error → IsBatchError bytes error
-  -- another count than the header says
+  -- the number of counted records isn't what the header says
   wrong_count : {said : ℕ} (records : List Record) → 12 ≤ length bytes → AllByRecursion IsReadable records
       → drop 12 bytes ≡ body records → said ≡ from_le_bytes w32 (take 4 (drop 8 bytes)) → said ≢ count_of records
       → IsBatchError bytes (Count said (count_of records))

@@ -1,4 +1,4 @@
--- What clients ask, what they are told, and what a whole run comes to.
+-- What clients ask, what they are answered, and the outcome of a whole run.
 use Rattle.std.specs.Prelude.{ℕ, List, Option}
 use Rattle.model_base.specs.declared.write.WriteOptions.{WriteOptions}
 use Rattle.model_base.specs.declared.write.Refusal.{Refusal}
@@ -8,26 +8,26 @@ use Rattle.model_base.specs.History.{Entry}
 
 -- a line of a client's script
 pub data Command : Type 0 where
-  -- adds a record to the batch, or empties it
+  -- add a record to the batch, and empty it
   add : Record → Command
   clear : Command
   commit : WriteOptions → Command
   get : List ℕ → Command
   many : List (List ℕ) → Command
   scan : List ℕ → List ℕ → Command
-  -- takes and gives back the two tokens of the write controller
+  -- take the two tokens of the write controller, and give them back
   stop : Command
   unstop : Command
   slow : ℕ → Command
   unslow : Command
 
 pub data Reply : Type 0 where
-  -- what adds to a batch or empties it has no reply
+  -- the answer to `add` and `clear`, of which nothing is printed
   quiet : Reply
-  -- first and last sequence, and the records that were written
+  -- the first and the last sequence, and the records that were written
   accepted : ℕ → ℕ → List Record → Reply
   refused : Refusal → Reply
-  -- what was found at which sequence
+  -- the sequence of the read, and what it found there
   found : ℕ → Option (List ℕ) → Reply
   found_each : ℕ → List (Option (List ℕ)) → Reply
   rows : ℕ → Pairs → Reply
@@ -40,8 +40,8 @@ pub record Call : Type 0 where
   pub command : Command
   pub reply : Reply
 
--- each client's calls with their replies, the one history, the published sequence and the map there, the log's length
--- and its fault
+-- each client's calls with their replies, the one history, the sequence published last and the map at it, the log's
+-- length and its fault
 pub record Outcome : Type 0 where
   pub transcripts : List (List Call)
   pub history : List Entry

@@ -1,4 +1,5 @@
--- For which groups of commits the controller was asked for a delay, and that each commit's status is that of the trace.
+-- For which groups of commits the controller was asked for a delay, and that each commit's status agrees with the
+-- trace.
 use Rattle.std.specs.Prelude.{◌≡◌, ◌≢◌, ◌⊎◌, ℕ, ◌+◌, ◌<◌, Bool, true, false, IsTrue, List, [], ◌∷◌, length, map, flat_map, ⊤, Option, Some, slice_get}
 use Rattle.std.specs.List.{AllByRecursion, AllZip}
 use Rattle.model_base.specs.declared.group.Item.{Item}
@@ -8,7 +9,8 @@ use Rattle.model_base.specs.Controller.{ControllerCall, Action, stop, unstop, sl
 use Rattle.model_base.specs.Trace.{Trace}
 use Rattle.model_base.specs.Attempts.{Attempt, WriteStatus, succeeded, slowed, faulted, full, item_of}
 
--- a commit: whose, the how many-th (from 0) of that client's that were taken in hand, and what grouping sees of it
+-- a commit: its client, its number (from 0) among that client's commits that leaders took into groups, and what
+-- grouping sees of it
 pub record Member : Type 0 where
   pub client : ℕ
   pub call : ℕ
@@ -17,7 +19,7 @@ pub record Member : Type 0 where
 abbrev pub items_of : List Member → List Item
 items_of members = map (λ (m : Member). m.item) members
 
--- each client waits in one place at most
+-- no two of these members are of one client
 abbrev pub AreOfOthers : List Member → Type 0
 AreOfOthers [] = ⊤
 AreOfOthers (m ∷ members) = AllByRecursion (λ (n : Member). m.client ≢ n.client) members × AreOfOthers members
@@ -33,7 +35,7 @@ pub record Group : Type 0 where
   pub place : ℕ
   pub members : List Member
 
--- there stands a delay of the sum of its sizes
+-- at the group's place the controller's history has a delay of the sum of its sizes, and the group is a whole one
 pub record IsAskedFor (group_bytes : ℕ) (controller_calls : List ControllerCall) (g : Group) : Type 0 where
   pub by : ℕ
   pub now : ℕ
@@ -56,13 +58,14 @@ is_delay unslow = false
 is_delay (delay now bytes) = true
 is_delay look = false
 
--- each delay, from a place on, was asked for one of the groups
+-- each delay among these calls, the first of which has this place, was asked for one of the groups
 abbrev pub AreAsked : List Group → ℕ → List ControllerCall → Type 0
 AreAsked groups place [] = ⊤
 AreAsked groups place (t ∷ controller_calls) = (IsTrue (is_delay t.action) → HasPlace groups place)
     × AreAsked groups (place + 1) controller_calls
 
--- it stands among the commits of the clients, which are in order of their numbers from 1
+-- the member is one of the clients' commits; `attempts` has a list for each client, in the order of their numbers from
+-- 1
 pub record IsCommit (attempts : List (List Attempt)) (m : Member) : Type 0 where
   pub number : ℕ
   pub commits : List Attempt
@@ -72,7 +75,7 @@ pub record IsCommit (attempts : List (List Attempt)) (m : Member) : Type 0 where
   pub there : slice_get commits m.call ≡ Some attempt
   pub item : m.item ≡ item_of attempt
 
--- no commit stands twice
+-- these two members aren't one commit
 abbrev pub AreApart : Member → Member → Type 0
 AreApart m n = m.client ≡ n.client → m.call ≢ n.call
 
@@ -80,7 +83,7 @@ abbrev pub AreAllApart : List Member → Type 0
 AreAllApart [] = ⊤
 AreAllApart (m ∷ members) = AllByRecursion (AreApart m) members × AreAllApart members
 
--- no delay stands for two groups
+-- no delay was asked for two of the groups
 abbrev pub HaveOwnPlaces : List Group → Type 0
 HaveOwnPlaces [] = ⊤
 HaveOwnPlaces (g ∷ groups) = AllByRecursion (λ (h : Group). g.place ≢ h.place) groups × HaveOwnPlaces groups
@@ -88,7 +91,7 @@ HaveOwnPlaces (g ∷ groups) = AllByRecursion (λ (h : Group). g.place ≢ h.pla
 abbrev pub members_of : List Group → List Member
 members_of groups = flat_map (λ (g : Group). g.members) groups
 
--- the group whose delay stands at a place holds this commit
+-- the group whose delay is at this place has this commit as a member
 pub record Holds (groups : List Group) (place client call : ℕ) : Type 0 where
   pub at : ℕ
   pub group : Group
@@ -100,8 +103,8 @@ pub record Holds (groups : List Group) (place client call : ℕ) : Type 0 where
   pub client_is : member.client ≡ client
   pub call_is : member.call ≡ call
 
--- A look of this client told of no stop, behind the delay at a place, and before each of these delays that are behind
--- it.
+-- This client looked and saw no stop. The look comes after the delay at this place, and before each of these delays
+-- that is later than that one.
 pub record SawNoStop (controller_calls : List ControllerCall) (delays : List ℕ) (client place : ℕ) : Type 0 where
   pub at : ℕ
   pub numbers : Look
@@ -110,14 +113,15 @@ pub record SawNoStop (controller_calls : List ControllerCall) (delays : List ℕ
   pub before : AllByRecursion (λ (delay : ℕ). place < delay → at < delay) delays
   pub free : numbers.stops ≡ 0
 
--- What was told at its group's delay lets a commit be written: one that may not wait where writes aren't held up, and
--- one that may once no stop was told.
+-- A commit may be written, by what its group's delay answered (`numbers`). With `no_slowdown`, the last argument, it
+-- may unless writes were held up. Without it, it may if no stop was seen, by the delay or by a later look of the client
+-- that asked for it.
 abbrev pub MayProceed : List ControllerCall → List ℕ → ℕ → ℕ → Look → Bool → Type 0
 MayProceed controller_calls delays client place numbers true = HoldUp numbers → ⊥
 MayProceed controller_calls delays client place numbers false =
     (numbers.stops ≡ 0) ⊎ SawNoStop controller_calls delays client place
 
--- the same for a group of these items, whose delay stands at the place
+-- this holds for each item of the group whose delay is at this place
 pub record Proceeds (controller_calls : List ControllerCall) (delays : List ℕ) (place : ℕ) (items : List Item) : Type 0
   where
     pub by : ℕ
@@ -135,20 +139,22 @@ is_slowed succeeded = false
 is_slowed (faulted count) = false
 is_slowed (full last) = false
 
--- of these statuses each tells that writes are held up, or the group goes on, and none does
-abbrev pub StandTogether : List ControllerCall → List ℕ → ℕ → List Item → List WriteStatus → Type 0
-StandTogether controller_calls delays place items statuses = AllByRecursion (λ status. status ≡ slowed place) statuses
+-- Either each of these statuses says that writes were held up, at the group's delay, or none says so and the group may
+-- go on.
+abbrev pub HaveOneFate : List ControllerCall → List ℕ → ℕ → List Item → List WriteStatus → Type 0
+HaveOneFate controller_calls delays place items statuses = AllByRecursion (λ status. status ≡ slowed place) statuses
     ⊎ (AllByRecursion (λ status. is_slowed status ≡ false) statuses × Proceeds controller_calls delays place items)
 
--- a group is refused whole while writes are held up, or goes on whole
-pub record StandsTogether (controller_calls : List ControllerCall) (groups : List Group)
+-- a group is refused as a whole because writes were held up, or goes on as a whole
+pub record HasOneFate (controller_calls : List ControllerCall) (groups : List Group)
     (attempts : List (List Attempt)) (g : Group) : Type 0 where
   pub statuses : List WriteStatus
   pub are : AllZip (λ (m : Member) status. (c : IsCommit attempts m) × (c.attempt.status ≡ status)) g.members statuses
-  pub together : StandTogether controller_calls (map (λ (h : Group). h.place) groups) g.place (items_of g.members)
+  pub together : HaveOneFate controller_calls (map (λ (h : Group). h.place) groups) g.place (items_of g.members)
       statuses
 
--- The delays of the controller's history are one for each of these groups. Each commit stands in one, and in no two.
+-- The controller's history has one delay for each of these groups, and no other. Each commit is in just one of the
+-- groups.
 pub record AreGroups (group_bytes : ℕ) (controller_calls : List ControllerCall) (groups : List Group)
     (attempts : List (List Attempt)) : Type 0 where
   pub each : AllByRecursion (IsAskedFor group_bytes controller_calls) groups
@@ -159,16 +165,17 @@ pub record AreGroups (group_bytes : ℕ) (controller_calls : List ControllerCall
   pub none_else : (number : ℕ) (commits : List Attempt) (call : ℕ) (attempt : Attempt)
       → slice_get attempts number ≡ Some commits → slice_get commits call ≡ Some attempt
       → (place : ℕ) × Holds groups place (number + 1) call
-  pub together : AllByRecursion (StandsTogether controller_calls groups attempts) groups
+  pub together : AllByRecursion (HasOneFate controller_calls groups attempts) groups
 
--- a status is that of the trace
+-- A commit's status agrees with the trace: if it is `slowed`, the group of that delay has the commit; if it is
+-- `faulted`, the run has that fault; if it is `full`, the sequence that it names is a boundary.
 abbrev pub IsStatus : Trace → List Group → Option ℕ → ℕ → ℕ → WriteStatus → Type 0
 IsStatus trace groups fault client call succeeded = ⊤
 IsStatus trace groups fault client call (slowed place) = Holds groups place client call
 IsStatus trace groups fault client call (faulted count) = fault ≡ Some count
 IsStatus trace groups fault client call (full last) = IsBoundary trace.start trace.entries last
 
--- the same for a client's commits in order, from one on
+-- so does the status of each of a client's commits, in order; the first of them has the number `call`
 abbrev pub AreStatuses : Trace → List Group → Option ℕ → ℕ → ℕ → List Attempt → Type 0
 AreStatuses trace groups fault client call [] = ⊤
 AreStatuses trace groups fault client call (h ∷ attempts) = IsStatus trace groups fault client call h.status

@@ -24,3 +24,4 @@ pub mod Outcomes
 pub mod LogContents
 pub mod Script
 pub mod Generator
+pub mod Halves

@@ -1,4 +1,4 @@
--- A log file, by the RocksDB wiki's "Write Ahead Log File Format": blocks of 32768 bytes, and in them fragments of
+-- A log file, by the RocksDB wiki's "Write Ahead Log File Format": blocks of 32768 bytes, which hold the fragments of
 -- records.
 use Rattle.std.specs.Prelude.{◌≡◌, ℕ, ◌+◌, ◌-◌, ◌%◌, ◌≤◌, List, [], ◌∷◌, ◌++◌, length, take, drop, map, replicate, flat_map, nat_lt, nat_le, if◌then◌else◌, ⊤, Option, Some, None}
 use Rattle.std.specs.List.{AllByRecursion}
@@ -13,8 +13,8 @@ pub data Kind : Type 0 where
   middle : Kind
   last : Kind
 
--- A log's format: one may have a number of its own, which then stands in each header. The codes of the kinds are others
--- there. A plain log has none.
+-- A log's format. A log may have a number of its own, which is then in each header, and the kinds have other codes. A
+-- plain log has no number.
 abbrev pub plain_log : Option ℕ
 plain_log = None
 
@@ -32,7 +32,7 @@ abbrev pub header_len : Option ℕ → ℕ
 header_len None = 7
 header_len (Some n) = 11
 
--- how long a part may be
+-- the most bytes of a fragment's part
 abbrev pub part_len : Option ℕ → ℕ
 part_len None = 32761
 part_len (Some n) = 32757
@@ -41,8 +41,8 @@ pub record Fragment : Type 0 where
   pub kind : Kind
   pub part : List ℕ
 
--- a header, which has the masked checksum of what follows it but the length, then the length, the kind and perhaps the
--- log's number; and the part
+-- A header: the masked checksum, the part's length, the kind's code, and the log's number if it has one. The checksum
+-- is that of the code, the number and the part, without the length.
 abbrev pub header : Option ℕ → ℕ → List ℕ → List ℕ
 header None code part = to_le_bytes w32 (masked (crc32c (code ∷ part))) ++ to_le_bytes w16 (length part) ++ code ∷ []
 header (Some n) code part = to_le_bytes w32 (masked (crc32c (code ∷ to_le_bytes w32 n ++ part)))
@@ -51,31 +51,31 @@ header (Some n) code part = to_le_bytes w32 (masked (crc32c (code ∷ to_le_byte
 abbrev pub fragment_bytes : Option ℕ → Fragment → List ℕ
 fragment_bytes number f = header number (kind_code number f.kind) f.part ++ f.part
 
--- how many bytes are left of the block from this offset of the log on
+-- how many bytes of the block are left from this offset of the log on
 abbrev pub room : ℕ → ℕ
 room offset = 32768 - offset % 32768
 
--- how many zeros stand there before the next fragment, since none begins where a block hasn't room for a header
+-- how many zeros come at this offset before the next fragment: none begins where the block has no room for a header
 abbrev pub trailer : Option ℕ → ℕ → ℕ
 trailer number offset = if nat_lt (room offset) (header_len number) then room offset else 0
 
--- where the next fragment begins
+-- where the next fragment begins, at this offset or after it
 abbrev pub next_place : Option ℕ → ℕ → ℕ
 next_place number offset = offset + trailer number offset
 
--- the fragments one after another, from this offset of the log on, each behind its zeros
+-- the text of the fragments from this offset of the log on, each after the zeros that come before it
 abbrev pub fragments_text : Option ℕ → ℕ → List Fragment → List ℕ
 fragments_text number offset [] = []
 fragments_text number offset (f ∷ fs) = (replicate (trailer number offset) 0 ++ fragment_bytes number f)
     ++ fragments_text number (next_place number offset + header_len number + length f.part) fs
 
--- none of them crosses a block
+-- no fragment crosses the end of a block
 abbrev pub FitFrom : Option ℕ → ℕ → List Fragment → Type 0
 FitFrom number offset [] = ⊤
 FitFrom number offset (f ∷ fs) = (header_len number + length f.part ≤ room (next_place number offset))
     × FitFrom number (next_place number offset + header_len number + length f.part) fs
 
--- any middles, and then a last
+-- middle parts, none or more, and then a last one
 abbrev pub GoesToLast : List Kind → Type 0
 GoesToLast [] = ⊥
 GoesToLast (middle ∷ kinds) = GoesToLast kinds
@@ -94,7 +94,7 @@ AreOneRecord (last ∷ kinds) = ⊥
 abbrev pub kinds_of : List Fragment → List Kind
 kinds_of fs = map (λ f. f.kind) fs
 
--- the parts of a record, joined
+-- the bytes of a record: its fragments' parts, joined
 abbrev pub record_of : List Fragment → List ℕ
 record_of fs = flat_map (λ f. f.part) fs
 
@@ -110,7 +110,7 @@ pub record SpellsWhole (number : Option ℕ) (bytes : List ℕ) (records : List 
   pub fit : FitFrom number 0 (all_fragments groups)
   pub spelled : bytes ≡ fragments_text number 0 (all_fragments groups)
 
--- and some of the zeros that end a block may follow
+-- the same, but the bytes may end with some of the zeros that end a block
 pub record Spells (number : Option ℕ) (bytes : List ℕ) (records : List (List ℕ)) : Type 0 where
   pub front : List ℕ
   pub zeros : ℕ
@@ -120,7 +120,7 @@ pub record Spells (number : Option ℕ) (bytes : List ℕ) (records : List (List
 
 -- What the writer makes: each part but a record's last fills its block, and no more parts are made than are needed.
 
--- the list in pieces of n, of which the last may be shorter
+-- the list cut into pieces of n elements; the last piece may be shorter
 abbrev pub pieces_of : {A : Type 0} → ℕ → List A → List (List A)
 pieces_of n xs = first_chunks n (div_ceil (length xs) n) xs
 
@@ -130,7 +130,7 @@ parts_of number offset bytes = let space = room (next_place number offset) - hea
     if nat_le (length bytes) space then bytes ∷ []
     else take space bytes ∷ pieces_of (part_len number) (drop space bytes)
 
--- the parts behind the first one
+-- the parts of a record after its first one, as fragments
 abbrev pub later_fragments : List (List ℕ) → List Fragment
 later_fragments [] = []
 later_fragments (p ∷ []) = record { kind = last; part = p } ∷ []
@@ -141,7 +141,7 @@ as_fragments [] = []
 as_fragments (p ∷ []) = record { kind = full; part = p } ∷ []
 as_fragments (p ∷ q ∷ ps) = record { kind = first; part = p } ∷ later_fragments (q ∷ ps)
 
--- what is written for one record at this offset, and for several
+-- the bytes that are written for one record at this offset, and for several
 abbrev pub record_text : Option ℕ → ℕ → List ℕ → List ℕ
 record_text number offset bytes = fragments_text number offset (as_fragments (parts_of number offset bytes))
 
@@ -153,7 +153,7 @@ text_from number offset (r ∷ rs) = record_text number offset r
 abbrev pub text : Option ℕ → List (List ℕ) → List ℕ
 text number records = text_from number 0 records
 
--- How a log begins: its number, if it has one, and the bytes that it keeps of what was there.
+-- How a log begins: its number, if it has one, and the bytes that it keeps of what the file had before.
 pub record Beginning : Type 0 where
   pub number : Option ℕ
   pub kept : List ℕ
@@ -162,6 +162,6 @@ pub record Beginning : Type 0 where
 abbrev pub new_log : Beginning
 new_log = record { number = plain_log; kept = [] }
 
--- its bytes once these records are written behind what it keeps
+-- the log's bytes once these records are written after the bytes that it keeps
 abbrev pub text_after : Beginning → List (List ℕ) → List ℕ
 text_after b records = b.kept ++ text_from b.number (length b.kept) records

@@ -6,7 +6,7 @@ use Rattle.model_base.specs.Log.{Beginning, text_after}
 use Rattle.model_base.specs.History.{Entry, RunsFollow, logged_entries}
 use Rattle.model_base.specs.Calls.{Outcome}
 
--- the one record of a group of logged entries
+-- the one record of the log that holds these entries
 abbrev pub record_of_entries : List Entry → List ℕ
 record_of_entries [] = []
 record_of_entries (e ∷ es) = group_record e.first (map (λ (x : Entry). x.records) (e ∷ es))
@@ -20,25 +20,25 @@ pub record AreGroupsOf (entries : List Entry) (groups : List (List Entry)) : Typ
 abbrev pub records_of : List (List Entry) → List (List ℕ)
 records_of groups = map record_of_entries groups
 
--- The log holds these groups behind what it kept: its content up to the printed length is that and the text of their
--- records.
+-- The log holds these groups after the bytes that it kept: its content, up to the printed length, is those bytes and
+-- the text of the groups' records.
 pub record IsLogOf (b : Beginning) (o : Outcome) (content : List ℕ) (groups : List (List Entry)) : Type 0 where
   pub of_history : AreGroupsOf o.history groups
   pub content_is : take o.log_len content ≡ text_after b (records_of groups)
   pub length_is : o.log_len ≡ length (text_after b (records_of groups))
 
--- a call of `add_group`, and the count of faults that it was answered where it failed
+-- a call of `add_group`: its arguments, and the count of faults that it was answered if it failed
 pub record GroupCall : Type 0 where
   pub first : ℕ
   pub batches : List (List Record)
   pub sync : Bool
   pub failed : Option ℕ
 
--- the one record of its group
+-- the one record that the call writes for its group
 abbrev pub record_of_call : GroupCall → List ℕ
 record_of_call c = group_record c.first c.batches
 
--- An image that is longer than this text, and than what could be reached before the text was written, begins with the
--- text.
+-- If an image is longer than this text, and longer than any image could be before the text was written (`reached`), it
+-- begins with the text.
 abbrev pub HoldsUpTo : ℕ → List ℕ → List ℕ → Type 0
 HoldsUpTo reached t image = length t < length image → reached < length image → take (length t) image ≡ t

@@ -21,7 +21,7 @@ after_record m (deletion key) = remove_entry (is_at (byte_order key)) m
 after_record m (single_deletion key) = remove_entry (is_at (byte_order key)) m
 after_record m (log_data blob) = m
 
--- the same for records in order
+-- the map after all these records, in order
 abbrev pub after_records : Pairs → List Record → Pairs
 after_records m records = fold after_record m records
 
@@ -29,6 +29,6 @@ after_records m records = fold after_record m records
 abbrev pub value_at : Pairs → List ℕ → Option (List ℕ)
 value_at m key = lookup (is_at (byte_order key)) m
 
--- the pairs whose keys are from lo on and below hi
+-- the pairs whose keys are at or above lo, and below hi
 abbrev pub rows_within : List ℕ → List ℕ → Pairs → Pairs
 rows_within lo hi m = filter (λ p. not (is_lt (byte_order p.0 lo)) && is_lt (byte_order p.0 hi)) m

@@ -9,7 +9,7 @@ bit_of false = 0
 abbrev pub option_bits : WriteOptions → ℕ
 option_bits options = bit_of options.sync + 2 * bit_of options.no_log + 4 * bit_of options.no_slowdown
 
--- the options that the three lowest bits of a number stand for
+-- the options that the three lowest bits of a number encode
 abbrev pub options_of_bits : ℕ → WriteOptions
 options_of_bits bits = record {
   sync = bits % 2 == 1;

@@ -1,4 +1,4 @@
--- The outcome of a run is legal: its replies are those of a plain map at points of one history.
+-- The outcome of a run is legal: its replies are those of a plain map, at points of one history.
 use Rattle.std.specs.Prelude.{◌≡◌, ℕ, ◌+◌, ◌≤◌, IsTrue, List, ◌++◌, length, filter, Option, Some, slice_get, ◌==◌, IfSome}
 use Rattle.std.specs.List.{AllByRecursion}
 use Rattle.model_base.specs.History.{Entry, IsHistory, last_sequence, map_over}
@@ -20,7 +20,8 @@ entries_of_client client entries = filter (λ (e : Entry). e.client == client) e
 abbrev pub IsClient : Settings → ℕ → Type 0
 IsClient settings client = (1 ≤ client) × (client ≤ settings.clients)
 
--- one history of whole batches and one of the controller, which name the clients alone
+-- One history of whole batches and one of the controller. Each batch is of a client of the run, and so is each call
+-- that takes or gives back a token.
 pub record IsTrace (settings : Settings) (trace : Trace) : Type 0 where
   pub start : trace.start ≡ settings.start
   pub opening : trace.opening ≡ settings.opening
@@ -30,8 +31,8 @@ pub record IsTrace (settings : Settings) (trace : Trace) : Type 0 where
   pub tokens : AllByRecursion
       (λ (t : ControllerCall). IsTrue (is_token t.action) → IsClient settings t.client) trace.controller_calls
 
--- A client's calls are right in the trace. Its accepted batches are just its entries there, its calls of the controller
--- just its tokens there, with what it gave back at its end, and its commits' statuses those of the trace
+-- A client's calls are right in the trace. Its accepted batches are just its entries there. Its token calls are just
+-- those there, with the tokens that it gave back at its end. Its commits have statuses that agree with the trace.
 pub record IsLegalTranscript (settings : Settings) (trace : Trace) (groups : List Group) (fault : Option ℕ) (client : ℕ)
     (commands : List Command) (calls : List Call) (attempts : List Attempt) : Type 0 where
   pub end : Progress
@@ -41,8 +42,8 @@ pub record IsLegalTranscript (settings : Settings) (trace : Trace) (groups : Lis
   pub commits : attempts ≡ end.attempts
   pub statuses : AreStatuses trace groups fault client 0 attempts
 
--- The trace of an outcome, and the commits of each client that came to a leader's hand. What no reply shows is these,
--- the controller's history and the groups that asked it for a delay.
+-- The outcome is legal in this trace, with these commits of each client that leaders took into groups. No reply shows
+-- these commits, the controller's history, or the groups that asked it for a delay.
 pub record IsLegalIn (settings : Settings) (ended : ℕ) (script : List (List Command)) (trace : Trace)
     (attempts : List (List Attempt)) (o : Outcome) : Type 0 where
   pub is_trace : IsTrace settings trace
@@ -60,7 +61,7 @@ pub record IsLegalIn (settings : Settings) (ended : ℕ) (script : List (List Co
   pub state : o.state ≡ map_over trace.opening trace.entries
   pub fault : IfSome o.fault (λ count. Rose settings.opened count × (count ≤ ended))
 
--- the outcome of a trace in which the clients were answered so
+-- the outcome of a trace, with the clients' calls, the last sequence, the log's length and its fault
 abbrev pub outcome_of : Trace → List (List Call) → ℕ → ℕ → Option ℕ → Outcome
 outcome_of trace transcripts last log_len fault =
     record {

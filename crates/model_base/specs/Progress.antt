@@ -1,4 +1,4 @@
--- Where a client stands between two of its calls.
+-- A client's progress: what holds of it between two of its calls.
 use Rattle.std.specs.Prelude.{ℕ, ◌+◌, Bool, not, ◌&&◌, List, [], ◌∷◌, ◌++◌, length, fold, Option, Some, None, nat_lt, ◌==◌, if◌then◌else◌}
 use Rattle.model_base.specs.declared.write.WriteOptions.{WriteOptions}
 use Rattle.model_base.specs.declared.write.Refusal.{Refusal}
@@ -14,19 +14,19 @@ pub record Progress : Type 0 where
   pub pending : List Record
   -- its accepted batches, in order
   pub mine : List Entry
-  -- its calls of the controller that were done
+  -- its calls of the controller that were answered `done`
   pub asked : List Action
-  -- its commits that a leader took in hand
+  -- its commits that leaders took into their groups
   pub attempts : List Attempt
-  -- it was shown what was published up to here
+  -- the greatest sequence that it was shown, by a read or by an accepted batch of its own
   pub seen_up_to : ℕ
-  -- how many of the controller's calls its pass has seen
+  -- how many calls of the controller's history it knows of, from the first one on
   pub known : ℕ
 
 abbrev pub fresh : Progress
 fresh = record { pending = []; mine = []; asked = []; attempts = []; seen_up_to = 0; known = 0 }
 
--- a client's next entry
+-- a client's next entry in the history
 abbrev pub next_entry : ℕ → List Entry → WriteOptions → ℕ → List Record → Entry
 next_entry client mine how first records =
     record {
@@ -38,7 +38,8 @@ next_entry client mine how first records =
       records = records;
     }
 
--- Which refusal stands before a batch is linked, if one does: the checks in their order
+-- The refusal that a commit gets before it is linked, if there is one: the checks in their order. `stopping` says that
+-- the client holds a stop token.
 abbrev pub early_refusal : ℕ → Bool → List Record → WriteOptions → Option Refusal
 early_refusal batch_bytes stopping records how =
     if count_of records == 0 then Some no.Empty
@@ -46,7 +47,7 @@ early_refusal batch_bytes stopping records how =
     else if how.sync && how.no_log then Some no.SyncWithoutLog
     else if stopping && not how.no_slowdown then Some no.SelfStop else None
 
--- the records of a client's batch after a call, and after all its calls
+-- the records of a client's batch after one call, and after all its calls
 abbrev pub added_by : List Record → Command → Reply → List Record
 added_by records (add r) reply = records ++ r ∷ []
 added_by records clear reply = []

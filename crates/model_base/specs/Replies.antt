@@ -1,4 +1,4 @@
--- Which replies a client may get, and where it then stands.
+-- Which replies a client may get, and what its progress is after them.
 use Rattle.std.specs.Prelude.{◌≡◌, ℕ, ◌+◌, ◌<◌, ◌≤◌, true, false, List, [], ◌∷◌, ◌++◌, map, max, Option, Some, None, slice_get, MatchOption, ⊤}
 use Rattle.std.specs.List.{AllByRecursion}
 use Rattle.model_base.specs.declared.write.WriteOptions.{WriteOptions}
@@ -11,20 +11,20 @@ use Rattle.model_base.specs.Controller as controller
 use Rattle.model_base.specs.Controller.{ControllerCall, Action, Look, HoldUp}
 use Rattle.model_base.specs.Tokens.{holds_stop, holds_slow}
 use Rattle.model_base.specs.Trace.{Trace, Settings}
-use Rattle.model_base.specs.Attempts.{Attempt, WriteStatus, succeeded, slowed, faulted, full, with_attempt, knows_dead}
+use Rattle.model_base.specs.Attempts.{Attempt, WriteStatus, succeeded, slowed, faulted, full, with_attempt, knows_log_failed}
 use Rattle.model_base.specs.Progress.{Progress, next_entry, early_refusal}
 use Rattle.model_base.specs.Calls.{Command, add, clear, commit, get, many, scan, stop, unstop, slow, unslow, Reply, quiet, accepted, refused, found, found_each, rows, done, held, not_held}
 
 -- Refusals
 
--- a call stands at this place of the controller's history, behind all that was known
+-- this call is at this place of the controller's history, after all the calls that were known
 pub record IsLater (controller_calls : List ControllerCall) (known place : ℕ) (call : ControllerCall) : Type 0 where
   pub later : known ≤ place
   pub there : slice_get controller_calls place ≡ Some call
 
--- The numbers are those of a look, or of the delay that was asked for the commit's group, which stands behind all that
--- the client knew before its call, and which it knows once the call returns. What the group was stands beside the
--- controller's history.
+-- The numbers are the answer of a look, or of the delay that was asked for the commit's group. That call comes after
+-- all that the client knew before its commit, and the client knows of it once the commit returns. Which group it was
+-- for isn't in the controller's history: the groups of an outcome say so.
 abbrev pub IsTold : List ControllerCall → ℕ → ℕ → Look → Option WriteStatus → Type 0
 IsTold controller_calls knew knows numbers None = (place : ℕ) × (by : ℕ)
     × IsLater controller_calls knew place (record { client = by; action = controller.look; told = Some numbers })
@@ -35,11 +35,11 @@ IsTold controller_calls knew knows numbers (Some (slowed place)) = (by : ℕ) ×
     × (place < knows)
 IsTold controller_calls knew knows numbers (Some other) = ⊥
 
--- no accepted batch ends past a sequence
+-- no accepted batch ends above this sequence
 abbrev pub AreUpTo : List Entry → ℕ → Type 0
 AreUpTo mine last = AllByRecursion (λ e. last_of e ≤ last) mine
 
--- where there was no room for a run, the sequence given last was below this one
+-- if there was no room for this commit's run, the sequence that had been given last was below this one
 abbrev pub IsFullBelow : ℕ → WriteStatus → Type 0
 IsFullBelow sequence (full last) = last < sequence
 IsFullBelow sequence succeeded = ⊤
@@ -49,15 +49,16 @@ IsFullBelow sequence (faulted count) = ⊤
 abbrev pub AreFullBelow : ℕ → List Attempt → Type 0
 AreFullBelow sequence attempts = AllByRecursion (λ (h : Attempt). IsFullBelow sequence h.status) attempts
 
--- why a commit of a client that stands there may be refused, past the early checks; how much of the controller's
--- history the client then knows; and what became of the commit in the queue where it came into a leader's hand
+-- Why a commit of a client with this progress may be refused, after the early checks. `knows` is how much of the
+-- controller's history the client knows afterwards, and `status` how the commit ended in its group, if a leader took it
+-- into one.
 abbrev pub MayRefuse : List ControllerCall → Progress → ℕ → WriteOptions → Refusal → Option WriteStatus → Type 0
 MayRefuse controller_calls p knows how (no.Incomplete stops delays wait) status =
     (how.no_slowdown ≡ true) × HoldUp (record { stops = stops; delays = delays; wait = wait })
     × IsTold controller_calls p.known knows (record { stops = stops; delays = delays; wait = wait }) status
 MayRefuse controller_calls p knows how (no.LogFault count) status = status ≡ Some (faulted count)
 MayRefuse controller_calls p knows how (no.SequenceFull last) status =
-    (status ≡ Some (full last)) × (knows_dead p.attempts ≡ false) × (p.seen_up_to ≤ last) × AreUpTo p.mine last
+    (status ≡ Some (full last)) × (knows_log_failed p.attempts ≡ false) × (p.seen_up_to ≤ last) × AreUpTo p.mine last
     × AreFullBelow (last + 1) p.attempts × (max_sequence < last + count_of p.pending)
 MayRefuse controller_calls p knows how no.Empty status = ⊥
 MayRefuse controller_calls p knows how (no.TooLarge size) status = ⊥
@@ -67,7 +68,7 @@ MayRefuse controller_calls p knows how no.NoMemory status = ⊥
 
 -- Each command
 
--- nothing but what is known of the controller may have changed
+-- nothing has changed, except perhaps what is known of the controller
 abbrev pub Stays : Progress → Progress → Type 0
 Stays p q = q ≡ record p { known = q.known }
 
@@ -79,15 +80,15 @@ abbrev pub Clears : Progress → Reply → Progress → Type 0
 Clears p quiet q = q ≡ record p { pending = []; known = q.known }
 Clears p other q = ⊥
 
--- The batch has a run, which was replied, and is the client's next entry. The run is above all that the client was
--- shown, and above each sequence behind which there was no room for a batch of its.
+-- The batch got the run that was replied, and is the client's next entry. The run is above all that the client was
+-- shown, and above each sequence after which there was no room for an earlier batch of this client.
 pub record IsAccepted (client : ℕ) (p : Progress) (how : WriteOptions) (first last : ℕ) (records : List Record)
     (q : Progress) : Type 0 where
   pub batch : records ≡ p.pending
   pub run : last + 1 ≡ first + count_of p.pending
   pub above : p.seen_up_to < first
   pub behind : AreFullBelow first p.attempts
-  pub alive : knows_dead p.attempts ≡ false
+  pub alive : knows_log_failed p.attempts ≡ false
   pub after : q ≡ record p {
     pending = [];
     mine = p.mine ++ next_entry client p.mine how first p.pending ∷ [];
@@ -129,8 +130,8 @@ abbrev pub Scans : Trace → Progress → List ℕ → List ℕ → Reply → Pr
 Scans trace p lo hi (rows at pairs) q = ReadsAt trace p at (λ m. pairs ≡ rows_within lo hi m) q
 Scans trace p lo hi other q = ⊥
 
--- a token is taken or given back: the controller's history has that call, behind what was known, and now the client
--- knows it
+-- A token is taken or given back: the controller's history has that call, after all that was known, and now the client
+-- knows of it.
 pub record IsDone (trace : Trace) (client : ℕ) (p : Progress) (action : Action) (q : Progress) : Type 0 where
   pub place : ℕ
   pub is_later : IsLater trace.controller_calls p.known place (record { client = client; action = action; told = None })
@@ -157,7 +158,7 @@ Unslows trace client p done q = (holds_slow p.asked ≡ true) × IsDone trace cl
 Unslows trace client p not_held q = (holds_slow p.asked ≡ false) × Stays p q
 Unslows trace client p other q = ⊥
 
--- the client may get this reply to this command, and then stands there
+-- a client with progress p may get this reply to this command, and then has progress q
 abbrev pub Replies : Settings → Trace → ℕ → Progress → Command → Reply → Progress → Type 0
 Replies settings trace client p (add r) reply q = Adds p r reply q
 Replies settings trace client p clear reply q = Clears p reply q
@@ -170,15 +171,15 @@ Replies settings trace client p unstop reply q = Unstops trace client p reply q
 Replies settings trace client p (slow rate) reply q = Slows trace client p rate reply q
 Replies settings trace client p unslow reply q = Unslows trace client p reply q
 
--- the commands that may find no memory: a commit once it passed the early checks
-abbrev pub MayLackMemory : Settings → Progress → Command → Type 0
-MayLackMemory settings p (add r) = Unit {0}
-MayLackMemory settings p clear = ⊥
-MayLackMemory settings p (commit how) = early_refusal settings.batch_bytes (holds_stop p.asked) p.pending how ≡ None
-MayLackMemory settings p (get key) = Unit {0}
-MayLackMemory settings p (many keys) = Unit {0}
-MayLackMemory settings p (scan lo hi) = Unit {0}
-MayLackMemory settings p stop = ⊥
-MayLackMemory settings p unstop = ⊥
-MayLackMemory settings p (slow rate) = ⊥
-MayLackMemory settings p unslow = ⊥
+-- the commands that may find no memory; a commit is one of them once it has passed the early checks
+abbrev pub MayFindNoMemory : Settings → Progress → Command → Type 0
+MayFindNoMemory settings p (add r) = Unit {0}
+MayFindNoMemory settings p clear = ⊥
+MayFindNoMemory settings p (commit how) = early_refusal settings.batch_bytes (holds_stop p.asked) p.pending how ≡ None
+MayFindNoMemory settings p (get key) = Unit {0}
+MayFindNoMemory settings p (many keys) = Unit {0}
+MayFindNoMemory settings p (scan lo hi) = Unit {0}
+MayFindNoMemory settings p stop = ⊥
+MayFindNoMemory settings p unstop = ⊥
+MayFindNoMemory settings p (slow rate) = ⊥
+MayFindNoMemory settings p unslow = ⊥

@@ -9,7 +9,7 @@ use Rattle.model_base.specs.Calls.{Command, add, clear, commit, get, many, scan,
 
 -- Lines and words
 
--- a last line may lack its line feed
+-- the last line may end without a line feed
 abbrev pub without_empty_end : List (List ℕ) → List (List ℕ)
 without_empty_end [] = []
 without_empty_end ([] ∷ []) = []
@@ -19,12 +19,12 @@ without_empty_end (l ∷ m ∷ ls) = l ∷ without_empty_end (m ∷ ls)
 abbrev pub lines_of : List ℕ → List (List ℕ)
 lines_of text = without_empty_end (slice_split (λ b. b == 10) text)
 
--- empty lines and lines that begin with `#` are passed over
+-- empty lines and lines that begin with `#` are skipped
 abbrev pub is_passed_over : List ℕ → Bool
 is_passed_over [] = true
 is_passed_over (b ∷ bs) = b == 35
 
--- spaces and printing characters alone
+-- all bytes are spaces or printing characters
 abbrev pub are_plain : List ℕ → Bool
 are_plain bytes = list_all (λ b. nat_le 0x20 b && nat_le b 0x7e) bytes
 
@@ -34,14 +34,14 @@ word_limit = 1024
 abbrev pub is_word : List ℕ → Bool
 is_word w = nat_le 1 (length w) && nat_le (length w) word_limit
 
--- a number is its decimal digits, and below 2 ^ 64
+-- a number is written as its decimal digits, and is below 2 ^ 64
 abbrev pub value_of_digits : List ℕ → ℕ
 value_of_digits w = fold (λ n d. 10 * n + (d - 48)) 0 w
 
 abbrev pub number_of : List ℕ → Option ℕ
 number_of w = let n = value_of_digits w in if bytes_eq w (decimal n) && nat_lt n (2 ^ 64) then Some n else None
 
--- A line: a client's section begins, or a command
+-- A line of a script: it begins a client's section, or it is a command
 pub data Line : Type 0 where
   section : ℕ → Line
   command : Command → Line
@@ -82,7 +82,7 @@ abbrev pub some_words : (List (List ℕ) → Line) → List (List ℕ) → Read 
 some_words line [] = Err Form
 some_words line (w ∷ ws) = Ok (line (w ∷ ws))
 
--- the flags `sync`, `nolog` and `noslow`, each or not, in this order
+-- the flags `sync`, `nolog` and `noslow`, each there or not, in this order
 abbrev pub is_first : List ℕ → List (List ℕ) → Bool
 is_first w [] = false
 is_first w (v ∷ vs) = bytes_eq v w
@@ -98,12 +98,12 @@ commit_flags ws =
     let no_slowdown = is_first (codes "noslow") after_no_log in let rest = behind_first no_slowdown after_no_log in
     no_word (command (commit (record { sync = sync; no_log = no_log; no_slowdown = no_slowdown }))) rest
 
--- what stands behind a first word
+-- a command's word, and how the words after it are read
 pub record CommandForm : Type 0 where
   pub word : List ℕ
   pub rest : List (List ℕ) → Read Line
 
--- reads of several keys at once, and of all keys in a range
+-- reads: of several keys at once, and of all keys in a range
 abbrev pub read_forms : List CommandForm
 read_forms =
     record { word = codes "many"; rest = some_words (λ ks. command (many ks)) }
@@ -119,7 +119,7 @@ token_forms =
     ∷ record { word = codes "unslow"; rest = no_word (command unslow) }
     ∷ []
 
--- batches of every kind of record, commits with flags, and every read
+-- records of every kind, `clear`, `commit` with its flags, and every read
 abbrev pub client_forms : List CommandForm
 client_forms =
     record { word = codes "client"; rest = one_number section }
@@ -136,8 +136,8 @@ client_forms =
 abbrev pub whole_forms : List CommandForm
 whole_forms = client_forms ++ token_forms
 
--- the words of a line, by the form whose word stands first; a first word that is no command is found before the others
--- are looked at
+-- The words of a line, read by the form that has its first word. A first word that is no command is the fault, before
+-- the other words are looked at.
 abbrev pub by_form : List CommandForm → List ℕ → List (List ℕ) → Read Line
 by_form [] w ws = Err Word
 by_form (f ∷ fs) w ws = if bytes_eq w f.word then (if list_all is_word ws then f.rest ws else Err Form)
@@ -157,7 +157,7 @@ line_of fs line = if are_plain line then by_words fs (words_of line) else Err By
 abbrev pub Script : Type 0
 Script = List (List Command)
 
--- a command behind those of the last client
+-- a command after those of the last client
 abbrev pub add_to_last : Script → Command → Script
 add_to_last [] c = []
 add_to_last (cs ∷ []) c = (cs ++ c ∷ []) ∷ []
@@ -172,13 +172,13 @@ abbrev pub with_command : Script → Command → Read Script
 with_command [] c = Err Client
 with_command (cs ∷ rest) c = Ok (add_to_last (cs ∷ rest) c)
 
--- What may be written: how long the text may be, how many clients it may have, and the forms of its lines.
+-- What a script may say: its greatest length, the most clients, and the forms of its lines.
 pub record Grammar : Type 0 where
   pub text_limit : ℕ
   pub client_limit : ℕ
   pub forms : List CommandForm
 
--- that with every line
+-- the grammar that has every form of line
 abbrev pub whole_grammar : Grammar
 whole_grammar = record { text_limit = TEXT_LIMIT; client_limit = MAX_CLIENTS; forms = whole_forms }
 
@@ -186,7 +186,7 @@ abbrev pub with_line : ℕ → Script → Line → Read Script
 with_line most script (section n) = with_section most script n
 with_line most script (command c) = with_command script c
 
--- a fault, and the number of its line; 0 where it is the whole text's
+-- a fault, and the number of its line; 0 where the fault is the whole text's
 pub record Fault : Type 0 where
   pub line : ℕ
   pub kind : ScriptFault
@@ -195,7 +195,7 @@ abbrev pub at_line : {A : Type 0} → ℕ → Read A → Result A Fault
 at_line n (Ok x) = Ok x
 at_line n (Err kind) = Err (record { line = n; kind = kind })
 
--- a numbered line behind others
+-- one more line, with its number, after the lines before it
 abbrev pub after_line : Grammar → Result Script Fault → ℕ × List ℕ → Result Script Fault
 after_line g (Err fault) l = Err fault
 after_line g (Ok script) l = if is_passed_over l.1 then Ok script
@@ -204,18 +204,18 @@ after_line g (Ok script) l = if is_passed_over l.1 then Ok script
 abbrev pub lines_read : Grammar → List ℕ → Result Script Fault
 lines_read g text = fold (after_line g) (Ok []) (enumerate_from 1 (lines_of text))
 
--- after all a text without a client
+-- at the end: a text without a client is a fault
 abbrev pub with_client : Result Script Fault → Result Script Fault
 with_client (Err fault) = Err fault
 with_client (Ok []) = Err (record { line = 0; kind = NoClient })
 with_client (Ok (cs ∷ rest)) = Ok (cs ∷ rest)
 
--- What a script says, or its first fault; before all a text that is too long.
+-- What a script says, or its first fault. First of all a text that is too long is refused.
 abbrev pub script_of : Grammar → List ℕ → Result Script Fault
 script_of g text = if nat_lt g.text_limit (length text) then Err (record { line = 0; kind = Long })
     else with_client (lines_read g text)
 
--- the word of each kind of fault
+-- the word that is printed for each kind of fault
 abbrev pub fault_word : ScriptFault → List ℕ
 fault_word Long = codes "long"
 fault_word Byte = codes "byte"

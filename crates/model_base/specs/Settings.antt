@@ -4,7 +4,8 @@ use Rattle.model_base.specs.Map.{Pairs}
 use Rattle.model_base.specs.Trace.{Settings}
 use Rattle.model_base.specs.declared.options.Options.{Options}
 
--- with these options, over this map, for so many clients, on a disk with so many faults at opening
+-- the settings of a run with these options, over the map `opening`, for this number of clients, on a disk that had
+-- counted `opened` faults when the log was opened
 abbrev pub settings_of : Options → Pairs → ℕ → ℕ → Settings
 settings_of options opening clients opened = record {
   start = options.last;

@@ -21,7 +21,7 @@ use Rattle.model_base.specs.Recovery.{Logged, logged_bytes, Recovered, recovered
 abbrev pub line : List (List ℕ) → List ℕ
 line words = join_with_byte 32 words ++ 10 ∷ []
 
--- two lower-case digits for each byte
+-- two lower-case hex digits for each byte
 abbrev pub hex : List ℕ → List ℕ
 hex bytes = flat_map (λ b. digit_glyph false (b / 16) ∷ digit_glyph false (b % 16) ∷ []) bytes
 
@@ -55,7 +55,7 @@ reply_text held = line (codes "held" ∷ [])
 reply_text not_held = line (codes "notheld" ∷ [])
 reply_text no_memory = line (codes "no" ∷ codes "memory" ∷ [])
 
--- a client's section, from its number
+-- a client's section: its number, and then its replies
 abbrev pub client_text : ℕ × List Call → List ℕ
 client_text p = line (codes "client" ∷ decimal p.0 ∷ []) ++ flat_map (λ c. reply_text c.reply) p.1
 
@@ -75,7 +75,7 @@ entry_text e =
 abbrev pub history_text : List Entry → List ℕ
 history_text entries = line (codes "history" ∷ decimal (length entries) ∷ []) ++ flat_map entry_text entries
 
--- the sequence, how many keys, and the pairs, each key and value as the words say
+-- the sequence, the number of keys, and the pairs, where `word` says how a key or a value is printed
 abbrev pub state_text : (List ℕ → List ℕ) → ℕ → Pairs → List ℕ
 state_text word last pairs = line (codes "state" ∷ decimal last ∷ decimal (length pairs) ∷ [])
     ++ flat_map (λ p. line (word p.0 ∷ word p.1 ∷ [])) pairs
@@ -110,7 +110,7 @@ end_words (ends.Count said n) = codes "count" ∷ decimal said ∷ decimal n ∷
 end_words (ends.Order first last) = codes "order" ∷ decimal first ∷ decimal last ∷ []
 end_words (ends.High first count) = codes "high" ∷ decimal first ∷ decimal count ∷ []
 
--- bytes in digits, and `-` for none
+-- bytes as hex digits, and `-` where there are none
 abbrev pub hex_word : List ℕ → List ℕ
 hex_word [] = codes "-"
 hex_word (b ∷ bytes) = hex (b ∷ bytes)

@@ -1,4 +1,4 @@
--- Which tokens of the write controller a client holds, by its own calls of it.
+-- Which tokens of the write controller a client holds, as its own calls say.
 use Rattle.std.specs.Prelude.{ℕ, Bool, true, false, ◌&&◌, List, [], ◌∷◌, ◌++◌, map, filter, fold, ◌==◌, if◌then◌else◌}
 use Rattle.model_base.specs.Controller.{ControllerCall, Action, stop, unstop, slow, unslow, delay, look}
 
@@ -11,7 +11,7 @@ is_token unslow = true
 is_token (delay now bytes) = false
 is_token look = false
 
--- those of a client, in order
+-- the token calls of a client, in order
 abbrev pub tokens_of : ℕ → List ControllerCall → List Action
 tokens_of client controller_calls =
     map (λ (t : ControllerCall). t.action)

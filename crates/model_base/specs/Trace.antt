@@ -1,4 +1,4 @@
--- What happened in a run, side by side: the history of batches and the history of the write controller.
+-- What happened in a run: the history of batches, and next to it the history of the write controller.
 use Rattle.std.specs.Prelude.{◌≡◌, ℕ, List, []}
 use mathlib.Core.List.{IsPrefix}
 use Rattle.model_base.specs.Map.{Pairs}
@@ -16,7 +16,7 @@ pub record Trace : Type 0 where
 abbrev pub empty_trace : ℕ → Pairs → Trace
 empty_trace start opening = record { start = start; opening = opening; entries = []; controller_calls = [] }
 
--- one trace begins another
+-- the trace v is a beginning of the trace w
 pub record Begins (v w : Trace) : Type 0 where
   pub start : v.start ≡ w.start
   pub opening : v.opening ≡ w.opening

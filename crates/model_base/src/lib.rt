@@ -1,5 +1,5 @@
-//! What the crates above promise, as definitions: see `specs/`. The Rust side has only the plain values that the
-//! definitions name.
+//! The definitions, in `specs/`, that say what the crates built on this one promise. The Rust side has only the plain
+//! values that the definitions name.
 #![tactic(auto)]
 
 mod batch;

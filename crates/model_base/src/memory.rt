@@ -1,9 +1,9 @@
-//! Want of memory.
+//! The answer where there is no memory.
 
 use std::alloc::{AllocError, AllocFailed};
 use thiserror::Error;
 
-/// There was no memory. It is an answer of its own, and merged with no other.
+/// There was no memory. This is an answer of its own, and is never merged with another one.
 #[derive(Clone, Copy, Debug, PartialEq, Eq, Error)]
 #[error("no memory")]
 pub struct NoMemory;

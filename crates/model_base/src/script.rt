@@ -1,4 +1,4 @@
-//! Why a script is not read.
+//! Why a script can't be read.
 
 /// What is wrong with a script, or with a line of it.
 #[derive(Clone, Copy, Debug, PartialEq, Eq)]
@@ -7,13 +7,13 @@ pub enum ScriptFault {
     Long,
     /// A byte that is neither a space nor a printing character.
     Byte,
-    /// No command.
+    /// The first word of a line is no command.
     Word,
-    /// A command in another form.
+    /// A command with other words after it than it takes.
     Form,
-    /// A wrong client's number, or a command before the first client.
+    /// A client's number that isn't the next one, or a command before the first client.
     Client,
-    /// More clients than there may be.
+    /// More clients than are allowed.
     Clients,
     /// No client at all.
     NoClient,

@@ -1,4 +1,4 @@
--- The write path as a machine of events: a log queue, a group in hand, a memtable queue and a table
+-- The write path as a state machine: a log queue, a group in hand, a memtable queue and a table
 -- (RocksDB's db/write_thread.cc; RocksDB wiki, "Pipelined Write").
 use Rattle.std.specs.Prelude.{ℕ, zero, suc, ◌+◌, ◌-◌, Bool, true, false, List, [], ◌∷◌, ◌++◌, length, map, filter, filter_map, take_while, nat_le, ◌==◌, if◌then◌else◌, Option, Some, None, is_some, slice_get, slice_set, option_map}
 use Rattle.std.specs.List.{list_any}
@@ -18,22 +18,23 @@ pub record Options : Type 0 where
   pub batch_bytes : ℕ
   pub start : ℕ
 
--- a batch on its way: whose, how it is to be written, and the first sequence of its run, once it has one
+-- a batch on its way: its client, how it should be written, its records, and its answer, once it has one
 pub record Writer : Type 0 where
   pub client : ℕ
   pub options : WriteOptions
   pub records : List Record
   pub answer : Option Reply
 
--- a client: the lines that are left, the records of its batch, its calls with their replies, and whether it is idle,
--- which is that it waits for no answer
+-- a client: its lines that are left, the records of its batch, its calls with their replies, and whether it is idle: an
+-- idle client waits for no answer
 pub record Client : Type 0 where
   pub left : List Command
   pub added : List Record
   pub calls : List Call
   pub idle : Bool
 
--- where the log is: with nobody, with a leader, or with a group in hand
+-- Who has the log: nobody, a leader, a leader with its group in hand (built; then in the log; then marked for the
+-- second queue), or a leader that has handed its group over.
 pub data LogPhase : Type 0 where
   free : LogPhase
   led : ℕ → LogPhase
@@ -42,7 +43,8 @@ pub data LogPhase : Type 0 where
   marked : List Writer → LogPhase
   handed : ℕ → LogPhase
 
--- a launched group has members that are inserted, and of these some that are finished, in order
+-- How far the table's group is: not launched, or there is none; launched; or published. A launched group has a list of
+-- the members that have inserted and one of those that have finished, each in the order in which they did.
 pub data TablePhase : Type 0 where
   still : TablePhase
   launched : List ℕ → List ℕ → TablePhase
@@ -56,13 +58,13 @@ pub record State : Type 0 where
   pub table : TablePhase
   -- how many entries each logged group has
   pub groups : List ℕ
-  -- the entries given runs, and the sequence given last
+  -- the entries that got runs, and the sequence that was given last
   pub entries : List Entry
   pub assigned : ℕ
   pub log_failed : Bool
   pub inserted : List Entry
   pub last : ℕ
-  -- those that have left with their answers, and whose clients don't have them yet
+  -- writers that have left with their answers, where the clients don't have these yet
   pub leaving : List Writer
 
 abbrev pub idle_client : List Command → Client
@@ -94,7 +96,7 @@ client_at s (suc c) = slice_get s.clients c
 abbrev pub with_client : State → ℕ → Client → State
 with_client s c client = record s { clients = slice_set s.clients (c - 1) client }
 
--- what adds to a client's batch or empties it is done on the way to its next call
+-- commands that add to a client's batch or empty it are done on the way to its next call
 pub record Ahead : Type 0 where
   pub call : Option Command
   pub client : Client
@@ -134,8 +136,8 @@ leads c (w ∷ ws) = w.client == c
 
 -- Runs
 
--- members get runs in order, from the sequence given last; one that doesn't fit is refused, and later ones that fit are
--- still taken
+-- Members get runs in order, after the sequence that was given last. A member whose run doesn't fit is refused, and
+-- later ones whose runs fit are still accepted.
 abbrev pub with_runs : ℕ → List Writer → List Writer
 with_runs last [] = []
 with_runs last (w ∷ ws) =
@@ -155,7 +157,7 @@ has_run w = is_some (run_of w.answer)
 abbrev pub all_answered : Reply → List Writer → List Writer
 all_answered reply ws = map (λ (w : Writer). record w { answer = Some reply }) ws
 
--- the how many-th accepted batch of its client this will be
+-- the number (from 1) of a client's next batch among its accepted ones
 abbrev pub ordinal_at : State → ℕ → ℕ
 ordinal_at s c = 1 + length (filter (λ (x : Entry). x.client == c) s.entries)
 
@@ -172,10 +174,6 @@ entry_of s w first = record {
 -- the entries of a group's members that have runs
 abbrev pub entries_of : State → List Writer → List Entry
 entries_of s ws = filter_map (λ w. option_map (entry_of s w) (run_of w.answer)) ws
-
-abbrev pub last_entry : ℕ → List Entry → ℕ
-last_entry last [] = last
-last_entry last (x ∷ xs) = last_entry (last_of x) xs
 
 -- The group in the table: the first one of the second queue, or the logged group in hand
 

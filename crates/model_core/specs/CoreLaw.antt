@@ -8,7 +8,7 @@ use Rattle.model_base.specs.History.{Entry, IsHistory, RunsFollow, IsUpTo, last_
 use Rattle.model_base.specs.Calls.{accepted}
 use Rattle.model_core.specs.Core.{Options, Writer, Client, LogPhase, free, led, built, in_log, marked, handed, TablePhase, still, launched, published, State, client_at, leads, has_run, table_group, among, runners}
 
--- the group in hand
+-- the group in hand: it has left the log's queue, and isn't yet in the second queue or gone
 abbrev pub hand : LogPhase → List Writer
 hand (built ws) = ws
 hand (in_log ws) = ws
@@ -28,7 +28,7 @@ in_order s = map (λ (w : Writer). w.client) (writers_in s.second ++ hand s.log 
 abbrev pub waiting_clients : State → List ℕ
 waiting_clients s = in_order s ++ map (λ (w : Writer). w.client) s.leaving
 
--- who leads the log is first in the queue
+-- a leader that hasn't yet built its group is first in the queue
 abbrev pub LedIsFirst : LogPhase → List Writer → Type 0
 LedIsFirst (led c) queue = IsTrue (leads c queue)
 LedIsFirst free queue = ⊤
@@ -46,7 +46,7 @@ IsUnmarked (built ws) = ⊤
 IsUnmarked (in_log ws) = ⊤
 IsUnmarked (handed c) = ⊤
 
--- the group in hand, where it has its runs
+-- the group in hand, if its members have got their runs, and otherwise no writers
 abbrev pub hand_with_runs : LogPhase → List Writer
 hand_with_runs (in_log ws) = ws
 hand_with_runs (marked ws) = ws
@@ -55,7 +55,7 @@ hand_with_runs (led c) = []
 hand_with_runs (built ws) = []
 hand_with_runs (handed c) = []
 
--- the groups with runs that aren't published, in order
+-- the writers of the groups that have runs and aren't published, in order
 abbrev pub unpublished_writers : Options → State → TablePhase → List Writer
 unpublished_writers o s published = if o.pipelined then writers_in (tail_of s.second) ++ hand_with_runs s.log else []
   where
@@ -65,14 +65,14 @@ unpublished_writers o s published = if o.pipelined then writers_in (tail_of s.se
 unpublished_writers o s still = writers_in s.second ++ hand_with_runs s.log
 unpublished_writers o s (launched ins fin) = writers_in s.second ++ hand_with_runs s.log
 
--- the entry is that of a member with a run
+-- the entry is that of a group's member that has a run
 pub record IsEntryOf (w : Writer) (x : Entry) : Type 0 where
   pub client : x.client ≡ w.client
   pub flag : x.flag ≡ flag_of w.options
   pub run : w.answer ≡ Some (accepted x.first (last_of x) x.records)
 
--- a launched or published group is there; who has inserted has a run in the launched one, and who has finished has
--- inserted
+-- A launched or published group has members. Each client that has inserted has a run in the launched group, and each
+-- one that has finished has inserted.
 abbrev pub IsTable : Options → State → TablePhase → Type 0
 IsTable o s still = ⊤
 IsTable o s published = 0 < length (table_group o s)
@@ -87,13 +87,13 @@ HasInserted inserted (launched ins fin) w =
 HasInserted inserted still w = ⊤
 HasInserted inserted published w = ⊤
 
--- an inserted entry past the published sequence is a member's that has inserted
+-- an inserted entry above the published sequence belongs to a client that has inserted in the launched group
 abbrev pub IsInsertedAhead : TablePhase → Entry → Type 0
 IsInsertedAhead (launched ins fin) x = IsTrue (among x.client ins)
 IsInsertedAhead still x = ⊥
 IsInsertedAhead published x = ⊥
 
--- the members of a group agree on the log
+-- the members of a group are all to be logged, or none of them is
 abbrev pub SameLogFlag : List Writer → Type 0
 SameLogFlag [] = ⊤
 SameLogFlag (w ∷ ws) = AllByRecursion (λ (v : Writer). v.options.no_log ≡ w.options.no_log) ws
@@ -106,17 +106,18 @@ pub record IsCore (o : Options) (s : State) : Type 0 where
   pub led_is_first : LedIsFirst s.log s.queue
   pub single_stage : o.pipelined ≡ false → s.second ≡ []
   pub unmarked : o.pipelined ≡ false → IsUnmarked s.log
-  -- those that have no run yet have something to write, and a group in hand is logged as a whole or not at all
+  -- the writers in hand and in the queue have something to write, and a group in hand is logged as a whole or not at
+  -- all
   pub counted : AllByRecursion (λ (w : Writer). 0 < count_of w.records) (hand s.log ++ s.queue)
   pub one_log_flag : SameLogFlag (hand s.log)
-  -- the entries given runs are a history
+  -- the entries that got runs are a history, up to the sequence that was given last
   pub is_history : IsHistory o.start s.entries
   pub assigned : s.assigned ≡ last_sequence o.start s.entries
-  -- the published sequence is a boundary, and the entries past it are those of the groups on the way
+  -- the published sequence is a boundary, and the entries above it are those of the groups that aren't published yet
   pub front : List Entry
   pub is_boundary : IsUpTo o.start s.entries s.last front
   pub ahead : AllZip IsEntryOf (filter has_run (unpublished_writers o s s.table)) is_boundary.rest
-  -- all up to it is in the table, and what is there past it belongs to the launched group
+  -- the table has all entries up to it; what else it has belongs to the launched group
   pub in_table : AllByRecursion (λ x. Contains s.inserted x) front
   pub from_entries : AllByRecursion (λ x. Contains s.entries x × (Contains front x ⊎ IsInsertedAhead s.table x))
       s.inserted
@@ -131,13 +132,14 @@ pub record IsCore (o : Options) (s : State) : Type 0 where
 
 -- What an event keeps
 
--- the first list is what is left of the second
+-- the first list is the second one, with none or some of its elements taken out
 abbrev pub IsSubsequence : List ℕ → List ℕ → Type 0
 IsSubsequence [] ys = ⊤
 IsSubsequence (x ∷ xs) [] = ⊥
 IsSubsequence (x ∷ xs) (y ∷ ys) = ((x ≡ y) × IsSubsequence xs ys) ⊎ IsSubsequence (x ∷ xs) ys
 
--- nobody passes another: a link adds nobody, or its client at the end, if that didn't wait; other events add nobody
+-- Nobody overtakes another. A link adds nobody, or adds its client at the end, if that wasn't waiting. Other events add
+-- nobody.
 abbrev pub KeepsOrder : Event → State → State → Type 0
 KeepsOrder (e.Link c) old new =
     (in_order new ≡ in_order old) ⊎ ((in_order new ≡ in_order old ++ c ∷ []) × (among c (waiting_clients old) ≡ false))

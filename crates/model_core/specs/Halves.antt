@@ -9,7 +9,8 @@ use Rattle.model_base.specs.Calls.{refused}
 use Rattle.model_core.specs.Core.{Options, Writer, LogPhase, free, led, built, in_log, marked, handed, TablePhase, still, launched, published, State, with_runs, has_run, all_answered, table_group}
 use Rattle.model_core.specs.Step.{entry_ahead, group_last, group_size, leave, without_table_group}
 
--- where the writers are: the log's queue, the log, the groups that wait for the memtable, and who has left
+-- where the writers are: in the log's queue, with the log, in the groups that wait for the memtable, or gone with an
+-- answer
 pub record ListHalf : Type 0 where
   pub queue : List Writer
   pub log : LogPhase
@@ -37,7 +38,7 @@ moves_list (e.Publish m) = false
 moves_list (e.Read c) = false
 moves_list other = true
 
--- which events may move the memtable: those from a group's launch to its exit
+-- which events may change the memtable: those from a group's launch to its exit
 abbrev pub moves_table : Event → Bool
 moves_table (e.Launch c) = true
 moves_table (e.Insert m) = true
@@ -46,7 +47,7 @@ moves_table (e.Publish m) = true
 moves_table (e.Exit c) = true
 moves_table other = false
 
--- what an event makes of the memtable's half
+-- how an event changes the memtable's half
 abbrev pub TableStep : Options → Event → State → TableHalf → Type 0
 TableStep o (e.Launch c) s new = (s.table ≡ still) × (new ≡ record (table_half_of s) { phase = launched [] [] })
 TableStep o (e.Insert m) s new = (ins fin : List ℕ) × (s.table ≡ launched ins fin)
@@ -58,15 +59,15 @@ TableStep o (e.Publish m) s new = (ins fin : List ℕ) × (s.table ≡ launched 
 TableStep o (e.Exit c) s new = (s.table ≡ published) × (new ≡ record (table_half_of s) { phase = still })
 TableStep o other s new = new ≡ table_half_of s
 
--- the group in hand left with its answers, and the log is free
+-- the group in hand has left with its answers, and the log is free
 abbrev pub left_with : State → List Writer → ListHalf
 left_with s ws = record (list_half_of s) { log = free; leaving = s.leaving ++ ws }
 
--- the group in hand is in the log, where a member has a run, and has left otherwise
+-- the group in hand is in the log if one of its members has a run, and otherwise it has left
 abbrev pub logged_with : State → List Writer → ListHalf
 logged_with s ws = if list_any has_run ws then record (list_half_of s) { log = in_log ws } else left_with s ws
 
--- what an event makes of the half with the writers
+-- how an event changes the half with the writers
 abbrev pub ListStep : Options → Event → State → ListHalf → Type 0
 ListStep o (e.Link c) s new = (new ≡ list_half_of s)
     ⊎ ((w : Writer) × (w.client ≡ c) × (new ≡ record (list_half_of s) { queue = s.queue ++ w ∷ [] }))

@@ -1,4 +1,4 @@
--- What the clients of the core were told so far: the replies of a plain map at points of the one history of batches.
+-- The replies that the core's clients have got so far: those of a plain map, at points of the one history of batches.
 use Rattle.std.specs.Prelude.{◌≡◌, ◌⊎◌, ℕ, zero, suc, ◌+◌, ◌<◌, ◌≤◌, Bool, true, false, List, [], ◌∷◌, ◌++◌, length, map, fold, max, Option, Some, None, IsSome, slice_get, MatchOption, ⊤}
 use mathlib.Core.List.{IsPrefix}
 use Rattle.std.specs.List.{AllByRecursion, list_any}
@@ -25,7 +25,7 @@ seen_with seen other = seen
 abbrev pub seen_up_to : List Call → ℕ
 seen_up_to calls = fold (λ seen c. seen_with seen c.reply) 0 calls
 
--- A client was told that the log has failed
+-- A client has learned, by a reply, that the log has failed
 abbrev pub is_log_fault : Reply → Bool
 is_log_fault (refused (no.LogFault count)) = true
 is_log_fault other = false
@@ -63,8 +63,9 @@ abbrev pub Scans : Options → State → List Call → List ℕ → List ℕ →
 Scans o s before lo hi (rows at pairs) = ReadsAt o s before at (λ m. pairs ≡ rows_within lo hi m)
 Scans o s before lo hi other = ⊥
 
--- why a commit that passed the early checks may be refused: the log's fault, no room for its run after a boundary, or a
--- stall that it wasn't to wait for
+-- Why a commit that passed the early checks may be refused: the log has failed; or there was no room for its run after
+-- a boundary, not below what its client has seen, and the client didn't know that the log has failed; or the commit may
+-- not wait. Whether writes were held up isn't asked, since the core knows no write controller.
 abbrev pub MayRefuse : Options → State → List Call → WriteOptions → Refusal → Type 0
 MayRefuse o s before how (no.LogFault count) = (count ≡ 1) × (s.log_failed ≡ true)
 MayRefuse o s before how (no.SequenceFull last) =
@@ -77,8 +78,8 @@ MayRefuse o s before how no.SyncWithoutLog = ⊥
 MayRefuse o s before how no.SelfStop = ⊥
 MayRefuse o s before how no.NoMemory = ⊥
 
--- an accepted batch is what was added since the last, under a run of as many sequences as it counts, and after a fault
--- that its client knows of there is none
+-- An accepted batch is what was added since the last `ok` or `clear`, and its run has as many sequences as the batch
+-- has records that count. Once a client knows that the log has failed, none of its batches is accepted.
 pub record IsAccepted (before : List Call) (first last : ℕ) (records : List Record) : Type 0 where
   pub batch : records ≡ batch_after before
   pub run : last + 1 ≡ first + count_of records
@@ -113,7 +114,8 @@ abbrev pub AreRight : Options → State → List Call → Type 0
 AreRight o s calls = (before : List Call) (c : Call) (after : List Call) → calls ≡ before ++ c ∷ after
     → MayReply o s before c.command c.reply
 
--- the next line is a commit that has its entry, of the batch as it stands, and no answer yet
+-- the client waits: its next line is a commit whose batch already has its entry in the history, but the client hasn't
+-- got the answer yet
 pub record IsOnItsWay (s : State) (c : ℕ) (client : Client) (rest : List Command) : Type 0 where
   pub waits : client.idle ≡ false
   pub how : WriteOptions
@@ -124,7 +126,7 @@ pub record IsOnItsWay (s : State) (c : ℕ) (client : Client) (rest : List Comma
       ++ next_entry c (entries_told c client.calls) how first (batch_after client.calls) ∷ []
 
 -- A client's calls are its lines so far, each rightly answered, and it has seen nothing that isn't published. Its
--- entries in the history are its accepted commits in order, perhaps with one more on its way.
+-- entries in the history are its accepted commits, in order, and perhaps one more of a commit that is on its way.
 pub record IsAnswered (o : Options) (s : State) (c : ℕ) (lines : List Command) (client : Client) : Type 0 where
   pub rest : List Command
   pub asked : lines ≡ commands_of client.calls ++ rest
@@ -137,7 +139,7 @@ abbrev pub lines_at : List (List Command) → ℕ → Option (List Command)
 lines_at plans zero = None
 lines_at plans (suc c) = slice_get plans c
 
--- one history of whole batches, of these clients alone, and each client's calls in it
+-- one history of whole batches, of these clients alone, and each client's calls are right in it
 pub record AreRepliesOf (o : Options) (plans : List (List Command)) (s : State) : Type 0 where
   pub is_history : IsHistory o.start s.entries
   pub of_clients : AllByRecursion (λ (x : Entry). IsSome (client_at s x.client)) s.entries
@@ -145,15 +147,15 @@ pub record AreRepliesOf (o : Options) (plans : List (List Command)) (s : State) 
   pub each : (c : ℕ) (lines : List Command) (client : Client) → lines_at plans c ≡ Some lines
       → client_at s c ≡ Some client → IsAnswered o s c lines client
 
--- if it is the reply of a read, it was read at this sequence or a later one
+-- if this is the reply to a read, the read was at this sequence or a later one
 abbrev pub IsFrom : ℕ → Reply → Type 0
 IsFrom last (found at v) = last ≤ at
 IsFrom last (found_each at vs) = last ≤ at
 IsFrom last (rows at pairs) = last ≤ at
 IsFrom last other = ⊤
 
--- A state and a later one: the history goes on, the published sequence doesn't fall, no reply is taken back, and no
--- client's later read is older than what was published before.
+-- A state and a later one: the history is only added to, the published sequence doesn't fall, no reply is taken back,
+-- and no client's later read is older than what was published before.
 pub record IsLater (old new : State) : Type 0 where
   pub history : IsPrefix old.entries new.entries
   pub last : old.last ≤ new.last

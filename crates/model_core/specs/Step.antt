@@ -1,4 +1,4 @@
--- Each event of the core: where it may come, and what it does.
+-- Each event of the core: when it may come, and what it does.
 use Rattle.std.specs.Prelude.{ℕ, ◌+◌, Bool, true, false, not, ◌&&◌, List, [], ◌∷◌, ◌++◌, length, take, drop, map, fold, filter, nat_lt, ◌==◌, if◌then◌else◌, Option, Some, None, find}
 use Rattle.std.specs.List.{list_any, list_all}
 use Rattle.model_core.specs.declared.event.Event.{Event}
@@ -7,17 +7,17 @@ use Rattle.model_base.specs.declared.write.WriteOptions.{WriteOptions}
 use Rattle.model_base.specs.declared.write.Refusal.{Refusal}
 use Rattle.model_base.specs.declared.write.Refusal.TheVariants as no
 use Rattle.model_base.specs.Batch.{Record}
-use Rattle.model_base.specs.History.{Entry}
+use Rattle.model_base.specs.History.{Entry, last_sequence}
 use Rattle.model_base.specs.Grouping.{group_len}
 use Rattle.model_base.specs.Calls.{Command, commit, Reply, accepted, refused}
-use Rattle.model_core.specs.Core.{Options, Writer, Client, LogPhase, free, led, built, in_log, marked, handed, TablePhase, still, launched, published, State, opening_state, client_at, with_client, next_call, after_reply, item_of, refusal_of, leads, with_runs, has_run, all_answered, entries_of, last_entry, table_group, among, runners, read_reply}
+use Rattle.model_core.specs.Core.{Options, Writer, Client, LogPhase, free, led, built, in_log, marked, handed, TablePhase, still, launched, published, State, opening_state, client_at, with_client, next_call, after_reply, item_of, refusal_of, leads, with_runs, has_run, all_answered, entries_of, table_group, among, runners, read_reply}
 
--- a fact lets an event come
+-- an event may come only if this is true
 abbrev pub when : Bool → State → Option State
 when true s = Some s
 when false s = None
 
--- link c: c is idle and its next call is a commit. It is refused at once, or goes to the end of the queue
+-- link c: c is idle and its next call is a commit. It is refused at once, or its writer goes to the end of the queue
 abbrev pub link_with : Options → State → ℕ → Client → WriteOptions → Option Refusal → State
 link_with o s c client how (Some why) = with_client s c (after_reply client (commit how) (refused why))
 link_with o s c client how None = record (with_client s c (record client { idle = false })) {
@@ -38,7 +38,7 @@ abbrev pub elect : State → ℕ → LogPhase → Option State
 elect s c free = when (leads c s.queue) (record s { log = led c })
 elect s c other = None
 
--- build c: led by c. The group leaves the queue
+-- build c: c leads the log. Its group leaves the queue
 abbrev pub group_size : Options → State → ℕ
 group_size o s = group_len o.group_bytes (map item_of s.queue)
 
@@ -49,7 +49,8 @@ build o s c (led d) = when (c == d) (record s {
 })
 build o s c other = None
 
--- log c: built by c, and the log hasn't failed. Runs are given; where none fits all leave
+-- log c: c leads the group that was built, and the log hasn't failed. The members get runs; if no run fits, all of them
+-- leave
 abbrev pub is_unlogged : List Writer → Bool
 is_unlogged [] = false
 is_unlogged (w ∷ ws) = w.options.no_log
@@ -58,7 +59,7 @@ abbrev pub with_group : State → List Writer → List Entry → State
 with_group s ws entries = record s {
   log = in_log ws;
   entries = s.entries ++ entries;
-  assigned = last_entry s.assigned entries;
+  assigned = last_sequence s.assigned entries;
   groups = if is_unlogged ws then s.groups else s.groups ++ length entries ∷ [];
 }
 
@@ -73,13 +74,13 @@ abbrev pub log_group : State → ℕ → LogPhase → Option State
 log_group s c (built ws) = when (leads c ws && not s.log_failed) (logged_group s (with_runs s.assigned ws))
 log_group s c other = None
 
--- fault c: built by c. All leave, and the log has failed
+-- fault c: c leads the group that was built. All its members leave, and the log has failed
 abbrev pub fault : State → ℕ → LogPhase → Option State
 fault s c (built ws) =
     when (leads c ws) (record (leave s (all_answered (refused (no.LogFault 1)) ws)) { log = free; log_failed = true })
 fault s c other = None
 
--- refuse c: built by c, of a group that isn't to be slowed down. All leave
+-- refuse c: c leads the group that was built, and the group may not be slowed down. All its members leave
 abbrev pub is_no_slowdown : List Writer → Bool
 is_no_slowdown [] = false
 is_no_slowdown (w ∷ ws) = w.options.no_slowdown
@@ -89,7 +90,7 @@ refuse s c why (built ws) =
     when (leads c ws && is_no_slowdown ws) (record (leave s (all_answered (refused why) ws)) { log = free })
 refuse s c why other = None
 
--- boundary c, second c, next c: the group goes to the second queue, and only then may another be elected
+-- boundary c, second c, next c: the group goes to the second queue, and only then may another leader be elected
 abbrev pub boundary : Options → State → ℕ → LogPhase → Option State
 boundary o s c (in_log ws) = when (o.pipelined && leads c ws) (record s { log = marked ws })
 boundary o s c other = None
@@ -102,12 +103,12 @@ abbrev pub next : State → ℕ → LogPhase → Option State
 next s c (handed d) = when (c == d) (record s { log = free })
 next s c other = None
 
--- launch c: nothing is launched, and c leads the group that comes next
+-- launch c: no group is launched or published, and c leads the group that is next for the table
 abbrev pub launch : Options → State → ℕ → TablePhase → Option State
 launch o s c still = when (leads c (table_group o s)) (record s { table = launched [] [] })
 launch o s c other = None
 
--- insert m: m has a run in the launched group and isn't inserted
+-- insert m: m has a run in the launched group and hasn't inserted
 abbrev pub entry_ahead : State → ℕ → List Entry
 entry_ahead s m = filter (λ (x : Entry). (x.client == m) && nat_lt s.last x.first) s.entries
 
@@ -116,13 +117,13 @@ insert o s m (launched ins fin) = when (among m (runners (table_group o s)) && n
     (record s { table = launched (ins ++ m ∷ []) fin; inserted = s.inserted ++ entry_ahead s m })
 insert o s m other = None
 
--- finish m: m is inserted and not finished
+-- finish m: m has inserted and hasn't finished
 abbrev pub finish : State → ℕ → TablePhase → Option State
 finish s m (launched ins fin) =
     when (among m ins && not (among m fin)) (record s { table = launched ins (fin ++ m ∷ []) })
 finish s m other = None
 
--- publish m: all are finished, and m finished last
+-- publish m: all members that have runs have finished, and m was the last to finish
 abbrev pub is_last : ℕ → List ℕ → Bool
 is_last m [] = false
 is_last m (c ∷ []) = c == m
@@ -132,7 +133,7 @@ abbrev pub last_of_answer : ℕ → Option Reply → ℕ
 last_of_answer last (Some (accepted a b records)) = b
 last_of_answer last other = last
 
--- the last sequence of a group whose members have answers
+-- the last sequence of a group by its members' answers; `last` if no member has a run
 abbrev pub group_last : ℕ → List Writer → ℕ
 group_last last ws = fold (λ n (w : Writer). last_of_answer n w.answer) last ws
 
@@ -141,7 +142,7 @@ publish o s m (launched ins fin) = when (is_last m fin && list_all (λ c. among 
     (record s { table = published; last = group_last s.last (table_group o s) })
 publish o s m other = None
 
--- exit c: published, and c leads that group. Its members leave
+-- exit c: the table's group is published, and c leads it. Its members leave
 abbrev pub without_table_group : Options → State → State
 without_table_group o s = if o.pipelined then record s { second = drop 1 s.second } else record s { log = free }
 
@@ -184,7 +185,7 @@ read s c None = None
 read s c (Some client) =
     if client.idle then read_call s c (next_call client).client (next_call client).call else None
 
--- The state after an event, where it may come.
+-- The state after an event, if the event may come.
 abbrev pub step : Options → State → Event → Option State
 step o s (e.Link c) = link o s c (client_at s c)
 step o s (e.Elect c) = elect s c s.log
@@ -203,7 +204,8 @@ step o s (e.Exit c) = exit o s c s.table
 step o s (e.Complete m) = complete s m (find (λ (w : Writer). w.client == m) s.leaving)
 step o s (e.Read c) = read s c (client_at s c)
 
--- a list of events, of which those that may not come are passed over; how many came and how many were passed over
+-- the state after a list of events, where those that may not come are skipped; how many were taken, and how many were
+-- skipped
 pub record Replayed : Type 0 where
   pub state : State
   pub taken : ℕ
@@ -217,6 +219,6 @@ abbrev pub replay : Options → State → List Event → Replayed
 replay o s events =
     fold (λ r event. after_event r (step o r.state event)) (record { state = s; taken = 0; skipped = 0 }) events
 
--- the state after a list of events from the opening on
+-- the state after a list of events, from the opening state on
 abbrev pub state_after : Options → List (List Command) → List Event → State
 state_after o plans events = (replay o (opening_state o plans) events).state

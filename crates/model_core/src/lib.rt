@@ -1,5 +1,5 @@
-//! The write path as a machine of events: its states, its event table and its law, as definitions in `specs/`. In code
-//! it has the events alone.
+//! The write path as a state machine that takes one event after another: its states, its table of events and its law,
+//! as definitions in `specs/`. In code it has only the events.
 #![tactic(auto)]
 
 mod event;

@@ -1,4 +1,4 @@
--- After every list of events the clients were told the replies of a plain map at points of the one history.
+-- After every list of events the clients have the replies of a plain map, at points of the one history.
 use Rattle.std.proofs.Common.{◌≡◌, ℕ, zero, suc, ◌≤◌, ◌==◌, Bool, true, false, cond, ◌⊎◌, inl, inr, List, [], ◌∷◌, ◌++◌, map, Option, Some, None, slice_get, refl, ap, sym, ◌∙◌, subst, arith}
 use Rattle.std.specs.List.{AllByRecursion}
 use Rattle.std.proofs.lemmas.Bool.{eqb-true, cond-false}
@@ -24,7 +24,7 @@ use Rattle.model_core_laws.proofs.ToldByLeaving.{told_by_fault, told_by_refuse}
 use Rattle.model_core_laws.proofs.ToldByLines.{told_by_elect, told_by_build, told_by_boundary, told_by_second, told_by_next, told_by_launch, told_by_insert, told_by_finish, told_by_publish, told_by_exit}
 use Rattle.model_core_laws.proofs.ToldByLog.{told_by_log}
 
--- At the opening nothing was told
+-- At the opening no client has a reply
 
 no_call_before : (before : List Call) (c : Call) (after : List Call) → [] ≡ before ++ c ∷ after → ⊥
 no_call_before [] c after e = cc
@@ -66,7 +66,7 @@ told_at_opening o plans = record {
     each zero client is = absurd (cc)
     each (suc i) client is = opened_client o plans i client is
 
--- Each event keeps it
+-- Each event keeps what is said of the clients' calls
 
 pub told_by_each : (o : Options) (plans : List (List Command)) (s t : State) (event : Event) → Told o plans s → step o s event ≡ Some t → IsCore o t → Told o plans t
 told_by_each o plans s t (e.Link c) told is core = told_by_link o plans s t c told is core
@@ -90,9 +90,9 @@ pub told_after : (o : Options) (plans : List (List Command)) (events : List Even
 told_after o plans events = by_events (Told o plans) o (λ s t event told is. told_by_each o plans s t event told is (kept o s t event told.core is).0) events
     (record { state = opening_state o plans; taken = 0; skipped = 0 }) (told_at_opening o plans)
 
--- What it says of a client
+-- What this says of one client
 
--- one of these is the client's
+-- one of these writers is the client's
 member_of : (P : Writer → Type 0) (c : ℕ) (ws : List Writer) → 1 ≤ there c ws → AllByRecursion P ws → (w : Writer) × (w.client ≡ c) × P w
 member_of P c [] some all = absurd (omega arith)
 member_of P c (w ∷ ws) some all = by (w.client == c) refl (member_of P c ws)
@@ -101,7 +101,7 @@ member_of P c (w ∷ ws) some all = by (w.client == c) refl (member_of P c ws)
     by true here later = (w, eqb-true w.client c here, all.0)
     by false other later = later (let e = times_cons c w.client (map (λ (v : Writer). v.client) ws) in let f : cond {A = ℕ} (w.client == c) 1 0 ≡ 0 = cond-false {A = ℕ} (w.client == c) 1 0 other in omega arith) all.1
 
--- its entries, by the answer that it waits with
+-- a client's entries, by the answer with which its writer waits
 by_answer : (o : Options) (s : State) (c : ℕ) (client : Client) (w : Writer) → client.idle ≡ false → w.client ≡ c → w.records ≡ batch_after client.calls → (answer : Option Reply) → IsAnswer o s client w answer
     → (entries_of_client c s.entries ≡ entries_told c client.calls) ⊎ IsOnItsWay s c client (commit w.options ∷ client.left)
 by_answer o s c client w waits same batch None is = inl (subst (λ c. entries_of_client c s.entries ≡ entries_told c client.calls) same is)

@@ -34,7 +34,7 @@ replaced s (suc c) old new is =
     let e : suc c - 1 ≡ c = omega arith in
     subst (λ i. slice_get (slice_set s.clients i new) c ≡ Some new) (sym e) (set_same s.clients c old new is)
 
--- and the others aren't
+-- and the other clients stay as they are
 pub unchanged : (s : State) (c n : ℕ) (old new : Client) → client_at s c ≡ Some old → (c ≡ n → ⊥) → client_at (with_client s c new) n ≡ client_at s n
 unchanged s zero n old new is other = absurd (cc)
 unchanged s (suc c) zero old new is other = refl
@@ -49,7 +49,7 @@ still_there s c old new is n some = by (cases_eq c n)
     by (inl same) = subst (λ m. IsSome (client_at (with_client s c new) m)) same (ap is_some (replaced s c old new is))
     by (inr other) = ap is_some (unchanged s c n old new is other) ∙ some
 
--- each client waits just once, where the one that was replaced and the others do
+-- each client waits just once, if the one that was replaced does and the others do
 pub once_after : (s t : State) (c : ℕ) (old new : Client) → client_at s c ≡ Some old → t.clients ≡ (with_client s c new).clients
     → times c (waiting_clients t) ≡ (if new.idle then 0 else 1)
     → ((n : ℕ) (client : Client) → (c ≡ n → ⊥) → client_at s n ≡ Some client → times n (waiting_clients t) ≡ (if client.idle then 0 else 1))
@@ -63,7 +63,7 @@ once_after s t c old new is same here others n client at = by (cases_eq c n)
         subst (λ (x : Client). times n (waiting_clients t) ≡ (if x.idle then 0 else 1)) g (subst (λ m. times m (waiting_clients t) ≡ (if new.idle then 0 else 1)) e here)
     by (inr other) = others n client other (sym (unchanged s c n old new is other) ∙ at)
 
--- Those that wait, and their places
+-- The clients that wait, and their places
 
 -- the state with other clients, another queue, and others that have left
 abbrev pub with_places : State → List Client → List Writer → List Writer → State

@@ -1,4 +1,4 @@
--- Which half of a state each event leaves alone, and what those of the memtable make of its half.
+-- Which half of a state each event leaves alone, and how the memtable's events change the memtable's half.
 use Rattle.std.proofs.Common.{◌≡◌, ℕ, ◌==◌, Bool, true, false, not, List, [], ◌∷◌, ◌++◌, take, drop, find, filter, Option, Some, None, if◌then◌else◌, inl, inr, refl, ap, sym, ◌∙◌, subst}
 use Rattle.std.proofs.lemmas.Bool.{eqb-true}
 use Rattle.std.specs.List.{list_any}
@@ -13,7 +13,7 @@ use Rattle.model_core.specs.Step.{when, step, link, link_call, link_with, elect,
 use Rattle.model_core.specs.Halves.{list_half_of, table_half_of, moves_list, moves_table, TableStep, ListStep, logged_with}
 use Rattle.model_core_laws.proofs.Tables.{when_some}
 
--- what holds of every state that an event of a client may come to, holds of the one that it comes to
+-- what holds of each state that a client's event may lead to holds of the one that it leads to
 
 by_link : (P : State → Type 0) (o : Options) (s t : State) (c : ℕ) → ((client : Client) (how : WriteOptions) (why : Option Refusal) → P (link_with o s c client how why)) → link o s c (client_at s c) ≡ Some t → P t
 by_link P o s t c holds came = by_client (client_at s c) came
@@ -73,7 +73,7 @@ by_complete P s t m holds came = by_writer (find (λ (w : Writer). w.client == m
 abbrev Moves : Options → Event → State → State → Type 0
 Moves o event s t = TableStep o event s (table_half_of t) × ListStep o event s (list_half_of t)
 
--- what holds of the state that an event comes to under a condition
+-- what holds of the state that an event leads to, if its condition is true
 when_holds : (P : State → Type 0) (b : Bool) (u t : State) → when b u ≡ Some t → P u → P t
 when_holds P b u t came holds = subst P (when_some b u t came).1 holds
 

@@ -1,4 +1,4 @@
--- Which entries a group that is given runs adds for each of its members, and for nobody else.
+-- Which entries a group that gets runs adds for each of its members, and for nobody else.
 use Rattle.std.proofs.Common.{◌≡◌, ℕ, ◌+◌, ◌<◌, ◌≤◌, ◌==◌, cond, true, ◌⊎◌, inl, inr, List, [], ◌∷◌, map, refl, ap, sym, ◌∙◌, arith}
 use Rattle.std.specs.List.{AllByRecursion, AllZip}
 use Rattle.std.proofs.lemmas.Bool.{ne_eqb, eq-eqb, cond-true}
@@ -10,11 +10,11 @@ use Rattle.model_core_laws.proofs.Runs.{taken, passed_over, by_members}
 use Rattle.model_core_laws.proofs.Tables.{times_cons, there}
 use Rattle.model_core_laws.proofs.Lists.{zip_weaker}
 
--- a client that none of these is
+-- none of these writers is the client's
 abbrev pub IsAbsent : ℕ → List Writer → Type 0
 IsAbsent c ws = AllByRecursion (λ (v : Writer). c ≡ v.client → ⊥) ws
 
--- each of another client
+-- no two of these writers are of one client
 abbrev pub AreOthers : List Writer → Type 0
 AreOthers [] = Unit {0}
 AreOthers (w ∷ ws) = IsAbsent w.client ws × AreOthers ws
@@ -41,7 +41,7 @@ own_cons c x xs e = rw (eq-eqb x.client c e) refl
 own_skip : (c : ℕ) (x : Entry) (xs : List Entry) → (c ≡ x.client → ⊥) → entries_of_client c (x ∷ xs) ≡ entries_of_client c xs
 own_skip c x xs other = rw (ne_eqb x.client c (λ e. other (sym e))) refl
 
--- whoever isn't in the group gets no entry by it
+-- a client that isn't in the group gets no entry by it
 pub own_absent : (s : State) (c last : ℕ) (ws : List Writer) → IsAbsent c ws → entries_of_client c (entries_of s (with_runs last ws)) ≡ []
 own_absent s c = by_members (λ last ws vs. IsAbsent c ws → entries_of_client c (entries_of s vs) ≡ []) (λ last a. refl)
     (λ last w ws vs fits more a. own_skip c (entry_of s w (last + 1)) (entries_of s vs) a.0 ∙ more a.1)
@@ -53,7 +53,7 @@ pub record IsGiven (s : State) (start : ℕ) (xs : List Entry) (w v : Writer) : 
   pub boundary : IsBoundary start xs last
   pub as_given : ((v ≡ taken last w) × (entries_of_client w.client xs ≡ entry_of s w (last + 1) ∷ [])) ⊎ ((v ≡ passed_over last w) × (max_sequence < last + count_of w.records) × (entries_of_client w.client xs ≡ []))
 
--- after another member's entry it is the same
+-- this still holds after another member's entry
 given_behind : (s : State) (start : ℕ) (xs : List Entry) (first : Entry) (next : ℕ) (w v : Writer) → next ≡ last_of first → (first.client ≡ w.client → ⊥) → IsGiven s next xs w v → IsGiven s start (first ∷ xs) w v
 given_behind s start xs first next w v ends other given = record {
   last = given.last;

@@ -1,4 +1,4 @@
--- What a leader takes from the queue agrees on the log.
+-- The writers that a leader takes from the queue are all to be logged, or none of them is.
 use Rattle.std.proofs.Common.{◌≡◌, ℕ, zero, suc, ◌+◌, ◌-◌, Bool, true, false, List, [], ◌∷◌, length, map, take, Some, slice_get, refl, sym, ◌∙◌, subst, arith, if◌then◌else◌}
 use Rattle.std.specs.List.{AllByRecursion, take_while, range_with_len}
 use Rattle.std.proofs.lemmas.List.Sums.{take_while-cons}
@@ -15,7 +15,7 @@ same_bools true false e = absurd (cc)
 same_bools false true e = absurd (cc)
 same_bools false false e = refl
 
--- the longest prefix of places that pass holds what passing says
+-- if all that pass have a property, the longest prefix of writers that pass has it
 all_taken : (p : ℕ → Bool) (P : Writer → Type 0) (ws : List Writer) (a n : ℕ) → ((i : ℕ) (v : Writer) → slice_get ws i ≡ Some v → p (a + i) ≡ true → P v)
     → AllByRecursion P (take (length (take_while p (range_with_len a n))) ws)
 all_taken p P ws a zero says = tt
@@ -35,7 +35,7 @@ all_taken p P (w ∷ ws) a (suc n) says = subst (λ places. AllByRecursion P (ta
 item_at : (ws : List Writer) (i : ℕ) (v : Writer) → slice_get ws i ≡ Some v → slice_get (map item_of ws) i ≡ Some (item_of v)
 item_at ws i v at = slice_get-map item_of ws i ∙ rw at refl
 
--- a writer that fits beside its leader
+-- a writer that fits into its leader's group
 fitting : (max : ℕ) (w v : Writer) (items : List Item) (i : ℕ) → slice_get items i ≡ Some (item_of v) → fits_at max (item_of w ∷ items) (1 + i) ≡ true
     → (total : ℕ) × (fits max (item_of w) total (item_of v) ≡ true)
 fitting max w v items i at passes =
@@ -43,7 +43,7 @@ fitting max w v items i at passes =
     let place : slice_get (item_of w ∷ items) (1 + i) ≡ Some (item_of v) = subst (λ k. slice_get (item_of w ∷ items) k ≡ Some (item_of v)) behind at in
     (size_of (take (1 + i + 1) (item_of w ∷ items)), rw place at passes)
 
--- what holds of those that fit beside a leader holds of those that it takes along
+-- what holds of each writer that fits into a leader's group holds of those that the leader takes
 grouped : (P : Writer → Writer → Type 0) → ((max : ℕ) (w v : Writer) (total : ℕ) → fits max (item_of w) total (item_of v) ≡ true → P w v)
     → (max : ℕ) (w : Writer) (ws : List Writer) → (rest : ℕ) × (group_len max (map item_of (w ∷ ws)) ≡ suc rest) × AllByRecursion (P w) (take rest ws)
 grouped P says max w ws =
@@ -54,7 +54,7 @@ grouped P says max w ws =
           (λ i v at passes. let fit = fitting max w v (map item_of ws) i (item_at ws i v at) passes in says max w v fit.0 fit.1),
     )
 
--- it logs as the leader does, and may be slowed down as it may
+-- such a writer is to be logged if its leader is, and may be slowed down if its leader may
 logs_alike : (max : ℕ) (w v : Writer) (total : ℕ) → fits max (item_of w) total (item_of v) ≡ true → v.options.no_log ≡ w.options.no_log
 logs_alike max w v total fit = same_bools v.options.no_log w.options.no_log (and_parts _ _ (and_parts _ _ fit).0).1
 

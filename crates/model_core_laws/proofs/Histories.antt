@@ -1,17 +1,16 @@
 -- Histories of entries, cut and put together.
 use Rattle.std.proofs.Common.{◌≡◌, ℕ, ◌<◌, ◌≤◌, List, [], ◌∷◌, ◌++◌, refl, ap, sym, ◌∙◌, subst, arith}
 use Rattle.model_base.specs.History.{Entry, IsHistory, Follows, RunsFollow, last_sequence, last_of}
-use Rattle.model_core.specs.Core.{last_entry}
 use Rattle.std.proofs.Common.{◌≡◌, ℕ, ◌<◌, ◌≤◌, List, [], ◌∷◌, ◌++◌, Contains, ◌⊎◌, inl, inr, refl, ap, sym, ◌∙◌, subst, arith}
 use Rattle.model_base.specs.History.{Entry, Follows, IsHistory, last_sequence, last_of}
 use Rattle.model_core_laws.proofs.Lists.{contains_cases}
 
--- histories end to end
+-- a history, and after it one that goes on from its end, are one history
 pub history_more : (start : ℕ) (xs ys : List Entry) → IsHistory start xs → IsHistory (last_sequence start xs) ys → IsHistory start (xs ++ ys)
 history_more start [] ys a b = b
 history_more start (x ∷ xs) ys a b = (a.0, history_more (last_of x) xs ys a.1 b)
 
--- the published sequence doesn't fall
+-- a history cut in two: its first entries are a history, and the others are one that goes on from there
 pub history_front : (start : ℕ) (xs ys : List Entry) → IsHistory start (xs ++ ys) → IsHistory start xs
 history_front start [] ys h = tt
 history_front start (x ∷ xs) ys h = (h.0, history_front (last_of x) xs ys h.1)
@@ -24,15 +23,11 @@ pub last_sequence_append : (start : ℕ) (xs ys : List Entry) → last_sequence 
 last_sequence_append start [] ys = refl
 last_sequence_append start (x ∷ xs) ys = last_sequence_append (last_of x) xs ys
 
-pub last_is : (last : ℕ) (xs : List Entry) → last_entry last xs ≡ last_sequence last xs
-last_is last [] = refl
-last_is last (x ∷ xs) = last_is (last_of x) xs
-
 pub runs_follow : (start : ℕ) (xs : List Entry) → IsHistory start xs → RunsFollow xs
 runs_follow start [] a = tt
 runs_follow start (x ∷ xs) a = a.1
 
--- a run begins after what was given before, and ends no sooner than it begins
+-- a run begins after the sequence that was given before it, and doesn't end before it begins
 pub run_after : (last : ℕ) (x : Entry) → Follows last x → (last < x.first) × (x.first ≤ last_of x)
 run_after last x f = (let a = f.first in omega arith, let a = f.first in let b = f.some in omega arith)
 

@@ -23,7 +23,7 @@ use Rattle.model_core_laws.proofs.KeptByRead.{kept_by_read}
 use Rattle.model_core_laws.proofs.Opening.{opening}
 use Rattle.model_core_laws.proofs.Tables.{AddsNobody}
 
--- where an event adds nobody to the line, each keeps its place before the others
+-- an event that adds nobody to the line lets nobody overtake another
 nobody_added : (o : Options) (s t : State) (event : Event) → (IsSubsequence (in_order t) (in_order s) → KeepsOrder event s t) → IsCore o t × AddsNobody s t → IsCore o t × Keeps event s t
 nobody_added o s t event order kept = (kept.0, record { order = order kept.1.order; log_failed = kept.1.log_failed })
 

@@ -10,7 +10,7 @@ use Rattle.model_core_laws.proofs.Groups.{one_flag}
 use Rattle.model_core_laws.proofs.Relined.{lined, relined, same_line, same_table, same_unpublished, kept_order}
 use Rattle.model_core_laws.proofs.Tables.{AddsNobody, when_some}
 
--- the state whose queue lost its first n writers to the group in hand
+-- the state after the queue's first n writers became the group in hand
 abbrev built_of : State → ℕ → State
 built_of s n = lined s s.second (built (take n s.queue)) (drop n s.queue) s.leaving s.log_failed
 

@@ -8,7 +8,7 @@ use Rattle.model_core.specs.CoreLaw.{IsCore, hand, hand_with_runs, HasInserted, 
 use Rattle.model_core_laws.proofs.Relined.{lined, relined, same_line, same_table, same_unpublished, kept_order}
 use Rattle.model_core_laws.proofs.Tables.{AddsNobody, when_some}
 
--- the log's phase changes, and no group and no queue
+-- only the log's phase changes, and no group and no queue
 pub rephased : (o : Options) (s : State) (log : LogPhase) → hand s.log ≡ hand log → hand_with_runs s.log ≡ hand_with_runs log
     → table_group o s ≡ table_group o (lined s s.second log s.queue s.leaving s.log_failed) → LedIsFirst log s.queue → (o.pipelined ≡ false → IsUnmarked log)
     → IsCore o s → IsCore o (lined s s.second log s.queue s.leaving s.log_failed) × AddsNobody s (lined s s.second log s.queue s.leaving s.log_failed)

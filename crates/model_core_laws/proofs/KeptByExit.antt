@@ -1,4 +1,4 @@
--- Leaving with a published group keeps the core's law.
+-- The exit of a published group keeps the core's law.
 use Rattle.std.proofs.Common.{◌≡◌, ℕ, ◌<◌, Bool, true, false, List, [], ◌∷◌, ◌++◌, length, map, filter, Some, IsSome, inl, refl, ap, sym, ◌∙◌, subst, arith, append_assoc, le_of_eq}
 use Rattle.std.specs.List.{AllByRecursion, AllZip}
 use Rattle.std.proofs.lemmas.List.{map-append}
@@ -20,7 +20,7 @@ still_inserted : (inserted : List Entry) (ws : List Writer) → AllByRecursion (
 still_inserted inserted [] = tt
 still_inserted inserted (w ∷ ws) = (tt, still_inserted inserted ws)
 
--- who is taken out of the middle passes nobody
+-- where some are taken out of the middle, nobody overtakes another
 left_out : (xs ys zs : List Writer) → IsSubsequence (map (λ (w : Writer). w.client) ((xs ++ []) ++ zs)) (map (λ (w : Writer). w.client) ((xs ++ ys) ++ zs))
 left_out [] ys zs = subst (λ ns. IsSubsequence (map (λ (w : Writer). w.client) zs) ns) (sym (map-append (λ (w : Writer). w.client) ys zs))
     (subsequence_after (map (λ (w : Writer). w.client) ys) (map (λ (w : Writer). w.client) zs) (map (λ (w : Writer). w.client) zs) (subsequence_self (map (λ (w : Writer). w.client) zs)))

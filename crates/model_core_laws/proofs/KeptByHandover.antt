@@ -1,4 +1,4 @@
--- The boundary of the stages, the second queue and the next election keep the core's law.
+-- The events `Boundary`, `Second` and `Next` keep the core's law.
 use Rattle.std.proofs.Common.{◌≡◌, ℕ, Bool, true, false, ◌&&◌, ◌==◌, List, [], ◌∷◌, map, filter, ◌++◌, ◌<◌, Some, refl, ap, sym, ◌∙◌, subst, length, arith}
 use Rattle.std.specs.List.{AllByRecursion}
 use Rattle.std.proofs.lemmas.List.{append-nil}
@@ -11,7 +11,7 @@ use Rattle.model_core_laws.proofs.Lists.{all_back, all_of, and_parts}
 use Rattle.model_core_laws.proofs.Relined.{lined, relined, same_line, same_table, kept_order}
 use Rattle.model_core_laws.proofs.Tables.{AddsNobody, when_some}
 
--- with two stages the log's group isn't that in the table
+-- with two stages the group in the table doesn't depend on the log's group
 same_first : (o : Options) (s : State) (log : LogPhase) → o.pipelined ≡ true → table_group o s ≡ table_group o (lined s s.second log s.queue s.leaving s.log_failed)
 same_first o s log two = rw two
 
@@ -39,7 +39,7 @@ kept_by_next o s t c core e = by_phase s.log refl e
     by_phase (in_log ws) is e = absurd (cc)
     by_phase (marked ws) is e = absurd (cc)
 
--- the state whose marked group went to the second queue
+-- the state after the marked group went to the second queue
 abbrev second_of : State → ℕ → List Writer → State
 second_of s c ws = lined s (s.second ++ ws ∷ []) (handed c) s.queue s.leaving s.log_failed
 
@@ -53,7 +53,7 @@ first_same : (wss : List (List Writer)) (ws : List Writer) → 0 < length (first
 first_same [] ws some = absurd (omega arith)
 first_same (v ∷ vs) ws some = refl
 
--- with something in the table the group there is the same one
+-- if there is a group in the table, it stays the same
 group_same : (o : Options) (s : State) (c : ℕ) (ws : List Writer) → o.pipelined ≡ true → 0 < length (table_group o s) → table_group o s ≡ table_group o (second_of s c ws)
 group_same o s c ws two some = rw two (first_same s.second ws (rw two at some))
 

@@ -10,7 +10,7 @@ use Rattle.model_core_laws.proofs.Histories.{history_above, history_right}
 use Rattle.model_core_laws.proofs.Lists.{all_weaker, all_append, all_contained, zip_right, all_weaker_at, all_filtered, contains_filtered}
 use Rattle.model_core_laws.proofs.Tables.{AddsNobody, when_some, among_push, among_last, among_cases, with_table, keeps_with_table, cut_ahead, members}
 
--- a member's entry is past the published sequence
+-- a member's entry is above the published sequence
 entry_of_member : (o : Options) (s : State) (ins fin : List ℕ) (w : Writer) → IsCore o (with_table s (launched ins fin)) → Contains (members o s) w → (x : Entry) × IsEntryOf w x × Contains s.entries x × (s.last < x.first)
 entry_of_member o s ins fin w core is =
     let rest = core.is_boundary.rest in
@@ -33,7 +33,7 @@ module _ (o : Options) (s : State) (m : ℕ) (ins fin : List ℕ) (is : among m 
   newer : (x : Entry) → Contains s.entries x → ((x.client == m) && nat_lt s.last x.first) ≡ true → Contains s.entries x × (Contains core.front x ⊎ IsInsertedAhead (launched (ins ++ m ∷ []) fin) x)
   newer x there passes = (there, inr (subst (λ n. among n (ins ++ m ∷ []) ≡ true) (sym (eqb-true x.client m (and_parts _ _ passes).0)) (among_last m ins)))
 
-  -- who has inserted, has inserted before or does now
+  -- a member that has inserted did so before, or does so now
   has : (w : Writer) → Contains (members o s) w → HasInserted s.inserted (launched ins fin) w → HasInserted (s.inserted ++ entry_ahead s m) (launched (ins ++ m ∷ []) fin) w
   has w member had now = by (among_cases w.client m ins now)
     where

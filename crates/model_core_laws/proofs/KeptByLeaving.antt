@@ -1,4 +1,4 @@
--- A fault, a refusal and a group without a run keep the core's law: all leave with their answers.
+-- A fault, a refusal and a group without a run keep the core's law: all members leave with their answers.
 use Rattle.std.proofs.Common.{◌≡◌, ℕ, ◌&&◌, Bool, true, List, [], ◌∷◌, ◌++◌, map, Some, refl, ap, ◌∙◌, subst, append_assoc, arith}
 use Rattle.std.specs.List.{AllByRecursion, filter, count_by}
 use Rattle.std.proofs.lemmas.List.{map-append, append-nil}
@@ -15,7 +15,7 @@ use Rattle.model_core_laws.proofs.Tables.{AddsNobody, subsequence_self, subseque
 abbrev pub client_of : Writer → ℕ
 client_of w = w.client
 
--- the built group went to those that have left
+-- the state after the built group has left
 abbrev pub left_of : State → List Writer → Bool → State
 left_of s ws log_failed = lined s s.second free s.queue (s.leaving ++ ws) log_failed
 

@@ -26,7 +26,7 @@ something batch_bytes records how none = by (count_of records == 0) refl none
     by true is e = absurd (let f : early_refusal batch_bytes false records how ≡ Some no.Empty = cond-true (count_of records == 0) (Some no.Empty) _ is in cc)
     by false is e = let f = eqb-false (count_of records) 0 is in omega (arith, f)
 
--- who leads the log stays first
+-- the client that leads the log stays first
 still_first : (log : LogPhase) (queue : List Writer) (w : Writer) → LedIsFirst log queue → LedIsFirst log (queue ++ w ∷ [])
 still_first (led c) [] w first = absurd (cc)
 still_first (led c) (v ∷ queue) w first = first
@@ -36,7 +36,7 @@ still_first (in_log ws) queue w first = tt
 still_first (marked ws) queue w first = tt
 still_first (handed c) queue w first = tt
 
--- who is nowhere isn't among them
+-- a client that is nowhere in the list isn't among it
 not_among : (c : ℕ) (cs : List ℕ) → times c cs ≡ 0 → among c cs ≡ false
 not_among c cs none = by (among c cs) refl
   where
@@ -44,7 +44,7 @@ not_among c cs none = by (among c cs) refl
     by true is = absurd (let some = times_among c cs is in omega arith)
     by false is = is
 
--- a client that was idle waits after the others
+-- a client that was idle now waits after the others
 module _ (o : Options) (s : State) (c : ℕ) (old client : Client) (how : WriteOptions) (is : client_at s c ≡ Some old) (idle : old.idle ≡ true) (some : 0 < count_of client.added) (core : IsCore o s) where
   abbrev writer : Writer
   writer = record { client = c; options = how; records = client.added; answer = None }

@@ -8,7 +8,7 @@ use Rattle.model_base.specs.History.{Entry, IsHistory, RunsFollow, last_sequence
 use Rattle.model_core.specs.Core.{Options, Writer, LogPhase, free, led, built, in_log, marked, handed, TablePhase, still, launched, published, State, leads, has_run, table_group, with_runs, entries_of}
 use Rattle.model_core.specs.Step.{log_group, logged_group, with_group, is_unlogged}
 use Rattle.model_core.specs.CoreLaw.{IsCore, IsTable, IsEntryOf, IsInsertedAhead, in_order, waiting_clients, writers_in, unpublished_writers, HasInserted, SameLogFlag}
-use Rattle.model_core_laws.proofs.Histories.{history_more, last_sequence_append, last_is, runs_follow}
+use Rattle.model_core_laws.proofs.Histories.{history_more, last_sequence_append, runs_follow}
 use Rattle.model_core_laws.proofs.KeptByLeaving.{client_of, order_parts, left_core}
 use Rattle.model_core_laws.proofs.Lists.{all_append, all_front, all_back, all_of, all_weaker, zip_append, and_parts}
 use Rattle.model_core_laws.proofs.Relined.{same_line, same_table, kept_order}
@@ -29,7 +29,7 @@ ahead_more o s us vs xs log published is = by_stage o.pipelined refl
         by_second (w ∷ wss) = rw (append-nil (writers_in wss)) refl
     by_stage false one = absurd (let none : 0 < 0 = rw (one, log) at is in omega (arith, none))
 
--- with something in the table the group there is the same one
+-- if there is a group in the table, it stays the same
 table_more : (o : Options) (s : State) (us vs : List Writer) (xs : List Entry) → s.log ≡ built us → (b : Bool) → o.pipelined ≡ b → (table : TablePhase) → IsTable o s table
     → IsTable o (with_group s vs xs) table
 table_more o s us vs xs log b stage still is = tt
@@ -47,7 +47,7 @@ inserted_more o s us vs xs log true two (launched ins fin) is have =
     subst (λ ws. AllByRecursion (HasInserted s.inserted (launched ins fin)) (filter has_run ws)) group have
 inserted_more o s us vs xs log false one (launched ins fin) is have = absurd (let none : 0 < 0 = rw (one, log) at is.0 in omega (arith, none))
 
--- the logged groups, with an unlogged group and with another
+-- the parts of the logged groups, after one more group that is logged or isn't
 abbrev parts_with : Bool → List (List Entry) → List Entry → List (List Entry)
 parts_with unlogged parts xs = if unlogged then parts else parts ++ xs ∷ []
 
@@ -87,7 +87,7 @@ grouped o s us log some alive core =
         counted = all_append Counts vs s.queue (still_counted s.assigned us (all_front Counts us s.queue counted)) (all_back Counts us s.queue counted);
         one_log_flag = flag;
         is_history = history_more o.start s.entries xs core.is_history (subst (λ n. IsHistory n xs) core.assigned new);
-        assigned = last_is s.assigned xs ∙ (ap (λ n. last_sequence n xs) core.assigned ∙ sym (last_sequence_append o.start s.entries xs));
+        assigned = ap (λ n. last_sequence n xs) core.assigned ∙ sym (last_sequence_append o.start s.entries xs);
         front = core.front;
         is_boundary = record { rest = core.is_boundary.rest ++ xs; split = ap (λ es. es ++ xs) core.is_boundary.split ∙ append_assoc core.front core.is_boundary.rest xs; ends = core.is_boundary.ends };
         ahead = rw (ahead_more o s us vs xs log s.table core.is_table, filter-append has_run (unpublished_writers o s s.table) vs)

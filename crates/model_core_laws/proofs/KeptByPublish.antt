@@ -44,7 +44,7 @@ gathered start entries inserted h from (w ∷ ws) (x ∷ xs) z has within = (
     begins : (y : Entry) → w.answer ≡ Some (accepted y.first (last_of y) y.records) → w.answer ≡ Some (accepted x.first (last_of x) x.records) → y.first ≡ x.first
     begins y a b = cc
 
--- a group's members are as often there as one of them
+-- a member's client is among the group's members at least once
 pub member_there : (ws : List Writer) (w : Writer) → Contains ws w → 1 ≤ there w.client ws
 member_there [] w (k, l, e) = absurd (omega arith)
 member_there (v ∷ ws) w is = by (contains_cases v ws w is) (member_there ws w)
@@ -53,7 +53,7 @@ member_there (v ∷ ws) w is = by (contains_cases v ws w is) (member_there ws w)
     by (inl here) later = subst (λ (u : Writer). 1 ≤ there u.client (v ∷ ws)) here (let e = times_here v.client (map (λ (u : Writer). u.client) ws) in omega arith)
     by (inr behind) later = let e = times_cons w.client v.client (map (λ (u : Writer). u.client) ws) in let f = later behind in omega arith
 
--- who has an entry after the group isn't in the group
+-- a client that has an entry after the group isn't in the group
 no_member : (o : Options) (s : State) (x : Entry) (ws back : List Writer) (entries : List Entry) → IsCore o s
     → writers_in s.second ++ hand_with_runs s.log ≡ ws ++ back → 1 ≤ there x.client ws → AllZip IsEntryOf (filter has_run back) entries → Contains entries x → ⊥
 no_member o s x ws back entries core split some zip is =

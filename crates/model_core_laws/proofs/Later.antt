@@ -1,4 +1,4 @@
--- What was told stays told, and later reads aren't older than what was published before.
+-- A reply that was given stays as it is, and later reads aren't older than what was published before.
 use Rattle.std.proofs.Common.{◌≡◌, ℕ, ◌≤◌, ◌==◌, ◌&&◌, not, Bool, true, false, if◌then◌else◌, ◌⊎◌, inl, inr, List, [], ◌∷◌, ◌++◌, fold, filter, take, drop, find, Option, Some, None, refl, ap, sym, ◌∙◌, subst, append_assoc, append-nil, arith}
 use mathlib.Core.List.{IsPrefix}
 use Rattle.std.specs.List.{AllByRecursion, list_any, list_all}
@@ -26,7 +26,7 @@ use Rattle.model_core_laws.proofs.ToldByComplete.{found_is}
 later_self : (s : State) → IsLater s s
 later_self s = record { history = ([], append-nil s.entries); last = omega arith; calls = λ c client is. (client, is, [], append-nil client.calls, tt) }
 
--- a later reply of a read
+-- a read that is at or above a sequence is at or above each lower one
 from_less : (m n : ℕ) → m ≤ n → (reply : Reply) → IsFrom n reply → IsFrom m reply
 from_less m n less (found at v) is = omega arith
 from_less m n less (found_each at vs) is = omega arith

@@ -40,7 +40,8 @@ right_push o s calls call right may before c after e = by (split_push calls call
     by (inl h) = subst (λ (c : Call). MayReply o s before c.command c.reply) h.1 (subst (λ calls. MayReply o s calls call.command call.reply) (sym h.0) may)
     by (inr h) = right before c h.0 h.1
 
--- the batch is what was added since, the replies are right, none showed more than is published, and all its entries are answered
+-- the batch is what was added since the last `ok` or `clear`, the replies are right, none showed more than is
+-- published, and all entries of the client are answered
 pub record IsReady (o : Options) (s : State) (c : ℕ) (calls : List Call) (added : List Record) : Type 0 where
   pub batch : added ≡ batch_after calls
   pub right : AreRight o s calls
@@ -62,7 +63,7 @@ ready_push o s c calls call added right may batch seen_published log_failed faul
   entries = entries ∙ sym (fold_push (λ mine (x : Call). entries_by c mine x.command x.reply) [] calls call);
 }
 
--- the next line is done on the way
+-- a line that is done on the way to the next call
 pub asked_push : (calls : List Call) (call : Call) (left : List Command) → commands_of calls ++ call.command ∷ left ≡ commands_of (calls ++ call ∷ []) ++ left
 asked_push calls call left = sym (ap (λ cs. cs ++ left) (map-append (λ (c : Call). c.command) calls (call ∷ [])) ∙ append_assoc (commands_of calls) (call.command ∷ []) left)
 

@@ -6,7 +6,7 @@ use Rattle.model_core.specs.Core.{Options, Writer, LogPhase, TablePhase, still, 
 use Rattle.model_core.specs.CoreLaw.{IsCore, IsSubsequence, IsTable, IsUnmarked, LedIsFirst, SameLogFlag, HasInserted, IsEntryOf, hand, hand_with_runs, waiting_clients, in_order, unpublished_writers}
 use Rattle.model_core_laws.proofs.Tables.{AddsNobody, subsequence_self}
 
--- the state with its writers elsewhere
+-- the state with its writers in other places
 abbrev pub lined : State → List (List Writer) → LogPhase → List Writer → List Writer → Bool → State
 lined s second log queue leaving log_failed = record s { second = second; log = log; queue = queue; leaving = leaving; log_failed = log_failed }
 
@@ -56,7 +56,7 @@ relined o s second log queue leaving log_failed places core = record {
   runs = core.runs;
 }
 
--- what tells of the group in the table tells of the same group
+-- what holds of the group in the table still holds, since the group is the same
 pub same_table : (o : Options) (s t : State) (table : TablePhase) → table_group o s ≡ table_group o t → IsTable o s table → IsTable o t table
 same_table o s t still e is = is
 same_table o s t (launched ins fin) e is = rw e at is
@@ -67,6 +67,6 @@ same_unpublished o s t still e f = rw (e, f)
 same_unpublished o s t (launched ins fin) e f = rw (e, f)
 same_unpublished o s t published e f = rw (e, f)
 
--- the line stays as it is
+-- the line stays as it is, and so nobody is added to it
 pub kept_order : (s t : State) → in_order s ≡ in_order t → (s.log_failed ≡ true → (t.entries ≡ s.entries) × (t.log_failed ≡ true)) → AddsNobody s t
 kept_order s t e log_failed = record { order = subst (λ xs. IsSubsequence xs (in_order s)) e (subsequence_self (in_order s)); log_failed = log_failed }

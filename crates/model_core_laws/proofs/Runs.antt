@@ -1,4 +1,4 @@
--- A group that is given its runs.
+-- A group that gets its runs.
 use Rattle.std.proofs.Common.{◌≡◌, ℕ, ◌+◌, ◌-◌, ◌<◌, ◌≤◌, Bool, true, false, if◌then◌else◌, List, [], ◌∷◌, length, map, Option, Some, None, nat_le, refl, ap, subst, arith}
 use Rattle.std.specs.Option.{option_map}
 use Rattle.std.specs.List.{cons_option, AllByRecursion, AllZip, filter, list_any}
@@ -20,7 +20,7 @@ taken last w = record w { answer = Some (accepted (last + 1) (last + count_of w.
 abbrev pub passed_over : ℕ → Writer → Writer
 passed_over last w = record w { answer = Some (refused (no.SequenceFull last)) }
 
--- what holds of a group and the same with runs, member by member
+-- what holds of a group and of the same group with runs, proved member by member
 pub by_members : (Q : ℕ → List Writer → List Writer → Type 0) → ((last : ℕ) → Q last [] [])
     → ((last : ℕ) (w : Writer) (ws vs : List Writer) → last + count_of w.records ≤ max_sequence → Q (last + count_of w.records) ws vs → Q last (w ∷ ws) (taken last w ∷ vs))
     → ((last : ℕ) (w : Writer) (ws vs : List Writer) → max_sequence < last + count_of w.records → Q last ws vs → Q last (w ∷ ws) (passed_over last w ∷ vs))
@@ -52,7 +52,7 @@ log_as : (b : Bool) (last : ℕ) (ws : List Writer) → AllLogAs b ws → AllLog
 log_as b = by_members (λ last ws vs. AllLogAs b ws → AllLogAs b vs) (λ last a. tt)
     (λ last w ws vs fits more a. (a.0, more a.1)) (λ last w ws vs full more a. (a.0, more a.1))
 
--- all members log as the first does
+-- all members are to be logged, if the first one is, and otherwise none is
 pub all_as_first : (ws : List Writer) → SameLogFlag ws → AllLogAs (is_unlogged ws) ws
 all_as_first [] a = tt
 all_as_first (w ∷ ws) a = (refl, a)
@@ -81,7 +81,7 @@ pub runs_some : (s : State) (last : ℕ) (ws : List Writer) → list_any has_run
 runs_some s = by_members (λ last ws vs. list_any has_run vs ≡ true → 0 < length (entries_of s vs)) (λ last e. absurd (cc))
     (λ last w ws vs fits more e. omega arith) (λ last w ws vs full more e. more e)
 
--- an unlogged group adds nothing to the logged entries, and another adds them all
+-- an unlogged group adds nothing to the logged entries, and a logged one adds all its entries
 flag_is : (how : WriteOptions) (b : Bool) → how.no_log ≡ b → is_logged (flag_of how) ≡ (if b then false else true)
 flag_is how true e = rw e refl
 flag_is how false e = rw e (by_sync how.sync)

@@ -1,4 +1,4 @@
--- What the laws of the memtable's events share: lists, counts, and the groups on the way.
+-- What the laws of the memtable's events share: lists, counts, and the groups that aren't published yet.
 use Rattle.std.proofs.Common.{◌≡◌, ℕ, ◌+◌, ◌<◌, ◌≤◌, Bool, true, false, cond, ◌==◌, List, [], ◌∷◌, ◌++◌, length, map, filter, count_by, Option, Some, None, is_some, if◌then◌else◌, ◌⊎◌, inl, inr, refl, ap, sym, ◌∙◌, subst, arith, append_assoc, append-nil, zero-add}
 use Rattle.std.specs.List.{AllByRecursion, AllZip}
 use Rattle.std.proofs.lemmas.List.{map-append}
@@ -66,7 +66,7 @@ among_from_times c (d ∷ cs) h = by (d == c) refl (among_from_times c cs)
     by true is later = or_left (d == c) (among c cs) is
     by false is later = or_right (d == c) (among c cs) (later (let e = times_cons c d cs in let f : cond {A = ℕ} (d == c) 1 0 ≡ 0 = cond-false {A = ℕ} (d == c) 1 0 is in omega arith))
 
--- what holds of all in a list holds of all in one that has no more of anybody
+-- what holds of all in a list holds of all in a second list that has nobody more often
 pub all_fewer : (P : ℕ → Type 0) (xs ys : List ℕ) → ((c : ℕ) → times c ys ≤ times c xs) → AllByRecursion P xs → AllByRecursion P ys
 all_fewer P xs ys fewer h = go ys (λ c is. is)
   where
@@ -77,7 +77,7 @@ all_fewer P xs ys fewer h = go ys (λ c is. is)
     go [] within = tt
     go (z ∷ zs) within = (there z (within z (or_left (z == z) (among z zs) (eq-eqb z z refl))), go zs (λ c is. within c (or_right (z == c) (among c zs) is)))
 
--- Nobody passes another
+-- Nobody overtakes another
 
 pub subsequence_self : (xs : List ℕ) → IsSubsequence xs xs
 subsequence_self [] = tt
@@ -92,7 +92,7 @@ pub subsequence_both : (ws xs zs : List ℕ) → IsSubsequence xs zs → IsSubse
 subsequence_both [] xs zs a = a
 subsequence_both (w ∷ ws) xs zs a = inl (refl, subsequence_both ws xs zs a)
 
--- what an event keeps that adds nobody to the line
+-- what is kept by an event that adds nobody to the line
 pub record AddsNobody (old new : State) : Type 0 where
   pub order : IsSubsequence (in_order new) (in_order old)
   pub log_failed : old.log_failed ≡ true → (new.entries ≡ old.entries) × (new.log_failed ≡ true)
@@ -101,7 +101,7 @@ pub record AddsNobody (old new : State) : Type 0 where
 pub keeps : (s t : State) → IsSubsequence (in_order t) (in_order s) → t.entries ≡ s.entries → t.log_failed ≡ s.log_failed → AddsNobody s t
 keeps s t order entries log_failed = record { order = order; log_failed = λ was. (entries, log_failed ∙ was) }
 
--- The groups on the way
+-- The groups that aren't published yet
 
 -- the state with another phase of the table
 abbrev pub with_table : State → TablePhase → State
@@ -110,7 +110,7 @@ with_table s phase = record s { table = phase }
 pub keeps_with_table : (s : State) (a b : TablePhase) (inserted : List Entry) (last : ℕ) → AddsNobody (with_table s a) (record (with_table s b) { inserted = inserted; last = last })
 keeps_with_table s a b inserted last = keeps (with_table s a) (record (with_table s b) { inserted = inserted; last = last }) (subsequence_self (in_order s)) refl refl
 
--- a group in the table is on the way, and what waits for it comes after it
+-- the groups with runs are the group in the table, and after it those that wait for the table
 pub split_groups : (o : Options) (s : State) (pipelined : Bool) (second : List (List Writer)) (log : LogPhase)
     → (pipelined ≡ false → second ≡ [])
     → 0 < length (table_group (record o { pipelined = pipelined }) (record s { second = second; log = log }))
@@ -155,7 +155,7 @@ there_filtered c p (w ∷ ws) = by (p w) (there_filtered c p ws)
         omega arith
     by false le = let e = times_cons c w.client (map (λ (w : Writer). w.client) ws) in omega arith
 
--- all that wait, by the place where they wait
+-- how often a client is among all that wait, by the place where they wait
 pub waiting_parts : (c : ℕ) (s : State) → times c (waiting_clients s) ≡ there c (writers_in s.second) + there c (hand s.log) + there c s.queue + there c s.leaving
 waiting_parts c s =
     let a = times_append c (in_order s) (map (λ (w : Writer). w.client) s.leaving) in
@@ -163,7 +163,7 @@ waiting_parts c s =
     let d = there_append c (writers_in s.second) (hand s.log) in
     omega arith
 
--- who waits, waits once
+-- a client waits in one place at most, and once
 pub waits_once : (o : Options) (s : State) (c : ℕ) → IsCore o s → times c (waiting_clients s) ≤ 1
 waits_once o s c core = by (cases_lt 0 (times c (waiting_clients s)))
   where
@@ -179,7 +179,7 @@ waits_once o s c core = by (cases_lt 0 (times c (waiting_clients s)))
     by (inl some) = at (client_at s c) refl (among_from_all (λ d. is_some (client_at s d) ≡ true) c (waiting_clients s) core.clients (among_from_times c (waiting_clients s) some))
     by (inr none) = omega arith
 
--- a group in hand that has its runs is the group in hand
+-- a client is in the group in hand at least as often as in the group in hand with runs
 pub in_hand_once : (c : ℕ) (log : LogPhase) → there c (hand_with_runs log) ≤ there c (hand log)
 in_hand_once c free = omega arith
 in_hand_once c (led d) = omega arith
@@ -188,14 +188,14 @@ in_hand_once c (in_log ws) = omega arith
 in_hand_once c (marked ws) = omega arith
 in_hand_once c (handed d) = omega arith
 
--- the entries past the published sequence: those of the launched group, and those after it
+-- the entries above the published sequence: those of the launched group, and those after it
 pub cut_ahead : (o : Options) (s : State) (ins fin : List ℕ) (core : IsCore o (with_table s (launched ins fin))) → Parted IsEntryOf (members o s) (filter has_run (unpublished_writers o s published)) core.is_boundary.rest
 cut_ahead o s ins fin core =
     let split = groups_split o s core.single_stage core.is_table.0 in
     parted IsEntryOf (members o s) (filter has_run (unpublished_writers o s published)) core.is_boundary.rest
     (subst (λ ws. AllZip IsEntryOf ws core.is_boundary.rest) (ap (filter has_run) split ∙ filter-append has_run (table_group o s) (unpublished_writers o s published)) core.ahead)
 
--- a led group isn't empty
+-- a group that has a leader isn't empty
 pub some_led : (c : ℕ) (ws : List Writer) → leads c ws ≡ true → 0 < length ws
 some_led c [] first = absurd (cc)
 some_led c (w ∷ ws) first = omega arith

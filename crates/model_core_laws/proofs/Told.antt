@@ -1,4 +1,4 @@
--- What is kept of the clients' calls while events come.
+-- What stays true of the clients' calls while events come.
 use Rattle.std.proofs.Common.{◌≡◌, ℕ, zero, suc, ◌+◌, ◌≤◌, true, false, List, [], ◌∷◌, ◌++◌, length, map, Option, Some, None, is_some, IsSome, slice_get, MatchOption, ◌==◌, refl, ap, sym, ◌∙◌, append_assoc, arith}
 use Rattle.std.specs.List.{AllByRecursion}
 use Rattle.std.proofs.lemmas.List.{append-nil}
@@ -19,11 +19,11 @@ use Rattle.model_core.specs.Replies.{seen_up_to, knows_log_failed, entries_told,
 use Rattle.model_core_laws.proofs.Groups.{SameSlowdown}
 use Rattle.model_core_laws.proofs.Lists.{all_append, all_weaker}
 
--- all that wait, wherever they stand
+-- all writers that wait, wherever they are
 abbrev pub writers : State → List Writer
 writers s = ((writers_in s.second ++ hand s.log) ++ s.queue) ++ s.leaving
 
--- those that have no answer yet
+-- the writers that have no answer yet
 abbrev pub unanswered : LogPhase → List Writer → List Writer
 unanswered (built ws) queue = ws ++ queue
 unanswered free queue = queue
@@ -32,7 +32,7 @@ unanswered (in_log ws) queue = queue
 unanswered (marked ws) queue = queue
 unanswered (handed c) queue = queue
 
--- a built group agrees on being slowed down
+-- a built group may be slowed down as a whole, or not at all
 abbrev pub IsOneKind : LogPhase → Type 0
 IsOneKind (built ws) = SameSlowdown ws
 IsOneKind free = Unit {0}
@@ -82,11 +82,11 @@ pub record Told (o : Options) (plans : List (List Command)) (s : State) : Type 0
   pub none : AllByRecursion (λ (w : Writer). w.answer ≡ None) (unanswered s.log s.queue)
   pub one_kind : IsOneKind s.log
 
--- What was told stays right while the history grows and the log dies.
+-- Replies that were right stay right when the history grows and when the log fails.
 pub up_to_more : (start : ℕ) (entries xs : List Entry) (at : ℕ) (front : List Entry) → IsUpTo start entries at front → IsUpTo start (entries ++ xs) at front
 up_to_more start entries xs at front is = record { rest = is.rest ++ xs; split = ap (λ es. es ++ xs) is.split ∙ append_assoc front is.rest xs; ends = is.ends }
 
--- one state's history begins another's
+-- the history of s is a beginning of that of t
 pub record Grows (s t : State) : Type 0 where
   pub new : List Entry
   pub entries : t.entries ≡ s.entries ++ new
@@ -231,7 +231,7 @@ told_without o plans s t grows e idle of_clients waits none kind told core = rec
   one_kind = kind;
 }
 
--- and gives no run either
+-- an event that changes no client and gives no run
 pub told_lines : (o : Options) (plans : List (List Command)) (s t : State) → t.clients ≡ s.clients → t.entries ≡ s.entries → t.log_failed ≡ s.log_failed → s.last ≤ t.last
     → ((P : Writer → Type 0) → AllByRecursion P (writers s) → AllByRecursion P (writers t)) → AllByRecursion (λ (w : Writer). w.answer ≡ None) (unanswered t.log t.queue) → IsOneKind t.log
     → Told o plans s → IsCore o t → Told o plans t

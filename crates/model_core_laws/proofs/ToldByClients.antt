@@ -1,4 +1,4 @@
--- What the events of one client share: it goes on, and the others wait as before.
+-- What the events of one client share: this client goes on, and the others wait as before.
 use Rattle.std.proofs.Common.{◌≡◌, ℕ, ◌-◌, true, ◌⊎◌, inl, inr, List, [], ◌∷◌, ◌++◌, length, Some, None, is_some, IsSome, refl, ap, sym, ◌∙◌, subst, append-nil, arith}
 use Rattle.std.specs.List.{AllByRecursion}
 use Rattle.std.proofs.lemmas.Bool.{cases_eq}
@@ -90,7 +90,7 @@ pub next_asked : (o : Options) (plans : List (List Command)) (s : State) (c : �
     → (lines : List Command) → lines_at plans c ≡ Some lines → lines ≡ commands_of (next_call client).client.calls ++ command ∷ (next_call client).client.left
 next_asked o plans s c client idle is command e lines there = (goes_ahead o s c lines client.calls client.added client.left client (idle_ready o plans s c client idle is) (is.asked idle lines there)).asked command e
 
--- who is idle waits nowhere
+-- an idle client waits nowhere
 pub idle_absent : (o : Options) (s : State) (c : ℕ) (client : Client) → client_at s c ≡ Some client → client.idle ≡ true → IsCore o s → IsAbsent c (writers s)
 idle_absent o s c client is idle core = absent c (writers s)
     (let a = waiting_parts c s in let b : times c (waiting_clients s) ≡ 0 = core.once c client is ∙ rw idle refl in

@@ -1,4 +1,4 @@
--- Completing a write keeps what the clients were told.
+-- The completion of a write keeps what holds of the clients' replies.
 use Rattle.std.proofs.Common.{◌≡◌, ℕ, ◌+◌, ◌-◌, ◌≤◌, ◌==◌, Bool, true, false, not, cond, ◌⊎◌, inl, inr, List, [], ◌∷◌, ◌++◌, find, filter, Option, Some, None, refl, ap, sym, ◌∙◌, subst, arith}
 use Rattle.std.specs.List.{AllByRecursion, Contains}
 use Rattle.std.proofs.lemmas.Bool.{eqb-true}
@@ -49,7 +49,7 @@ contains_own c (y ∷ xs) x is = by (y.client == c) is (contains_own c xs x)
     ]
     by false at later = contains_tail y xs x (later at)
 
--- those on the way wait in the second queue or in hand
+-- the writers that have runs and aren't published are in the second queue or in hand
 on_the_way : (o : Options) (s : State) (table : TablePhase) (c : ℕ) → there c (unpublished_writers o s table) ≤ there c (writers_in s.second) + there c (hand s.log)
 on_the_way o s still c = let a = there_append c (writers_in s.second) (hand_with_runs s.log) in let b = in_hand_once c s.log in omega arith
 on_the_way o s (launched ins fin) c = let a = there_append c (writers_in s.second) (hand_with_runs s.log) in let b = in_hand_once c s.log in omega arith
@@ -73,7 +73,7 @@ left_is_published o s m w x core left client is = by (Contains-append_cases core
         let b = there_filtered m has_run (unpublished_writers o s s.table) in let d = on_the_way o s s.table m in
         let e = found_there m s.leaving w left in let f = waiting_parts m s in let g = waits_once o s m core in absurd (omega arith)
 
--- a client that was told of the fault
+-- if a commit may be answered the log's fault, the log has failed
 fault_is : (o : Options) (s : State) (before : List Call) (how : WriteOptions) (why : Refusal) → MayRefuse o s before how why → is_log_fault (refused why) ≡ true → s.log_failed ≡ true
 fault_is o s before how (no.LogFault count) m e = m.1
 fault_is o s before how (no.SequenceFull last) m e = absurd (cc)
@@ -84,7 +84,7 @@ fault_is o s before how no.SyncWithoutLog m e = absurd m
 fault_is o s before how no.SelfStop m e = absurd m
 fault_is o s before how no.NoMemory m e = absurd m
 
--- The answer as the client's reply
+-- The writer's answer becomes the client's reply
 completes : (o : Options) (plans : List (List Command)) (s : State) (m : ℕ) (w : Writer) (client : Client) (answer : Option Reply) (reply : Reply) → answer ≡ Some reply → find (λ (x : Writer). x.client == m) s.leaving ≡ Some w → w.client ≡ m
     → w.records ≡ batch_after client.calls → early_refusal o.batch_bytes false w.records w.options ≡ None → IsToldSoFar o plans s m client → IsAnswer o s client w answer → IsCore o s
     → IsReady o s m (client.calls ++ record { command = commit w.options; reply = reply } ∷ []) (added_after reply client.added)

@@ -1,4 +1,4 @@
--- A fault and a refusal keep what the clients were told.
+-- A fault and a refusal keep what holds of the clients' replies.
 use Rattle.std.proofs.Common.{◌≡◌, ℕ, ◌&&◌, Bool, true, List, [], ◌∷◌, ◌++◌, Some, None, refl, ap, sym, ◌∙◌, subst, append-nil, arith}
 use Rattle.std.specs.List.{AllByRecursion}
 use Rattle.model_base.specs.declared.write.Refusal.{Refusal}

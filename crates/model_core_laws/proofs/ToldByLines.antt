@@ -1,4 +1,4 @@
--- Events that neither change a client nor give a run keep what the clients were told.
+-- Events that neither change a client nor give a run keep what holds of the clients' replies.
 use Rattle.std.proofs.Common.{◌≡◌, ℕ, ◌≤◌, ◌==◌, ◌&&◌, Bool, true, false, not, if◌then◌else◌, List, [], ◌∷◌, ◌++◌, take, drop, Some, None, refl, ap, sym, ◌∙◌, subst, append_assoc, append-nil, arith}
 use Rattle.std.specs.List.{AllByRecursion, list_all}
 use Rattle.std.proofs.lemmas.List.{take-append-drop}
@@ -15,7 +15,7 @@ use Rattle.model_core_laws.proofs.Lists.{all_append, all_front, all_back}
 use Rattle.model_core_laws.proofs.Tables.{with_table, cut_ahead, when_some}
 use Rattle.model_core_laws.proofs.Told.{Told, writers, unanswered, told_lines}
 
--- what holds of all that wait, place by place
+-- what holds of all writers that wait, place by place
 pub record Parts (P : Writer → Type 0) (seconds hands queue leaving : List Writer) : Type 0 where
   pub at_second : AllByRecursion P seconds
   pub at_hand : AllByRecursion P hands
@@ -173,7 +173,7 @@ queue_unanswered P (led c) queue a = a
 queue_unanswered P (marked ws) queue a = a
 queue_unanswered P (handed c) queue a = a
 
--- the state whose group in the table left
+-- the state after the table's group has left
 abbrev exited : State → Bool → State
 exited s pipelined = record (leave (if pipelined then record s { second = drop 1 s.second } else record s { log = free }) (if pipelined then first_group s.second else in_hand s.log)) { table = still }
 

@@ -1,4 +1,4 @@
--- Logging a group keeps what the clients were told.
+-- Logging a group keeps what holds of the clients' replies.
 use Rattle.std.proofs.Common.{◌≡◌, ℕ, ◌+◌, ◌<◌, ◌≤◌, ◌&&◌, not, Bool, true, false, ◌⊎◌, inl, inr, List, [], ◌∷◌, ◌++◌, Option, Some, None, is_some, IsSome, ◌||◌, ◌==◌, refl, ap, sym, ◌∙◌, subst, append_assoc, append-nil, arith}
 use Rattle.std.specs.Option.{option_map}
 use Rattle.std.specs.List.{cons_option, AllByRecursion, AllZip, list_any}
@@ -25,7 +25,7 @@ use Rattle.model_core_laws.proofs.ToldByLines.{Parts, apart, together, becomes}
 own_more : (c : ℕ) (s t : State) (grows : Grows s t) (told new : List Entry) → entries_of_client c s.entries ≡ told → entries_of_client c grows.new ≡ new → entries_of_client c t.entries ≡ told ++ new
 own_more c s t grows told new e f = ap (entries_of_client c) grows.entries ∙ (filter-append (λ (e : Entry). e.client == c) s.entries grows.new ∙ rw (e, f) refl)
 
--- the published sequence isn't past the one given last
+-- the published sequence isn't above the one that was given last
 published_below : (o : Options) (s : State) → IsCore o s → s.last ≤ s.assigned
 published_below o s core =
     let b = core.is_boundary in
@@ -105,14 +105,14 @@ all_given_wait o plans s t grows clients logs (w ∷ ws) [] given none is = absu
 all_given_wait o plans s t grows clients logs (w ∷ ws) (v ∷ vs) given none is =
     (given_waits o plans s t grows clients logs w v given.0 none.0 is.0, all_given_wait o plans s t grows clients logs ws vs given.1 none.1 is.1)
 
--- those that wait elsewhere are of other clients
+-- the writers that wait elsewhere are of other clients
 elsewhere : (o : Options) (plans : List (List Command)) (s t : State) (ws us : List Writer) (grows : Grows s t) → t.clients ≡ s.clients → grows.new ≡ entries_of s (with_runs s.assigned ws)
     → ((c : ℕ) → there c us + there c ws ≤ 1) → AllByRecursion (Waits o plans s) us → AllByRecursion (Waits o plans t) us
 elsewhere o plans s t ws us grows clients new once = all_weaker_at (Waits o plans s) (Waits o plans t) us (λ u at is.
     let here = member_there us u at in let both = once u.client in
     waits_same o plans s t u grows clients (ap (entries_of_client u.client) new ∙ own_absent s u.client s.assigned ws (absent u.client ws (omega arith))) is)
 
--- after the runs the members wait with their answers, and the others as before
+-- after the runs were given the members wait with their answers, and the others as before
 logged : (o : Options) (plans : List (List Command)) (s t : State) (ws : List Writer) (grows : Grows s t) → t.clients ≡ s.clients → s.log ≡ built ws → grows.new ≡ entries_of s (with_runs s.assigned ws)
     → s.log_failed ≡ false → Told o plans s → Parts (Waits o plans t) (writers_in s.second) (with_runs s.assigned ws) s.queue s.leaving
 logged o plans s t ws grows clients log new alive told =

@@ -1,4 +1,4 @@
--- A read keeps what the clients were told.
+-- A read keeps what holds of the clients' replies.
 use Rattle.std.proofs.Common.{◌≡◌, ℕ, Bool, true, false, if◌then◌else◌, List, [], ◌∷◌, ◌++◌, map, take_while, nat_le, Option, Some, None, refl, ap, ◌∙◌, subst, arith}
 use Rattle.std.proofs.lemmas.Bool.{lt-leb, le-leb}
 use Rattle.std.proofs.lemmas.List.Sums.{take_while-cons}
@@ -16,7 +16,7 @@ use Rattle.model_core_laws.proofs.Told.{Told}
 use Rattle.model_core_laws.proofs.ToldByLines.{becomes}
 use Rattle.model_core_laws.proofs.ToldByClients.{next_ready, answered}
 
--- the entries up to the published sequence are those of the boundary
+-- The published map is that of the entries up to the published sequence
 some_same : {A : Type 0} {a b : A} → Some a ≡ Some b → a ≡ b
 some_same e = cc
 

@@ -77,7 +77,7 @@ with_a_gap s entries groups core = by core.parts (sym groups ∙ core.groups) (a
         number_apart 2 3 (omega arith) (sym follow.0.first)
     by (p ∷ q ∷ parts) e cut runs = cc
 
--- whoever waits first stays first
+-- the client that waits first stays first
 not_turned : IsSubsequence (2 ∷ 1 ∷ []) (1 ∷ 2 ∷ []) → ⊥
 not_turned (inl h) = number_apart 1 2 (omega arith) (sym h.0)
 not_turned (inr (inl h)) = h.1

@@ -30,11 +30,11 @@ put_a1 = value (codes "a") (codes "1")
 abbrev pub put_a2 : Record
 put_a2 = value (codes "a") (codes "2")
 
--- the batch of one record under the first sequence
+-- a batch of one record at the first sequence
 abbrev pub first_entry : Record → Entry
 first_entry r = record { client = 1; ordinal = 1; first = 1; count = 1; flag = Log; records = r ∷ [] }
 
--- the batch of one record of a client under a sequence, in the log or not
+-- a client's batch of one record at this sequence, in the log or not
 abbrev pub entry_at : ℕ → ℕ → Flag → Entry
 entry_at client sequence flag = record {
   client = client;
@@ -45,7 +45,7 @@ entry_at client sequence flag = record {
   records = put_a1 ∷ [];
 }
 
--- batches of two clients, both logged; and of three, of which the middle one isn't
+-- batches of two clients, both of them logged; and of three, the middle one of which isn't
 abbrev pub one_logged : List Entry
 one_logged = entry_at 1 1 Log ∷ []
 
@@ -77,7 +77,7 @@ written_and_read = wrote put_a1 ++ reading (found 1 (Some (codes "1")))
 abbrev pub calls_after : Options → List Event → List (List Call)
 calls_after o events = map (λ (client : Client). client.calls) (state_after o script events).clients
 
--- the whole way of a write in each of the two ways, and the read
+-- all events of a write, in each of the two ways of writing, and then a read
 abbrev pub way_through_the_log : List Event
 way_through_the_log = e.Link 1 ∷ e.Elect 1 ∷ e.Build 1 ∷ e.Log 1 ∷ []
 
@@ -87,7 +87,7 @@ way_between = e.Boundary 1 ∷ e.Second 1 ∷ e.Next 1 ∷ []
 abbrev pub way_through_the_table : List Event
 way_through_the_table = e.Launch 1 ∷ e.Insert 1 ∷ e.Finish 1 ∷ e.Publish 1 ∷ e.Exit 1 ∷ e.Complete 1 ∷ e.Read 1 ∷ []
 
--- one idle client that was told this, where the history has these entries and is published up to a sequence
+-- a state with one idle client that made these calls, where the history has these entries and `last` is published
 abbrev pub told_in : List Entry → ℕ → List Call → State
 told_in entries last calls = record (opening_state single_stage []) {
   clients = record { left = []; added = []; calls = calls; idle = true } ∷ [];

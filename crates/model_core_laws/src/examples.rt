@@ -1,4 +1,4 @@
-//! Examples: a write that goes its whole way, and states and replies that no list of events comes to.
+//! Examples: a write that goes its whole way, and states and replies that no list of events leads to.
 
 ghost use Rattle.std.specs.Prelude.{◌≡◌, ◌++◌, [], ◌∷◌, Some, None, codes};
 ghost use Rattle.model_base.specs.declared.write.Refusal.TheVariants.{LogFault, SequenceFull};
@@ -28,7 +28,7 @@ pub fn wrong_states()
     // a client waits twice
     ensures twice { (o : Options) (s : State) (v w : Writer) → s.queue ≡ v ∷ w ∷ [] → v.client ≡ w.client
         → IsCore o s → ⊥ }
-    // one logged group on both sides of a batch that isn't logged
+    // one logged group has entries on both sides of a batch that isn't logged
     ensures with_a_gap { (s : State) → s.entries ≡ gap_in_the_log → s.groups ≡ 2 ∷ [] → IsCore single_stage s → ⊥ }
     // a writer that waits first is sent to the back
     ensures sent_to_the_back { (event : Event) (s t : State) → in_order s ≡ 1 ∷ 2 ∷ [] → in_order t ≡ 2 ∷ 1 ∷ []
@@ -44,7 +44,7 @@ pub fn wrong_states()
 pub fn wrong_replies()
     // a read finds what nobody wrote
     ensures never_written { AreRightIn [] 0 (reading (found 0 (Some (codes "1")))) → ⊥ }
-    // a read stands at no batch's end
+    // a read is at a sequence that is no batch's end
     ensures between { AreRightIn (first_entry put_a1 ∷ []) 1 (reading (found 5 None)) → ⊥ }
     // a read misses its client's own write
     ensures stale { AreRightIn (first_entry put_a1 ∷ []) 1 (wrote put_a1 ++ reading (found 0 None)) → ⊥ }
@@ -54,8 +54,8 @@ pub fn wrong_replies()
     ensures never_committed { AreRightIn (first_entry put_a1 ∷ []) 1 [] → ⊥ }
     // an accepted batch has another record than was added
     ensures another_record { AreRightIn (first_entry put_a2 ∷ []) 1 (wrote put_a2) → ⊥ }
-    // a commit is refused for a fault that wasn't
+    // a commit is refused for a fault of the log that didn't happen
     ensures no_fault { AreRightIn [] 0 (refused_for (LogFault 1)) → ⊥ }
-    // a commit is refused because no run fits, and one does
+    // a commit is refused because no run fits, though one does
     ensures has_room { AreRightIn [] 0 (refused_for (SequenceFull 0)) → ⊥ }
 {}

@@ -1,5 +1,5 @@
-//! The laws of the write path's core, for both ways of writing, in a single stage and pipelined: functions whose
-//! contracts are laws, and that have no code. What they speak of stands in the definitions of `model_core`.
+//! The laws of the write path's core, for both ways of writing: in a single stage, and pipelined. Each is a function
+//! without code, whose contract is the law. The definitions are in `model_core`.
 #![tactic(auto)]
 
 mod examples;
@@ -16,7 +16,7 @@ ghost use Rattle.model_core.specs.Replies.{AreRepliesOf, IsLater};
 pub use examples::{one_write, wrong_replies, wrong_states};
 
 /// The law of the core: it holds at the opening, and each event keeps it. An event also keeps the order of those in
-/// line, and after a fault of the log none gives a run. So the law holds after every list of events.
+/// line, and once the log has failed no event gives a run. So the law holds after every list of events.
 pub fn law()
     ensures opening { (o : Options) (plans : List (List Command)) → IsCore o (opening_state o plans) }
     ensures kept { (o : Options) (s t : State) (event : Event) → IsCore o s → step o s event ≡ Some t
@@ -26,22 +26,22 @@ pub fn law()
 {}
 
 /// The replies of the core: after every list of events the clients' calls so far, with their replies, are those of a
-/// plain map at points of the one history of batches.
+/// plain map, at points of the one history of batches.
 pub fn replies_of_a_map()
     ensures every_list { (o : Options) (plans : List (List Command)) (events : List Event)
         → AreRepliesOf o plans (state_after o plans events) }
 {}
 
-/// What stays while more events come: the history only goes on, the published sequence doesn't fall, and no reply is
-/// taken back. A read of any client that is answered later stands at or past what was published before, and so at or
-/// past every accepted commit that any client was told of before.
+/// What stays as it is while more events come: the history is only added to, the published sequence doesn't fall, and
+/// no reply is taken back. A later read of any client is at or above what was published before, and so at or above
+/// each accepted commit of which any client had learned before.
 pub fn nothing_is_taken_back()
     ensures later { (o : Options) (plans : List (List Command)) (events more : List Event)
         → IsLater (state_after o plans events) (state_after o plans (events ++ more)) }
 {}
 
 /// A state in two halves: where the writers are, and the memtable. Only the events from a group's launch to its exit
-/// move the memtable's half, and of these only the exit moves a writer.
+/// change the memtable's half, and of these only the exit moves a writer.
 pub fn halves()
     ensures list_events_leave_table { (o : Options) (s t : State) (event : Event)
         → moves_table event ≡ false → step o s event ≡ Some t → table_half_of t ≡ table_half_of s }

@@ -15,18 +15,18 @@ use Rattle.model_rows.specs.Examples.{plain}
 pub some_same : {A : Type 0} {a b : A} → Some a ≡ Some b → a ≡ b
 some_same e = cc
 
--- what holds of all elements holds of the one at a place
+-- what holds of all elements holds of the one at this place
 pub all_at : {A : Type 0} (P : A → Type 0) (xs : List A) (i : ℕ) (x : A) → AllByRecursion P xs → slice_get xs i ≡ Some x → P x
 all_at P [] i x a there = absurd (cc)
 all_at P (y ∷ xs) zero x a there = subst P (some_same there) a.0
 all_at P (y ∷ xs) (suc i) x a there = all_at P xs i x a.1 there
 
--- a list of one has its element at the place 0 alone
+-- a list of one element has it at the place 0, and nothing elsewhere
 first_only : {A : Type 0} (x y : A) (i : ℕ) → slice_get (x ∷ []) i ≡ Some y → (i ≡ 0) × (x ≡ y)
 first_only x y zero h = (refl, cc h)
 first_only x y (suc i) h = absurd (cc h)
 
--- the one client's transcript is all that has to be legal
+-- if there is one client, only its transcript has to be legal
 pub each_one : (settings : Settings) (trace : Trace) (groups : List Group) (fault : Option ℕ) (commands : List Command) (calls : List Call) (attempts : List Attempt)
     → IsLegalTranscript settings trace groups fault 1 commands calls attempts
     → (i : ℕ) (cs : List Command) (ks : List Call) → slice_get (commands ∷ []) i ≡ Some cs → slice_get (calls ∷ []) i ≡ Some ks
@@ -44,7 +44,7 @@ pub quietly : (settings : Settings) (trace : Trace) (p : Progress) (c : Command)
     → Step settings trace 1 p c r q
 quietly settings trace p c r q h k l = record { replies = h; rises = omega (arith, k, l); within = omega (arith, l) }
 
--- Where the client stands after each kind of call
+-- The client's progress after each kind of call
 
 abbrev pub added : Record → Progress → Progress
 added r p = record p { pending = p.pending ++ r ∷ [] }

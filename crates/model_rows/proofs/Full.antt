@@ -1,4 +1,4 @@
--- A batch that is accepted at a sequence behind which there was no room for an earlier one.
+-- A batch that is accepted at a sequence after which there was no room for an earlier one.
 use Rattle.std.proofs.Common.{◌≡◌, ℕ, ◌<◌, ◌≤◌, false, None, Some, List, [], ◌∷◌, ◌++◌, refl, arith, ap, ◌∙◌, subst}
 use Rattle.model_base.specs.Varint.{varint_within}
 use Rattle.model_base.specs.Batch.{Record}
@@ -14,12 +14,12 @@ use Rattle.model_rows.specs.Examples.{put_a1, put_b2, plain}
 use Rattle.model_rows.specs.Runs.{nearly_full, adds, commits, finds_full, filling_script, filling_calls, lower_than_full}
 use Rattle.model_rows.proofs.Steps.{run_of, is_accepted, is_attempted}
 
--- a batch of two passes the checks
+-- a batch of two records passes the checks
 passes : early_refusal 16777216 false (put_a1 ∷ put_b2 ∷ []) plain ≡ None
 unfolding varint_within
 passes = refl
 
--- a commit that was refused so is the client's last one
+-- a commit that was refused for want of sequences is then the client's last attempt
 told_full : (trace : Trace) (p q : Progress) (last : ℕ) → p.pending ≡ put_a1 ∷ put_b2 ∷ [] → p.asked ≡ [] → Commits nearly_full trace 1 p plain (refused (no.SequenceFull last)) q → q.attempts ≡ with_attempt p.attempts p.pending plain (Some (full last))
 told_full trace p q last pending asked s =
     let refusal = is_attempted nearly_full trace 1 p plain (refused (no.SequenceFull last)) q (rw (pending, asked) passes) s in

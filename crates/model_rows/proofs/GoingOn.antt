@@ -18,11 +18,11 @@ use Rattle.model_rows.proofs.Steps.{run_of}
 abbrev attempt : Attempt
 attempt = record { records = put_b2 ∷ []; options = plain; status = succeeded }
 
--- the trace of the one batch behind what was recovered
+-- the trace of the one batch after what was recovered
 abbrev behind : Trace
 behind = record { start = 1; opening = begun_before.opening; entries = entry_at 1 2 put_b2 ∷ []; controller_calls = delays_of attempt }
 
--- Where the client stands after each call
+-- The client's progress after each call
 
 abbrev seen_before : Progress
 seen_before = shown 1 fresh
@@ -82,7 +82,7 @@ went_on-legal = record {
   };
 }
 
--- Over nothing the map at 1 is empty
+-- over an empty map the map at the sequence 1 is empty, so the read finds no value
 no_value : (m : Pairs) (start : ℕ) (entries front rest : List Entry) → m ≡ [] → entry_at 1 2 put_b2 ∷ [] ≡ entries → entries ≡ front ++ rest
     → 1 ≡ last_sequence start front → Some (codes "1") ≡ value_at (map_over m front) (codes "a") → ⊥
 no_value m start entries [] rest none is split ends answer = cc (answer ∙ ap (λ (x : Pairs). value_at x (codes "a")) none)

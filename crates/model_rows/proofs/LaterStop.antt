@@ -1,4 +1,4 @@
--- A commit that was refused for a stop, where the only stop comes after it.
+-- A commit that was refused because of a stop, where the only stop comes after it.
 use Rattle.std.proofs.Common.{◌≡◌, ℕ, zero, suc, ◌<◌, ◌≤◌, Bool, true, false, IsTrue, cond, ◌==◌, nat_lt, ◌||◌, ◌&&◌, Option, None, Some, List, [], ◌∷◌, ◌++◌, map, slice_get, refl, sym, arith, ap, ◌∙◌, subst, inl, inr}
 use Rattle.std.specs.List.{AllByRecursion}
 use Rattle.std.proofs.lemmas.Bool.{cond-true, cases_Bool}
@@ -20,7 +20,7 @@ use Rattle.model_rows.specs.Runs.{one_client, later_stop_script, later_stop_call
 use Rattle.model_rows.proofs.Alone.{some_same}
 use Rattle.model_rows.proofs.Steps.{run_of, is_attempted}
 
--- Where there is no stop and no slowdown, no stop is told of, and none comes but by a token
+-- Where nothing stops or slows writes, no call reports a stop, and only a token call can change that
 
 abbrev IsCalm : Numbers → Type 0
 IsCalm n = (n.stops ≡ 0) × (n.delays ≡ 0)
@@ -72,7 +72,7 @@ behind_another : (b : Bool) (t : ControllerCall) (rest : List ControllerCall) �
 behind_another true t rest token is = absurd (cc)
 behind_another false t rest token is = is
 
--- a call of a stop, a slowdown or their end is the client's
+-- each token call is the client's
 is_own : (t : ControllerCall) → (IsTrue (is_token t.action) → IsClient one_client t.client) → is_token t.action ≡ true → ((t.client == 1) && is_token t.action) ≡ true
 is_own t named token = let is = named token in let low = is.0 in let high = is.1 in let own : (t.client == 1) ≡ true = grind (arith, nat_tests) in rw (own, token) refl
 
@@ -80,7 +80,7 @@ and_false : (b c : Bool) → c ≡ false → (b && c) ≡ false
 and_false true c is = is
 and_false false c is = refl
 
--- before the one stop none is told of
+-- no call before the one stop reports a stop
 none_before : (n : Numbers) (controller_calls : List ControllerCall) → IsHistoryFrom n controller_calls → IsCalm n → AllByRecursion (λ (t : ControllerCall). IsTrue (is_token t.action) → IsClient one_client t.client) controller_calls
     → tokens_of 1 controller_calls ≡ once → (place later : ℕ) → place < later → slice_get controller_calls later ≡ Some a_stop → (t : ControllerCall) (l : Look) → slice_get controller_calls place ≡ Some t → t.told ≡ Some l → l.stops ≡ 0
 none_before n [] history calm named tokens place later before stopped t l there told = absurd (cc)
@@ -97,7 +97,7 @@ none_before n (u ∷ rest) history calm named tokens (suc place) (suc later) bef
           (behind_another ((u.client == 1) && is_token u.action) u _ (and_false (u.client == 1) (is_token u.action) plain) tokens) place later (omega arith) stopped t l there told)
     ]
 
--- What is told of a commit stands in the history before all that the client then knows
+-- The call that gave a refused commit its numbers is one of the history that the client then knows
 
 pub record IsToldBefore (controller_calls : List ControllerCall) (knows : ℕ) (numbers : Look) : Type 0 where
   pub place : ℕ
@@ -116,7 +116,7 @@ passes : early_refusal 16777216 false (put_a1 ∷ []) noslow ≡ None
 unfolding varint_within
 passes = refl
 
--- where the calls run, the stop comes behind what told of it, and the client has no other one
+-- if the calls run, the stop comes after the call that reported one, and is the client's only call of the controller
 pub record StopsLater (trace : Trace) (end : Progress) : Type 0 where
   pub knows : ℕ
   pub told : IsToldBefore trace.controller_calls knows (record { stops = 1; delays = 0; wait = 0 })

@@ -27,7 +27,7 @@ lost_attempt = attempt_of put_a1 (faulted 1)
 abbrev next_attempt : Attempt
 next_attempt = attempt_of put_b2 (faulted 1)
 
--- the trace of one batch, that of a lost one, and that of one batch and two lost ones
+-- the traces of one batch, of a failed one, and of one batch and two failed ones
 abbrev one_batch : Trace
 one_batch = record { start = 0; opening = []; entries = entry_at 1 1 put_a1 âˆ· []; controller_calls = delays_of first_attempt }
 
@@ -40,7 +40,7 @@ one_of_three = record { start = 0; opening = []; entries = entry_at 1 1 put_a1 â
 abbrev three_own_groups : List Group
 three_own_groups = three_groups first_attempt next_attempt next_attempt
 
--- Where the client stands after each call
+-- The client's progress after each call
 
 abbrev begun : Progress
 begun = added put_a1 fresh
@@ -75,7 +75,7 @@ accepted_transcript = record {
   statuses = (tt, tt);
 }
 
--- and so is its outcome
+-- so its outcome is legal
 pub one_commit-legal : IsLegal one_client 0 one_script one_commit
 one_commit-legal = record {
   trace = one_batch;
@@ -129,7 +129,7 @@ refused_transcript = record {
   statuses = (refl, tt);
 }
 
--- and that is legal where the log's disk had a fault
+-- this outcome is legal if the log's disk had a fault
 pub refused_commit-legal : IsLegal one_client 1 one_script refused_commit
 refused_commit-legal = record {
   trace = no_batch;
@@ -208,7 +208,7 @@ failing_transcript = record {
   statuses = (tt, (refl, (refl, tt)));
 }
 
--- and that is legal too
+-- this outcome is legal too
 pub failed_write-legal : IsLegal one_client 1 failing_script failed_write
 failed_write-legal = record {
   trace = one_of_three;

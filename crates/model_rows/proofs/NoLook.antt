@@ -1,4 +1,4 @@
--- A commit that was accepted though its group was told of a stop, and nobody looked again.
+-- A commit that was accepted though its group's delay reported a stop and nobody looked again.
 use Rattle.std.proofs.Common.{◌≡◌, ℕ, zero, suc, Bool, true, false, Some, List, [], ◌∷◌, map, slice_get, refl, sym, arith, ap, ◌∙◌, subst, inl, inr}
 use Rattle.std.specs.List.{AllZip}
 use Rattle.std.specs.Prelude.{option_map}
@@ -8,7 +8,7 @@ use Rattle.model_base.specs.Controller as controller
 use Rattle.model_base.specs.Controller.{ControllerCall, Look}
 use Rattle.model_base.specs.Trace.{Trace}
 use Rattle.model_base.specs.Attempts.{Attempt, succeeded, slowed, with_attempt}
-use Rattle.model_base.specs.Groups.{Group, Member, IsCommit, MayProceed, StandsTogether, AreGroups}
+use Rattle.model_base.specs.Groups.{Group, Member, IsCommit, MayProceed, HasOneFate, AreGroups}
 use Rattle.model_base.specs.Progress.{Progress, fresh}
 use Rattle.model_base.specs.Runs.{Run}
 use Rattle.model_base.specs.Outcomes.{IsLegalIn}
@@ -20,7 +20,7 @@ use Rattle.model_rows.proofs.Steps.{run_of, is_accepted}
 action_same : {t u : ControllerCall} → Some t ≡ Some u → t.action ≡ u.action
 action_same e = ap (λ (t : ControllerCall). t.action) (some_same e)
 
--- the one delay was told of a stop, and there is no look
+-- the one delay reported a stop, and there is no look
 one_stop : (place by now bytes : ℕ) (numbers : Look) → slice_get told_of_a_stop place ≡ Some (record { client = by; action = controller.delay now bytes; told = Some numbers }) → numbers.stops ≡ 1
 one_stop zero by now bytes numbers there = let other = action_same there in absurd (cc)
 one_stop (suc zero) by now bytes numbers there = sym (ap (λ (l : Look). l.stops) (some_same (ap (λ (t : ControllerCall). t.told) (some_same there))))
@@ -47,14 +47,14 @@ zip_at R (a ∷ xs) (y ∷ ys) zero x zip there = (y, refl, subst (λ z. R z y) 
 zip_at R (a ∷ xs) (y ∷ ys) (suc i) x zip there = zip_at R xs ys i x zip.1 there
 
 module _ (groups : List Group) (attempts : List (List Attempt)) (are_groups : AreGroups 1048576 told_of_a_stop groups attempts) (own : Attempt) (there : slice_get attempts 0 ≡ Some (own ∷ [])) (waits : own.options.no_slowdown ≡ false) (written : own.status ≡ succeeded) where
-  -- the commit of the group that it stands in
+  -- the commit that is a member of the group
   is_own : (m : Member) → m.client ≡ 1 → m.call ≡ 0 → (c : IsCommit attempts m) → c.attempt ≡ own
   is_own m client call c =
       let number : c.number ≡ 0 = (let is = c.client in omega (arith, client, is)) in
       let commits : c.commits ≡ own ∷ [] = some_same (sym c.of_client ∙ ap (slice_get attempts) number ∙ there) in
       some_same (sym c.there ∙ ap (slice_get c.commits) call ∙ ap (λ cs. slice_get cs 0) commits)
 
-  stands : (g : Group) (m : Member) (among : ℕ) → slice_get g.members among ≡ Some m → m.client ≡ 1 → m.call ≡ 0 → StandsTogether told_of_a_stop groups attempts g → ⊥
+  stands : (g : Group) (m : Member) (among : ℕ) → slice_get g.members among ≡ Some m → m.client ≡ 1 → m.call ≡ 0 → HasOneFate told_of_a_stop groups attempts g → ⊥
   stands g m among at client call s =
       let one = zip_at _ g.members s.statuses among m s.are at in
       let is = is_own m client call one.2.0 in
@@ -71,7 +71,7 @@ module _ (groups : List Group) (attempts : List (List Attempt)) (are_groups : Ar
   pub never_written : ⊥
   never_written =
       let h = (are_groups.none_else 0 (own ∷ []) 0 own there refl).1 in
-      stands h.group h.member h.among h.there h.client_is h.call_is (all_at (StandsTogether told_of_a_stop groups attempts) groups h.at h.group are_groups.together h.of_place)
+      stands h.group h.member h.among h.there h.client_is h.call_is (all_at (HasOneFate told_of_a_stop groups attempts) groups h.at h.group are_groups.together h.of_place)
 
 -- the commit was written
 attempted : (trace : Trace) (end : Progress) → Run two_clients trace 1 fresh waiting_calls end → (records : _) × (end.attempts ≡ record { records = records; options = plain; status = succeeded } ∷ [])

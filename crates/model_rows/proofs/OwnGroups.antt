@@ -5,21 +5,21 @@ use Rattle.std.proofs.lemmas.Option.{slice_get_within}
 use Rattle.model_base.specs.Grouping.{size_of}
 use Rattle.model_base.specs.Controller.{ControllerCall, delay, Look}
 use Rattle.model_base.specs.Attempts.{Attempt, item_of}
-use Rattle.model_base.specs.Groups.{Group, Member, Holds, HasPlace, IsAskedFor, IsCommit, MayProceed, is_slowed, StandsTogether, AreGroups}
+use Rattle.model_base.specs.Groups.{Group, Member, Holds, HasPlace, IsAskedFor, IsCommit, MayProceed, is_slowed, HasOneFate, AreGroups}
 use Rattle.model_rows.proofs.Alone.{some_same, all_at}
 
 -- no stop and no slowdown
 abbrev pub calm : Look
 calm = record { stops = 0; delays = 0; wait = 0 }
 
--- the client's commit of this number (from 0) alone
+-- a group's member: the client's commit with this number (from 0)
 abbrev pub own_member : ℕ → Attempt → Member
 own_member call h = record { client = 1; call = call; item = item_of h }
 
 abbrev pub own : ℕ → ℕ → Attempt → Group
 own place call h = record { place = place; members = own_member call h ∷ [] }
 
--- the delay for it, and what that told
+-- the delay for this commit, and what it answered
 abbrev pub delay_of : Attempt → Look → ControllerCall
 delay_of h numbers = record { client = 1; action = delay 0 (size_of (item_of h ∷ [])); told = Some numbers }
 
@@ -53,10 +53,10 @@ module _ (controller_calls : List ControllerCall) (groups : List Group) (place c
     pub is_commit : IsCommit (commits ∷ others) (own_member call h)
     is_commit = record { number = 0; commits = commits; attempt = h; client = refl; of_client = refl; there = is; item = refl }
 
-    -- it wasn't refused since writes were held up, and may go on
+    -- it wasn't refused because writes were held up, and may go on
     pub stands_together : (numbers : Look) → slice_get controller_calls place ≡ Some (delay_of h numbers) → is_slowed h.status ≡ false
         → MayProceed controller_calls (map (λ (g : Group). g.place) groups) 1 place numbers h.options.no_slowdown
-        → StandsTogether controller_calls groups (commits ∷ others) (own place call h)
+        → HasOneFate controller_calls groups (commits ∷ others) (own place call h)
     unfolding is_commit
     stands_together numbers there written may = record {
       statuses = h.status ∷ [];
@@ -64,14 +64,14 @@ module _ (controller_calls : List ControllerCall) (groups : List Group) (place c
       together = inr ((written, tt), record { by = 1; now = 0; bytes = size_of (item_of h ∷ []); numbers = numbers; there = there; each = (may, tt) });
     }
 
--- where the other clients have no commits, each one that stands there is the one client's
+-- if the other clients have no commits, each commit is the one client's
 pub none_else_by : (groups : List Group) (commits : List Attempt) (others : List (List Attempt)) → AllByRecursion (λ (cs : List Attempt). cs ≡ []) others → ((call : ℕ) → call < length commits → (place : ℕ) × Holds groups place 1 call)
     → (number : ℕ) (cs : List Attempt) (call : ℕ) (h : Attempt) → slice_get (commits ∷ others) number ≡ Some cs → slice_get cs call ≡ Some h → (place : ℕ) × Holds groups place (number + 1) call
 none_else_by groups commits others empty each zero cs call h is there = each call (slice_get_within commits call h (rw (some_same is) there))
 none_else_by groups commits others empty each (suc number) cs call h is there =
     let none = all_at (λ (cs : List Attempt). cs ≡ []) others number cs empty is in absurd (subst (λ (cs : List Attempt). slice_get cs call ≡ Some h → ⊥) (sym none) (λ e. cc) there)
 
--- a client's one commit, which was told of no stop and no slowdown
+-- the delay of a client's one commit, which reported no stop and no slowdown
 abbrev pub delays_of : Attempt → List ControllerCall
 delays_of h = delay_of h calm ∷ []
 
@@ -94,7 +94,7 @@ module _ (h : Attempt) (waits : h.options.no_slowdown ≡ false) (written : is_s
     together = (stands_together (delays_of h) (groups_of h) 0 0 h (h ∷ []) [] refl calm refl written (rw waits (inl refl)), tt);
   }
 
--- three of them, one after another
+-- three such delays, one after another
 abbrev pub three_delays : Attempt → Attempt → Attempt → List ControllerCall
 three_delays a b c = delay_of a calm ∷ delay_of b calm ∷ delay_of c calm ∷ []
 

@@ -8,7 +8,7 @@ use Rattle.model_rows.specs.Examples.{put_a1, put_a2, plain}
 use Rattle.model_rows.specs.Runs.{one_client, two_clients, adds, commits, reads, stale_script, stale_calls, stale_read, early_script, early_calls, read_ahead, crossing_script, crossing_calls, run_below_what_was_read}
 use Rattle.model_rows.proofs.Steps.{run_of, is_accepted}
 
--- the calls run in no trace, whatever the client knew of the controller
+-- in no trace do these calls run, whatever the client knew of the controller
 no_run : (trace : Trace) (end : Progress) → Run one_client trace 1 fresh stale_calls end → ⊥
 no_run trace end run =
     let before = run.2.2.0 in

@@ -1,4 +1,4 @@
--- What the calls of a client in a transcript say of it.
+-- What a client's calls in a transcript say of the client.
 use Rattle.std.proofs.Common.{◌≡◌, ℕ, List, fold, Some, None, Option, MatchOption, ap, ◌∙◌, subst}
 use Rattle.std.proofs.lemmas.List.Sums.{fold-append}
 use Rattle.model_base.specs.declared.write.WriteOptions.{WriteOptions}

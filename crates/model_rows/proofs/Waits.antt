@@ -20,7 +20,7 @@ use Rattle.model_rows.proofs.Legal.{first_attempt}
 abbrev one_stop : Look
 one_stop = record { stops = 1; delays = 0; wait = 0 }
 
--- then client 1 looked again, and no stop was there
+-- after that client 1 looked again, and there was no stop
 abbrev waited_trace : Trace
 waited_trace = record {
   start = 0;
@@ -36,7 +36,7 @@ held : (call : ℕ) → call < 1 → (place : ℕ) × Holds its_group place 1 ca
 held zero within = (1, holds waited_trace.controller_calls its_group 1 0 first_attempt 0 refl)
 held (suc call) within = absurd (omega arith)
 
--- its group is asked for once, and goes on after the look
+-- its group has one delay, and goes on after the look
 group_goes_on : AreGroups 1048576 waited_trace.controller_calls its_group ((first_attempt ∷ []) ∷ [] ∷ [])
 unfolding varint_within
 group_goes_on = record {
@@ -75,7 +75,7 @@ waiting_transcript = record {
   statuses = (tt, tt);
 }
 
--- what the other client knows once it was told of each of its calls
+-- what the other client knows after each of its calls
 abbrev stopped : Progress
 stopped = record fresh { asked = controller.stop ∷ []; known = 1 }
 

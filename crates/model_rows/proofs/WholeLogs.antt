@@ -1,4 +1,4 @@
--- Logs that are recovered whole: nothing greater can be kept.
+-- Logs that are recovered as a whole: nothing longer can be kept.
 use Rattle.std.proofs.Common.{[], ◌∷◌, Some, refl}
 use Rattle.std.proofs.Math.Dec.{lit≤, lit<}
 use Rattle.model_base.specs.Varint.{varint_within}

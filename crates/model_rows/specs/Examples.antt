@@ -1,4 +1,4 @@
--- What the examples are made of.
+-- The records, options and sizes that the examples use.
 use Rattle.std.specs.Prelude.{ℕ, true, false, codes, Result, Err}
 use Rattle.model_base.specs.declared.script.ScriptFault.{ScriptFault}
 use Rattle.model_base.specs.declared.write.WriteOptions.{WriteOptions}
@@ -20,17 +20,17 @@ put_b2 = value (codes "b") (codes "2")
 abbrev pub plain : WriteOptions
 plain = record { sync = false; no_log = false; no_slowdown = false }
 
--- one that may not wait
+-- a commit that may not wait where writes are held up
 abbrev pub noslow : WriteOptions
 noslow = record plain { no_slowdown = true }
 
--- a write of so many bytes with these flags, and one without
+-- a write of n bytes with these options, and one without flags
 abbrev pub sized_with : ℕ → WriteOptions → Item
 sized_with n options = record { size = n; options = options }
 
 abbrev pub sized : ℕ → Item
 sized n = sized_with n plain
 
--- a script's first fault stands in this line
+-- a script's first fault is in line n
 abbrev pub fault_at : ℕ → ScriptFault → Result Script Fault
 fault_at n kind = Err (record { line = n; kind = kind })

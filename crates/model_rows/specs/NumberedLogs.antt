@@ -1,4 +1,4 @@
--- A log with a number that was written over an older one, and what they recover.
+-- A log with a number that was written over an older one, and what the two of them recover.
 use Rattle.std.specs.Prelude.{ℕ, List, [], ◌∷◌, ◌++◌, drop, map, Some}
 use Rattle.model_base.specs.declared.log.Damage.TheVariants.{OldLog}
 use Rattle.model_base.specs.declared.log.EndReason.TheVariants.{Broken, Clean}
@@ -15,7 +15,7 @@ older_log = text (Some 7) (map logged_bytes two_batches)
 abbrev pub older_recovered : Recovered
 older_recovered = record { batches = two_batches; kept = 56; at = 56; why = Clean }
 
--- the log 8 of one batch, which was written over the first of them
+-- the log 8 of one batch, written over the first record of the older log
 abbrev pub written_over : List ℕ
 written_over = text (Some 8) (batch 1 (put_a1 ∷ []) ∷ []) ++ drop 28 older_log
 

@@ -1,4 +1,4 @@
--- Runs of one client, or of two: what they asked, and what the run came to.
+-- Runs of one client, or of two: what they asked, and the outcome.
 use Rattle.std.specs.Prelude.{ℕ, codes, List, [], ◌∷◌, Option, Some, None}
 use Rattle.model_base.specs.declared.limits.TheConstants.{MAX_SIZE}
 use Rattle.model_base.specs.declared.history.Flag.TheVariants.{Log}
@@ -18,15 +18,15 @@ one_client = record { start = 0; opening = []; clients = 1; group_bytes = 104857
 abbrev pub two_clients : Settings
 two_clients = record one_client { clients = 2 }
 
--- the same, where two sequences are left
+-- one client, and two sequences left
 abbrev pub nearly_full : Settings
 nearly_full = record one_client { start = 72057594037927933 }
 
--- the same, behind one batch that was recovered: `a 1` at the sequence 1
+-- one client, over one batch that was recovered: `a 1` at the sequence 1
 abbrev pub begun_before : Settings
 begun_before = record one_client { start = 1; opening = (codes "a", codes "1") ∷ [] }
 
--- the client's how many-th batch, at this sequence, of one record
+-- an entry of client 1: its batch with this number, at this sequence, of one record
 abbrev pub entry_at : ℕ → ℕ → Record → Entry
 entry_at ordinal first r = record {
   client = 1;
@@ -48,8 +48,8 @@ two_records = record {
   fault = None;
 }
 
--- a commit that was accepted, a commit that met the log's fault, one for which no sequences were left behind this one,
--- and a read
+-- calls: a record is added; a commit is accepted; a commit is answered the log's fault; a commit finds no sequences
+-- left after the last one; a read
 abbrev pub adds : Record → Call
 adds r = record { command = add r; reply = quiet }
 
@@ -152,7 +152,7 @@ read_ahead = record one_commit { transcripts = early_calls ∷ [] }
 abbrev pub going_on_script : List (List Command)
 going_on_script = (get (codes "a") ∷ add put_b2 ∷ commit plain ∷ []) ∷ []
 
--- The read answers what stood there before the run, and the commit is accepted behind it.
+-- The read answers what was there before the run, and the commit is accepted after that.
 abbrev pub going_on_calls : List Call
 going_on_calls = reads (codes "a") 1 (Some (codes "1")) ∷ adds put_b2 ∷ commits 2 put_b2 ∷ []
 
@@ -189,7 +189,7 @@ run_below_what_was_read = record {
 abbrev pub later_stop_script : List (List Command)
 later_stop_script = (add put_a1 ∷ commit noslow ∷ stop ∷ []) ∷ []
 
--- The commit is refused for one stop, and the only stop comes after it.
+-- The commit is refused because of one stop, and the only stop comes after it.
 abbrev pub later_stop_calls : List Call
 later_stop_calls =
     adds put_a1 ∷ record { command = commit noslow; reply = refused (no.Incomplete 1 0 0) }
@@ -203,7 +203,7 @@ abbrev pub filling_script : List (List Command)
 filling_script =
     (add put_a1 ∷ add put_b2 ∷ commit plain ∷ clear ∷ add put_a1 ∷ commit plain ∷ []) ∷ []
 
--- The first batch finds no room behind the sequence at which the second one is then accepted.
+-- The first batch finds no room after the sequence at which the second one is then accepted.
 abbrev pub filling_calls : List Call
 filling_calls =
     adds put_a1 ∷ adds put_b2 ∷ finds_full 72057594037927934 ∷ record { command = clear; reply = quiet } ∷ adds put_a1
@@ -230,7 +230,7 @@ stopping_calls = record { command = stop; reply = done } ∷ record { command = 
 abbrev pub waited_out : Outcome
 waited_out = record one_commit { transcripts = waiting_calls ∷ stopping_calls ∷ [] }
 
--- Client 2's stop, the delay of client 1's group, which was told of it, and the stop given back
+-- Client 2's stop, the delay of client 1's group, which reports that stop, and the stop given back
 abbrev pub told_of_a_stop : List ControllerCall
 told_of_a_stop =
     record { client = 2; action = controller.stop; told = None }

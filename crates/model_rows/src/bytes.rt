@@ -29,7 +29,7 @@ pub fn batches()
         ≡ codes "030000000000000001000000070161" }
 {}
 
-/// A record with a tag that isn't read. The bytes are refused by its number.
+/// A record with a tag that isn't read. The refusal names the tag.
 pub fn batch_with_another_tag()
     ensures { IsBatchError (header 1 1 ++ (2 ∷ 1 ∷ 0x61 ∷ 1 ∷ 0x31 ∷ [])) (refused.Tag 2) }
 {}

@@ -1,4 +1,4 @@
-//! Which writes a leader takes along, where a group may have 1 MiB.
+//! Which writes a leader takes into its group, where a group may have 1 MiB.
 
 ghost use Rattle.std.specs.Prelude.{◌≡◌, [], ◌∷◌, true};
 ghost use Rattle.model_base.specs.declared.group.Item.{Item};
@@ -10,13 +10,14 @@ pub fn group_of_one()
     ensures alone { (leader : Item) → group_len 1048576 (leader ∷ []) ≡ 1 }
 {}
 
-/// A small leader takes 128 KiB besides its own bytes, and no more.
+/// A small leader's group may have 128 KiB more than the leader's own bytes, and no more than that.
 pub fn groups_by_size()
     ensures just_fits { group_len 1048576 (sized 100 ∷ sized 131072 ∷ []) ≡ 2 }
     ensures one_byte_more { group_len 1048576 (sized 100 ∷ sized 131073 ∷ []) ≡ 1 }
 {}
 
-/// A leader that doesn't sync takes no write along that asks for it. One that does takes either.
+/// A leader that doesn't sync takes no write that asks for a sync. One that syncs takes both kinds. A plain leader
+/// takes no write with `no_log` or `no_slowdown`.
 pub fn groups_by_options()
     ensures sync_behind { group_len 1048576 (sized 100 ∷ sized_with 100 (record plain { sync = true }) ∷ []) ≡ 1 }
     ensures sync_ahead { group_len 1048576 (sized_with 100 (record plain { sync = true }) ∷ sized 100 ∷ []) ≡ 2 }

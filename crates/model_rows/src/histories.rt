@@ -1,4 +1,4 @@
-//! What batches do, and how they stand in the history and in the log.
+//! What batches do to a map, and what the history and the log have of them.
 
 ghost use Rattle.std.specs.Prelude.{◌≡◌, [], ◌∷◌, codes, true, Some, None};
 ghost use Rattle.model_base.specs.declared.history.Flag.TheVariants.{Log, NoLog, Sync};
@@ -10,7 +10,7 @@ ghost use Rattle.model_base.specs.LogContents.{IsLogOf, record_of_entries};
 ghost use Rattle.model_rows.specs.Examples.{put_a1, put_a2, put_b2, plain};
 ghost use Rattle.model_rows.specs.Runs.{one_commit, entry_at};
 
-/// A later record of a key stands before an earlier one. The pairs are in the byte order of their keys.
+/// A later record of a key replaces an earlier one. The pairs are in the byte order of their keys.
 pub fn maps_of_batches()
     ensures later_value { after_records [] (put_a1 ∷ put_a2 ∷ []) ≡ (codes "a", codes "2") ∷ [] }
     ensures deleted { after_records [] (put_a1 ∷ put_a2 ∷ deletion (codes "a") ∷ []) ≡ [] }
@@ -23,14 +23,14 @@ pub fn maps_of_batches()
     ensures not_there { value_at (after_records [] (put_a1 ∷ [])) (codes "b") ≡ None }
 {}
 
-/// How a commit's options stand in the history.
+/// The flag of a commit in the history, by its options.
 pub fn flags_of_commits()
     ensures plain { flag_of plain ≡ Log }
     ensures sync { flag_of (record plain { sync = true }) ≡ Sync }
     ensures no_log { flag_of (record plain { no_log = true }) ≡ NoLog }
 {}
 
-/// Two commits of one group have one log record. The log of a run of one commit has its batch.
+/// Two commits of one group make one log record. The log of a run of one commit has its batch.
 pub fn logs_of_histories()
     ensures one_group { record_of_entries (entry_at 1 1 put_a1 ∷ entry_at 2 2 put_b2 ∷ [])
         ≡ batch 1 (put_a1 ∷ put_b2 ∷ []) }

@@ -1,5 +1,5 @@
-//! Worked examples on the definitions of `model_base`: each function is a law that has no code, and its clauses give
-//! the values that the formats ask for.
+//! Worked examples of the definitions of `model_base`: each function is a law without code, and its clauses give the
+//! values that the formats ask for.
 #![tactic(auto)]
 
 mod bytes;

@@ -6,8 +6,8 @@ ghost use Rattle.model_base.specs.Log.{text, first, middle, last, full, parts_of
 ghost use Rattle.model_base.specs.Text.{hex};
 ghost use Rattle.model_rows.specs.Examples.{put_a1};
 
-/// The log of the batch of `put a 1`: a header of seven bytes, in which the length 17 and the type 1 stand behind the
-/// checksum, and the batch.
+/// The log of the batch of `put a 1`: a header of seven bytes, which are the checksum, the length 17 and the type 1,
+/// and then the batch.
 pub fn log_of_one_batch()
     ensures bytes { hex (text plain_log (batch 1 (put_a1 ∷ []) ∷ []))
         ≡ codes "e99f78191100010100000000000000010000000101610131" }
@@ -21,8 +21,8 @@ pub fn record_of_no_bytes()
     ensures bytes { text plain_log ([] ∷ []) ≡ 0x05 ∷ 0x2b ∷ 0x28 ∷ 0x43 ∷ 0x00 ∷ 0x00 ∷ 0x01 ∷ [] }
 {}
 
-/// A record of five bytes where seven bytes are left of a block begins there, with a first part of none. Where six are
-/// left, they are zeros.
+/// Where seven bytes are left of a block, a record of five bytes begins there, with an empty first part. Where six
+/// bytes are left, they are zeros.
 pub fn end_of_block()
     ensures parts_at_seven { map length (parts_of plain_log 32761 (replicate 5 0)) ≡ 0 ∷ 5 ∷ [] }
     ensures kinds_at_seven { kinds_of (as_fragments (parts_of plain_log 32761 (replicate 5 0))) ≡ first ∷ last ∷ [] }

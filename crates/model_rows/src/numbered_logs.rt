@@ -10,8 +10,8 @@ ghost use Rattle.model_base.specs.Text.{hex, recovered_text};
 ghost use Rattle.model_rows.specs.Examples.{put_a1};
 ghost use Rattle.model_rows.specs.NumberedLogs.{older_log, older_recovered, written_over, newer_recovered};
 
-/// The log 8 of the batch of `put a 1`: a header of eleven bytes, whose type is 5 and which ends with the number, and
-/// the batch. Where ten bytes are left of a block, they are zeros.
+/// The log 8 of the batch of `put a 1`: a header of eleven bytes, which has the type 5 and ends with the number, and
+/// then the batch. Where ten bytes are left of a block, they are zeros.
 pub fn numbered_log_of_one_batch()
     ensures bytes { hex (text (Some 8) (batch 1 (put_a1 ∷ []) ∷ []))
         ≡ codes "6bc9dd41110005080000000100000000000000010000000101610131" }
@@ -20,8 +20,8 @@ pub fn numbered_log_of_one_batch()
     ensures zeros_at_ten { trailer (Some 8) 32758 ≡ 10 }
 {}
 
-/// What stands in a log that was written over an older one. Of an older fragment the number is told, whether its length
-/// is right or not.
+/// What a reader sees in a log that was written over an older one. Of a fragment of another log it reports the number,
+/// whether the fragment is whole or cut off.
 pub fn log_over_an_older_one()
     ensures own { seen_at (Some 8) written_over 0
         ≡ fragment (record { kind = full; part = batch 1 (put_a1 ∷ []) }) }
@@ -34,7 +34,7 @@ pub fn log_over_an_older_one()
     ensures text { recovered_text newer_recovered ≡ codes "groups 1\n1 1 17\nstate 1 1\n61 31\nend 28 oldlog 7\n" }
 {}
 
-/// The older log, before that, recovers both batches to its end.
+/// Before it was written over, the older log recovers both batches, up to its end.
 pub fn numbered_log_recovered()
     ensures recovered { IsRecovered (Some 7) older_log older_recovered }
 {}

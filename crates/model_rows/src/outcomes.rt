@@ -11,26 +11,26 @@ pub fn one_commit()
     ensures legal { IsLegal one_client 0 one_script one_commit }
 {}
 
-/// A run over a map that was recovered reads from it, and goes on behind the sequence that was given last. Over nothing
-/// it is no outcome.
+/// A run over a map that was recovered reads from it, and goes on after the sequence that was given last. Over an
+/// empty map the same outcome isn't legal.
 pub fn went_on()
     ensures legal { IsLegal begun_before 0 going_on_script went_on }
     ensures not_over_nothing { IsLegal (record begun_before { opening = [] }) 0 going_on_script went_on → ⊥ }
 {}
 
-/// The log's first write fails: the commit is refused, and the key isn't there. It is no outcome of a log that had no
-/// fault.
+/// The log's first write fails: the commit is refused, and the key isn't there. The outcome isn't legal if the log's
+/// disk had no fault.
 pub fn refused_commit()
     ensures legal { IsLegal one_client 1 one_script refused_commit }
     ensures not_without_fault { IsLegal one_client 0 one_script refused_commit → ⊥ }
 {}
 
-/// The log's second write fails: no later commit is taken, and reads go on.
+/// The log's second write fails: no later commit is accepted, and reads go on.
 pub fn failed_write()
     ensures legal { IsLegal one_client 1 failing_script failed_write }
 {}
 
-/// A read that answers an older value than the client was shown is legal in no trace.
+/// A read that answers an older value than the client was already shown is legal in no trace.
 pub fn stale_read()
     ensures not_legal { (ended : ℕ) → IsLegal one_client ended stale_script stale_read → ⊥ }
 {}
@@ -46,23 +46,23 @@ pub fn run_below_what_was_read()
         → IsLegal two_clients ended crossing_script run_below_what_was_read → ⊥ }
 {}
 
-/// A commit that is refused for a stop, where the only stop comes after it, is legal in no trace.
+/// A commit that is refused because of a stop, where the only stop comes after it, is legal in no trace.
 pub fn refused_by_a_later_stop()
     ensures not_legal { (ended : ℕ)
         → IsLegal one_client ended later_stop_script refused_by_a_later_stop → ⊥ }
 {}
 
-/// A commit that is accepted at the sequence behind which an earlier one found no room is legal in no trace.
+/// A commit that is accepted at the sequence after which an earlier one found no room is legal in no trace.
 pub fn lower_than_full()
     ensures not_legal { (ended : ℕ) → IsLegal nearly_full ended filling_script lower_than_full → ⊥ }
 {}
 
-/// A commit of one client waits for the other one's stop to be given back, and is accepted.
+/// A commit of one client waits until the other client gives its stop back, and is accepted.
 pub fn waited_out()
     ensures legal { IsLegal two_clients 0 waiting_script waited_out }
 {}
 
-/// The same outcome isn't legal where the delay of the commit's group was told of the stop and nobody looked again.
+/// The same outcome isn't legal if the delay of the commit's group reported the stop and nobody looked again.
 pub fn written_while_stopped()
     ensures not_legal { (ended : ℕ) (trace : Trace) (attempts : List (List Attempt))
         → trace.controller_calls ≡ told_of_a_stop

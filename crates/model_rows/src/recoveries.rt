@@ -6,7 +6,7 @@ ghost use Rattle.model_base.specs.Text.{hex, recovered_text};
 ghost use Rattle.model_base.specs.Recovery.{IsRecovered, recovered_map};
 ghost use Rattle.model_rows.specs.TwoBatches.{log_of_two, both_recovered, none_recovered};
 
-/// The log of `put a 1` and `put b 2`, each in a record of its own, recovers both to its end.
+/// The log of `put a 1` and `put b 2`, each in a record of its own, recovers both, up to its end.
 pub fn two_batches_recovered()
     ensures bytes { hex log_of_two ≡ codes
         "e99f781911000101000000000000000100000001016101318f72bc7a1100010200000000000000010000000101620132" }

@@ -10,7 +10,7 @@ ghost use Rattle.model_rows.specs.Examples.{put_a1, plain, fault_at};
 
 use model_base::TEXT_LIMIT;
 
-/// A script of one batch and one read. Its last line feed may lack.
+/// A script of one batch and one read. Its last line feed may be missing.
 pub fn one_script()
     ensures whole { script_of whole_grammar (codes "client 1\nput a 1\ncommit\nget a\n")
         ≡ Ok ((add put_a1 ∷ commit plain ∷ get (codes "a") ∷ []) ∷ []) }
@@ -18,7 +18,7 @@ pub fn one_script()
         ≡ Ok ((add put_a1 ∷ commit plain ∷ get (codes "a") ∷ []) ∷ []) }
 {}
 
-/// Each kind of record, and each way to commit.
+/// The kinds of records besides values, and the flags of a commit without `noslow`.
 pub fn records_and_flags()
     ensures records { script_of whole_grammar (codes "client 1\ndel a\nsdel b\nnote c\nclear")
         ≡ Ok ((add (deletion (codes "a")) ∷ add (single_deletion (codes "b")) ∷ add (log_data (codes "c")) ∷ clear ∷ [])
@@ -28,14 +28,14 @@ pub fn records_and_flags()
         ∷ commit (record plain { sync = true; no_log = true }) ∷ []) ∷ []) }
 {}
 
-/// Comments and empty lines are passed over. Where there is nothing else there is no client.
+/// Comments and empty lines are skipped. A text with nothing else has no client.
 pub fn passed_over_lines()
     ensures commented { script_of whole_grammar (codes "# x\nclient 1\n\nput a 1\ncommit\nget a\n")
         ≡ Ok ((add put_a1 ∷ commit plain ∷ get (codes "a") ∷ []) ∷ []) }
     ensures nothing_else { script_of whole_grammar (codes "# x\n\n") ≡ fault_at 0 NoClient }
 {}
 
-/// Each kind of fault, and its line.
+/// Faults, each with its kind and its line. Line 0 stands for the whole text.
 pub fn faults_of_scripts()
     ensures no_text { script_of whole_grammar [] ≡ fault_at 0 NoClient }
     ensures no_client { script_of whole_grammar (codes "put a 1") ≡ fault_at 1 Client }

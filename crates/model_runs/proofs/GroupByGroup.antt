@@ -8,12 +8,12 @@ use Rattle.model_base.specs.LogContents.{GroupCall}
 use Rattle.model_runs.specs.Written.{WroteEntries, AreLost, WritesLog}
 use Rattle.model_runs.specs.Examples.{two_groups, two_entries, failed_then_worked, in_one_record, in_two_records}
 
--- no two calls failed
+-- at most one call failed, so these two aren't the failed ones
 one_lost : (group_bytes : ℕ) (attempts : List (List Attempt)) (fault : Option ℕ) (last : ℕ) (lost : List GroupCall) → AreLost group_bytes attempts fault last lost → lost ≡ failed_then_worked → ⊥
 one_lost group_bytes attempts None last lost are is = cc (are, is)
 one_lost group_bytes attempts (Some count) last lost are is = cc (are.1, is)
 
--- the first call can't be that for a group, which worked
+-- the first call failed, so it isn't one that wrote a group
 failed_first : (group_bytes : ℕ) (attempts : List (List Attempt)) (fault : Option ℕ) (last : ℕ) (parts : List (List Entry)) (calls lost : List GroupCall) → AllZip WroteEntries parts calls
     → AreLost group_bytes attempts fault last lost → calls ++ lost ≡ failed_then_worked → ⊥
 failed_first group_bytes attempts fault last parts [] lost each are is = one_lost group_bytes attempts fault last lost are is
@@ -26,14 +26,14 @@ pub accepted_after_a_failed_write : (group_bytes : ℕ) (trace : Trace) (attempt
 accepted_after_a_failed_write group_bytes trace attempts fault writes =
     failed_first group_bytes attempts fault (last_sequence trace.start trace.entries) writes.parts writes.calls writes.lost writes.each writes.none_else writes.by
 
--- the one call worked
+-- the one call worked, so it isn't a failed one
 none_lost : (group_bytes : ℕ) (attempts : List (List Attempt)) (fault : Option ℕ) (last : ℕ) (lost : List GroupCall) → AreLost group_bytes attempts fault last lost → lost ≡ in_one_record → ⊥
 none_lost group_bytes attempts None last lost are is = cc (are, is)
 none_lost group_bytes attempts (Some count) last lost are is =
     let failed : (are.0).failed ≡ None = cc (are.1, is) in
     cc (failed, (are.2).failed)
 
--- so it wrote both entries, which are of one client
+-- so it wrote both entries; but these are of one client
 not_of_one : (part more : List Entry) (c : GroupCall) → WroteEntries part c → c ∷ [] ≡ in_one_record → part ++ more ≡ two_entries → ⊥
 not_of_one [] more c wrote is cut = cc wrote.some
 not_of_one (e ∷ []) more c wrote is cut = let batches = wrote.batches in cc (batches, is)

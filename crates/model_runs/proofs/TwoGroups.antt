@@ -15,7 +15,7 @@ first_len : length text_of_first ≡ 24
 unfolding varint_within
 first_len = refl
 
--- the first group alone was to be synced
+-- only the first group was to be synced
 by_first : (reached : ℕ) (image : List ℕ) → HoldsUpTo reached text_of_first image → HoldsSynced new_log two_groups reached image
 by_first reached image first zero group there some = first
 by_first reached image first (suc zero) group there some =
@@ -34,7 +34,7 @@ torn_after = by_first 0 (text_of_first ++ zeros 9) (λ long far. take-append_sea
 pub reached_before : HoldsSynced new_log two_groups 25 (zeros 25)
 reached_before = by_first 25 (zeros 25) (λ long far. absurd (omega (arith, far)))
 
--- the byte at the place of the length
+-- the image and the text differ in the byte of the length
 pub nothing_before : HoldsSynced new_log two_groups 0 (zeros 25) → ⊥
 unfolding varint_within
 nothing_before holds =
@@ -46,7 +46,7 @@ pub synced_at_the_end : (group_bytes : ℕ) (attempts : List (List Attempt)) (o 
     → IsCrashSafe group_bytes attempts o new_log two_groups [] text_of_both in_two_records [] 0 (λ image. image ≡ zeros 25) (λ before after image. ⊥) (λ image. image ≡ text_of_both) → ⊥
 synced_at_the_end group_bytes attempts o safe = nothing_before (safe.held (zeros 25) refl)
 
--- the same byte of a fragment whose header has eleven bytes
+-- the same with a header of eleven bytes
 pub synced_late_over_old_bytes : KeepsSynced over_old_bytes two_groups in_two_records nothing_written → ⊥
 unfolding varint_within
 synced_late_over_old_bytes keeps =

@@ -18,11 +18,11 @@ use Rattle.log_laws.specs.Prefixes.{RecoversPrefix, BeginsWith}
 use Rattle.model_runs.specs.Lost.{IsLostGroup}
 use Rattle.model_runs.specs.Written.{WritesLog}
 
--- a crash at some moment from old to now might have left this image, and the disk still tells of it
+-- a crash at some moment from `old` to `now` might have left this image, and the disk still tells of that time
 abbrev pub IsImageSince : {D : Type 0} → (D → ℕ) → (D → ℕ) → (D → ℕ → List ℕ → Type 0) → D → D → List ℕ → Type 0
 IsImageSince moment from since old now image = (from now ≤ moment old) × since now (moment old) image
 
--- all that was to be in the log: the groups' records, and perhaps the one whose write failed
+-- all records that were to be in the log: those of the groups, and perhaps the one whose write failed
 abbrev pub with_failed_record : List (List ℕ) → Option (List ℕ) → List (List ℕ)
 with_failed_record records None = records
 with_failed_record records (Some x) = records ++ x ∷ []
@@ -36,37 +36,39 @@ is_sync NoLog = false
 abbrev pub HasSync : List Entry → Type 0
 HasSync group = IsTrue (list_any (λ (e : Entry). is_sync e.flag) group)
 
--- each such group is among the first n
+-- each group that was to be synced is among the first n
 abbrev pub HaveSynced : List (List Entry) → ℕ → Type 0
 HaveSynced groups n = AllByRecursion (λ group. HasSync group → ⊥) (drop n groups)
 
--- the text of the log up to the end of a group, by the number of groups before it
+-- the text of the log up to the end of the group that has k groups before it
 abbrev pub text_through : Beginning → List (List Entry) → ℕ → List ℕ
 text_through b groups k = text_after b (records_of (take (k + 1) groups))
 
--- Nothing is written after a group that is to be synced until it is safe. So where any of an image stands after such a
--- group's text, all of the text up to there stands before it. What could be reached before the run tells nothing.
+-- Nothing is written after a group that was to be synced until that group is safe. So an image that is longer than the
+-- text up to the end of such a group begins with this text. An image no longer than one could be before the run
+-- (`reached`) tells nothing.
 abbrev pub HoldsSynced : Beginning → List (List Entry) → ℕ → List ℕ → Type 0
 HoldsSynced b groups reached image = (k : ℕ) (group : List Entry) → slice_get groups k ≡ Some group → HasSync group
     → HoldsUpTo reached (text_through b groups k) image
 
--- Such a group is safe once the call that wrote it has returned: from then on each image begins with the text up to its
--- end. It is said by the calls, since over old bytes an image's length tells nothing. `since before after` are the
--- images that a crash may leave once the first calls have returned, while the others go on or after them.
+-- A group that was to be synced is safe once the call that wrote it has returned: from then on each image begins with
+-- the text up to the group's end. This is said by the calls, since over old bytes an image's length tells nothing.
+-- `since before after` are the images that a crash may leave once the calls `before` have returned, during the calls
+-- `after` or later.
 abbrev pub KeepsSynced : Beginning → List (List Entry) → List GroupCall
     → (List GroupCall → List GroupCall → List ℕ → Type 0) → Type 0
 KeepsSynced b groups made since = (k n : ℕ) (group : List Entry) → slice_get groups k ≡ Some group → HasSync group
     → k < n → (image : List ℕ) → since (take n made) (drop n made) image → BeginsWith (text_through b groups k) image
 
--- of so many records that were found all kept ones are there, and behind them each synced group
+-- n found records include all those that the log kept, and after these each group that was to be synced
 abbrev pub HasAllSafe : List (List Entry) → ℕ → ℕ → Type 0
 HasAllSafe groups kept n = (kept ≤ n) × HaveSynced groups (n - kept)
 
--- a text that is written over old bytes, from their start on
+-- the bytes after a text was written over old ones, from their start on
 abbrev pub over : List ℕ → List ℕ → List ℕ
 over t old = t ++ drop (length t) old
 
--- the record that the call that failed was to write, if one did
+-- the record that the failed call was to write, if a call failed
 abbrev pub failed_record : List GroupCall → Option (List ℕ)
 failed_record [] = None
 failed_record (c ∷ lost) = Some (record_of_call c)
@@ -81,19 +83,20 @@ module _ (group_bytes : ℕ) (attempts : List (List Attempt)) (o : Outcome) wher
     pub same : x ≡ group_record (o.last + 1) batches
 
   module _ (b : Beginning) (groups : List (List Entry)) where
-    -- The records that the log kept, these, and perhaps the failed one, are what a crash leaves a prefix of, in any
-    -- such image, unless by chance. `enough` tells of how many kept ones there were, and how many are found.
+    -- An image that a crash leaves (`left`) recovers a prefix of these records, unless by chance: those that the log
+    -- kept, those of the groups, and perhaps the failed one. `enough` says how many must be found, given how many were
+    -- kept.
     abbrev pub LeavesPrefix : (List ℕ → Type 0) → (ℕ → ℕ → Type 0) → Type 0
     LeavesPrefix left enough = (x : Option (List ℕ)) → IfSome x IsFailedWrite → (image : List ℕ) → left image
         → NoChance b.number image (text_after b (with_failed_record (records_of groups) x))
         → (kept : List (List ℕ)) → SpellsWhole b.number b.kept kept
         → RecoversPrefix b.number (kept ++ with_failed_record (records_of groups) x) image (enough (length kept))
 
-    -- What the disk holds at the end where no call failed, over what stood there as the log began, and else which
-    -- record was tried, of which behind the log any bytes may stand. And what a crash leaves, at some moment of the
-    -- run (any), once some calls have returned (since), of which the first moment is that at which the log has begun,
-    -- and at its end (now), when all that was synced is among it. It holds for each record that may be the failed one,
-    -- and the one that was tried is among these: so nobody can choose one whose premise excludes an image.
+    -- What the disk holds at the end. If no call failed, that is the log's text over what was there when the log began.
+    -- Otherwise the failed call's record is named; any bytes may come after the log. And what a crash leaves: at some
+    -- moment of the run (`any`); once some calls have returned (`since`; if these are none, once the log has begun);
+    -- and at the end (`now`), where all that was synced is found. This holds for each record that may be the failed
+    -- one, and the one that was tried is among these. So nobody can choose a record whose premise excludes an image.
     pub record IsCrashSafe (begun content : List ℕ) (made lost : List GroupCall) (reached : ℕ)
         (any : List ℕ → Type 0) (since : List GroupCall → List GroupCall → List ℕ → Type 0) (now : List ℕ → Type 0)
         : Type 0 where
@@ -105,9 +108,10 @@ module _ (group_bytes : ℕ) (attempts : List (List Attempt)) (o : Outcome) wher
       pub kept_since : KeepsSynced b groups made since
       pub at_end : LeavesPrefix now (HasAllSafe groups)
 
--- A run over a log that began so: its outcome, of one trace with these commits in its leaders' hands, and how its log
--- was written, where `wrote` says which calls of the log writer made the log that was handed back of the one that
--- began. The printed length is that of what the log kept and the text of their records.
+-- A run over a log that began as `b`: its outcome is legal in one trace, with these commits in the leaders' groups, and
+-- its log was written by the right calls. `wrote` says which calls of the log writer turned the log that began into the
+-- log that was handed back. The printed length is that of the bytes that the log kept and of the text of the groups'
+-- records.
 pub record IsRun (settings : Settings) (ended : ℕ) (script : List (List Command)) (b : Beginning)
     (wrote : List GroupCall → Type 0) (o : Outcome) : Type 0 where
   pub trace : Trace

@@ -1,4 +1,4 @@
--- Two batches of one client, of which the first was to be synced; and calls that may have written a log.
+-- Two batches of one client, the first of which was to be synced; and calls that may have written a log.
 use Rattle.std.specs.Prelude.{◌≡◌, ℕ, Bool, true, false, List, [], ◌∷◌, codes, replicate, Option, Some, None}
 use Rattle.model_base.specs.declared.history.Flag.{Flag}
 use Rattle.model_base.specs.declared.history.Flag.TheVariants.{Log, Sync}
@@ -34,7 +34,7 @@ text_of_both = text plain_log (records_of two_groups)
 abbrev pub text_of_first : List ℕ
 text_of_first = text_through new_log two_groups 0
 
--- as many zeros
+-- n zeros
 abbrev pub zeros : ℕ → List ℕ
 zeros n = replicate n 0
 
@@ -57,6 +57,6 @@ in_two_records = call_of 1 (put_a ∷ []) true None ∷ call_of 2 (put_b ∷ [])
 abbrev pub over_old_bytes : Beginning
 over_old_bytes = record { number = Some 7; kept = [] }
 
--- both calls have returned, and all of the old bytes still stand there: these are zeros
+-- whichever calls have returned, the image has only the old bytes: these are zeros
 abbrev pub nothing_written : List GroupCall → List GroupCall → List ℕ → Type 0
 nothing_written before after image = image ≡ zeros 56

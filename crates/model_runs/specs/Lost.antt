@@ -10,22 +10,22 @@ use Rattle.model_base.specs.Groups.{Member, IsGroup, IsCommit}
 use Rattle.model_base.specs.Progress.{batch_after}
 use Rattle.model_base.specs.Calls.{commit, refused, Call, Outcome}
 
--- of a group's batches those whose runs fit, from the sequence given last on
+-- those of a group's batches whose runs fit, after the sequence that was given last
 abbrev pub batches_that_fit : ℕ → List (List Record) → List (List Record)
 batches_that_fit last [] = []
 batches_that_fit last (r ∷ rs) =
     if nat_le (last + count_of r) max_sequence
     then r ∷ batches_that_fit (last + count_of r) rs else batches_that_fit last rs
 
--- a commit that a leader took in hand had these records, was to be logged, and was answered the log's fault
+-- a commit that a leader took into its group had these records, was to be logged, and was answered the log's fault
 pub record IsLost (attempts : List (List Attempt)) (count : ℕ) (m : Member) (records : List Record) : Type 0 where
   pub stands : IsCommit attempts m
   pub records_are : stands.attempt.records ≡ records
   pub to_log : stands.attempt.options.no_log ≡ false
   pub status : stands.attempt.status ≡ faulted count
 
--- One whole group was answered the log's fault, and these are its batches whose runs fit after the sequence given last.
--- No run was given after it.
+-- One whole group was answered the log's fault, and these are its batches whose runs fit after `last`, the sequence
+-- that was given last in the whole run. There is at least one.
 pub record IsLostGroup (group_bytes : ℕ) (attempts : List (List Attempt)) (count last : ℕ)
     (batches : List (List Record)) : Type 0 where
   pub members : List Member
@@ -35,8 +35,7 @@ pub record IsLostGroup (group_bytes : ℕ) (attempts : List (List Attempt)) (cou
   pub batches_are : batches ≡ batches_that_fit last all
   pub some : 0 < length batches
 
--- What is seen of it in the transcripts: a commit that was to be logged had these records, and was answered the log's
--- fault
+-- What the transcripts show of such a commit: it was to be logged, had these records, and was answered the log's fault
 pub record IsFaultedBatch (o : Outcome) (count : ℕ) (records : List Record) : Type 0 where
   pub client : ℕ
   pub calls : List Call

@@ -5,7 +5,7 @@ use Rattle.model_base.specs.declared.write.Refusal.{Refusal}
 use Rattle.model_base.specs.declared.write.Refusal.TheVariants.{NoMemory, Empty, TooLarge, SyncWithoutLog, SelfStop, LogFault, SequenceFull, Incomplete}
 use Rattle.model_base.specs.Calls.{Call, Reply, refused}
 
--- The batch is empty or too large, it was to be synced without the log, or no sequences are left for it. Or the client
+-- The batch is empty or too large, it was to be synced but not logged, or no sequences are left for it. Or the client
 -- holds a stop token itself, or asked not to wait while writes were held up.
 abbrev pub is_for_itself : Refusal → Bool
 is_for_itself Empty = true
@@ -21,6 +21,6 @@ is_for_itself NoMemory = false
 abbrev pub RefusesForItself : Reply → Type 0
 RefusesForItself reply = (why : Refusal) → reply ≡ refused why → is_for_itself why ≡ true
 
--- none of these calls was refused, but commits for what they were themselves
+-- none of these calls was refused, except commits for such causes of their own
 abbrev pub AreRefusedForThemselves : List Call → Type 0
 AreRefusedForThemselves calls = AllByRecursion (λ (c : Call). RefusesForItself c.reply) calls

@@ -1,4 +1,4 @@
--- What the closed log was written by: the groups of the history, and none besides but one whose write failed.
+-- Which calls wrote the closed log: one for each group of the history, and no other, except one that failed.
 use Rattle.std.specs.Prelude.{◌≡◌, ◌≢◌, ⊤, ℕ, ◌+◌, true, List, [], ◌∷◌, ◌++◌, map, flat_map, sum_by, Option, Some, None, MatchOption}
 use Rattle.std.specs.List.{AllByRecursion, AllZip}
 use Rattle.model_base.specs.declared.history.Flag.TheVariants.{Sync}
@@ -9,7 +9,7 @@ use Rattle.model_base.specs.Attempts.{Attempt}
 use Rattle.model_base.specs.LogContents.{GroupCall}
 use Rattle.model_runs.specs.Lost.{IsLostGroup}
 
--- the first sequence of entries, where there are any
+-- the first sequence of these entries, if there are any
 abbrev pub first_of : List Entry → Option ℕ
 first_of [] = None
 first_of (e ∷ entries) = Some e.first
@@ -20,7 +20,7 @@ AreOfOwnClients [] = ⊤
 AreOfOwnClients (e ∷ entries) = AllByRecursion (λ (other : Entry). e.client ≢ other.client) entries
     × AreOfOwnClients entries
 
--- The call wrote these entries, each of another client, and synced where one of them was to be synced.
+-- The call wrote these entries, no two of one client, and synced if one of them was to be synced.
 pub record WroteEntries (entries : List Entry) (c : GroupCall) : Type 0 where
   pub some : first_of entries ≡ Some c.first
   pub apart : AreOfOwnClients entries
@@ -28,21 +28,21 @@ pub record WroteEntries (entries : List Entry) (c : GroupCall) : Type 0 where
   pub synced : AllByRecursion (λ (e : Entry). e.flag ≡ Sync → c.sync ≡ true) entries
   pub ok : c.failed ≡ None
 
--- the one call that failed was to write the batches of a lost group, after the sequence given last
+-- the one call that failed was to write the batches of a lost group, after the sequence that was given last
 pub record IsLostCall (group_bytes : ℕ) (attempts : List (List Attempt)) (count last : ℕ) (c : GroupCall) : Type 0 where
   pub failed : c.failed ≡ Some count
   pub first : c.first ≡ last + 1
   pub batches : IsLostGroup group_bytes attempts count last c.batches
 
--- the calls that failed: one where the log has a fault, and else none
+-- the calls that failed: one if the log has a fault, and otherwise none
 abbrev pub AreLost : ℕ → List (List Attempt) → Option ℕ → ℕ → List GroupCall → Type 0
 AreLost group_bytes attempts fault last lost =
     MatchOption fault (lost ≡ [])
     (λ count. (c : GroupCall) × (lost ≡ c ∷ []) × IsLostCall group_bytes attempts count last c)
 
--- How a log was written, where `wrote` says that it came to be by some calls: one call for each group of the logged
--- entries, in their order, and where the log has a fault one that failed, behind all others. No call's entries have
--- another one's between them, logged or not.
+-- How a log was written, where `wrote` says that these calls, and no others, wrote it: one call for each group of the
+-- logged entries, in their order, and if the log has a fault one more call, which failed, after all the others. Between
+-- two entries of one call no other entry comes in the history, logged or not.
 pub record WritesLog (group_bytes : ℕ) (wrote : List GroupCall → Type 0) (trace : Trace)
     (attempts : List (List Attempt)) (fault : Option ℕ) : Type 0 where
   pub parts : List (List Entry)
@@ -54,7 +54,7 @@ pub record WritesLog (group_bytes : ℕ) (wrote : List GroupCall → Type 0) (tr
   pub none_else : AreLost group_bytes attempts fault (last_sequence trace.start trace.entries) lost
   pub by : wrote (calls ++ lost)
 
--- The call wrote this batch, under the run from this sequence on, and synced.
+-- The call wrote this batch, with the run that begins at this sequence, and synced.
 pub record IsSynced (first : ℕ) (records : List Record) (c : GroupCall) : Type 0 where
   pub before : List (List Record)
   pub after : List (List Record)
@@ -63,7 +63,7 @@ pub record IsSynced (first : ℕ) (records : List Record) (c : GroupCall) : Type
   pub synced : c.sync ≡ true
   pub ok : c.failed ≡ None
 
--- one of the calls did
+-- one of these calls wrote this batch and synced
 pub record IsSyncedBy (first : ℕ) (records : List Record) (calls : List GroupCall) : Type 0 where
   pub front : List GroupCall
   pub call : GroupCall

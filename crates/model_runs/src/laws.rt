@@ -8,9 +8,10 @@ ghost use Rattle.model_base.specs.Recovery.{Logged, Recovered, IsRecovered};
 ghost use Rattle.log_laws.specs.Prefixes.{AreTheseBatches, BeginsWith};
 ghost use Rattle.model_runs.specs.Crashes.{HasSync, HoldsSynced, text_through};
 
-/// Where an image begins with the text up to the end of a group, or where that group was to be synced and anything of
-/// the image stands after it, recovery finds what the log kept, that group and all before it, if those are batches
-/// whose runs rise. No premise is needed of what torn fragments are.
+/// Where an image begins with the text up to the end of a group, recovery finds at least as many batches as the log
+/// kept records, and one more for that group and for each before it, if all these records are batches whose runs rise.
+/// By `HoldsSynced` an image begins so if that group was to be synced, and the image is longer than this text and
+/// longer than any image could be before. No premise is needed about torn fragments.
 pub fn synced_groups_are_recovered()
     ensures recovered { (b : Beginning) (kept : List (List ℕ)) (groups : List (List Entry)) (image : List ℕ) (k : ℕ)
         (group : List Entry) → SpellsWhole b.number b.kept kept → slice_get groups k ≡ Some group

@@ -1,8 +1,8 @@
 //! What a run of several clients leaves in its log, and what a crash at any moment of it leaves to recover.
 //!
-//! - `specs/Lost`: the one group of commits whose log write failed, by what became of the clients' commits.
-//! - `specs/Written`: which calls of the log writer wrote the log: one for each group of the history, and none besides
-//!   but one that failed.
+//! - `specs/Lost`: the one group of commits whose log write failed, by the statuses of the clients' commits.
+//! - `specs/Written`: which calls of the log writer wrote the log: one for each group of the history, and no other,
+//!   except one that failed.
 //! - `specs/Crashes`: a run, with how its log was written (`IsRun`); and of that run the log at its end, and each image
 //!   that a crash may leave (`IsSafe`).
 //! - `specs/Refusals`: which refusals are left where the log has no fault.

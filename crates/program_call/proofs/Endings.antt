@@ -1,4 +1,4 @@
--- How a run ended: what stands printed at each status, and what the devices tell.
+-- How a run ended: what is printed at each status, and what the devices tell.
 use Rattle.std.proofs.Common.{◌≡◌, inl, inr, ℕ, ◌<◌, ◌≤◌, Bool, true, false, eqb, List, [], length, Option, Some, None, IfSome, le_trans, refl, sym, ◌∙◌, subst}
 use Rattle.std.specs.Prelude.{IsSome, ⊤}
 use Rattle.base_devices.specs.Disk.{Disk, Told}
@@ -26,7 +26,7 @@ use Rattle.program_call.specs.declared.report.Form.{Form}
 use Rattle.program_call.specs.declared.report.Status.{Status}
 use Rattle.program_call.specs.declared.report.Status.TheVariants as status
 use Rattle.program_call.specs.Texts.{SaysTo}
-use Rattle.program_call.specs.Reports.{Refuses, EndsSo, TellsEnd, TellsReadError, text_of, code}
+use Rattle.program_call.specs.Reports.{Refuses, PrintsRefusal, EndsWithOutcome, TellsEnd, TellsReadError, text_of, code}
 use Rattle.program_call.specs.Outcomes.{Observation, observation_of, IsScript, RanScript, RanWhole, DiskFailed, RanToSinkFault, RanOutOfMemory, MetDamage}
 use Rattle.program_call.proofs.Memory.{all_whole, short_of}
 
@@ -34,7 +34,8 @@ abbrev either : Bool → Type 0 → Type 0 → Type 0
 either true A B = A
 either false A B = B
 
--- What comes with each status of a run. `failed` to `fails` are the disk's counts of faults, `kf` to `kfs` the sink's.
+-- What is known at each status of a run. `failed` to `fails` are the disk's counts of faults, `kf` to `kfs` the
+-- sink's.
 module _ (seen : Observation) (failed fails kf kfs : ℕ) where
   pub record AtWhole : Type 0 where
     pub whole : RanWhole seen
@@ -60,26 +61,31 @@ module _ (seen : Observation) (failed fails kf kfs : ℕ) where
     pub of_disk : IfSome seen.opened (λ d. length d.content ≡ len)
     pub says : SaysTo seen.before seen.after (not_empty len) kf kfs
     pub as_before : seen.ended ≡ seen.opened
+    pub stood : fails ≡ failed
 
-  -- of a status that no run has nothing is said
+  pub record AtDamage : Type 0 where
+    pub met : MetDamage seen kf kfs
+    pub stood : fails ≡ failed
+
+  -- nothing is said of a status with which no run ends
   abbrev pub AtStatus : ℕ → Type 0
-  AtStatus n = either (eqb n 0) AtWhole (either (eqb n 3) AtFault (either (eqb n 5) AtSinkFault (either (eqb n 6) (RanOutOfMemory seen) (either (eqb n 7) AtNotEmpty (either (eqb n 8) (MetDamage seen kf kfs) ⊤)))))
+  AtStatus n = either (eqb n 0) AtWhole (either (eqb n 3) AtFault (either (eqb n 5) AtSinkFault (either (eqb n 6) (RanOutOfMemory seen failed fails) (either (eqb n 7) AtNotEmpty (either (eqb n 8) AtDamage ⊤)))))
 
-  -- nothing was run or printed for lack of memory
-  pub nothing : (given : Status) → given ≡ status.Memory → IsAsFound seen.start seen.opened seen.ended → seen.after ≡ seen.before → AtStatus (code given)
-  nothing given is found quiet = subst (λ s. AtStatus (code s)) (sym is) (inl (record { untouched = found; silent = quiet }))
+  -- there was no memory, and nothing was run or printed
+  pub nothing : (given : Status) → given ≡ status.Memory → IsAsFound seen.start seen.opened seen.ended → fails ≡ failed → seen.after ≡ seen.before → AtStatus (code given)
+  nothing given is found stood quiet = subst (λ s. AtStatus (code s)) (sym is) (inl (record { untouched = found; counted = stood; silent = quiet }))
 
-  -- no script was read
-  refused : (text : List ℕ) (wanted given : Status) → AtStatus (code wanted) → seen.ended ≡ seen.opened → Refuses seen.before seen.after kf kfs text wanted given → AtStatus (code given)
-  refused text wanted given there same (inl said) = subst (λ s. AtStatus (code s)) (sym said.0) there
-  refused text wanted given there same (inr none) = nothing given none.0 (inl same) none.1
+  -- a refusal was printed, or there was no memory for its text
+  refused : (text : List ℕ) (wanted given : Status) → AtStatus (code wanted) → seen.ended ≡ seen.opened → fails ≡ failed → Refuses seen.before seen.after kf kfs text wanted given → AtStatus (code given)
+  refused text wanted given there same stood (inl said) = subst (λ s. AtStatus (code s)) (sym said.0) there
+  refused text wanted given there same stood (inr none) = nothing given none.0 (inl same) stood none.1
 
-  pub unread : (why : ReadError) (given : Status) → seen.ended ≡ seen.opened → TellsReadError seen.before seen.after kf kfs why given → AtStatus (code given)
-  unread (read.Fault count) given same tells = refused _ status.Source given tt same tells
-  unread (read.Script line kind) given same tells = refused _ status.Script given tt same tells
-  unread read.NoMemory given same tells = nothing given tells.0 (inl same) tells.1
+  pub unread : (why : ReadError) (given : Status) → seen.ended ≡ seen.opened → fails ≡ failed → TellsReadError seen.before seen.after kf kfs why given → AtStatus (code given)
+  unread (read.Fault count) given same stood tells = subst (λ s. AtStatus (code s)) (sym tells.0) tt
+  unread (read.Script line kind) given same stood tells = refused _ status.Script given tt same stood tells
+  unread read.NoMemory given same stood tells = nothing given tells.0 (inl same) stood tells.1
 
--- A script was to be run: `here` is what the devices tell.
+-- A call that should run this script: `here` is what the devices tell of it.
 module _ {D K : Type 0} (disk : disk.Ghosts D) (sink : sink.Ghosts K) (options : Options) (start : LogStart) (mode : Mode) (script : Script) (form : Form) (opened ended : D) (before after : K) where
   abbrev here : Observation
   here = observation_of disk sink (IsScript script) form options start mode opened ended before after
@@ -114,26 +120,28 @@ module _ {D K : Type 0} (disk : disk.Ghosts D) (sink : sink.Ghosts K) (options :
   abbrev At : ℕ → Type 0
   At n = AtStatus here failed fails kf kfs n
 
-  disk_refused : (count : ℕ) (given : Status) → IsAsFound start old new → IsReached failed count fails → Refuses sold snew kf kfs (disk_fault count) status.Disk given → At (code given)
-  disk_refused count given found reached (inl said) =
+  disk_refused : (count : ℕ) (given : Status) → IsAsFound start old new → IsReached failed count fails → PrintsRefusal sold snew kf kfs (disk_fault count) status.Disk given → At (code given)
+  disk_refused count given found reached said =
       let there : AtFault here failed fails kf kfs = record {
         told = inl (record { script = script; said = refl; count = count; reached = reached; untouched = found; refused = said.1 });
         rose = le_trans reached.0 reached.1;
       } in
       subst (λ s. At (code s)) (sym said.0) there
-  disk_refused count given found reached (inr none) = nothing here failed fails kf kfs given none.0 found none.1
 
-  has_bytes : (len : ℕ) (given : Status) → start ≡ New → new ≡ old → 0 < len → IfSome old (λ d. length d.content ≡ len) → Refuses sold snew kf kfs (not_empty len) status.NotEmpty given → At (code given)
-  has_bytes len given plain same some is (inl said) =
-      let there : AtNotEmpty here failed fails kf kfs = record { plain = plain; len = len; some = some; of_disk = is; says = said.1; as_before = same } in
+  has_bytes : (len : ℕ) (given : Status) → start ≡ New → 0 < len → IfSome old (λ d. length d.content ≡ len) → new ≡ old → fails ≡ failed → Refuses sold snew kf kfs (not_empty len) status.NotEmpty given → At (code given)
+  has_bytes len given plain some is same stood (inl said) =
+      let there : AtNotEmpty here failed fails kf kfs = record { plain = plain; len = len; some = some; of_disk = is; says = said.1; as_before = same; stood = stood } in
       subst (λ s. At (code s)) (sym said.0) there
-  has_bytes len given plain same some is (inr none) = nothing here failed fails kf kfs given none.0 (inl same) none.1
+  has_bytes len given plain some is same stood (inr none) = nothing here failed fails kf kfs given none.0 (inl same) stood none.1
 
-  is_damaged : (at : ℕ) (why : EndReason) (given : Status) → IsDamaged start mode old at why → new ≡ old → Refuses sold snew kf kfs (damage at why) status.Damage given → At (code given)
-  is_damaged at why given damaged same (inl said) =
-      let there : MetDamage here kf kfs = record { at = at; why = why; damaged = damaged; untouched = same; refused = said.1 } in
+  is_damaged : (at : ℕ) (why : EndReason) (given : Status) → IsDamaged start mode old at why → new ≡ old → fails ≡ failed → Refuses sold snew kf kfs (damage at why) status.Damage given → At (code given)
+  is_damaged at why given damaged same stood (inl said) =
+      let there : AtDamage here failed fails kf kfs = record {
+        met = record { at = at; why = why; damaged = damaged; untouched = same; refused = said.1 };
+        stood = stood;
+      } in
       subst (λ s. At (code s)) (sym said.0) there
-  is_damaged at why given damaged same (inr none) = nothing here failed fails kf kfs given none.0 (inl same) none.1
+  is_damaged at why given damaged same stood (inr none) = nothing here failed fails kf kfs given none.0 (inl same) stood none.1
 
   found_empty : (from : Before) (was is : Option Disk) (o : calls.Outcome) (run : IsRunOf (execution from) o) → Told was is (LeavesSafeLog (execution from) o run) → start ≡ New → IfSome was (λ d. d.content ≡ [])
   found_empty from None is o run log plain = tt
@@ -150,11 +158,11 @@ module _ {D K : Type 0} (disk : disk.Ghosts D) (sink : sink.Ghosts K) (options :
     said = refl;
     before = from;
     goes_on = goes_on;
-    is_outcome = record { run = ran.run; log = ran.log };
+    is_outcome = record { run = ran.run; counted = λ alive. ran.counted (sym ran.shows.fault ∙ alive); log = ran.log };
     refusals = λ alive. ran.refusals (sym ran.shows.fault ∙ alive);
   }
 
-  ran_so : (from : Before) → GoesOnFrom start old from → IsAccepted start mode old → (shown : Outcome Pairs) (ran : HasRun (execution from) old new shown) (given : Status) → EndsSo sold snew kf kfs shown (text_of form ran.outcome) given → At (code given)
+  ran_so : (from : Before) → GoesOnFrom start old from → IsAccepted start mode old → (shown : Outcome Pairs) (ran : HasRun (execution from) old new shown) (given : Status) → EndsWithOutcome sold snew kf kfs shown (text_of form ran.outcome) given → At (code given)
   ran_so from goes_on accepted shown ran status.Done so = record {
     whole = record {
       outcome = ran.outcome;
@@ -196,15 +204,15 @@ module _ {D K : Type 0} (disk : disk.Ghosts D) (sink : sink.Ghosts K) (options :
     said = refl;
     before = from;
     goes_on = goes_on;
-    is_outcome = record { run = ran.run; log = ran.log };
+    is_outcome = record { run = ran.run; counted = ran.counted; log = ran.log };
     refusals = ran.refusals;
   }
 
   pub ended_so : (e : RunEnd) (given : Status) → EndsOn disk options start mode script opened ended e → (Ran e → IsAccepted start mode old) → TellsEnd form sold snew kf kfs e given → At (code given)
   ended_so (end.DiskFault count) given ends accepted tells = disk_refused count given ends.0 ends.1 tells
-  ended_so (end.NotEmpty len) given ends accepted tells = has_bytes len given ends.0 ends.1 ends.2 ends.3 tells
-  ended_so (end.Damage at why) given ends accepted tells = is_damaged at why given ends.0 ends.1 tells
-  ended_so end.NoMemory given ends accepted tells = nothing here failed fails kf kfs given tells.0 ends tells.1
+  ended_so (end.NotEmpty len) given ends accepted tells = has_bytes len given ends.0 ends.1 ends.2 ends.3 ends.4 tells
+  ended_so (end.Damage at why) given ends accepted tells = is_damaged at why given ends.0 ends.1 ends.2 tells
+  ended_so end.NoMemory given ends accepted tells = nothing here failed fails kf kfs given tells.0 ends.0 ends.1 tells.1
   ended_so end.NoOutcome given (from, goes_on, has) accepted tells =
       let ran : RanScript here has.outcome = no_outcome from goes_on has in
       subst (λ s. At (code s)) (sym tells.0) (inr (inl (record { outcome = has.outcome; ran = ran; silent = tells.1 })))

@@ -9,3 +9,4 @@ mod Recoveries
 mod ReplayEndings
 mod WholeSchedules
 mod NoMemory
+mod Lines

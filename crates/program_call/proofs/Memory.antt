@@ -12,7 +12,7 @@ use Rattle.run_outcome.specs.declared.outcome.Outcome.{Outcome}
 use Rattle.run_outcome.specs.Shows.{ShowsReply, ShowsReplies, ShowsOutcome, with_replies, lacks_memory, ran_short}
 use Rattle.program_call.specs.Outcomes.{LacksMemory}
 
--- No reply lacks memory
+-- If no reply says `no memory`, no call found none
 
 neither : (a b : Bool) → (a || b) ≡ false → (a ≡ false) × (b ≡ false)
 neither true b e = absurd (cc e)
@@ -37,7 +37,7 @@ none_lack (r ∷ rs) (c ∷ cs) shows lacks =
     let both = neither (lacks_memory r) (list_any lacks_memory rs) lacks in
     (other_reply r c shows.0 both.0, none_lack rs cs shows.1 both.1)
 
--- nor does a call that has no reply
+-- a call without a reply isn't one that found no memory either
 call_whole : (command : calls.Command) (r : calls.Reply) (cs : List calls.Call) → (NoneWithoutMemory (with_replies cs) → NoneWithoutMemory cs)
     → NoneWithoutMemory (with_replies (record { command = command; reply = r } ∷ cs)) → NoneWithoutMemory (record { command = command; reply = r } ∷ cs)
 call_whole command calls.quiet cs rest none = ((λ e. cc e), rest none)
@@ -56,7 +56,7 @@ all_whole (v ∷ vs) (c ∷ cs) shows lacks =
     let both = neither (list_any lacks_memory v.items) (list_any (λ (w : Vec Reply Global). list_any lacks_memory w.items) vs) lacks in
     (calls_whole c (none_lack v.items (with_replies c) shows.0 both.0), all_whole vs cs shows.1 both.1)
 
--- A reply that lacks memory is a call that found none
+-- If a reply says `no memory`, a call found none
 
 this_reply : (r : Reply) (c : calls.Call) → ShowsReply r c → lacks_memory r ≡ true → c.reply ≡ calls.no_memory
 this_reply (reply.Accepted run) c shows lacks = absurd (cc lacks)
@@ -87,7 +87,7 @@ one_lacks (r ∷ rs) (c ∷ cs) shows lacks = by (lacks_memory r) refl (λ e. on
     by true e later = record { place = 0; call = c; there = refl; reply = this_reply r c shows.0 e }
     by false e later = behind c cs (later e)
 
--- among the calls that have a reply, so among all
+-- a call among those that have a reply is among all calls
 call_lacks : (command : calls.Command) (r : calls.Reply) (cs : List calls.Call) → (Lacks (with_replies cs) → Lacks cs) → (place : ℕ) (call : calls.Call)
     → slice_get (with_replies (record { command = command; reply = r } ∷ cs)) place ≡ Some call → call.reply ≡ calls.no_memory → Lacks (record { command = command; reply = r } ∷ cs)
 call_lacks command calls.quiet cs rest place call there is = behind _ cs (rest (record { place = place; call = call; there = there; reply = is }))

@@ -15,7 +15,7 @@ use Rattle.program_call.specs.declared.report.Form.{Form}
 use Rattle.program_call.specs.declared.report.Form.TheVariants as form
 use Rattle.program_call.specs.Asking.{usual_options}
 use Rattle.program_call.specs.Outcomes.{observation_of, SaysScript, IsGenerated}
-use Rattle.program_call.specs.Recovers.{TellsDisk, Recovers, RecoversFront}
+use Rattle.program_call.specs.Recovers.{WhereAllTold, Recovers, RecoversFront}
 use Rattle.program_call.specs.Answers.{RunsScript, AnswersRun, AnswersGenerate, AnswersRecover, AnswersReplay}
 use Rattle.program_call.proofs.Endings.{AtStatus}
 use Rattle.program_call.proofs.Runs.{runs_script}
@@ -24,7 +24,7 @@ if_some : {T : Type 0} (P : T → Type 0) (o : Option T) → ((x : T) → P x) �
 if_some P None all = tt
 if_some P (Some x) all = all x
 
-tells_disk : (s t : Option (List ℕ)) (d : Option Disk) (P : List ℕ → List ℕ → Disk → Type 0) → ((x y : List ℕ) (e : Disk) → P x y e) → TellsDisk s t d P
+tells_disk : (s t : Option (List ℕ)) (d : Option Disk) (P : List ℕ → List ℕ → Disk → Type 0) → ((x y : List ℕ) (e : Disk) → P x y e) → WhereAllTold s t d P
 tells_disk (Some x) (Some y) (Some e) P all = all x y e
 tells_disk s t d P all = tt
 
@@ -43,7 +43,7 @@ module _ {S D K : Type 0} (source : source.Ghosts S) (disk : disk.Ghosts D) (sin
   runs_none : (says : Script → Type 0) (form : Form) (options : Options) (start : LogStart) (mode : Mode) → RunsScript disk sink (observation_of disk sink says form options start mode opened opened before before) opened opened before before n
   runs_none says form options start mode =
       let At : ℕ → Type 0 = λ m. AtStatus (observation_of disk sink says form options start mode opened opened before before) (disk.faults opened) (disk.faults opened) (sink.faults before) (sink.faults before) m in
-      let none : At 6 = inl (record { untouched = inl refl; silent = refl }) in
+      let none : At 6 = inl (record { untouched = inl refl; counted = refl; silent = refl }) in
       runs_script disk sink says form options start mode opened opened before before n (subst At (sym six) none)
 
   pub none_run : (options : Options) (start : LogStart) (mode : Mode) → AnswersRun source disk sink had had opened opened before before options start mode n
@@ -52,7 +52,7 @@ module _ {S D K : Type 0} (source : source.Ghosts S) (disk : disk.Ghosts D) (sin
     script = λ e. absurd (omega (arith, six, e));
     other_script = λ e. absurd (e six);
     source_failed = λ e. absurd (omega (arith, six, e));
-    source_stood = λ e. absurd (omega (arith, six, e));
+    source_fault_is_told = λ other. refl;
     read_to_end = λ e. absurd (no_device n six e);
     disk_untouched = λ e. refl;
     runs = runs_none (SaysScript (source.left had)) form.Whole options start mode;
@@ -74,8 +74,9 @@ module _ {S D K : Type 0} (source : source.Ghosts S) (disk : disk.Ghosts D) (sin
     source_untouched = refl;
     as_before = refl;
     no_fault = λ e. absurd (omega (arith, six, e));
-    disk_failed = λ e. absurd (omega (arith, six, e));
     sink_failed = λ e. absurd (omega (arith, six, e));
+    disk_failed = λ e. absurd (omega (arith, six, e));
+    fault_is_told = λ other. refl;
     recovered = tells_disk (sink.taken before) (sink.taken before) (disk.told opened) (λ x y d. n ≡ 0 → Recovers number mode x y d.content) (λ x y d e. absurd (omega (arith, six, e)));
     recovered_prefix = tells_disk (sink.taken before) (sink.taken before) (disk.told opened) (λ x y d. n ≡ 5 → RecoversFront number mode x y d.content) (λ x y d e. absurd (omega (arith, six, e)));
     refused = λ e. absurd (omega (arith, six, e));
@@ -90,8 +91,9 @@ module _ {S D K : Type 0} (source : source.Ghosts S) (disk : disk.Ghosts D) (sin
     disk_untouched = refl;
     schedule = λ e. absurd (omega (arith, six, e));
     other_schedule = λ e. absurd (e six);
-    no_fault = λ e. absurd (omega (arith, six, e));
     source_failed = λ e. absurd (omega (arith, six, e));
+    source_fault_is_told = λ other. refl;
+    no_fault = λ e. absurd (omega (arith, six, e));
     sink_failed = λ e. absurd (omega (arith, six, e));
     read_to_end = λ e. absurd (no_text n six e);
     replayed = λ e. absurd (omega (arith, six, e));

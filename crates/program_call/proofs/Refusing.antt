@@ -13,7 +13,7 @@ pub refuses : (made : Result Bytes NoMemory) (text : List ℕ) (old new : Option
 refuses (Ok t) text old new failed fails wanted given is said none = inl (said.0, subst (λ x. SaysTo old new x failed fails) is said.1)
 refuses (Err e) text old new failed fails wanted given is said none = inr none
 
--- the status is that of the refusal or of want of memory
+-- the status is that of the refusal, or the one for no memory
 pub refused_as : (sold snew : Option (List ℕ)) (kf kfs : ℕ) (text : List ℕ) (wanted given : Status) (n : ℕ) → n ≡ code given → Refuses sold snew kf kfs text wanted given
     → ((n ≡ code wanted) × SaysTo sold snew text kf kfs) ⊎ ((n ≡ 6) × (snew ≡ sold))
 refused_as sold snew kf kfs text wanted given n is (inl said) = inl (is ∙ ap code said.0, said.1)

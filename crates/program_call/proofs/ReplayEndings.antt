@@ -1,4 +1,4 @@
--- What stands printed of a schedule.
+-- What is printed of a schedule.
 use Rattle.std.proofs.Common.{◌≡◌, ◌⊎◌, inl, inr, ℕ, List, Option, Some, None, Result, Ok, Err, IfSome, ap, ◌∙◌, subst, arith}
 use Rattle.std.specs.Prelude.{IfOk, take}
 use Rattle.std.specs.Io.KnownBytes.{Appends}
@@ -11,7 +11,7 @@ use Rattle.program_call.specs.declared.report.Status.TheVariants as status
 use Rattle.program_call.specs.Replays.{SaysSchedule, Replays, ReplaysFront}
 use Rattle.replay_schedules.specs.Replayed.{ShowsReplayed, replayed_of}
 use Rattle.program_call.specs.Reports.{code, TellsReplay}
-use Rattle.program_call.specs.Texts.{Stood}
+use Rattle.program_call.specs.Texts.{NoFault}
 use Rattle.run_scripts.specs.ReplayLanguage.{replay_grammar, event_words}
 
 pub replays_front : (options : CoreOptions) (s : Schedule) (found : Result Replayed NoMemory) (kf kfs n : ℕ) (given : Status) (text sold snew : Option (List ℕ)) → n ≡ code given
@@ -35,8 +35,8 @@ replay_counted (Ok shown) kf kfs n status.Memory sold snew is tells zero = absur
 replay_counted (Ok shown) kf kfs n other sold snew is tells zero = absurd tells
 replay_counted (Err why) kf kfs n given sold snew is tells zero = absurd (let a : n ≡ 6 = is ∙ ap code tells.0 in omega (arith, a, zero))
 
--- where the sink didn't fail, a replay ended well or for lack of memory
-replay_ended : (found : Result Replayed NoMemory) (kf kfs n : ℕ) (given : Status) (sold snew : Option (List ℕ)) → n ≡ code given → TellsReplay sold snew kf kfs found given → Stood kf kfs → (n ≡ 0) ⊎ (n ≡ 6)
+-- where the sink didn't fail, a replay ended well or ran out of memory
+replay_ended : (found : Result Replayed NoMemory) (kf kfs n : ℕ) (given : Status) (sold snew : Option (List ℕ)) → n ≡ code given → TellsReplay sold snew kf kfs found given → NoFault kf kfs → (n ≡ 0) ⊎ (n ≡ 6)
 replay_ended (Ok shown) kf kfs n status.Done sold snew is tells stood = inl is
 replay_ended (Ok shown) kf kfs n status.Sink sold snew is tells stood = absurd (stood tells.0)
 replay_ended (Ok shown) kf kfs n status.Memory sold snew is tells stood = inr is
@@ -47,6 +47,6 @@ of_any : (left : Option (List ℕ)) (Q : Type 0) → Q → IfSome left (λ text.
 of_any None Q q = tt
 of_any (Some text) Q q = λ schedule said. q
 
-pub replay_completes : (left : Option (List ℕ)) (found : Result Replayed NoMemory) (kf kfs n : ℕ) (given : Status) (sold snew : Option (List ℕ)) → n ≡ code given → TellsReplay sold snew kf kfs found given → Stood kf kfs
+pub replay_completes : (left : Option (List ℕ)) (found : Result Replayed NoMemory) (kf kfs n : ℕ) (given : Status) (sold snew : Option (List ℕ)) → n ≡ code given → TellsReplay sold snew kf kfs found given → NoFault kf kfs
     → IfSome left (λ text. (schedule : Schedule) → schedule_of replay_grammar event_words text ≡ Ok schedule → (n ≡ 0) ⊎ (n ≡ 6))
 replay_completes left found kf kfs n given sold snew is tells stood = of_any left ((n ≡ 0) ⊎ (n ≡ 6)) (replay_ended found kf kfs n given sold snew is tells stood)

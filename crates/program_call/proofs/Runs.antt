@@ -1,4 +1,4 @@
--- What a run of a script promises, put together from what its status comes with.
+-- What a run of a script promises, put together from what is known at its status.
 use Rattle.std.proofs.Common.{◌≡◌, ◌≢◌, ◌⊎◌, inl, inr, ℕ, ◌<◌, List, [], length, Option, Some, None, IfSome, ap, subst, arith}
 use Rattle.base_devices.specs.declared.disk.Disk as disk
 use Rattle.base_devices.specs.declared.sink.Sink as sink
@@ -10,11 +10,11 @@ use Rattle.log_recovery.specs.declared.modes.Mode.{Mode}
 use Rattle.run_outcome.specs.declared.log_start.LogStart.{LogStart}
 use Rattle.run_outcome.specs.declared.log_start.LogStart.TheVariants.{New}
 use Rattle.program_call.specs.declared.report.Form.{Form}
-use Rattle.program_call.specs.Texts.{Stood}
-use Rattle.program_call.specs.Outcomes.{Observation, observation_of, RanScript, RanWhole, DiskFailed, RanOutOfMemory, MetDamage}
+use Rattle.program_call.specs.Texts.{NoFault}
+use Rattle.program_call.specs.Outcomes.{Observation, observation_of, RanScript, RanWhole, DiskFailed, RanOutOfMemory}
 use Rattle.program_call.specs.Answers.{MeetsNoDamage, RunsScript}
 use Rattle.run_execution.specs.Ends.{IsAccepted}
-use Rattle.program_call.proofs.Endings.{AtStatus, AtWhole, AtFault, AtSinkFault, AtNotEmpty}
+use Rattle.program_call.proofs.Endings.{AtStatus, AtWhole, AtFault, AtSinkFault, AtNotEmpty, AtDamage}
 
 not_some : (xs : List ℕ) → xs ≡ [] → 0 < length xs → ⊥
 not_some xs e some = let a : length xs ≡ 0 = ap length e in omega (arith, a, some)
@@ -40,14 +40,18 @@ module _ {D K : Type 0} (disk : disk.Ghosts D) (sink : sink.Ghosts K) (seen : Ob
   at_not_empty : (n : ℕ) → At n → n ≡ 7 → AtNotEmpty seen (disk.faults opened) (disk.faults ended) (sink.faults before) (sink.faults after)
   at_not_empty n at is = subst At is at
 
-  at_damage : (n : ℕ) → At n → n ≡ 8 → MetDamage seen (sink.faults before) (sink.faults after)
+  at_damage : (n : ℕ) → At n → n ≡ 8 → AtDamage seen (disk.faults opened) (disk.faults ended) (sink.faults before) (sink.faults after)
   at_damage n at is = subst At is at
+
+  at_refusal : (n : ℕ) → At n → (n ≡ 7) ⊎ (n ≡ 8) → disk.faults ended ≡ disk.faults opened
+  at_refusal n at (inl is) = (at_not_empty n at is).stood
+  at_refusal n at (inr is) = (at_damage n at is).stood
 
   at_accepted : (n : ℕ) → At n → (n ≡ 0) ⊎ (n ≡ 5) → IsAccepted seen.start seen.mode seen.opened
   at_accepted n at (inl is) = (at_whole n at is).accepted
   at_accepted n at (inr is) = (at_sink_fault n at is).accepted
 
--- at a status that comes with so much
+-- what is known at the status gives all that is promised
 pub runs_script : {D K : Type 0} (disk : disk.Ghosts D) (sink : sink.Ghosts K) (says : Script → Type 0) (form : Form) (options : Options) (start : LogStart) (mode : Mode) (opened ended : D) (before after : K) (n : ℕ)
     → AtStatus (observation_of disk sink says form options start mode opened ended before after) (disk.faults opened) (disk.faults ended) (sink.faults before) (sink.faults after) n
     → RunsScript disk sink (observation_of disk sink says form options start mode opened ended before after) opened ended before after n
@@ -60,8 +64,9 @@ runs_script disk sink says form options start mode opened ended before after n a
       not_empty = λ e. let told = at_not_empty disk sink seen opened ended before after n at e in (told.plain, told.len, told.some, told.of_disk, told.says);
       as_before = λ e. (at_not_empty disk sink seen opened ended before after n at e).as_before;
       empty = λ plain. empty_so (disk.told opened) n (λ e. (at_whole disk sink seen opened ended before after n at e).empty plain) (λ e. (at_sink_fault disk sink seen opened ended before after n at e).empty plain);
-      damaged = λ e. at_damage disk sink seen opened ended before after n at e;
+      damaged = λ e. (at_damage disk sink seen opened ended before after n at e).met;
       accepted = λ e. at_accepted disk sink seen opened ended before after n at e;
+      no_disk_fault = λ e. at_refusal disk sink seen opened ended before after n at e;
       ran = λ e. (at_whole disk sink seen opened ended before after n at e).whole;
       ran_to_fault = λ e. (at_fault disk sink seen opened ended before after n at e).told;
       ran_to_sink_fault = λ e. (at_sink_fault disk sink seen opened ended before after n at e).front;
@@ -73,7 +78,7 @@ not_refused : (start : LogStart) (found len : ℕ) → start ≡ New → 0 < len
 not_refused start found len plain some is (inl none) = omega (arith, some, is, none)
 not_refused start found len plain some is (inr other) = other plain
 
--- where no device fails a run over such a log ends well, lack of memory aside
+-- where no device fails, a run over such a log ends well, unless memory runs out
 completes_so : (told : Option Disk) (start : LogStart) (n : ℕ) (Says : ℕ → Type 0) → (n ≡ 0) ⊎ (n ≡ 3) ⊎ (n ≡ 5) ⊎ (n ≡ 6) ⊎ (n ≡ 7) ⊎ (n ≡ 8) → (n ≡ 3 → ⊥) → (n ≡ 5 → ⊥) → (n ≡ 8 → ⊥)
     → (n ≡ 7 → (start ≡ New) × (len : ℕ) × (0 < len) × IfSome told (λ d. length d.content ≡ len) × Says len)
     → IfSome told (λ d. (length d.content ≡ 0) ⊎ (start ≢ New) → (n ≡ 0) ⊎ (n ≡ 6))
@@ -87,17 +92,17 @@ completes_so (Some d) start n Says (inr (inr (inr (inr (inl e))))) not_3 not_5 n
     λ fit. absurd (let seven = at_7 e in not_refused start (length d.content) seven.1 seven.0 seven.2 seven.3 fit)
 
 pub completes : {D K : Type 0} (disk : disk.Ghosts D) (sink : sink.Ghosts K) (seen : Observation) (opened ended : D) (before after : K) (n : ℕ) → RunsScript disk sink seen opened ended before after n
-    → (n ≡ 0) ⊎ (n ≡ 3) ⊎ (n ≡ 5) ⊎ (n ≡ 6) ⊎ (n ≡ 7) ⊎ (n ≡ 8) → Stood (sink.faults before) (sink.faults after) → Stood (disk.faults opened) (disk.faults ended) → MeetsNoDamage seen.start seen.mode seen.opened
+    → (n ≡ 0) ⊎ (n ≡ 3) ⊎ (n ≡ 5) ⊎ (n ≡ 6) ⊎ (n ≡ 7) ⊎ (n ≡ 8) → NoFault (sink.faults before) (sink.faults after) → NoFault (disk.faults opened) (disk.faults ended) → MeetsNoDamage seen.start seen.mode seen.opened
     → IfSome (disk.told opened) (λ d. (length d.content ≡ 0) ⊎ (seen.start ≢ New) → (n ≡ 0) ⊎ (n ≡ 6))
-completes disk sink seen opened ended before after n runs one sink_stood disk_stood no_damage =
-    completes_so (disk.told opened) seen.start n _ one (λ e. disk_stood (runs.disk_failed e)) (λ e. sink_stood (runs.sink_failed e)) (λ e. let met = runs.damaged e in no_damage met.at met.why met.damaged) runs.not_empty
+completes disk sink seen opened ended before after n runs one sink_stood no_disk_fault no_damage =
+    completes_so (disk.told opened) seen.start n _ one (λ e. no_disk_fault (runs.disk_failed e)) (λ e. sink_stood (runs.sink_failed e)) (λ e. let met = runs.damaged e in no_damage met.at met.why met.damaged) runs.not_empty
 
--- and so one over an empty log
+-- what holds over such a log holds over an empty one
 pub over_empty : (told : Option Disk) (A B : Type 0) → IfSome told (λ d. (length d.content ≡ 0) ⊎ A → B) → IfSome told (λ d. length d.content ≡ 0 → B)
 over_empty None A B ends = tt
 over_empty (Some d) A B ends = λ none. ends (inl none)
 
--- What says more of a script says it of the one that was run.
+-- If what a call says of a script gives a further statement, this one holds of the script that was run.
 module _ (seen : Observation) (says : Script → Type 0) (tells : (s : Script) → seen.says s → says s) where
   abbrev retold : Observation
   retold = record { says = says; form = seen.form; start = seen.start; mode = seen.mode; before = seen.before; after = seen.after; opened = seen.opened; ended = seen.ended; execution = seen.execution }
@@ -126,10 +131,10 @@ module _ (seen : Observation) (says : Script → Type 0) (tells : (s : Script) �
   })
   disk_failed failed fails kf kfs (inr r) = inr (record { outcome = r.outcome; ran = ran_script r.outcome r.ran; printed = r.printed; fault = r.fault })
 
-  ran_out : RanOutOfMemory seen → RanOutOfMemory retold
-  ran_out (inl r) = inl (record { untouched = r.untouched; silent = r.silent })
-  ran_out (inr (inl r)) = inr (inl (record { outcome = r.outcome; ran = ran_script r.outcome r.ran; silent = r.silent }))
-  ran_out (inr (inr r)) = inr (inr (record { outcome = r.outcome; ran = ran_script r.outcome r.ran; printed = r.printed; no_fault = r.no_fault; short = r.short }))
+  ran_out : (failed fails : ℕ) → RanOutOfMemory seen failed fails → RanOutOfMemory retold failed fails
+  ran_out failed fails (inl r) = inl (record { untouched = r.untouched; counted = r.counted; silent = r.silent })
+  ran_out failed fails (inr (inl r)) = inr (inl (record { outcome = r.outcome; ran = ran_script r.outcome r.ran; silent = r.silent }))
+  ran_out failed fails (inr (inr r)) = inr (inr (record { outcome = r.outcome; ran = ran_script r.outcome r.ran; printed = r.printed; no_fault = r.no_fault; short = r.short }))
 
   pub runs_retold : {D K : Type 0} (disk : disk.Ghosts D) (sink : sink.Ghosts K) (opened ended : D) (before after : K) (n : ℕ) → RunsScript disk sink seen opened ended before after n
       → RunsScript disk sink retold opened ended before after n
@@ -142,8 +147,9 @@ module _ (seen : Observation) (says : Script → Type 0) (tells : (s : Script) �
     empty = runs.empty;
     damaged = λ e. let met = runs.damaged e in record { at = met.at; why = met.why; damaged = met.damaged; untouched = met.untouched; refused = met.refused };
     accepted = runs.accepted;
+    no_disk_fault = runs.no_disk_fault;
     ran = λ e. ran_whole (runs.ran e);
     ran_to_fault = λ e. disk_failed _ _ _ _ (runs.ran_to_fault e);
     ran_to_sink_fault = λ e. let r = runs.ran_to_sink_fault e in record { outcome = r.outcome; ran = ran_script r.outcome r.ran; printed = r.printed };
-    out_of_memory = λ e. ran_out (runs.out_of_memory e);
+    out_of_memory = λ e. ran_out _ _ (runs.out_of_memory e);
   }

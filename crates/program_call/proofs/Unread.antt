@@ -1,4 +1,4 @@
--- No script was read, or no schedule: what stands printed where the source failed.
+-- No script was read, or no schedule: what is printed then, also where the source failed.
 use Rattle.std.proofs.Common.{◌≡◌, ◌≢◌, ◌⊎◌, inl, inr, ⊎_elim, ℕ, List, length, Option, Some, None, Ok, IfSome, le_trans, ap, ◌∙◌, arith}
 use Rattle.base_devices.specs.Disk.{Disk}
 use Rattle.model_base.specs.Counts.{Rose}
@@ -13,35 +13,41 @@ use Rattle.program_call.specs.declared.reading.ReadError.TheVariants as read
 use Rattle.program_call.specs.declared.report.Status.{Status}
 use Rattle.model_core.specs.Schedule.{Schedule, schedule_of}
 use Rattle.run_scripts.specs.ReplayLanguage.{replay_grammar, event_words}
-use Rattle.program_call.specs.Reading.{IsScriptError, IsScheduleError}
-use Rattle.program_call.specs.Texts.{SaysTo, Stood}
+use Rattle.program_call.specs.Reading.{IsScriptError, IsScheduleError, CountStays}
+use Rattle.program_call.specs.Texts.{SaysTo, NoFault}
 use Rattle.program_call.specs.Reports.{code, TellsReadError}
 use Rattle.program_call.proofs.Refusing.{refused_as}
 
--- whatever is said of an error, if a fault of it was reached in the call
+-- at 4 the source failed, and a refusal that says so was printed, if `Why` gives that the fault's count was reached in
+-- the call
 pub source_failed : (Why : ReadError → Type 0) (failed fails : ℕ) → ((count : ℕ) → Why (read.Fault count) → IsReached failed count fails)
     → (sold snew : Option (List ℕ)) (kf kfs n : ℕ) (given : Status) → n ≡ code given → (why : ReadError) → Why why → TellsReadError sold snew kf kfs why given
     → n ≡ 4 → Rose failed fails × ((count : ℕ) × IsReached failed count fails × SaysTo sold snew (source_fault count) kf kfs)
 source_failed Why failed fails reached sold snew kf kfs n given is (read.Fault count) error tells four =
-    let at = reached count error in
-    ⊎_elim (λ said. (le_trans at.0 at.1, (count, at, said.1))) (λ none. absurd (let a = none.0 in omega (arith, a, four))) (refused_as sold snew kf kfs _ _ given n is tells)
+    let at = reached count error in (le_trans at.0 at.1, (count, at, tells.1))
 source_failed Why failed fails reached sold snew kf kfs n given is (read.Script line kind) error tells four =
     ⊎_elim (λ said. absurd (let a = said.0 in omega (arith, a, four))) (λ none. absurd (let a = none.0 in omega (arith, a, four))) (refused_as sold snew kf kfs _ _ given n is tells)
 source_failed Why failed fails reached sold snew kf kfs n given is read.NoMemory error tells four = absurd (let a : n ≡ 6 = is ∙ ap code tells.0 in omega (arith, a, four))
 
--- and if the text isn't one, its fault was said
+-- at 2 the text's fault was printed
 pub fault_said : (Why : ReadError → Type 0) (Is : Fault → Type 0) → ((line : ℕ) (kind : ScriptFault) → Why (read.Script line kind) → Is (record { line = line; kind = kind }))
     → (sold snew : Option (List ℕ)) (kf kfs n : ℕ) (given : Status) → n ≡ code given → (why : ReadError) → Why why → TellsReadError sold snew kf kfs why given
     → n ≡ 2 → (f : Fault) × Is f × SaysTo sold snew (script_fault f) kf kfs
-fault_said Why Is first sold snew kf kfs n given is (read.Fault count) error tells two =
-    ⊎_elim (λ said. absurd (let a = said.0 in omega (arith, a, two))) (λ none. absurd (let a = none.0 in omega (arith, a, two))) (refused_as sold snew kf kfs _ _ given n is tells)
+fault_said Why Is first sold snew kf kfs n given is (read.Fault count) error tells two = absurd (let a : n ≡ 4 = is ∙ ap code tells.0 in omega (arith, a, two))
 fault_said Why Is first sold snew kf kfs n given is (read.Script line kind) error tells two =
     ⊎_elim (λ said. (record { line = line; kind = kind }, first line kind error, said.1)) (λ none. absurd (let a = none.0 in omega (arith, a, two))) (refused_as sold snew kf kfs _ _ given n is tells)
 fault_said Why Is first sold snew kf kfs n given is read.NoMemory error tells two = absurd (let a : n ≡ 6 = is ∙ ap code tells.0 in omega (arith, a, two))
 
--- where no device failed, no script was read for lack of memory alone, if the text is one
+-- at each other status than 4 the source has counted no fault
+pub unread_stood : (failed fails kf kfs n : ℕ) (sold snew : Option (List ℕ)) (given : Status) → n ≡ code given → (why : ReadError) → CountStays failed fails why → TellsReadError sold snew kf kfs why given
+    → n ≢ 4 → fails ≡ failed
+unread_stood failed fails kf kfs n sold snew given is (read.Fault count) stood tells other = absurd (other (is ∙ ap code tells.0))
+unread_stood failed fails kf kfs n sold snew given is (read.Script line kind) stood tells other = stood
+unread_stood failed fails kf kfs n sold snew given is read.NoMemory stood tells other = stood
+
+-- where the source didn't fail and the text is a script, it was left unread only because there was no memory
 pub unread_completes : (left : Option (List ℕ)) (told : Option Disk) (start : LogStart) (failed fails kf kfs n : ℕ) (sold snew : Option (List ℕ)) (given : Status) → n ≡ code given → (why : ReadError)
-    → IsScriptError left failed fails why → TellsReadError sold snew kf kfs why given → Stood failed fails
+    → IsScriptError left failed fails why → TellsReadError sold snew kf kfs why given → NoFault failed fails
     → IfSome left (λ text. IfSome told (λ d. (script : Script) → script_of whole_grammar text ≡ Ok script → (length d.content ≡ 0) ⊎ (start ≢ New) → (n ≡ 0) ⊎ (n ≡ 6)))
 unread_completes None told start failed fails kf kfs n sold snew given is why error tells stood = tt
 unread_completes (Some text) None start failed fails kf kfs n sold snew given is why error tells stood = tt
@@ -49,9 +55,9 @@ unread_completes (Some text) (Some d) start failed fails kf kfs n sold snew give
 unread_completes (Some text) (Some d) start failed fails kf kfs n sold snew given is (read.Script line kind) error tells stood = λ script said fit. absurd (cc (error, said))
 unread_completes (Some text) (Some d) start failed fails kf kfs n sold snew given is read.NoMemory error tells stood = λ script said fit. inr (is ∙ ap code tells.0)
 
--- the same of a schedule
+-- the same where the text is a script with a schedule
 pub unread_schedule_completes : (left : Option (List ℕ)) (failed fails kf kfs n : ℕ) (sold snew : Option (List ℕ)) (given : Status) → n ≡ code given → (why : ReadError)
-    → IsScheduleError left failed fails why → TellsReadError sold snew kf kfs why given → Stood failed fails
+    → IsScheduleError left failed fails why → TellsReadError sold snew kf kfs why given → NoFault failed fails
     → IfSome left (λ text. (schedule : Schedule) → schedule_of replay_grammar event_words text ≡ Ok schedule → (n ≡ 0) ⊎ (n ≡ 6))
 unread_schedule_completes None failed fails kf kfs n sold snew given is why error tells stood = tt
 unread_schedule_completes (Some text) failed fails kf kfs n sold snew given is (read.Fault count) error tells stood = λ schedule said. absurd (stood (le_trans error.0 error.1))
@@ -60,7 +66,7 @@ unread_schedule_completes (Some text) failed fails kf kfs n sold snew given is r
 
 -- the status where nothing was read is none of those at which something was run
 unread_status : (kf kfs n : ℕ) (sold snew : Option (List ℕ)) (given : Status) → n ≡ code given → (why : ReadError) → TellsReadError sold snew kf kfs why given → (n ≡ 2) ⊎ (n ≡ 4) ⊎ (n ≡ 6)
-unread_status kf kfs n sold snew given is (read.Fault count) tells = ⊎_elim (λ said. inr (inl said.0)) (λ lacks. inr (inr lacks.0)) (refused_as sold snew kf kfs _ _ given n is tells)
+unread_status kf kfs n sold snew given is (read.Fault count) tells = inr (inl (is ∙ ap code tells.0))
 unread_status kf kfs n sold snew given is (read.Script line kind) tells = ⊎_elim (λ said. inl said.0) (λ lacks. inr (inr lacks.0)) (refused_as sold snew kf kfs _ _ given n is tells)
 unread_status kf kfs n sold snew given is read.NoMemory tells = inr (inr (is ∙ ap code tells.0))
 

@@ -1,6 +1,6 @@
 -- What the commands that run a script promise: every reply that is printed is that of a plain map at its point of one
--- printed history. Each device tells its bytes, or it doesn't (`None`). What is said of one stands whatever the others
--- tell.
+-- printed history. Each device tells its bytes, or it doesn't (`None`). What is said of one device holds whatever the
+-- others tell.
 use Rattle.std.specs.Prelude.{◌≡◌, ◌⊎◌, ℕ, List, Option, Some, None, Ok, IfSome, IsSome, slice_get}
 use Rattle.std.specs.List.{AllByRecursion}
 use Rattle.std.specs.Io.KnownBytes.{Appends}
@@ -24,20 +24,22 @@ use Rattle.program_call.specs.Reports.{text_of}
 use Rattle.program_call.specs.Texts.{SaysTo, TakesPrefix}
 
 -- The outcome of a run: it is legal, and the log was written by just the calls that wrote its history's groups. Where
--- the disk tells its bytes the run found the log empty, or wrote one with a number over what stood there, or one behind
--- what it recovered, and left the batches of this outcome there; and a crash at any moment of it leaves a prefix to
--- recover, of them or of what it went on from and then of them.
+-- the log has no fault, the disk has counted none in the run. Where the disk tells its bytes, the run found the log
+-- empty, or wrote one with a number over what was there, or went on after what the log recovered; and it left the
+-- batches of this outcome there. A crash at any moment of the run leaves a prefix to recover: of these batches, or of
+-- what the run went on from, followed by these batches.
 pub record IsOutcome (execution : Execution) (opened ended : Option Disk) (o : calls.Outcome) : Type 0 where
   pub run : IsRunOf execution o
+  pub counted : o.fault ≡ None → execution.ended ≡ execution.settings.opened
   pub log : Told opened ended (LeavesSafeLog execution o run)
 
--- where the log has no fault commits were refused for themselves alone
+-- where the log has no fault, commits were refused only for causes of their own
 abbrev pub RefusesForThemselves : calls.Outcome → Type 0
 RefusesForThemselves o = o.fault ≡ None → AllByRecursion AreRefusedForThemselves o.transcripts
 
--- Which script was to be run, how an outcome is printed, how the log was to be opened, and which ends its recovery was
--- to accept, what the devices tell of the call, where they do, and how a script is run there that goes on from
--- something
+-- What is known of a call: which script it should run, how it prints the outcome, how it should open the log, which
+-- ends the log's recovery should accept, what the devices tell of the call, where they do, and the execution there of
+-- a script that goes on from something
 pub record Observation : Type 1 where
   pub says : Script → Type 0
   pub form : Form
@@ -65,7 +67,7 @@ observation_of disk sink says form options start mode opened ended before after 
   execution = λ script from. execution_on disk options start from script opened ended;
 }
 
--- the script of a text, where it is told
+-- the script is that of the text, if the text is told
 abbrev pub SaysScript : Option (List ℕ) → Script → Type 0
 SaysScript text script = IfSome text (λ t. script_of whole_grammar t ≡ Ok script)
 
@@ -88,7 +90,7 @@ pub record LacksMemory (o : calls.Outcome) : Type 0 where
   pub reply : call.reply ≡ calls.no_memory
 
 module _ (seen : Observation) where
-  -- A script was run, which went on from what its log was to go on from, and this is its outcome.
+  -- A script was run, it went on from what its log should go on from, and this is its outcome.
   pub record RanScript (o : calls.Outcome) : Type 0 where
     pub script : Script
     pub said : seen.says script
@@ -97,7 +99,7 @@ module _ (seen : Observation) where
     pub is_outcome : IsOutcome (seen.execution script before) seen.opened seen.ended o
     pub refusals : RefusesForThemselves o
 
-  -- status 0: it was printed, no write of the log failed, and no client ran out of memory
+  -- status 0: the outcome was printed, no write of the log failed, and no client ran out of memory
   pub record RanWhole : Type 0 where
     pub outcome : calls.Outcome
     pub ran : RanScript outcome
@@ -105,14 +107,14 @@ module _ (seen : Observation) where
     pub no_fault : outcome.fault ≡ None
     pub whole : AllByRecursion NoneWithoutMemory outcome.transcripts
 
-  -- status 3, where the log was opened: it was printed, and a write of the log failed
+  -- status 3, where the log was opened: the outcome was printed, and a write of the log failed
   pub record RanToFault : Type 0 where
     pub outcome : calls.Outcome
     pub ran : RanScript outcome
     pub printed : Appends seen.before seen.after (text_of seen.form outcome)
     pub fault : IsSome outcome.fault
 
-  -- and where it wasn't: the disk is as it was found
+  -- status 3, where the log wasn't opened: the disk is as it was found
   pub record DiskRefused (failed fails sink_failed sink_fails : ℕ) : Type 0 where
     pub script : Script
     pub said : seen.says script
@@ -121,17 +123,17 @@ module _ (seen : Observation) where
     pub untouched : IsAsFound seen.start seen.opened seen.ended
     pub refused : SaysTo seen.before seen.after (disk_fault count) sink_failed sink_fails
 
-  -- status 3
+  -- status 3, in either case
   abbrev pub DiskFailed : ℕ → ℕ → ℕ → ℕ → Type 0
   DiskFailed failed fails sink_failed sink_fails = DiskRefused failed fails sink_failed sink_fails ⊎ RanToFault
 
-  -- status 5: a prefix of it was taken
+  -- status 5: the sink took a prefix of the outcome's text
   pub record RanToSinkFault : Type 0 where
     pub outcome : calls.Outcome
     pub ran : RanScript outcome
     pub printed : TakesPrefix seen.before seen.after (text_of seen.form outcome)
 
-  -- status 8: the log was to go on, and the mode doesn't accept where its recovery ends
+  -- status 8: the log should go on, but the mode doesn't accept where its recovery ends
   pub record MetDamage (sink_failed sink_fails : ℕ) : Type 0 where
     pub at : ℕ
     pub why : EndReason
@@ -139,18 +141,19 @@ module _ (seen : Observation) where
     pub untouched : seen.ended ≡ seen.opened
     pub refused : SaysTo seen.before seen.after (damage at why) sink_failed sink_fails
 
-  -- status 6: nothing was run or printed, and the disk is as it was found
-  pub record RanNothing : Type 0 where
+  -- status 6: nothing was run or printed. The disk is as it was found, and has counted no fault.
+  pub record RanNothing (failed fails : ℕ) : Type 0 where
     pub untouched : IsAsFound seen.start seen.opened seen.ended
+    pub counted : fails ≡ failed
     pub silent : seen.after ≡ seen.before
 
-  -- or a script was run, and there was no memory for its outcome, or for the text
+  -- status 6 too: a script was run, and there was no memory for its outcome, or for the text
   pub record RanSilent : Type 0 where
     pub outcome : calls.Outcome
     pub ran : RanScript outcome
     pub silent : seen.after ≡ seen.before
 
-  -- or its outcome was printed, and a client alone ran out of memory
+  -- status 6 too: the outcome was printed, and only clients' calls found no memory
   pub record RanShort : Type 0 where
     pub outcome : calls.Outcome
     pub ran : RanScript outcome
@@ -158,5 +161,5 @@ module _ (seen : Observation) where
     pub no_fault : outcome.fault ≡ None
     pub short : LacksMemory outcome
 
-  abbrev pub RanOutOfMemory : Type 0
-  RanOutOfMemory = RanNothing ⊎ RanSilent ⊎ RanShort
+  abbrev pub RanOutOfMemory : ℕ → ℕ → Type 0
+  RanOutOfMemory failed fails = RanNothing failed fails ⊎ RanSilent ⊎ RanShort

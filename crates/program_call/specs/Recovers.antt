@@ -7,10 +7,10 @@ use Rattle.log_recovery.specs.declared.modes.Mode.{Mode}
 use Rattle.log_recovery.specs.Modes.{Accepts}
 use Rattle.program_call.specs.Texts.{Prints, PrintsFront}
 
--- the sink's bytes before and after a call, and the disk, where they are told
-abbrev pub TellsDisk : Option (List ℕ) → Option (List ℕ) → Option Disk → (List ℕ → List ℕ → Disk → Type 0) → Type 0
-TellsDisk (Some before) (Some after) (Some disk) P = P before after disk
-TellsDisk before after disk P = ⊤
+-- `P` holds of the sink's bytes before and after a call, and of the disk, where all these are told
+abbrev pub WhereAllTold : Option (List ℕ) → Option (List ℕ) → Option Disk → (List ℕ → List ℕ → Disk → Type 0) → Type 0
+WhereAllTold (Some before) (Some after) (Some disk) P = P before after disk
+WhereAllTold before after disk P = ⊤
 
 -- status 0: the text of what the file recovers, as a log with this number or with none, was printed, and the mode
 -- accepts its end
@@ -20,7 +20,7 @@ pub record Recovers (number : Option ℕ) (mode : Mode) (before after file : Lis
   pub accepted : Accepts number mode file recovered.at recovered.why
   pub printed : Prints before after (recovered_text recovered)
 
--- status 5: a front of it was taken
+-- status 5: the sink took a prefix of this text
 pub record RecoversFront (number : Option ℕ) (mode : Mode) (before after file : List ℕ) : Type 0 where
   pub recovered : Recovered
   pub is_recovered : IsRecovered number file recovered

@@ -1,4 +1,4 @@
--- What is printed of each way to end, and the status that it has.
+-- What is printed for each way to end a call, and with which status.
 use Rattle.std.specs.Prelude.{◌≡◌, ◌⊎◌, ℕ, true, false, List, take, Option, None, IsSome, is_some, if◌then◌else◌, Result, Ok, Err}
 use Rattle.std.specs.Io.KnownBytes.{Appends}
 use Rattle.model_base.specs.Counts.{Rose}
@@ -30,28 +30,33 @@ use Rattle.run_outcome.specs.Shows.{ShowsOutcome, ran_short}
 use Rattle.program_call.specs.Texts.{SaysTo}
 use Rattle.program_text.specs.Refusals.{damage, script_fault, source_fault, disk_fault, not_empty}
 
--- the refusal's text was printed, or there was no memory for it and nothing was
+-- the refusal's text was printed, and the status goes with it
+abbrev pub PrintsRefusal : Option (List ℕ) → Option (List ℕ) → ℕ → ℕ → List ℕ → Status → Status → Type 0
+PrintsRefusal old new failed fails text wanted given = (given ≡ wanted) × SaysTo old new text failed fails
+
+-- the refusal's text was printed, or there was no memory for it and nothing was printed
 abbrev pub Refuses : Option (List ℕ) → Option (List ℕ) → ℕ → ℕ → List ℕ → Status → Status → Type 0
-Refuses old new failed fails text wanted given = ((given ≡ wanted) × SaysTo old new text failed fails)
-    ⊎ ((given ≡ status.Memory) × (new ≡ old))
+Refuses old new failed fails text wanted given =
+    PrintsRefusal old new failed fails text wanted given ⊎ ((given ≡ status.Memory) × (new ≡ old))
 
 abbrev pub TellsReadError : Option (List ℕ) → Option (List ℕ) → ℕ → ℕ → ReadError → Status → Type 0
 TellsReadError old new failed fails (read.Fault count) given =
-    Refuses old new failed fails (source_fault count) status.Source given
+    PrintsRefusal old new failed fails (source_fault count) status.Source given
 TellsReadError old new failed fails (read.Script line kind) given =
     Refuses old new failed fails (script_fault (record { line = line; kind = kind })) status.Script given
 TellsReadError old new failed fails read.NoMemory given = (given ≡ status.Memory) × (new ≡ old)
 
--- The status of an outcome's text. At 0 the sink counted no fault; at 5 it failed, and a front of it was taken; at 3
+-- The status of an outcome's text. At 0 the sink counted no fault; at 5 it failed, and took a prefix of the text; at 3
 -- the log has a fault; at 6 there was no memory for the text, or for a client
-abbrev pub EndsSo : Option (List ℕ) → Option (List ℕ) → ℕ → ℕ → Outcome Pairs → List ℕ → Status → Type 0
-EndsSo old new failed fails shown text status.Done = Appends old new text × (shown.fault ≡ None)
+abbrev pub EndsWithOutcome : Option (List ℕ) → Option (List ℕ) → ℕ → ℕ → Outcome Pairs → List ℕ → Status → Type 0
+EndsWithOutcome old new failed fails shown text status.Done = Appends old new text × (shown.fault ≡ None)
     × (ran_short shown ≡ false) × (fails ≡ failed)
-EndsSo old new failed fails shown text status.Disk = Appends old new text × IsSome shown.fault
-EndsSo old new failed fails shown text status.Sink = Rose failed fails × (n : ℕ) × Appends old new (take n text)
-EndsSo old new failed fails shown text status.Memory = (new ≡ old)
+EndsWithOutcome old new failed fails shown text status.Disk = Appends old new text × IsSome shown.fault
+EndsWithOutcome old new failed fails shown text status.Sink = Rose failed fails × (n : ℕ)
+    × Appends old new (take n text)
+EndsWithOutcome old new failed fails shown text status.Memory = (new ≡ old)
     ⊎ (Appends old new text × (shown.fault ≡ None) × (ran_short shown ≡ true))
-EndsSo old new failed fails shown text other = ⊥
+EndsWithOutcome old new failed fails shown text other = ⊥
 
 -- the status of an outcome that was printed whole
 abbrev pub ran_status : Outcome Pairs → Status
@@ -62,14 +67,14 @@ abbrev pub text_of : Form → calls.Outcome → List ℕ
 text_of form.Whole o = model.outcome_text o
 text_of form.Summary o = summary_text o
 
--- whatever outcome the values show, whose entries are a history
+-- the status is right for whatever outcome the values show, if its entries are a history
 abbrev pub TellsOutcome : Form → Option (List ℕ) → Option (List ℕ) → ℕ → ℕ → Outcome Pairs → Status → Type 0
 TellsOutcome form old new failed fails shown given = (o : calls.Outcome) (start : ℕ) → IsHistory start o.history
-    → ShowsOutcome shown o → EndsSo old new failed fails shown (text_of form o) given
+    → ShowsOutcome shown o → EndsWithOutcome old new failed fails shown (text_of form o) given
 
 abbrev pub TellsEnd : Form → Option (List ℕ) → Option (List ℕ) → ℕ → ℕ → RunEnd → Status → Type 0
 TellsEnd form old new failed fails (end.DiskFault count) given =
-    Refuses old new failed fails (disk_fault count) status.Disk given
+    PrintsRefusal old new failed fails (disk_fault count) status.Disk given
 TellsEnd form old new failed fails (end.NotEmpty len) given =
     Refuses old new failed fails (not_empty len) status.NotEmpty given
 TellsEnd form old new failed fails (end.Damage at why) given =
@@ -78,51 +83,51 @@ TellsEnd form old new failed fails end.NoMemory given = (given ≡ status.Memory
 TellsEnd form old new failed fails end.NoOutcome given = (given ≡ status.Memory) × (new ≡ old)
 TellsEnd form old new failed fails (end.Ran shown) given = TellsOutcome form old new failed fails shown given
 
--- the text of whatever recovery the values show
+-- the text is that of whatever recovery the values show
 abbrev pub IsTextOf : Recovered → List ℕ → Type 0
 IsTextOf shown text = (r : recovery.Recovered) → ShowsRecovered shown r → text ≡ model.recovered_text r
 
--- The status of a recovery's text. At 0 the sink counted no fault; at 5 it failed, and a front of it was taken; at 6
--- there was no memory for it.
-abbrev pub ShownEndsSo : Option (List ℕ) → Option (List ℕ) → ℕ → ℕ → Recovered → Status → Type 0
-ShownEndsSo old new failed fails shown status.Done = (text : List ℕ) × IsTextOf shown text × Appends old new text
+-- The status of a recovery's text. At 0 the sink counted no fault; at 5 it failed, and took a prefix of the text; at 6
+-- there was no memory for the text.
+abbrev pub EndsWithRecovery : Option (List ℕ) → Option (List ℕ) → ℕ → ℕ → Recovered → Status → Type 0
+EndsWithRecovery old new failed fails shown status.Done = (text : List ℕ) × IsTextOf shown text × Appends old new text
     × (fails ≡ failed)
-ShownEndsSo old new failed fails shown status.Sink = Rose failed fails × (text : List ℕ) × IsTextOf shown text × (n : ℕ)
-    × Appends old new (take n text)
-ShownEndsSo old new failed fails shown status.Memory = new ≡ old
-ShownEndsSo old new failed fails shown other = ⊥
+EndsWithRecovery old new failed fails shown status.Sink = Rose failed fails × (text : List ℕ) × IsTextOf shown text
+    × (n : ℕ) × Appends old new (take n text)
+EndsWithRecovery old new failed fails shown status.Memory = new ≡ old
+EndsWithRecovery old new failed fails shown other = ⊥
 
 abbrev pub TellsRecoverError : Option (List ℕ) → Option (List ℕ) → ℕ → ℕ → RecoverError → Status → Type 0
 TellsRecoverError old new failed fails (none.Fault count) given =
-    Refuses old new failed fails (disk_fault count) status.Disk given
+    PrintsRefusal old new failed fails (disk_fault count) status.Disk given
 TellsRecoverError old new failed fails none.NoMemory given = (given ≡ status.Memory) × (new ≡ old)
 TellsRecoverError old new failed fails (none.Damage at why) given =
     Refuses old new failed fails (damage at why) status.Damage given
 
 abbrev pub TellsRecovery : Option (List ℕ) → Option (List ℕ) → ℕ → ℕ → Result Recovered RecoverError → Status → Type 0
-TellsRecovery old new failed fails (Ok shown) given = ShownEndsSo old new failed fails shown given
+TellsRecovery old new failed fails (Ok shown) given = EndsWithRecovery old new failed fails shown given
 TellsRecovery old new failed fails (Err why) given = TellsRecoverError old new failed fails why given
 
--- the text of whatever a schedule came to that the values show
+-- the text is that of whatever result of a schedule the values show
 abbrev pub IsReplayText : Replayed → List ℕ → Type 0
 IsReplayText shown text = (r : core.Replayed) → ShowsReplayed shown r → text ≡ replay_text r
 
--- The status of a schedule's text. At 0 the sink counted no fault; at 5 it failed, and a front of it was taken; at 6
--- there was no memory for it.
-abbrev pub ReplayEndsSo : Option (List ℕ) → Option (List ℕ) → ℕ → ℕ → Replayed → Status → Type 0
-ReplayEndsSo old new failed fails shown status.Done = (text : List ℕ) × IsReplayText shown text × Appends old new text
+-- The status of a schedule's text. At 0 the sink counted no fault; at 5 it failed, and took a prefix of the text; at 6
+-- there was no memory for the text.
+abbrev pub EndsWithReplay : Option (List ℕ) → Option (List ℕ) → ℕ → ℕ → Replayed → Status → Type 0
+EndsWithReplay old new failed fails shown status.Done = (text : List ℕ) × IsReplayText shown text × Appends old new text
     × (fails ≡ failed)
-ReplayEndsSo old new failed fails shown status.Sink = Rose failed fails × (text : List ℕ) × IsReplayText shown text
+EndsWithReplay old new failed fails shown status.Sink = Rose failed fails × (text : List ℕ) × IsReplayText shown text
     × (n : ℕ) × Appends old new (take n text)
-ReplayEndsSo old new failed fails shown status.Memory = new ≡ old
-ReplayEndsSo old new failed fails shown other = ⊥
+EndsWithReplay old new failed fails shown status.Memory = new ≡ old
+EndsWithReplay old new failed fails shown other = ⊥
 
--- there was no memory for the schedule itself, or so
+-- the status of a schedule's text, or there was no memory for the result itself
 abbrev pub TellsReplay : Option (List ℕ) → Option (List ℕ) → ℕ → ℕ → Result Replayed NoMemory → Status → Type 0
-TellsReplay old new failed fails (Ok shown) given = ReplayEndsSo old new failed fails shown given
+TellsReplay old new failed fails (Ok shown) given = EndsWithReplay old new failed fails shown given
 TellsReplay old new failed fails (Err why) given = (given ≡ status.Memory) × (new ≡ old)
 
--- its number
+-- a status's number
 abbrev pub code : Status → ℕ
 code status.Done = 0
 code status.Usage = 1

@@ -1,25 +1,25 @@
--- What stands printed when a call has ended.
+-- What is printed when a call has ended.
 use Rattle.std.specs.Prelude.{◌≡◌, ◌⊎◌, ℕ, List, ◌++◌, take, Option, Some, None, ⊤}
 use Rattle.std.specs.Io.KnownBytes.{Appends}
 use Rattle.model_base.specs.Counts.{Rose}
 
--- a count of faults stands, or stood at its greatest value before
-abbrev pub Stood : ℕ → ℕ → Type 0
-Stood before now = Rose before now → ⊥
+-- a count of faults didn't rise, and is below the greatest u64
+abbrev pub NoFault : ℕ → ℕ → Type 0
+NoFault before now = Rose before now → ⊥
 
--- after what stood there before, the text
+-- the text was printed after what was there before
 abbrev pub Prints : List ℕ → List ℕ → List ℕ → Type 0
 Prints before after text = after ≡ before ++ text
 
--- or a prefix of it
+-- a prefix of the text was printed
 abbrev pub PrintsFront : List ℕ → List ℕ → List ℕ → Type 0
 PrintsFront before after text = (n : ℕ) × (after ≡ before ++ take n text)
 
--- a refusal's text, of which a sink that has failed took a prefix
+-- a refusal's text was printed, or a prefix of it where the sink failed
 abbrev pub Says : List ℕ → List ℕ → List ℕ → ℕ → ℕ → Type 0
 Says before after text failed fails = Prints before after text ⊎ (Rose failed fails × PrintsFront before after text)
 
--- the same where the sink tells its bytes
+-- `Says`, where the sink tells its bytes
 abbrev pub SaysTo : Option (List ℕ) → Option (List ℕ) → List ℕ → ℕ → ℕ → Type 0
 SaysTo (Some before) (Some after) text failed fails = Says before after text failed fails
 SaysTo (Some before) None text failed fails = ⊥

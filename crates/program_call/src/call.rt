@@ -29,26 +29,26 @@ use std::rt;
 use std::sync::Wait;
 use std::thread::Threads;
 
-/// Does what the words ask for, over the log on a disk, and prints what came of it to a sink.
+/// Does what the words ask for, over the log on a disk, and prints the result to a sink.
 ///
-/// The words are the program's name, a command, and the command's options. `run` reads a script of 1 to 64 clients from
-/// the source to its end, runs each client in a thread of its own over one write path, and prints the outcome; the log
-/// must be empty. With `--number` it needn't be: then the log is written over what stands on the disk, from its start
-/// on, and its fragments have that number in their headers. The number must be one that no log on this disk had, for a
-/// reader tells what is old by its number alone. With `--resume` the log goes on, with `--number` as one that has this
-/// number: what it recovers is what the clients find there, and stands in the printed state; what recovery doesn't keep
-/// is cut off, and the new batches come behind what it keeps, in the log and in their sequences. With `--mode` it goes
-/// on only where the mode accepts the end of this recovery; without `--resume` nothing is recovered, and the mode has
-/// no effect. A commit is refused for itself where its batch is empty or larger than `--batch-bytes`, where it is to be
-/// synced without the log, where its client holds a stop token, and where no sequences are left for it; and where it
-/// has `noslow` and writes are held up. Else only a fault of the log refuses it. `gen SEED CLIENTS BATCHES` runs the
-/// script that a seed makes so too, with the usual limits and over an empty log, and prints a summary of its outcome;
-/// it doesn't look at the source. `recover` prints what the log recovers, and changes nothing; with `--number` it reads
-/// the log as one whose fragments have that number, as those that `run` writes so, and those of RocksDB that are
-/// written over older ones; with `--mode` it refuses an end that the mode doesn't accept. `replay` reads a script of 1
-/// to 64 clients and a schedule of events after it, runs the schedule on the write path's core, and prints what the
-/// clients were told, the history and the published state; it doesn't look at the disk. The disk comes back on every
-/// path.
+/// The words are the program's name, a command, and the command's options. `run` reads a script of 1 to 64 clients
+/// from the source to its end, runs each client in a thread of its own over one write path, and prints the outcome;
+/// the log must be empty. With `--number` it needn't be: then the log is written over what is on the disk, from its
+/// start on, and its fragments have that number in their headers. The number must be one that no log on this disk had,
+/// since a reader tells what is old by its number alone. With `--resume` the log goes on, with `--number` as one that
+/// has this number: the clients find what the log recovers, and the printed state has it too; what recovery doesn't
+/// keep is cut off, and the new batches come after what it keeps, in the log and in their sequences. With `--mode` it
+/// goes on only if the mode accepts the end of this recovery; without `--resume` nothing is recovered, and the mode
+/// has no effect. A commit is refused for a cause of its own where its batch is empty or larger than `--batch-bytes`,
+/// where it asks for a sync without the log, where its client holds a stop token, and where no sequences are left for
+/// it; and where it has `noslow` and writes are held up. Otherwise only a fault of the log refuses it. `gen SEED
+/// CLIENTS BATCHES` runs the script that a seed makes in the same way as `run`, with the usual limits and over an
+/// empty log, and prints a summary of its outcome; it doesn't look at the source. `recover` prints what the log
+/// recovers, and changes nothing; with `--number` it reads the log as one whose fragments have that number, as do the
+/// logs that `run` writes with it, and those of RocksDB that are written over older ones; with `--mode` it refuses an
+/// end that the mode doesn't accept. `replay` reads a script of 1 to 64 clients and a schedule of events after it,
+/// runs the schedule on the write path's core, and prints the clients' replies, the history and the published state;
+/// it doesn't look at the disk. The disk is given back however the call ends.
 ///
 /// | Option | Commands | Range | Without it | Meaning |
 /// |---|---|---|---|---|
@@ -58,7 +58,7 @@ use std::thread::Threads;
 /// | `--mode` | `run`, `recover` | `point`, `tail`, `absolute` | `point` | which ends the log's recovery accepts |
 /// | `--number` | `run`, `recover` | 1 to 4294967295 | none | the number that the log's headers have |
 /// | `--pipelined` | `run`, `gen`, `replay` | no value | a single stage | the log is handed on before a group is inserted |
-/// | `--resume` | `run` | no value | the log begins anew | the log goes on behind what it recovers |
+/// | `--resume` | `run` | no value | the log begins anew | the log goes on after what it recovers |
 /// | `--shards` | `run`, `gen` | 1 to 64 | 16 | with `--table shards`, how many shards the table has |
 /// | `--table` | `run`, `gen` | `one`, `shards` | `one` | a tree under one lock, or a tree and a lock for each shard |
 ///
@@ -99,7 +99,7 @@ pub fn run<
     run_gated(rt, alloc, words, source, disk, sink, clock, &OpenGate)
 }
 
-/// Does all that [`run`] does, with a gate that is told of what the clients do.
+/// Does all that [`run`] does, with a gate that hears what the clients do.
 pub fn run_gated<
     S: Source,
     D: Disk + Send,
@@ -242,7 +242,7 @@ fn log_number(number: Option<u64>) -> Option<u32>
     }
 }
 
-/// How the log of a run is opened, by what the words say of it.
+/// How the log of a run is opened, by what the words say about it.
 fn log_start(number: Option<u64>, resume: bool) -> LogStart
     requires { IfSome number (λ n. (1 ≤ n) × (n < 2 ^ 32)) }
     ensures { result ≡ start_of number resume }
@@ -257,7 +257,7 @@ fn log_start(number: Option<u64>, resume: bool) -> LogStart
     }
 }
 
-/// How the write path is set up for `run`, by what the words say of it.
+/// How the write path is set up for `run`, by what the words say about it.
 fn setup_of(
     pipelined: bool,
     shards: Option<u64>,

@@ -9,7 +9,7 @@ use crate::report::Status;
 pub struct Ended<D> {
     /// The program's exit status. Where the table says outcome, `gen` prints its summary.
     ///
-    /// | Status | Comes where | Text |
+    /// | Status | When | Text |
     /// |---|---|---|
     /// | 0 | none of the others; the script was read to its end | the outcome |
     /// | 1 | the words aren't lawful, `--help` and `--version` among them | `usage` |
@@ -17,8 +17,8 @@ pub struct Ended<D> {
     /// | 3 | the disk failed | `disk fault COUNT`, or the outcome where the log was opened |
     /// | 4 | the source failed | `source fault COUNT` |
     /// | 5 | the sink failed | a prefix of the outcome |
-    /// | 6 | there was no memory | nothing, or the outcome where clients alone lacked it |
-    /// | 7 | the log isn't empty, and is neither to be written over nor to go on | `log not empty LEN` |
+    /// | 6 | there was no memory | nothing, or the outcome where only clients' calls found none |
+    /// | 7 | the log isn't empty, and should neither be written over nor go on | `log not empty LEN` |
     /// | 8 | the mode doesn't accept where the log's recovery ends | `damage AT REASON` |
     pub status: u8,
     pub disk: D,

@@ -1,4 +1,4 @@
-//! The command `gen`: the script that a seed makes is run, and its outcome summed up.
+//! The command `gen`: the script that a seed makes is run, and a summary of its outcome is printed.
 
 ghost use Rattle.std.specs.Prelude.{◌≡◌, ◌<◌, ◌⊎◌, ◌≤◌, length, IfSome};
 ghost use Rattle.model_base.specs.Generator.{script_of_seed};
@@ -7,7 +7,7 @@ ghost use Rattle.std.specs.Io.KnownBytes.{Appends};
 ghost use Rattle.program_call.specs.Answers.{RunsScript};
 ghost use Rattle.program_call.specs.Asking.{usual_options};
 ghost use Rattle.program_call.specs.Outcomes.{observation_of, IsGenerated};
-ghost use Rattle.program_call.specs.Texts.{Stood};
+ghost use Rattle.program_call.specs.Texts.{NoFault};
 ghost use Rattle.run_outcome.specs.declared.log_start.LogStart.TheVariants.{New};
 ghost use Rattle.log_recovery.specs.declared.modes.Mode.TheVariants.{Point};
 ghost use Rattle.program_call.specs.declared.report.Form.TheVariants as form;
@@ -27,7 +27,7 @@ use std::rt;
 use std::sync::Wait;
 use std::thread::Threads;
 
-/// How a generated script is run.
+/// The options with which a generated script is run.
 const USUAL_OPTIONS: Options = Options {
     last: 0,
     group_bytes: 1_048_576,
@@ -60,8 +60,8 @@ pub fn run_generated<
     ensures runs { RunsScript ⟦<D as Disk>⟧ ⟦<K as Sink>⟧ (observation_of ⟦<D as Disk>⟧ ⟦<K as Sink>⟧
         (IsGenerated seed clients batches) form.Summary usual_options New Point disk result.disk sink.old sink.new)
         disk result.disk sink.old sink.new result.status }
-    ensures completes { Stood (K.faults sink.old) (K.faults sink.new)
-        → Stood (D.faults disk) (D.faults result.disk)
+    ensures completes { NoFault (K.faults sink.old) (K.faults sink.new)
+        → NoFault (D.faults disk) (D.faults result.disk)
         → IfSome (D.told disk) (λ d. length d.content ≡ 0 → (result.status ≡ 0) ⊎ (result.status ≡ 6)) }
     ensures one_summary { result.status ≡ 0
         → Appends (K.taken sink.old) (K.taken sink.new) (summary_of (script_of_seed seed clients batches)) }
@@ -73,7 +73,7 @@ pub fn run_generated<
     let setup = Setup {
         options: USUAL_OPTIONS,
         start: LogStart::New,
-        // No log goes on.
+        // The log doesn't go on, so the mode has no effect.
         mode: Mode::Point,
         shards,
         pipelined,

@@ -2,8 +2,8 @@
 //! summary, prints what a log recovers, or runs a schedule on the core.
 //!
 //! - `call`: the call, with what it promises of each command (`specs/Answers`)
-//! - `running`, `generating`, `recovering`, `replaying`: a command each
-//! - `reading`: the script from its source
+//! - `running`, `generating`, `recovering`, `replaying`: one command each
+//! - `reading`: reads the script from its source
 //! - `report`: what is printed, and the status
 //! - `ended`: the status and the disk
 #![tactic(auto)]

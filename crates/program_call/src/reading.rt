@@ -1,20 +1,20 @@
-//! The script from its source.
+//! Reads the script from its source.
 
 ghost use Rattle.std.specs.Prelude.{◌≡◌, ◌+◌, ◌-◌, ◌≤◌, ◌<◌, ℕ, [], length, vec_len, Some, None, IfOk, IfErr, OnOk, IfSome};
-ghost use Rattle.program_call.specs.Reading.{HasRead, IsReadError, HasScript, IsScriptError, HasSchedule, IsScheduleError};
+ghost use Rattle.program_call.specs.Reading.{HasRead, IsReadError, HasScript, IsScriptError, HasSchedule, IsScheduleError, CountStays};
 
 use base_devices::Source;
 use model_base::{ScriptFault, TEXT_LIMIT};
 use run_scripts::{Schedule, Script, ScriptError, parse_clients, parse_schedule};
 use std::alloc::Global;
 
-/// How many bytes are asked for in a call.
+/// The most bytes that one call of the source asks for.
 const PIECE: usize = 16_384;
 
 /// Why no script was read.
 #[derive(Clone, Copy)]
 pub enum ReadError {
-    /// The source failed, for the how many-th time.
+    /// The source failed; `count` is its count of faults.
     Fault { count: u64 },
     /// The text is not a script: its first fault, and the number of its line, or 0 for the whole text.
     Script { line: u64, kind: ScriptFault },
@@ -27,6 +27,7 @@ fn read_text<S: Source>(alloc: Global, source: &mut S) -> Result<Vec<u8>, ReadEr
     ensures error { IfErr result (IsReadError (S.faults source.old) (S.faults source.new)) }
     ensures later { S.faults source.old ≤ S.faults source.new }
     ensures worked { OnOk result (S.faults source.new ≡ S.faults source.old) }
+    ensures counted { IfErr result (CountStays (S.faults source.old) (S.faults source.new)) }
 {
     let mut text = Vec::new(alloc);
     let mut piece = [0; PIECE];
@@ -54,6 +55,7 @@ pub fn read_script<S: Source>(alloc: Global, source: &mut S) -> Result<Script, R
     ensures error { IfErr result (IsScriptError (S.left source.old) (S.faults source.old) (S.faults source.new)) }
     ensures later { S.faults source.old ≤ S.faults source.new }
     ensures worked { OnOk result (S.faults source.new ≡ S.faults source.old) }
+    ensures counted { IfErr result (CountStays (S.faults source.old) (S.faults source.new)) }
 {
     let text = read_text(alloc, source)?;
     match parse_clients(alloc, &text) {
@@ -69,6 +71,7 @@ pub fn read_schedule<S: Source>(alloc: Global, source: &mut S) -> Result<Schedul
     ensures error { IfErr result (IsScheduleError (S.left source.old) (S.faults source.old) (S.faults source.new)) }
     ensures later { S.faults source.old ≤ S.faults source.new }
     ensures worked { OnOk result (S.faults source.new ≡ S.faults source.old) }
+    ensures counted { IfErr result (CountStays (S.faults source.old) (S.faults source.new)) }
 {
     let text = read_text(alloc, source)?;
     match parse_schedule(alloc, &text) {

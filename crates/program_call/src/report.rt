@@ -1,22 +1,25 @@
 //! What a call prints, and the status that it ends with.
 
-ghost use Rattle.std.specs.Prelude.{◌≡◌, ◌≤◌, ℕ, IfOk, OnErr};
+ghost use Rattle.std.specs.Prelude.{◌≡◌, ◌≤◌, ℕ, [], ◌∷◌, ◌++◌, decimal, IfOk, OnErr};
+ghost use Rattle.base_devices.specs.Faults.{HasCause};
+ghost use Rattle.base_devices.specs.Streams.{WritesAll};
 ghost use Rattle.model_base.specs.Calls as calls;
 ghost use Rattle.model_base.specs.History.{IsHistory};
 ghost use Rattle.run_outcome.specs.Shows.{ShowsOutcome};
 ghost use Rattle.program_call.specs.Texts.{SaysTo};
 ghost use Rattle.program_call.specs.Reports as reports;
-ghost use Rattle.program_call.specs.Reports.{TellsReadError, TellsEnd, TellsOutcome, TellsRecovery, TellsRecoverError, ShownEndsSo, TellsReplay, ReplayEndsSo, ran_status};
+ghost use Rattle.program_call.specs.Reports.{TellsReadError, TellsEnd, TellsOutcome, TellsRecovery, TellsRecoverError, EndsWithRecovery, TellsReplay, EndsWithReplay, ran_status};
 
 use crate::reading::ReadError;
 use base_bytes::Bytes;
-use base_devices::{Sink, write_all};
+use base_devices::{Failed, Sink, write_all};
 use base_maps::ByteMap;
+use itoa::Buffer;
 use log_recovery::{RecoverError, Recovered};
 use model_base::NoMemory;
 use program_text::{
-    disk_fault, log_damage, log_not_empty, outcome_text, recovered_text, replayed_text,
-    script_fault, source_fault, summary_text,
+    log_damage, log_not_empty, outcome_text, recovered_text, replayed_text, script_fault,
+    summary_text,
 };
 use replay_schedules::Replayed;
 use run_execution::RunEnd;
@@ -38,14 +41,14 @@ pub enum Status {
     Damage,
 }
 
-/// How an outcome is printed: whole, or summed up.
+/// How an outcome is printed: whole, or as a summary.
 #[derive(Clone, Copy)]
 pub enum Form {
     Whole,
     Summary,
 }
 
-/// Prints a refusal. Its status stands though the sink fails at its text.
+/// Prints a refusal. The call's status stays that of the refusal, even if the sink fails at its text.
 pub fn refuse<K: Sink>(sink: &mut K, text: &[u8])
     ensures says { SaysTo (K.taken sink.old) (K.taken sink.new) text.now (K.faults sink.old) (K.faults sink.new) }
     ensures later { K.faults sink.old ≤ K.faults sink.new }
@@ -53,7 +56,7 @@ pub fn refuse<K: Sink>(sink: &mut K, text: &[u8])
     let _ = write_all(sink, text);
 }
 
-/// Prints a refusal whose text was made, if there was memory for it.
+/// Prints a refusal, if there was memory to make its text.
 fn refuse_with<K: Sink>(sink: &mut K, text: Result<Bytes, NoMemory>, status: Status) -> Status
     ensures made { IfOk text (λ t. (result ≡ status) × SaysTo (K.taken sink.old) (K.taken sink.new) t
         (K.faults sink.old) (K.faults sink.new)) }
@@ -68,13 +71,34 @@ fn refuse_with<K: Sink>(sink: &mut K, text: Result<Bytes, NoMemory>, status: Sta
     }
 }
 
+/// Prints the refusal of a device's fault: these words, how often the device has failed, and a line feed. This takes no
+/// memory, so that no fault is answered as want of memory.
+fn refuse_fault<K: Sink>(sink: &mut K, words: &[u8], count: u64)
+    ensures { SaysTo (K.taken sink.old) (K.taken sink.new) (words.now ++ decimal count ++ 10 ∷ [])
+        (K.faults sink.old) (K.faults sink.new) }
+{
+    let _ = write_line(sink, words, count);
+}
+
+/// Writes words, a number in decimal, and a line feed.
+fn write_line<K: Sink>(sink: &mut K, words: &[u8], number: u64) -> Result<(), Failed>
+    ensures bytes { WritesAll (K.taken sink.old) (K.taken sink.new) result (words.now ++ decimal number ++ 10 ∷ []) }
+    ensures cause { HasCause (K.faults sink.old) (K.faults sink.new) result }
+{
+    let mut digits = Buffer::new();
+    write_all(sink, words)?;
+    write_all(sink, digits.format(number).as_bytes())?;
+    write_all(sink, b"\n")
+}
+
 /// Says why no script was read.
 pub fn tell_read_error<K: Sink>(alloc: Global, sink: &mut K, why: ReadError) -> Status
     ensures { TellsReadError (K.taken sink.old) (K.taken sink.new) (K.faults sink.old) (K.faults sink.new) why result }
 {
     match why {
         ReadError::Fault { count } => {
-            refuse_with(sink, source_fault(alloc, count), Status::Source)
+            refuse_fault(sink, b"source fault ", count);
+            Status::Source
         }
         ReadError::Script { line, kind } => {
             refuse_with(sink, script_fault(alloc, line, kind), Status::Script)
@@ -89,7 +113,10 @@ pub fn tell_end<K: Sink>(alloc: Global, sink: &mut K, form: Form, end: &RunEnd) 
         result }
 {
     match end {
-        RunEnd::DiskFault { count } => refuse_with(sink, disk_fault(alloc, *count), Status::Disk),
+        RunEnd::DiskFault { count } => {
+            refuse_fault(sink, b"disk fault ", *count);
+            Status::Disk
+        }
         RunEnd::NotEmpty { len } => refuse_with(sink, log_not_empty(alloc, *len), Status::NotEmpty),
         RunEnd::Damage { at, why } => {
             refuse_with(sink, log_damage(alloc, *at, *why), Status::Damage)
@@ -126,7 +153,7 @@ fn text_of(alloc: Global, form: Form, outcome: &Outcome<ByteMap>) -> Result<Byte
     match form {
         Form::Whole => outcome_text(alloc, outcome),
         Form::Summary => {
-            // A generated script has small numbers alone for values, so there is a sum.
+            // All values of a generated script are small numbers, so there is a sum.
             let sum = sum_of(&outcome.state).ok_or(NoMemory)?;
             summary_text(alloc, outcome, sum)
         }
@@ -166,7 +193,10 @@ fn tell_recover_error<K: Sink>(alloc: Global, sink: &mut K, why: RecoverError) -
         (K.faults sink.new) why result }
 {
     match why {
-        RecoverError::Fault { count } => refuse_with(sink, disk_fault(alloc, count), Status::Disk),
+        RecoverError::Fault { count } => {
+            refuse_fault(sink, b"disk fault ", count);
+            Status::Disk
+        }
         RecoverError::NoMemory => Status::Memory,
         RecoverError::Damage { at, why } => {
             refuse_with(sink, log_damage(alloc, at, why), Status::Damage)
@@ -175,7 +205,7 @@ fn tell_recover_error<K: Sink>(alloc: Global, sink: &mut K, why: RecoverError) -
 }
 
 fn tell_recovered<K: Sink>(alloc: Global, sink: &mut K, recovered: &Recovered) -> Status
-    ensures { ShownEndsSo (K.taken sink.old) (K.taken sink.new) (K.faults sink.old)
+    ensures { EndsWithRecovery (K.taken sink.old) (K.taken sink.new) (K.faults sink.old)
         (K.faults sink.new) recovered.now result }
 {
     let Ok(text) = recovered_text(alloc, recovered) else {
@@ -187,7 +217,7 @@ fn tell_recovered<K: Sink>(alloc: Global, sink: &mut K, recovered: &Recovered) -
     }
 }
 
-/// Prints what a schedule came to, whole.
+/// Prints the whole result of a schedule.
 pub fn tell_replay<K: Sink>(
     alloc: Global,
     sink: &mut K,
@@ -203,7 +233,7 @@ pub fn tell_replay<K: Sink>(
 }
 
 fn tell_replayed<K: Sink>(alloc: Global, sink: &mut K, replayed: &Replayed) -> Status
-    ensures { ReplayEndsSo (K.taken sink.old) (K.taken sink.new) (K.faults sink.old)
+    ensures { EndsWithReplay (K.taken sink.old) (K.taken sink.new) (K.faults sink.old)
         (K.faults sink.new) replayed.now result }
 {
     let Ok(text) = replayed_text(alloc, replayed) else {

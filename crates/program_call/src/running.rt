@@ -10,7 +10,7 @@ ghost use Rattle.run_outcome.specs.Running.{IsReached};
 ghost use Rattle.run_outcome.specs.declared.log_start.LogStart.TheVariants.{New};
 ghost use Rattle.program_call.specs.Answers.{MeetsNoDamage, RunsScript};
 ghost use Rattle.program_call.specs.Outcomes.{observation_of, IsScript, SaysScript};
-ghost use Rattle.program_call.specs.Texts.{Stood, SaysTo};
+ghost use Rattle.program_call.specs.Texts.{NoFault, SaysTo};
 ghost use Rattle.program_call.specs.declared.report.Form.TheVariants as form;
 
 use crate::ended::{Ended, end_with};
@@ -40,21 +40,21 @@ pub fn run_script<
     ensures script { result.status ≡ 2 → (f : Fault)
         × IfSome (S.left source.old) (λ text. script_of whole_grammar text ≡ Err f)
         × SaysTo (K.taken sink.old) (K.taken sink.new) (script_fault f) (K.faults sink.old) (K.faults sink.new) }
-    ensures other_script { result.status ≢ 6 → Stood (S.faults source.old) (S.faults source.new)
+    ensures other_script { result.status ≢ 6 → NoFault (S.faults source.old) (S.faults source.new)
         → IfSome (S.left source.old) (λ text. (f : Fault) → script_of whole_grammar text ≡ Err f
         → result.status ≡ 2) }
     ensures source { result.status ≡ 4 → Rose (S.faults source.old) (S.faults source.new)
         × ((count : _) × IsReached (S.faults source.old) count (S.faults source.new)
         × SaysTo (K.taken sink.old) (K.taken sink.new) (source_fault count) (K.faults sink.old) (K.faults sink.new)) }
-    ensures source_stood { result.status ≡ 0 → S.faults source.new ≡ S.faults source.old }
+    ensures source_fault_is_told { result.status ≢ 4 → S.faults source.new ≡ S.faults source.old }
     ensures disk_untouched { (result.status ≡ 2) ⊎ (result.status ≡ 4) → result.disk ≡ disk }
     ensures read_to_end { (result.status ≡ 0) ⊎ (result.status ≡ 3) ⊎ (result.status ≡ 5) ⊎ (result.status ≡ 7)
         ⊎ (result.status ≡ 8) → IfSome (S.left source.new) (λ left. left ≡ []) }
     ensures runs { RunsScript ⟦<D as Disk>⟧ ⟦<K as Sink>⟧ (observation_of ⟦<D as Disk>⟧ ⟦<K as Sink>⟧
         (SaysScript (S.left source.old)) form.Whole setup.options setup.start setup.mode disk result.disk
         sink.old sink.new) disk result.disk sink.old sink.new result.status }
-    ensures completes { Stood (S.faults source.old) (S.faults source.new)
-        → Stood (K.faults sink.old) (K.faults sink.new) → Stood (D.faults disk) (D.faults result.disk)
+    ensures completes { NoFault (S.faults source.old) (S.faults source.new)
+        → NoFault (K.faults sink.old) (K.faults sink.new) → NoFault (D.faults disk) (D.faults result.disk)
         → MeetsNoDamage setup.start setup.mode (D.told disk)
         → IfSome (S.left source.old) (λ text. IfSome (D.told disk) (λ d. (script : Said)
         → script_of whole_grammar text ≡ Ok script → (length d.content ≡ 0) ⊎ (setup.start ≢ New)
@@ -66,7 +66,7 @@ pub fn run_script<
     }
 }
 
-/// How many shards the table of a run has: as many as were asked for, or else one.
+/// How many shards the table of a run has: as many as the words ask for, or else one.
 pub fn shards_or_one(shards: Option<u64>) -> u32
     requires { IfSome shards (λ n. (1 ≤ n) × (n ≤ 64)) }
     ensures given { MatchOption shards (result ≡ 1) (λ n. result ≡ n) }
@@ -78,7 +78,7 @@ pub fn shards_or_one(shards: Option<u64>) -> u32
     }
 }
 
-/// Runs a script over the log of a disk, and prints what came of it in a form.
+/// Runs a script over the log of a disk, and prints the result in a form.
 pub fn run_and_tell<
     D: Disk + Send,
     K: Sink,
@@ -105,7 +105,7 @@ pub fn run_and_tell<
         disk result.disk sink.old sink.new result.status }
 {
     let (disk, end) = execute(host, disk, clock, &script, setup);
-    // What was asked is no longer needed while the text is made.
+    // The script is no longer needed while the text is made.
     drop(script);
     end_with(tell_end(host.alloc, sink, form, &end), disk)
 }

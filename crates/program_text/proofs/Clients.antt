@@ -12,7 +12,7 @@ use Rattle.run_outcome.specs.declared.history_entry.HistoryEntry.{HistoryEntry}
 use Rattle.run_outcome.specs.declared.reply.Reply.{Reply}
 use Rattle.program_text.specs.ShownText.{client_lines, clients_lines, line_of, entry_line}
 
--- a list's item is the next one after those before it, as an item or by its place
+-- the first `i + 1` items are the first `i` and the item at the place `i`
 pub item_more : {A : Type 0} (xs : List A) (i : ℕ) (x : A) → i < length xs → x ≡ get_or xs i x → take (i + 1) xs ≡ take i xs ++ x ∷ []
 item_more xs i x here is = take_more xs i x here ∙ ap (λ y. take i xs ++ y ∷ []) (sym is)
 

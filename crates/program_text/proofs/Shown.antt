@@ -1,4 +1,4 @@
--- What a run's values show has the text of what they show.
+-- The text of a run's values is the text of what they show.
 use Rattle.std.proofs.Common.{◌≡◌, ℕ, suc, ◌+◌, List, [], ◌∷◌, ◌++◌, length, Vec, refl, sym, ◌∙◌, ap}
 use Rattle.std.specs.Prelude.{flat_map, decimal, codes}
 use Rattle.std.specs.List.{AllZip, enumerate_from}
@@ -29,7 +29,7 @@ reply_shown NoMemory c e = sym (ap reply_text e)
 abbrev texts : List calls.Call → List ℕ
 texts cs = flat_map (λ (c : calls.Call). reply_text c.reply) cs
 
--- of replies in order
+-- the text of replies, in order
 lines_shown : (rs : List Reply) (cs : List calls.Call) → AllZip ShowsReply rs cs → flat_map reply_line rs ≡ texts cs
 lines_shown [] [] all = refl
 lines_shown [] (c ∷ cs) all = absurd all
@@ -49,7 +49,7 @@ quiet_texts (c ∷ cs) = call_text c.command c.reply cs (quiet_texts cs)
 replies_shown : (rs : List Reply) (cs : List calls.Call) → ShowsReplies rs cs → flat_map reply_line rs ≡ texts cs
 replies_shown rs cs all = lines_shown rs (with_replies cs) all ∙ quiet_texts cs
 
--- of clients from a number on
+-- the text of clients, from a number on
 pub clients_shown : (n : ℕ) (xs : List (Vec Reply Global)) (ys : List (List calls.Call)) → AllZip (λ v. ShowsReplies v.items) xs ys → flat_map client_lines (enumerate_from n xs) ≡ flat_map client_text (enumerate_from n ys)
 clients_shown n [] [] all = refl
 clients_shown n [] (y ∷ ys) all = absurd all
@@ -61,7 +61,7 @@ clients_shown n (x ∷ xs) (y ∷ ys) all =
 entry_shown : (s : HistoryEntry Contents) (e : history.Entry) → ShowsEntry s e → entry_line s ≡ entry_text e
 entry_shown s e shows = rw (shows.last, shows.batch, shows.client, shows.ordinal, shows.first, shows.flag) refl
 
--- of batches in order
+-- the text of batches, in order
 entries_shown : (ss : List (HistoryEntry Contents)) (es : List history.Entry) → AllZip ShowsEntry ss es → flat_map entry_line ss ≡ flat_map entry_text es
 entries_shown [] [] all = refl
 entries_shown [] (e ∷ es) all = absurd all
@@ -77,6 +77,6 @@ length_shown (s ∷ ss) (e ∷ es) all = ap suc (length_shown ss es all.1)
 pub history_shown : (ss : List (HistoryEntry Contents)) (es : List history.Entry) → AllZip ShowsEntry ss es → history_lines ss ≡ history_text es
 history_shown ss es all = rw (length_shown ss es all, entries_shown ss es all) refl
 
--- of the whole outcome
+-- the text of the whole outcome
 pub outcome_shown : (v : Outcome Pairs) (o : calls.Outcome) → ShowsOutcome v o → shown_text v ≡ outcome_text o
 outcome_shown v o shows = rw (clients_shown 1 _ _ shows.transcripts, history_shown _ _ shows.history, ← shows.last, ← shows.state, ← shows.log_len, ← shows.fault) refl

@@ -1,4 +1,4 @@
--- What a caller sees of what is recovered has the text of what is recovered.
+-- The text of what a caller sees of a recovery is the text of what is recovered.
 use Rattle.std.proofs.Common.{◌≡◌, List, [], ◌∷◌, ◌++◌, length, map, refl, ◌∙◌, ap}
 use Rattle.std.specs.Prelude.{flat_map, decimal, codes}
 use Rattle.std.proofs.lemmas.List.{length-map}
@@ -14,7 +14,7 @@ use Rattle.program_text.specs.ShownText.{group_line, groups_lines, end_line, sho
 groups_shown : (bs : List recovery.Logged) → groups_lines (map note_of bs) ≡ line (codes "groups" ∷ decimal (length bs) ∷ []) ++ flat_map group_text bs
 groups_shown bs = rw (length-map bs note_of, flat_map-map group_line note_of bs) refl
 
--- of all that is recovered
+-- the text of all that is recovered
 pub recovered_shown : (v : Recovered) (r : recovery.Recovered) → ShowsRecovered v r → shown_recovered_text v ≡ recovered_text r
 recovered_shown v r shows =
     let head = line (codes "groups" ∷ decimal (length r.batches) ∷ []) ++ flat_map group_text r.batches in

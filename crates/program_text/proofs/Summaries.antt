@@ -23,11 +23,11 @@ zip_length P [] (y ∷ ys) all = absurd all
 zip_length P (x ∷ xs) [] all = absurd all
 zip_length P (x ∷ xs) (y ∷ ys) all = ap suc (zip_length P xs ys all.1)
 
--- how many records the batches of the entries count
+-- how many records of the entries' batches count
 abbrev pub shown_count : List (HistoryEntry Contents) → ℕ
 shown_count ss = sum_by (λ (s : HistoryEntry Contents). count_of s.batch.records) ss
 
--- with one more
+-- with one more entry
 pub count_more : (ss : List (HistoryEntry Contents)) (i : ℕ) (s : HistoryEntry Contents) → slice_get ss i ≡ Some s → shown_count (take (i + 1) ss) ≡ shown_count (take i ss) + count_of s.batch.records
 count_more ss i s is =
     sum_by_more (λ (x : HistoryEntry Contents). count_of x.batch.records) ss i s (slice_get_within ss i s is)

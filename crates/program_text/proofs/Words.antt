@@ -12,12 +12,12 @@ use Rattle.base_bytes.specs.Answers.{found_value}
 use Rattle.model_base.specs.Text.{line, hex, found_word}
 use Rattle.program_text.specs.ShownText.{pair_words}
 
--- each number behind a space is the words joined by spaces
+-- a word and then numbers, each after a space, are the words joined by spaces
 pub spaced : (w : List ℕ) (ns : List ℕ) → join_with_byte 32 (w ∷ map decimal ns) ≡ w ++ flat_map (λ n. 32 ∷ decimal n) ns
 spaced w [] = sym (append-nil w)
 spaced w (n ∷ ns) = ap (λ t. w ++ 32 ∷ t) (spaced (decimal n) ns)
 
--- each word behind a space is the words joined by spaces
+-- a word and then words, each after a space, are the words joined by spaces
 pub spaced_words : (w : List ℕ) (ws : List (List ℕ)) → join_with_byte 32 (w ∷ ws) ≡ w ++ flat_map (λ v. 32 ∷ v) ws
 spaced_words w [] = sym (append-nil w)
 spaced_words w (v ∷ ws) = ap (λ t. w ++ 32 ∷ t) (spaced_words v ws)
@@ -25,22 +25,22 @@ spaced_words w (v ∷ ws) = ap (λ t. w ++ 32 ∷ t) (spaced_words v ws)
 joined_more : (text w a b f e : List ℕ) → (((text ++ w) ++ (a ++ (b ++ []))) ++ f) ++ e ≡ text ++ ((w ++ (a ++ (b ++ f))) ++ e)
 joined_more text w a b f e = simp (append_assoc, append-nil)
 
--- two words and more behind a first word
+-- a line of a first word, two words after it, and more
 pub counted_words : (text w a b : List ℕ) (ws : List (List ℕ)) → (((text ++ w) ++ ((32 ∷ a) ++ ((32 ∷ b) ++ []))) ++ flat_map (λ v. 32 ∷ v) ws) ++ (10 ∷ []) ≡ text ++ line (w ∷ a ∷ b ∷ ws)
 counted_words text w a b ws =
     joined_more text w (32 ∷ a) (32 ∷ b) (flat_map (λ v. 32 ∷ v) ws) (10 ∷ []) ∙ ap (λ t. text ++ (t ++ (10 ∷ []))) (sym (spaced_words w (a ∷ b ∷ ws)))
 
--- the words of what was found, each behind a space
+-- the words of what was found, each after a space
 pub found_words : (items : List Found) → flat_map (λ v. 32 ∷ found_word (found_value v)) items ≡ flat_map (λ w. 32 ∷ w) (map found_word (map found_value items))
 found_words [] = refl
 found_words (v ∷ vs) = ap (λ t. (32 ∷ found_word (found_value v)) ++ t) (found_words vs)
 
--- and of pairs
+-- the words of pairs, each after a space
 pub row_words : (pairs : List (List ℕ × List ℕ)) → flat_map (λ p. flat_map (λ w. 32 ∷ w) (pair_words p)) pairs ≡ flat_map (λ w. 32 ∷ w) (flat_map pair_words pairs)
 row_words [] = refl
 row_words (p ∷ ps) = ap (λ t. flat_map (λ w. 32 ∷ w) (pair_words p) ++ t) (row_words ps) ∙ sym (flat_map-append (λ w. 32 ∷ w) (pair_words p) (flat_map pair_words ps))
 
--- a digit of the table is that of the text, a test which computes
+-- a test that computes: a digit of the table is the digit of the text
 abbrev is_glyph : ℕ → Bool
 is_glyph d = slice_index lower_digits d == digit_glyph false d
 
@@ -67,7 +67,7 @@ encoded (b ∷ bytes) small =
     let low = glyph (b % 16) (omega arith) in
     rw (high, low) (ap (λ t. digit_glyph false (b / 16) ∷ digit_glyph false (b % 16) ∷ t) (encoded bytes (λ k. small (suc k))))
 
--- pieces put behind each other, s between words and e at the end
+-- pieces put one after another, with `s` between words and `e` at the end
 joined : (text a b c d f h s e : List ℕ) → ((((((text ++ a) ++ ((s ++ b) ++ ((s ++ c) ++ ((s ++ d) ++ [])))) ++ s) ++ f) ++ s) ++ h) ++ e ≡ text ++ ((a ++ (s ++ (b ++ (s ++ (c ++ (s ++ (d ++ (s ++ (f ++ (s ++ h)))))))))) ++ e)
 joined text a b c d f h s e = simp (append_assoc, append-nil)
 

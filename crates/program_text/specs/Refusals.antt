@@ -19,6 +19,6 @@ disk_fault count = line (codes "disk" ∷ codes "fault" ∷ decimal count ∷ []
 abbrev pub not_empty : ℕ → List ℕ
 not_empty len = line (codes "log" ∷ codes "not" ∷ codes "empty" ∷ decimal len ∷ [])
 
--- recovery ends at this place for this reason, which isn't accepted
+-- the log's recovery ends at this place for this reason, which isn't accepted
 abbrev pub damage : ℕ → EndReason → List ℕ
 damage at why = line (codes "damage" ∷ decimal at ∷ end_words why)

@@ -17,18 +17,18 @@ use Rattle.replay_schedules.specs.declared.replaying.Replayed.{Replayed}
 use Rattle.model_base.specs.Map.{Pairs}
 use Rattle.log_batch.specs.Contents.{Contents}
 
--- a key or a value as it stands
+-- a key or a value as it is
 abbrev pub plain : List ℕ → List ℕ
 plain w = w
 
--- a key and its value, each printed as the words say
+-- a line with a key and its value, each printed as `word` says
 abbrev pub pair_line : (List ℕ → List ℕ) → List ℕ × List ℕ → List ℕ
 pair_line word p = line (word p.0 ∷ word p.1 ∷ [])
 
 abbrev pub pair_words : List ℕ × List ℕ → List (List ℕ)
 pair_words p = p.0 ∷ p.1 ∷ []
 
--- a reply as shown; its text doesn't tell the records
+-- a reply as it is shown; its text doesn't have the records
 abbrev pub shown_reply : Reply → calls.Reply
 shown_reply (Accepted run) = calls.accepted run.first run.last []
 shown_reply (Refused why) = calls.refused why
@@ -43,7 +43,7 @@ shown_reply NoMemory = calls.no_memory
 abbrev pub reply_line : Reply → List ℕ
 reply_line r = reply_text (shown_reply r)
 
--- a client's section, from its number
+-- a client's section, from the client's number and replies
 abbrev pub client_lines : ℕ × Vec Reply Global → List ℕ
 client_lines p = line (codes "client" ∷ decimal p.0 ∷ []) ++ flat_map reply_line p.1.items
 
@@ -80,7 +80,7 @@ abbrev pub shown_recovered_text : Recovered → List ℕ
 shown_recovered_text v = groups_lines v.groups.items ++ state_text hex_word v.last v.map
     ++ end_line v.end.at v.end.why
 
--- how many events came, and how many were passed over
+-- how many events were taken, and how many were skipped
 abbrev pub counts_line : Counts → List ℕ
 counts_line counts = line (codes "events" ∷ decimal counts.taken ∷ codes "skipped" ∷ decimal counts.skipped ∷ [])
 

@@ -1,4 +1,4 @@
-//! What a call prints: the outcome of a run or its summary, what a log recovers, what a schedule came to, or why the
+//! What a call prints: the outcome of a run or its summary, what a log recovers, the result of a schedule, or why the
 //! call was refused.
 #![tactic(auto)]
 
@@ -15,4 +15,4 @@ mod texts;
 pub use recovered::{log_damage, recovered_text};
 pub use replayed::replayed_text;
 pub use summary::summary_text;
-pub use texts::{disk_fault, log_not_empty, outcome_text, script_fault, source_fault, usage};
+pub use texts::{log_not_empty, outcome_text, script_fault, usage};

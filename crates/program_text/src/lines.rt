@@ -1,4 +1,4 @@
-//! Lines: words with one space between them, and a line feed behind the last.
+//! Lines: words with one space between them, and a line feed after the last.
 
 ghost use Rattle.std.specs.Prelude.{◌≡◌, ◌≤◌, ◌∷◌, ◌++◌, length, map, flat_map, decimal, OnOk};
 ghost use Rattle.model_base.specs.Text.{line, hex};
@@ -7,10 +7,10 @@ use base_bytes::Bytes;
 use itoa::Buffer;
 use model_base::NoMemory;
 
-/// Of how many bytes the digits are made at once.
+/// How many bytes are turned into digits at once.
 const PIECE: usize = 32;
 
-/// Puts a number behind the text, in decimal.
+/// Appends a number to the text, in decimal.
 pub fn put_number(text: &mut Bytes, number: u64) -> Result<(), NoMemory>
     ensures { OnOk result (text.new ≡ text.old ++ decimal number) }
 {
@@ -18,11 +18,11 @@ pub fn put_number(text: &mut Bytes, number: u64) -> Result<(), NoMemory>
     text.append(buffer.format(number).as_bytes())
 }
 
-/// Puts numbers behind the text, each behind a space.
+/// Appends numbers to the text, each after a space.
 pub fn put_numbers(text: &mut Bytes, numbers: &[u64]) -> Result<(), NoMemory>
     ensures { OnOk result (text.new ≡ text.old ++ flat_map (λ n. 32 ∷ decimal n) numbers.now) }
 {
-    // The numbers so far stand after the text.
+    // The numbers so far are appended to the text.
     for number in numbers {
         text.append(b" ")?;
         put_number(text, *number)?;
@@ -30,7 +30,7 @@ pub fn put_numbers(text: &mut Bytes, numbers: &[u64]) -> Result<(), NoMemory>
     Ok(())
 }
 
-/// Puts a line behind the text: its first words as they stand, and then numbers.
+/// Appends a line to the text: its first words as they are, and then numbers.
 pub fn put_line(text: &mut Bytes, words: &[u8], numbers: &[u64]) -> Result<(), NoMemory>
     ensures { OnOk result (text.new ≡ text.old ++ line (words.now ∷ map decimal numbers.now)) }
 {
@@ -39,12 +39,12 @@ pub fn put_line(text: &mut Bytes, words: &[u8], numbers: &[u64]) -> Result<(), N
     text.append(b"\n")
 }
 
-/// Puts bytes behind the text, each as two lower-case digits.
+/// Appends bytes to the text, each as two lower-case hexadecimal digits.
 pub fn put_hex(text: &mut Bytes, bytes: &[u8]) -> Result<(), NoMemory>
     ensures { OnOk result (text.new ≡ text.old ++ hex bytes.now) }
 {
     let mut rest = bytes;
-    // With the digits of the rest the text is whole.
+    // With the digits of `rest` appended the text would be whole.
     while rest.len() > PIECE {
         let (piece, behind) = rest.split_at(PIECE);
         put_piece(text, piece)?;
@@ -53,7 +53,7 @@ pub fn put_hex(text: &mut Bytes, bytes: &[u8]) -> Result<(), NoMemory>
     put_piece(text, rest)
 }
 
-/// Puts few bytes behind the text, each as two lower-case digits, which are made in place.
+/// Appends at most `PIECE` bytes to the text, each as two lower-case hexadecimal digits. These are made on the stack.
 fn put_piece(text: &mut Bytes, bytes: &[u8]) -> Result<(), NoMemory>
     requires { length bytes.now ≤ PIECE }
     ensures { OnOk result (text.new ≡ text.old ++ hex bytes.now) }

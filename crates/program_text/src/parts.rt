@@ -64,18 +64,18 @@ fn put_client(text: &mut Bytes, number: u64, replies: &Vec<Reply>) -> Result<(),
     ensures { OnOk result (text.new ≡ text.old ++ client_lines (number, replies.now)) }
 {
     put_line(text, b"client", &[number])?;
-    // The lines of the replies so far stand after the text.
+    // The lines of the replies so far are appended to the text.
     for reply in replies {
         put_reply(text, reply)?;
     }
     Ok(())
 }
 
-/// Puts each client's number and replies behind the text.
+/// Appends each client's number and replies to the text.
 pub fn put_clients(text: &mut Bytes, transcripts: &[Vec<Reply>]) -> Result<(), NoMemory>
     ensures { OnOk result (text.new ≡ text.old ++ clients_lines transcripts.now) }
 {
-    // The lines of the clients so far stand after the text.
+    // The lines of the clients so far are appended to the text.
     for (before, replies) in transcripts.iter().enumerate() {
         put_client(text, before as u64 + 1, replies)?;
     }
@@ -92,7 +92,7 @@ fn flag_word(flag: Flag) -> &'static [u8]
     }
 }
 
-/// Puts a batch's line behind the text. `B` is what stands for the batch, which has these bytes.
+/// Appends a batch's line to the text. `B` is how the entry holds its batch, and `bytes` are the batch's bytes.
 fn put_entry<B>(text: &mut Bytes, entry: &HistoryEntry<B>, bytes: &[u8]) -> Result<(), NoMemory>
     ensures { OnOk result (text.new ≡ text.old ++ line_of entry.now bytes.now) }
 {
@@ -108,12 +108,12 @@ fn put_entry<B>(text: &mut Bytes, entry: &HistoryEntry<B>, bytes: &[u8]) -> Resu
     text.append(b"\n")
 }
 
-/// Puts the history of a run behind the text: how many batches there are, and a line for each.
+/// Appends the history of a run to the text: how many batches there are, and a line for each.
 pub fn put_history(text: &mut Bytes, history: &History) -> Result<(), NoMemory>
     ensures { OnOk result (text.new ≡ text.old ++ history_lines history.now) }
 {
     put_line(text, b"history", &[history.len() as u64])?;
-    // The lines of the batches so far stand after the text.
+    // The lines of the batches so far are appended to the text.
     for at in 0..history.len() {
         let entry = history.entry(at);
         put_entry(text, &entry, entry.batch.bytes())?;
@@ -121,19 +121,19 @@ pub fn put_history(text: &mut Bytes, history: &History) -> Result<(), NoMemory>
     Ok(())
 }
 
-/// Puts the history of a schedule behind the text, as that of a run.
+/// Appends the history of a schedule to the text, in the same form as the history of a run.
 pub fn put_entries(text: &mut Bytes, entries: &[HistoryEntry<Batch>]) -> Result<(), NoMemory>
     ensures { OnOk result (text.new ≡ text.old ++ history_lines entries.now) }
 {
     put_line(text, b"history", &[entries.len() as u64])?;
-    // The lines of the entries so far stand after the text.
+    // The lines of the entries so far are appended to the text.
     for entry in entries {
         put_entry(text, entry, entry.batch.bytes())?;
     }
     Ok(())
 }
 
-/// Puts the log's length behind the text, and the count of its fault.
+/// Appends the log's length to the text, and the count of its fault, if it has one.
 pub fn put_log(text: &mut Bytes, len: u64, fault: Option<u64>) -> Result<(), NoMemory>
     ensures { OnOk result (text.new ≡ text.old ++ log_text len fault) }
 {

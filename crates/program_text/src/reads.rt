@@ -9,7 +9,7 @@ use crate::lines::put_numbers;
 use base_bytes::{Bytes, Found, FoundList, PairList};
 use model_base::NoMemory;
 
-/// Puts what was found of one key behind the text, after a space: `=V`, or `-` for no value.
+/// Appends what was found for one key to the text, after a space: `=V`, or `-` for no value.
 fn put_found(text: &mut Bytes, found: &Found) -> Result<(), NoMemory>
     ensures { OnOk result (text.new ≡ text.old ++ 32 ∷ found_word (found_value found.now)) }
 {
@@ -22,21 +22,21 @@ fn put_found(text: &mut Bytes, found: &Found) -> Result<(), NoMemory>
     }
 }
 
-/// Puts the reply to a read of several keys behind the text.
+/// Appends the reply to a read of several keys to the text.
 pub fn put_found_each(text: &mut Bytes, at: u64, values: &FoundList) -> Result<(), NoMemory>
     ensures { OnOk result (text.new ≡ text.old ++ line (codes "many" ∷ decimal at ∷ decimal (length values.now)
         ∷ map found_word values.now)) }
 {
     text.append(b"many")?;
     put_numbers(text, &[at, values.len() as u64])?;
-    // The values so far stand after the text.
+    // The values so far are appended to the text.
     for found in values.as_slice() {
         put_found(text, found)?;
     }
     text.append(b"\n")
 }
 
-/// Puts a key and its value behind the text, each after a space.
+/// Appends a key and its value to the text, each after a space.
 fn put_row(text: &mut Bytes, key: &[u8], value: &[u8]) -> Result<(), NoMemory>
     ensures { OnOk result (text.new ≡ text.old ++ flat_map (λ w. 32 ∷ w) (pair_words (key.now, value.now))) }
 {
@@ -46,14 +46,14 @@ fn put_row(text: &mut Bytes, key: &[u8], value: &[u8]) -> Result<(), NoMemory>
     text.append(value)
 }
 
-/// Puts the reply to a scan behind the text.
+/// Appends the reply to a scan to the text.
 pub fn put_rows(text: &mut Bytes, at: u64, rows: &PairList) -> Result<(), NoMemory>
     ensures { OnOk result (text.new ≡ text.old ++ line (codes "scan" ∷ decimal at ∷ decimal (length rows.now)
         ∷ flat_map pair_words rows.now)) }
 {
     text.append(b"scan")?;
     put_numbers(text, &[at, rows.len() as u64])?;
-    // The lines of the rows so far stand after the text.
+    // The words of the rows so far are appended to the text.
     for (key, value) in rows.as_slice() {
         put_row(text, key.as_slice(), value.as_slice())?;
     }

@@ -36,19 +36,19 @@ fn put_group(text: &mut Bytes, group: &GroupNote) -> Result<(), NoMemory>
     text.append(b"\n")
 }
 
-/// Puts the groups behind the text: how many there are, and a line for each.
+/// Appends the groups to the text: how many there are, and a line for each.
 fn put_groups(text: &mut Bytes, groups: &[GroupNote]) -> Result<(), NoMemory>
     ensures { OnOk result (text.new ≡ text.old ++ groups_lines groups.now) }
 {
     put_line(text, b"groups", &[groups.len() as u64])?;
-    // The lines of the groups so far stand after the text.
+    // The lines of the groups so far are appended to the text.
     for group in groups {
         put_group(text, group)?;
     }
     Ok(())
 }
 
-/// Puts where and why recovery ended behind the text.
+/// Appends to the text where and why recovery ended.
 fn put_end(text: &mut Bytes, at: u64, why: EndReason) -> Result<(), NoMemory>
     ensures { OnOk result (text.new ≡ text.old ++ end_line at why) }
 {
@@ -58,7 +58,7 @@ fn put_end(text: &mut Bytes, at: u64, why: EndReason) -> Result<(), NoMemory>
     put_reason(text, why)
 }
 
-/// Recovery ends at this place for this reason, which isn't accepted.
+/// The refusal of a log: its recovery ends at this place for this reason, which isn't accepted.
 pub fn log_damage(alloc: Global, at: u64, why: EndReason) -> Result<Bytes, NoMemory>
     ensures { IfOk result (λ t. t ≡ texts.damage at why) }
 {

@@ -1,4 +1,5 @@
-//! The text of the state that a log recovers, whose keys and values are any bytes: they are printed in digits.
+//! The text of the state that a log recovers, whose keys and values may be any bytes: they are printed in hexadecimal
+//! digits.
 
 ghost use Rattle.std.specs.Prelude.{◌≡◌, ◌++◌, OnOk};
 ghost use Rattle.model_base.specs.Text.{hex_word, state_text};
@@ -9,7 +10,7 @@ use base_bytes::Bytes;
 use base_maps::ByteMap;
 use model_base::NoMemory;
 
-/// Puts bytes behind the text in lower-case digits, and `-` for no byte.
+/// Appends bytes to the text in lower-case hexadecimal digits, or `-` if there is none.
 fn put_hex_word(text: &mut Bytes, word: &[u8]) -> Result<(), NoMemory>
     ensures { OnOk result (text.new ≡ text.old ++ hex_word word.now) }
 {
@@ -29,12 +30,12 @@ fn put_hex_pair(text: &mut Bytes, key: &[u8], value: &[u8]) -> Result<(), NoMemo
     text.append(b"\n")
 }
 
-/// Puts the state that is recovered behind the text.
+/// Appends the state that is recovered to the text.
 pub fn put_recovered_map(text: &mut Bytes, last: u64, map: &ByteMap) -> Result<(), NoMemory>
     ensures { OnOk result (text.new ≡ text.old ++ state_text hex_word last map.now) }
 {
     put_line(text, b"state", &[last, map.len() as u64])?;
-    // With the lines of the pairs that are left, those of all pairs stand after the text.
+    // With the lines of the pairs that are left, those of all pairs would be appended to the text.
     for (key, value) in map.iter() {
         put_hex_pair(text, key, value)?;
     }

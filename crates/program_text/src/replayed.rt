@@ -15,8 +15,8 @@ use replay_core::Counts;
 use replay_schedules::Replayed;
 use std::alloc::Global;
 
-/// The text of a replayed schedule: how many events came, each client's replies, the history, the published state, and
-/// how many groups were logged.
+/// The text of a replayed schedule: how many events were taken and how many skipped, each client's replies, the
+/// history, the published state, and how many groups were logged.
 pub fn replayed_text(alloc: Global, replayed: &Replayed) -> Result<Bytes, NoMemory>
     ensures { IfOk result (λ t. (r : machine.Replayed) → ShowsReplayed replayed.now r → t ≡ replay_text r) }
 {
@@ -29,7 +29,7 @@ pub fn replayed_text(alloc: Global, replayed: &Replayed) -> Result<Bytes, NoMemo
     Ok(text)
 }
 
-/// Puts the line of the events behind the text.
+/// Appends the line of the events to the text.
 fn put_counts(text: &mut Bytes, counts: Counts) -> Result<(), NoMemory>
     ensures { OnOk result (text.new ≡ text.old ++ counts_line counts) }
 {

@@ -1,5 +1,5 @@
-//! The text of a state: the line `state LAST N`, and a line for each of its N keys with their values. Those of a script
-//! are printing characters, and are printed as they stand.
+//! The text of a state: the line `state LAST N`, and a line for each of its N keys with their values. The keys and
+//! values of a script are printing characters, and are printed as they are.
 
 ghost use Rattle.std.specs.Prelude.{◌≡◌, ◌++◌, OnOk};
 ghost use Rattle.model_base.specs.Text.{state_text};
@@ -19,12 +19,12 @@ fn put_pair(text: &mut Bytes, key: &[u8], value: &[u8]) -> Result<(), NoMemory>
     text.append(b"\n")
 }
 
-/// Puts the state of a map behind the text.
+/// Appends the state of a map to the text.
 pub fn put_map(text: &mut Bytes, last: u64, map: &ByteMap) -> Result<(), NoMemory>
     ensures { OnOk result (text.new ≡ text.old ++ state_text plain last map.now) }
 {
     put_line(text, b"state", &[last, map.len() as u64])?;
-    // With the lines of the pairs that are left, those of all pairs stand after the text.
+    // With the lines of the pairs that are left, those of all pairs would be appended to the text.
     for (key, value) in map.iter() {
         put_pair(text, key, value)?;
     }

@@ -1,5 +1,5 @@
-//! The summary of the outcome of a script that was made: six lines, each a word and a number. It is the same for every
-//! order of the clients' batches, since no key is of two clients.
+//! The summary of a generated script's outcome: six lines, each a word and a number. It is the same for every order of
+//! the clients' batches, since no two clients have a key in common.
 
 ghost use Rattle.std.specs.Prelude.{◌≡◌, ◌++◌, ℕ, sum_by, OnOk, IfOk};
 ghost use Rattle.model_base.specs.Batch.{count_of};
@@ -17,7 +17,7 @@ use model_base::NoMemory;
 use run_outcome::{History, Outcome};
 use std::alloc::Global;
 
-/// The summary of an outcome, whose map's values have this sum as numbers.
+/// The summary of an outcome. `sum` is the sum of its map's values, read as numbers.
 pub fn summary_text(alloc: Global, outcome: &Outcome<ByteMap>, sum: u128) -> Result<Bytes, NoMemory>
     ensures { (o : calls.Outcome) (start : ℕ) → IsHistory start o.history → ShowsOutcome outcome.now o
         → sum ≡ sum_by (λ p. value_of_digits p.1) o.state → IfOk result (λ t. t ≡ model.summary_text o) }
@@ -32,7 +32,7 @@ pub fn summary_text(alloc: Global, outcome: &Outcome<ByteMap>, sum: u128) -> Res
     Ok(text)
 }
 
-/// How many records the batches of a history count, all together.
+/// How many records of a history's batches count, in all.
 fn record_count(history: &History) -> u128
     ensures { result ≡ sum_by (λ entry. count_of entry.batch.records) history.now }
 {
@@ -44,7 +44,7 @@ fn record_count(history: &History) -> u128
     count
 }
 
-/// Puts a line behind the text: a word and a number.
+/// Appends a line to the text: a word and a number.
 fn put_number_line(text: &mut Bytes, word: &[u8], number: u128) -> Result<(), NoMemory>
     ensures { OnOk result (text.new ≡ text.old ++ number_line word.now number) }
 {

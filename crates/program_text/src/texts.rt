@@ -29,14 +29,14 @@ pub fn outcome_text(alloc: Global, outcome: &Outcome<ByteMap>) -> Result<Bytes, 
     Ok(text)
 }
 
-/// The words of the call aren't lawful.
+/// The refusal of words that aren't lawful.
 pub fn usage() -> &'static [u8]
     ensures { result.now ≡ texts.usage }
 {
     b"usage\n"
 }
 
-/// The text isn't a script: its first fault, and the number of its line.
+/// The refusal of a text that isn't a script: its first fault, and the number of the fault's line.
 pub fn script_fault(alloc: Global, line: u64, kind: ScriptFault) -> Result<Bytes, NoMemory>
     ensures { IfOk result (λ t. t ≡ texts.script_fault (record { line = line; kind = kind })) }
 {
@@ -64,25 +64,7 @@ fn fault_word(kind: ScriptFault) -> &'static [u8]
     }
 }
 
-/// The source failed, for the how many-th time.
-pub fn source_fault(alloc: Global, count: u64) -> Result<Bytes, NoMemory>
-    ensures { IfOk result (λ t. t ≡ texts.source_fault count) }
-{
-    let mut text = Bytes::new(alloc);
-    put_line(&mut text, b"source fault", &[count])?;
-    Ok(text)
-}
-
-/// The disk failed before the log was opened, for the how many-th time.
-pub fn disk_fault(alloc: Global, count: u64) -> Result<Bytes, NoMemory>
-    ensures { IfOk result (λ t. t ≡ texts.disk_fault count) }
-{
-    let mut text = Bytes::new(alloc);
-    put_line(&mut text, b"disk fault", &[count])?;
-    Ok(text)
-}
-
-/// The log holds bytes already, this many.
+/// The refusal of a log that has `len` bytes already.
 pub fn log_not_empty(alloc: Global, len: u64) -> Result<Bytes, NoMemory>
     ensures { IfOk result (λ t. t ≡ texts.not_empty len) }
 {

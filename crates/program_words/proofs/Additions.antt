@@ -1,4 +1,4 @@
--- What arguments and commands make of a command that they are added to, and what a parser makes of an argument.
+-- What a command is after arguments and commands are added to it, and what an argument is with a parser.
 use Rattle.std.proofs.Common.{◌≡◌, ◌∙◌, ℕ, Option, Some, Result, Ok, Err, IfOk, IsOkAnd, false, refl, ap}
 use Rattle.clap.specs.Words.{AddsArg, AddsSubcommand, App, Rule, app_of, rule_of, with_rule, with_subcommand}
 use Rattle.clap.specs.Simple.{shape_of}
@@ -8,7 +8,7 @@ use Rattle.clap.specs.declared.builder.command.Command.TheViews.{out-Command}
 use Rattle.clap.specs.declared.builder.value_parser.ValueParser.{ValueParser}
 use Rattle.clap.specs.declared.builder.value_parser.ValueParser.TheVariants.{Unsigned}
 
--- the command has this form, and no argument that its own commands take over
+-- the command has this form, and no argument that its own commands inherit
 pub record IsApp (command : Command) (a : App) : Type 0 where
   pub app : app_of command ≡ a
   pub local : (out-Command command).has_globals ≡ false
@@ -24,7 +24,7 @@ with_command : (old sub new : Command) (a b : App) → AddsSubcommand old sub ne
 with_command old sub new a b adds local old_is sub_is =
     adds.shape local ∙ ap (λ (x : App). with_subcommand x (shape_of sub)) old_is ∙ ap (λ (x : App). with_subcommand a x.top) sub_is
 
--- a command that there may have been no memory to make, added where there was
+-- adds a command, if there was memory to make it
 module _ {E : Type 0} where
   pub with_made : (old new : Command) (made : Result Command E) (a b : App) → IsOkAnd made (λ sub. AddsSubcommand old sub new) → IfOk made (λ sub. (out-Command sub).has_globals ≡ false)
       → app_of old ≡ a → IfOk made (λ sub. app_of sub ≡ b) → app_of new ≡ with_subcommand a b.top

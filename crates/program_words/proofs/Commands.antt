@@ -22,9 +22,9 @@ use Rattle.program_words.proofs.Levels.{DefaultPasses, IsCommand, command_asks, 
 use Rattle.program_words.proofs.Lists.{Each}
 use Rattle.program_words.proofs.ThreeNumbers.{generate_asks}
 
--- ---- a command that has options alone
+-- ---- a command that has only options
 
--- the command takes these options and nothing else, and wants none
+-- the command takes these options and requires nothing
 record TakesOptions (s : Shape) (known : List Known) : Type 0 where
   options : Each (HasOption s) known
   once : s.args_override_self ≡ false

@@ -37,7 +37,7 @@ module _ (rows : List Row) (a : Rule) where
           ap (find p) (at_row-absent a.id (more_values DefaultValue (v ∷ values)) (made_by a (v ∷ values) ∷ []) rows e)
           ∙ row-before p rows (made_by a (v ∷ values) ∷ []) r here
 
-  -- another id that has no row gets none
+  -- another id that has no row still has none
   absent_once : (id : Text) → bytes_eq a.id id ≡ false → has_row id rows ≡ false → has_row id (with_default rows a) ≡ false
   absent_once id other unused = go (has_row a.id rows) refl a.defaults
     where
@@ -49,7 +49,7 @@ module _ (rows : List Row) (a : Rule) where
           ∙ has_row-other id rows (made_by a (v ∷ values)) other
           ∙ unused
 
-  -- and none gets one of an argument without a default
+  -- from an argument without a default no id gets a row
   absent_without : (id : Text) → a.defaults ≡ [] → has_row id rows ≡ false → has_row id (with_default rows a) ≡ false
   absent_without id none unused = go (has_row a.id rows) a.defaults none
     where
@@ -74,7 +74,7 @@ pub stays : (p : Row → Bool) (r : Row) (c : List Rule) (rows : List Row) → f
 stays p r [] rows here = here
 stays p r (a ∷ c) rows here = stays p r c (with_default rows a) (stays_once rows a p r here)
 
--- and an id without a row gets its default
+-- an id without a row gets its default
 default_found : (id text : Text) (a : Rule) → reading_by a ≡ AsWritten → a.defaults ≡ text ∷ [] → (c : List Rule) → arg_by_id c id ≡ Some a
     → (rows : List Row) → has_row id rows ≡ false → row_in id (fold with_default rows c) ≡ Some (value_row id DefaultValue text)
 default_found id text a reads defaults [] found rows unused = cc
@@ -93,7 +93,7 @@ pub default_found_in : (c : List Rule) (id text : Text) → HasDefault c id text
     → row_in id (fold with_default rows c) ≡ Some (value_row id DefaultValue text)
 default_found_in c id text has rows unused = default_found id text has.rule has.reads has.defaults c has.found rows unused
 
--- without a default it stays without a row
+-- an id without a default and without a row still has no row
 stays_absent : (id : Text) (c : List Rule) → HasNoDefault c id → (rows : List Row) → has_row id rows ≡ false → has_row id (fold with_default rows c) ≡ false
 stays_absent id [] none rows unused = unused
 stays_absent id (a ∷ c) none rows unused = go none.0 (stays_absent id c none.1 (with_default rows a))

@@ -1,4 +1,4 @@
--- Four values, and five to seven, that are all there.
+-- Four to seven optional values that are all there.
 use Rattle.std.proofs.Common.{◌≡◌, Option, Some, None, refl}
 use Rattle.std.specs.Prelude.{option_and_then, option_map}
 

@@ -20,7 +20,7 @@ use Rattle.program_words.proofs.Lists.{Each, either, none_passes}
 use Rattle.program_words.proofs.NumberTexts.{number_read, number_said}
 use Rattle.program_words.proofs.Rows.{row_in, value_row}
 
--- an id by which an option is known has a value that the option takes
+-- a value that was given for the id of a known option is one that the option takes
 pub value_fits : (known : List Known) (id : Text) (o : Known) → find (λ (x : Known). bytes_eq (word_of x) (codes "--" ++ id)) known ≡ Some o
     → (given : Given) → Each (Fits known) given → (v : Text) → value_of id given ≡ Some v → o.takes v ≡ true
 value_fits known id o found [] fits v e = cc
@@ -37,7 +37,7 @@ value_fits known id o found (g ∷ given) fits v e = go (bytes_eq g.0 id) refl e
         subst (λ (w : Text). o.takes w ≡ true) value_is (subst (λ (x : Known). x.takes g.1 ≡ true) same fit.takes)
     go false a is rest = rest is
 
--- one by which none is known was not given
+-- an id that no known option has was not given
 pub unknown_is_none : (known : List Known) (id : Text) → find (λ (x : Known). bytes_eq (word_of x) (codes "--" ++ id)) known ≡ None
     → (given : Given) → Each (Fits known) given → value_of id given ≡ None
 unknown_is_none known id unknown [] fits = refl
@@ -62,7 +62,7 @@ row_found c id text has given rows shows = go (value_of id given) shows
     go None none = (DefaultValue, default_found_in c id text has rows (none_passes (λ (r : Row). bytes_eq r.id id) rows none))
     go (Some v) here = (CommandLine, stays (λ (r : Row). bytes_eq r.id id) (value_row id CommandLine v) c rows here)
 
--- and where it has no default just what was given
+-- the row of an option without a default has just what was given
 row_given : (c : List Rule) (id : Text) → HasNoDefault c id → (given : Given) (rows : List Row) → Shows given rows id
     → row_in id (fold with_default rows c) ≡ option_map (λ (v : Text). value_row id CommandLine v) (value_of id given)
 row_given c id none given rows shows = go (value_of id given) shows
@@ -84,7 +84,7 @@ number_found known c name least most default text found by_id default_is given f
     ap (λ (r : Option Row). option_and_then whole_number (option_and_then row_text r)) (row_found c name text has given rows shows).1
     ∙ number_said least most default text (value_of name given) (λ v e. value_fits known name (lawful.number_option name least most) found given fits v e) default_is
 
--- one without a default
+-- a number without a default
 given_said : (least most : ℕ) (id : Text) (given : Option Text) → ((v : Text) → given ≡ Some v → is_some (within least most v) ≡ true)
     → option_and_then whole_number (option_and_then row_text (option_map (λ (v : Text). value_row id CommandLine v) given)) ≡ option_and_then number_of given
 given_said least most id None fits = refl

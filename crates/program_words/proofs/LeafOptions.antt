@@ -21,7 +21,7 @@ row_given g = value_row g.0 CommandLine g.1
 abbrev pub rows_given : Given → List Row
 rows_given given = map row_given given
 
--- the rows have of this id what was given
+-- the rows have for this id what was given
 abbrev pub Shows : Given → List Row → Text → Type 0
 Shows given rows id = row_in id rows ≡ option_map (λ (v : Text). value_row id CommandLine v) (value_of id given)
 
@@ -42,7 +42,7 @@ not_given id given none =
 one_given : (given : Given) (g : Word × Word) → rows_given given ++ row_given g ∷ [] ≡ rows_given (given ++ g ∷ [])
 one_given given g = sym (map-append row_given given (g ∷ []))
 
--- what was given is an option of these, with a value that it takes
+-- what was given is one of these options, with a value that it takes
 pub record Fits (known : List Known) (g : Word × Word) : Type 0 where
   pub which : Known
   pub found : find (λ (x : Known). bytes_eq (word_of x) (codes "--" ++ g.0)) known ≡ Some which
@@ -83,7 +83,7 @@ named_is s known all word given o e = go (find (λ (x : Known). bytes_eq (word_o
 
 -- ---- the walk
 
--- the walk stands between two options, where these were given
+-- the walk is between two options, after these were given
 pub record Stands (s : Shape) (known : List Known) (rows : List Row) (pending : Pending) (given : Given) : Type 0 where
   pub settles : settle_fault s.rules false (held rows pending) ≡ []
   pub rows_are : settled_rows s.rules pending rows ≡ rows_given given
@@ -92,7 +92,7 @@ pub record Stands (s : Shape) (known : List Known) (rows : List Row) (pending : 
 pub nothing_given : (s : Shape) (known : List Known) → Stands s known [] None []
 nothing_given s known = record { settles = refl; rows_are = refl; fits = tt }
 
--- it passes these words, and then stands where these are given
+-- the walk passes these words, and then is between two options, after these were given
 pub record WalksTo (s : Shape) (known : List Known) (rows : List Row) (pending : Pending) (words : List Text) (given : Given) : Type 0 where
   pub last_rows : List Row
   pub last_pending : Pending
@@ -150,7 +150,7 @@ module _ (s : Shape) (known : List Known) (word : Text) (given : Given) (o : Kno
         stands = ends.stands;
       })
 
-  -- the last word, which has to be a flag
+  -- the last word, which must be a flag
   last_word : HasOption s o → (after : Given) → cond o.is_flag (Some (given ++ (o.name, codes "true") ∷ [])) None ≡ Some after
       → ((more : Given) → Some more ≡ Some after → Passes s known [] more after) → WalksTo s known rows pending (word ∷ []) after
   last_word has after e rest = go has.2

@@ -37,13 +37,13 @@ before place h = record { held = h; waiting = idle; position = place; is_trailin
 abbrev pub between : List Row → Pending → Walk
 between rows pending = before 1 (held rows pending)
 
--- the walk behind the name of an option
+-- the walk after the name of an option
 abbrev pub behind : Text → List Row → Walk
 behind id rows = record { held = awaiting id [] rows; waiting = option id; position = 1; is_trailing = false; stopped = None }
 
 -- ---- the options of the commands
 
--- the command finds the option `o`, which is `a`, by its word
+-- the command finds the option `o`, which is the argument `a`, by its word
 pub record Finds (s : Shape) (o : Known) (a : Rule) : Type 0 where
   pub no_escape : bytes_eq (word_of o) (45 ∷ 45 ∷ []) ≡ false
   pub long : long_of (word_of o) ≡ Some (o.name, None)
@@ -172,7 +172,7 @@ module _ (s : Shape) (id : Text) (a : Rule) (by_id : arg_by_id s.rules id ≡ So
       ∙ has.fault_is rows value
       ∙ rw (unused, accepted) refl
 
-  -- and leaves one row more
+  -- the first use adds one row
   pub use_settles : settled_rows s.rules (Some (id, value ∷ [])) rows ≡ rows ++ value_row id CommandLine value ∷ []
   use_settles =
       ap (λ (found : Option Rule). used_by_id found (value ∷ []) rows) by_id
@@ -181,7 +181,7 @@ module _ (s : Shape) (id : Text) (a : Rule) (by_id : arg_by_id s.rules id ≡ So
 
 -- ---- words
 
--- one that is no flag
+-- a word that is no flag
 pub plain_met : (c : List Rule) (waiting : Waiting) (place : ℕ) (word : Text) (h : Held) → IsPlain word
     → subcommand_or_other c None waiting place word h ≡ plain_word c waiting word h
 plain_met c waiting place word h plain = rw (plain.not_escape, plain.not_long, plain.not_short) refl
@@ -189,7 +189,7 @@ plain_met c waiting place word h plain = rw (plain.not_escape, plain.not_long, p
 pub no_flag : (s : Shape) (word : Text) (h : Held) → IsPlain word → other_fault s None word h ≡ []
 no_flag s word h plain = rw (plain.not_escape, plain.not_long, plain.not_short) refl
 
--- one that names an argument
+-- a word that names an argument
 name_met : (c : List Rule) (word id : Text) (a : Rule) (h : Held) → bytes_eq word (45 ∷ 45 ∷ []) ≡ false → long_of word ≡ Some (id, None) → arg_by_long c id ≡ Some a
     → subcommand_or_other c None idle 1 word h ≡ after_flag c idle word (long_met c (Some a) None h).0 (long_met c (Some a) None h).1
 name_met c word id a h no_escape long by_long = rw (no_escape, long, by_long) refl
@@ -208,7 +208,7 @@ module _ (s : Shape) (o : Known) (a : Rule) (finds : Finds s o a) (is : IsFlag o
       name_met s.rules (word_of o) o.name a h finds.no_escape finds.long finds.by_long
       ∙ ap (λ (met : Held × Outcome). after_flag s.rules idle (word_of o) met.0 met.1) (cond_false (takes_values a) (option_met s.rules a None h) (flag_met s.rules a None h) is.takes_none)
 
-  -- its first use leaves one row more
+  -- a flag's first use adds one row
   pub walked_flag : walked s.rules [] (between rows pending) (word_of o) ≡ between (settled_rows s.rules pending rows ++ value_row o.name CommandLine (codes "true") ∷ []) None
   unfolding walked
   walked_flag =
@@ -228,7 +228,7 @@ module _ (s : Shape) (o : Known) (a : Rule) (finds : Finds s o a) (is : IsFlag o
       ∙ ap (λ (kinds : Kinds). or_else kinds (use_fault false a [] now)) settles
       ∙ passes)
 
-  -- what it fails by is what the words behind it fail by
+  -- where a flag comes before other words, the faults are those of the other words
   pub flag_fault : (words : List Text) → settle_fault s.rules false (held rows pending) ≡ []
       → walk_fault s [] (between rows pending) (word_of o ∷ words)
       ≡ walk_fault s [] (between (settled_rows s.rules pending rows ++ value_row o.name CommandLine (codes "true") ∷ []) None) words
@@ -279,13 +279,13 @@ module _ (s : Shape) (o : Known) (a : Rule) (finds : Finds s o a) (is : IsValued
       ap (λ (met : Held × Step). or_else (other_fault s None value h) (step_fault s 1 met.0 met.1)) (value_taken rows)
       ∙ ap (λ (kinds : Kinds). or_else kinds []) (no_flag s value h plain)
 
-  -- between two options
+  -- after an option and its value the walk is between two options again
   pub walked_option : (rows : List Row) (pending : Pending)
       → walked s.rules [] (walked s.rules [] (between rows pending) (word_of o)) value ≡ between (settled_rows s.rules pending rows) (Some (o.name, value ∷ []))
   walked_option rows pending =
       ap (λ (w : Walk). walked s.rules [] w value) (walked_name s o a finds is rows pending) ∙ walked_value (settled_rows s.rules pending rows)
 
-  -- what such a pair fails by is what the words behind it fail by
+  -- where an option and its value come before other words, the faults are those of the other words
   pub option_fault : (rows : List Row) (pending : Pending) (words : List Text) → settle_fault s.rules false (held rows pending) ≡ []
       → walk_fault s [] (between rows pending) (word_of o ∷ value ∷ words) ≡ walk_fault s [] (between (settled_rows s.rules pending rows) (Some (o.name, value ∷ []))) words
   unfolding walk_fault

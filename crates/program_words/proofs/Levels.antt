@@ -1,4 +1,4 @@
--- What the level of a command takes, the whole parse takes; and when a level takes its words.
+-- The whole parse takes what the level of a command takes; and when a level takes its words.
 use Rattle.std.proofs.Common.{◌≡◌, ◌∙◌, ◌||◌, Bool, true, false, List, [], ◌∷◌, ◌++◌, append_assoc, append-nil, Option, Some, None, cond, fold, refl, sym, ap, codes}
 use Rattle.std.specs.Option.{option_map_or}
 use Rattle.std.specs.Prelude.{find, is_some, option_and_then, option_map}
@@ -15,7 +15,7 @@ use Rattle.program_words.specs.declared.invocation.Invocation.{Invocation}
 use Rattle.program_words.proofs.LeafWalks.{leaf}
 use Rattle.program_words.proofs.Lists.{Each}
 
--- ---- the walk over the command and the words behind it
+-- ---- the walk over the command and the words after it
 
 abbrev top : Shape
 top = (built writepath).top
@@ -66,7 +66,7 @@ or_nothing : (kinds : Kinds) → or_else kinds [] ≡ kinds
 or_nothing [] = refl
 or_nothing (k ∷ kinds) = refl
 
--- what a level fails by behind its walk
+-- the faults of the top level: `kinds`, or else those after its walk
 abbrev behind_walk : Walk → Kinds → Kinds
 behind_walk w kinds = or_else kinds (or_else (entered_fault (built writepath) w.stopped)
     (or_else (settle_fault top.rules top.args_override_self w.held)
@@ -127,7 +127,7 @@ defaults_pass (a ∷ c) all rows =
     ap (λ (kinds : Kinds). or_else kinds (defaults_fault (with_default rows a) c)) (either_way (has_row a.id rows || is_empty a.defaults) (given_default_fault a a.defaults) all.0)
     ∙ defaults_pass c all.1 (with_default rows a)
 
--- a walk without a fault, that ends here, and behind which nothing fails
+-- a level takes its words where its walk has no fault, ends at `end`, and nothing fails after it
 pub level_passes : (s : Shape) (words : List Text) (end : Walk) → s.args_override_self ≡ false → Each DefaultPasses s.rules
     → walk s.rules [] nothing_held words ≡ end → walk_fault s [] (walk_from nothing_held) words ≡ [] → settle_fault s.rules false end.held ≡ []
     → check_fault s (finished s.rules end.held) false ≡ [] → level_fault s [] nothing_held words false [] ≡ []

@@ -19,7 +19,7 @@ find_holds P p (y ∷ xs) all x e = go (p y) e (find_holds P p xs all.1 x)
     go true is rest = let same : y ≡ x = cc in subst P same all.0
     go false is rest = rest is
 
--- what is found passes
+-- what is found passes the test
 pub find_passes : {X : Type 0} (p : X → Bool) (xs : List X) (x : X) → find p xs ≡ Some x → p x ≡ true
 find_passes p [] x e = cc
 find_passes {X} p (y ∷ xs) x e = go (p y) refl e (find_passes p xs x)
@@ -28,7 +28,7 @@ find_passes {X} p (y ∷ xs) x e = go (p y) refl e (find_passes p xs x)
     go true here is rest = let same : y ≡ x = cc in subst (λ (z : X). p z ≡ true) same here
     go false here is rest = rest is
 
--- where nothing is found nothing passes
+-- where nothing is found, nothing passes the test
 pub none_passes : {X : Type 0} (p : X → Bool) (xs : List X) → find p xs ≡ None → list_any p xs ≡ false
 none_passes p [] e = refl
 none_passes p (x ∷ xs) e = go (p x) e (none_passes p xs)

@@ -15,13 +15,13 @@ use Rattle.program_words.specs.Meaning.{whole_number}
 use Rattle.program_words.proofs.Lists.{some_told}
 use Rattle.program_words.proofs.Numbers.{numeral_tested}
 
--- the text is no flag and no escape
+-- the text is neither a flag nor an escape
 pub record IsPlain (text : List ℕ) : Type 0 where
   pub not_escape : bytes_eq text (45 ∷ 45 ∷ []) ≡ false
   pub not_long : long_of text ≡ None
   pub not_short : short_of text ≡ None
 
--- clap takes the text as the number n, and lawful words do
+-- clap takes the text as the number `n`, and so do the lawful words
 pub record IsNumberText (text : List ℕ) (least most n : ℕ) : Type 0 where
   pub plain : IsPlain text
   pub accepted : is_unsigned_in least most text ≡ true
@@ -75,21 +75,21 @@ number_text text least most n e =
     let numeral = decimal_is_IsNumeral n digits.1 in
     of_digits text least most n (subst (IsNumeral 10) (sym digits.0) numeral.0) (ap (digits_value 10) digits.0 ∙ numeral.1) digits.1 inside.1 inside.0
 
--- an option's number
+-- a text that an option takes as its number is plain, and clap takes it too
 pub number_passes : (text : List ℕ) (least most : ℕ) → is_some (within least most text) ≡ true → IsPlain text × (is_unsigned_in least most text ≡ true)
 number_passes text least most e =
     let n = some_told (within least most text) e in
     let number = number_text text least most n.0 n.1 in
     (number.plain, number.accepted)
 
--- what an option's number says
+-- clap reads from it the number that it says
 pub number_read : (least most : ℕ) (text : List ℕ) → is_some (within least most text) ≡ true → whole_number text ≡ number_of text
 number_read least most text e =
     let n = some_told (within least most text) e in
     let number = number_text text least most n.0 n.1 in
     number.whole ∙ sym number.says
 
--- or its default
+-- clap reads the number that was given, or the default
 pub number_said : (least most default : ℕ) (text : List ℕ) (given : Option (List ℕ)) → ((v : List ℕ) → given ≡ Some v → is_some (within least most v) ≡ true)
     → whole_number text ≡ Some default → whole_number (unwrap_or given text) ≡ Some (unwrap_or (option_and_then number_of given) default)
 number_said least most default text None fits is = is

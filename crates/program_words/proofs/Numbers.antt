@@ -45,7 +45,7 @@ unread_is_none text h = go (is_numeral (without_leading_plus text)) refl (nat_lt
     go true e false f = refl
     go true e true f = absurd (h (numeral_told _ e, ltb-true _ _ f))
 
--- and so is what the typed getter gives
+-- the typed getter gives that number too
 pub got_is_number : (o : Option (List ℕ)) (r : Option ℕ) → (o ≡ None → r ≡ None)
     → ((t : List ℕ) → o ≡ Some t → (n : ℕ) → r ≡ Some n → whole_number t ≡ Some n)
     → ((t : List ℕ) → o ≡ Some t → r ≡ None → whole_number t ≡ None)

@@ -1,4 +1,4 @@
--- The options, each by itself: what clap makes of it, whichever command has it.
+-- Each option by itself: what clap makes of it, whichever command has it.
 use Rattle.std.proofs.Common.{◌≡◌, ◌⊎◌, ◌||◌, inl, inr, ℕ, true, false, List, [], ◌∷◌, Some, refl, sym, subst, codes}
 use Rattle.std.proofs.lemmas.Slice.Eq.{bytes_eq-Decides}
 use Rattle.std.specs.Prelude.{bytes_eq}
@@ -16,11 +16,11 @@ use Rattle.program_words.specs.Lawful.{Known}
 use Rattle.program_words.proofs.Lists.{either}
 use Rattle.program_words.proofs.NumberTexts.{IsPlain, number_passes}
 
--- a positional as clap builds it
+-- a positional argument as clap builds it
 abbrev pub placed : ℕ → Rule → Rule
 placed place a = with_index place (filled a)
 
--- what the walk holds where this option waits for its value
+-- what the walk holds while this option waits for its value
 abbrev pub awaiting : Text → List Text → List Row → Held
 awaiting id values rows = record { rows = rows; pending = Some (id, values); skip = 0 }
 
@@ -40,7 +40,7 @@ pub record IsValued (o : Known) (a : Rule) : Type 0 where
   pub has_value : HasValue o.name a
   pub passes : (value : Text) → o.takes value ≡ true → IsPlain value × (value_passes a value ≡ true)
 
--- the option `o` is the argument `a`, and is a flag, which stands for `true`
+-- the option `o` is the argument `a`, and is a flag, which means `true`
 pub record IsFlag (o : Known) (a : Rule) : Type 0 where
   pub flag : o.is_flag ≡ true
   pub takes_none : takes_values a ≡ false
@@ -48,7 +48,7 @@ pub record IsFlag (o : Known) (a : Rule) : Type 0 where
   pub fault_is : (rows : List Row) → use_fault false a [] rows ≡ or_else (repeat_fault false o.name rows) []
   pub stands : o.takes (codes "true") ≡ true
 
--- ---- each of them
+-- ---- each option
 
 pub number_valued : (name : Text) (least most : ℕ) (text : Text) → IsValued (lawful.number_option name least most) (filled (number_option name least most text))
 number_valued name least most text = record {
@@ -118,7 +118,7 @@ mode_valued = record {
 pub flag_flag : (name : Text) → IsFlag (lawful.flag name) (filled (flag name))
 flag_flag name = record { flag = refl; takes_none = refl; use_is = λ rows. refl; fault_is = λ rows. refl; stands = refl }
 
--- ---- the numbers that have their places
+-- ---- the numbers in fixed places
 
 pub word_valued : (place : ℕ) (name : Text) (least most : ℕ) → HasValue name (placed place (number_word name least most))
 word_valued place name least most = record { use_is = λ rows value. refl; fault_is = λ rows value. refl }

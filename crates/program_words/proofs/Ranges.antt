@@ -83,7 +83,7 @@ record IsSound (c : List Rule) (a : Rule) : Type 0 where
   is_set : IsSetOption c a
   defaults : list_all (value_passes a) a.defaults ≡ true
 
--- all arguments of the command are such, and have no short names
+-- all arguments of the command are sound in this sense, and have no short names
 record HasSound (s : Shape) : Type 0 where
   all : Each (IsSound s.rules) s.rules
   by_short : (x : ℕ) → arg_by_short s.rules x ≡ None
@@ -108,7 +108,7 @@ defaults_pass : (c rest : List Rule) → Each (IsSound c) rest → (rows : List 
 defaults_pass c [] all rows p = p
 defaults_pass c (a ∷ rest) all rows p = defaults_pass c rest all.1 (with_default rows a) (default_passes c a all.0 rows p)
 
--- the rows of words that the level takes
+-- where the level takes the words, their rows pass
 level_rows : (s : Shape) → HasSound s → (words : List Text) → level_fault s [] nothing_held words false [] ≡ [] → RowsPass s.rules (rows_after s.rules [] words)
 level_rows s has words none =
     let are = are_options s has in
@@ -178,12 +178,12 @@ number_keeps : (number : Option ℕ) → ((n : ℕ) → number ≡ Some n → (1
 number_keeps None in_range = tt
 number_keeps (Some n) in_range = let h = in_range n refl in let below : n < 2 ^ 32 = omega (arith, h.1) in (h.0, below)
 
--- the log's number, where it was given
+-- the log's number, if it was given
 log_number_in_range : (c : List Rule) → TakesNumbers c (codes "number") 1 4294967295 → (rows : List Row) → RowsPass c rows → KeepsNumber (number_in (codes "number") rows)
 log_number_in_range c takes rows pass =
     number_keeps (number_in (codes "number") rows) (λ n e. number_in_range c (codes "number") 1 4294967295 takes rows pass n e)
 
--- what the command asks for, by words that its level takes, keeps the limits
+-- what the command asks for keeps the limits, if its level takes the words
 abbrev LevelKeeps : Shape → Type 0
 LevelKeeps s = (words : List Text) (asked : Invocation) → level_fault s [] nothing_held words false [] ≡ [] → invocation_by s.name (rows_after s.rules [] words) ≡ Some asked → KeepsLimits asked
 

@@ -38,7 +38,7 @@ refused_here words k kinds e (inl memory) is = let bad : NoMemory ≡ Usage = rw
 refused_here words k [] e (inr h) is = absurd h
 refused_here words k (x ∷ xs) e (inr h) is = asked_refused words (x ∷ xs) e refl
 
--- where clap refuses the words they ask for nothing
+-- where clap refuses the words, they ask for nothing
 pub refused_words : (a : App) (words : List Text) (k : ErrorKind) → a ≡ writepath → (k ≡ OutOfMemory) ⊎ IsAmong k (fault_of a words) → refusal_of k ≡ Usage → invocation_in words ≡ None
 refused_words a words k is among usage = refused_here words k (fault_of a words) (ap (λ b. fault_of b words) (sym is)) among usage
 

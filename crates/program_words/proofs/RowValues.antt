@@ -69,7 +69,7 @@ and_true false y p q = cc
 both_pass : (a : Rule) (xs ys : List Text) → list_all (value_passes a) xs ≡ true → list_all (value_passes a) ys ≡ true → list_all (value_passes a) (xs ++ ys) ≡ true
 both_pass a xs ys p q = list_all-append (value_passes a) xs ys ∙ and_true _ _ p q
 
--- values that pass, behind those that did
+-- values that pass, added to rows that pass
 pub with_values_pass : (c : List Rule) (a : Rule) → IsSetOption c a → (source : ValueSource) (values : List Text) → list_all (value_passes a) values ≡ true
     → (rows : List Row) → RowsPass c rows → RowsPass c (with_values a.id (reading_by a) source values rows)
 with_values_pass c a is source values pass rows p =
@@ -210,7 +210,7 @@ word_passes s are once false waiting place word h none p = go (subcommand_met []
     go (Some name) nothing = p
     go None nothing = other (bytes_eq word (45 ∷ 45 ∷ [])) nothing
 
--- a word that goes to its place ends what is pending, unless it is one value more of it
+-- a word in a place of its own ends the argument that is pending, unless it is one more value of it
 step_passes : (s : Shape) → AreOptions s.rules → s.args_override_self ≡ false → (word : Text) (w : Walk) (h : Held) (step : Step)
     → step_fault s w.position h step ≡ [] → RowsPass s.rules h.rows → RowsPass s.rules (after_step s.rules word w h step).held.rows
 step_passes s are once word w h (next waiting) none p = p
@@ -242,7 +242,7 @@ turn_passes s are once w word none p = go w.stopped none
         let parts = first_empty (word_fault s [] w.is_trailing w.waiting word w.held) (step_fault s w.position m.0 m.1) nothing in
         step_passes s are once word w m.0 m.1 parts.1 (word_passes s are once w.is_trailing w.waiting w.position word w.held parts.0 p)
 
--- the rows at the end of a walk no step of which fails
+-- where no step of a walk fails, the rows at its end pass
 pub walk_passes : (s : Shape) → AreOptions s.rules → s.args_override_self ≡ false → (words : List Text) (w : Walk)
     → walk_fault s [] w words ≡ [] → RowsPass s.rules w.held.rows → RowsPass s.rules (fold (walked s.rules []) w words).held.rows
 unfolding walk_fault

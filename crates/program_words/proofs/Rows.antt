@@ -1,4 +1,4 @@
--- The rows of a parse: what a row behind the others changes.
+-- The rows of a parse: what a row after the others changes.
 use Rattle.std.proofs.Common.{◌≡◌, ◌∙◌, ◌||◌, Bool, true, false, List, [], ◌∷◌, ◌++◌, append-nil, Option, Some, None, refl, ap}
 use Rattle.std.proofs.lemmas.List.Folds.{find-append, list_any-append}
 use Rattle.std.proofs.lemmas.Slice.Eq.{bytes_eq-Decides}
@@ -11,7 +11,7 @@ use Rattle.clap.specs.declared.builder.value_parser.Reading.TheVariants.{AsWritt
 use Rattle.clap.specs.declared.parser.matches.ValueSource.{ValueSource}
 use Rattle.clap.specs.declared.parser.matches.ValueSource.TheVariants.{CommandLine}
 
--- the row of an argument with one value, or of a flag with what it stands for
+-- the row of an argument with one value, or of a flag with the value that it means
 abbrev pub value_row : Text → ValueSource → Text → Row
 value_row id source value = record { id = id; values = value ∷ []; count = None; source = Some source; reading = AsWritten }
 
@@ -23,14 +23,14 @@ neither : (a b : Bool) → (a || b) ≡ false → (a ≡ false) × (b ≡ false)
 neither true b e = cc
 neither false b e = (refl, e)
 
--- a change of an id that has no row comes behind the rows
+-- a change of an id that has no row is added after the rows
 pub at_row-absent : (id : Text) (change : Row → List Row) (missing : List Row) (rows : List Row) → has_row id rows ≡ false → at_row id change missing rows ≡ rows ++ missing
 at_row-absent id change missing [] unused = refl
 at_row-absent id change missing (r ∷ rows) unused =
     let parts = neither (bytes_eq r.id id) (has_row id rows) unused in
     rw parts.0 (ap (λ rest. r ∷ rest) (at_row-absent id change missing rows parts.1))
 
--- so does a first use
+-- a first use is added after the rows
 pub first_use : (id value : Text) (rows : List Row) → has_row id rows ≡ false
     → with_values id AsWritten CommandLine (value ∷ []) (without id rows) ≡ rows ++ value_row id CommandLine value ∷ []
 first_use id value rows unused =
@@ -61,11 +61,11 @@ pub has_row-other : (id : Text) (rows : List Row) (r : Row) → bytes_eq r.id id
 has_row-other id rows r other =
     list_any-append (λ (x : Row). bytes_eq x.id id) rows (r ∷ []) ∙ rw other (or_false (has_row id rows))
 
--- a row that is there stays, whatever comes behind
+-- a row that is there stays, whatever comes after it
 pub row-before : (p : Row → Bool) (rows more : List Row) (r : Row) → find p rows ≡ Some r → find p (rows ++ more) ≡ Some r
 row-before p rows more r here = find-append p rows more ∙ ap (λ (o : Option Row). option_or o (find p more)) here
 
--- the id of the new row has it
+-- the new row is the row of its id
 pub row-new : (id : Text) (rows : List Row) (source : ValueSource) (value : Text) → has_row id rows ≡ false
     → row_in id (rows ++ value_row id source value ∷ []) ≡ Some (value_row id source value)
 row-new id rows source value unused =

@@ -1,4 +1,4 @@
--- `gen`: behind its options clap takes its three numbers in their order, and the matches ask for what the words say.
+-- `gen`: after its options clap takes its three numbers in their order, and the matches ask for what the words say.
 use Rattle.std.proofs.Common.{◌≡◌, ◌∙◌, ◌-◌, ◌^◌, ◌&&◌, ◌||◌, ℕ, Bool, true, false, not, List, [], ◌∷◌, ◌++◌, Option, Some, None, cond, fold, refl, ap, subst, codes}
 use Rattle.std.proofs.lemmas.List.{take-append-drop}
 use Rattle.std.proofs.lemmas.List.Sums.{fold-append}
@@ -35,7 +35,7 @@ shape = leaf generate.top
 
 -- ---- a number in its place
 
--- `a` is the number of this place, behind which comes the next
+-- `a` is the number in this place, and `next` is the place after it
 record HasPlace (place next : ℕ) (id : Text) (a : Rule) (least most : ℕ) : Type 0 where
   moves : (word : Text) (h : Held) → after_step shape.rules word (before place h) h value
       ≡ before next (pushed id word (cond (is_pending a h.pending && false) h (settled shape.rules h)))
@@ -108,7 +108,7 @@ takes_number place next id a least most has word n number rows pending settles n
       rows_are = use_settles shape id a has.by_id has.has_value word now unused;
     }
 
--- ---- the three behind the options
+-- ---- the three numbers after the options
 
 -- the words are three numbers in their ranges
 record AreNumbers (s c b : Text) (i j k : ℕ) : Type 0 where
@@ -122,7 +122,7 @@ generate_defaults = (refl, (refl, (refl, (refl, (refl, (refl, tt))))))
 abbrev in_stages : Given → Bool
 in_stages given = is_some (value_of (codes "pipelined") given)
 
--- what is required is there
+-- all required arguments are there
 checks_pass : (rows : List Row) (s c b : Text) → row_in (codes "SEED") rows ≡ Some (value_row (codes "SEED") CommandLine s)
     → row_in (codes "CLIENTS") rows ≡ Some (value_row (codes "CLIENTS") CommandLine c) → row_in (codes "BATCHES") rows ≡ Some (value_row (codes "BATCHES") CommandLine b)
     → check_fault shape rows false ≡ []
@@ -146,7 +146,7 @@ module _ (given : Given) (fits : Each (Fits generate_options) given) (s c b : Te
   abbrev end_rows : List Row
   end_rows = fold with_default with_batches shape.rules
 
-  -- none of the three was there before
+  -- none of the three numbers has a row before it is read
   unnamed : (id : Text) → find (λ (x : Known). bytes_eq (word_of x) (codes "--" ++ id)) generate_options ≡ None → has_row id (rows_given given) ≡ false
   unnamed id unknown = not_given id given (unknown_is_none generate_options id unknown given fits)
 
@@ -162,7 +162,7 @@ module _ (given : Given) (fits : Each (Fits generate_options) given) (s c b : Te
       ∙ has_row-other (codes "BATCHES") (rows_given given) (value_row (codes "SEED") CommandLine s) refl
       ∙ unnamed (codes "BATCHES") refl
 
-  -- now they are
+  -- a number's row is still there after the defaults
   ends_with : (id word : Text) → row_in id with_batches ≡ Some (value_row id CommandLine word) → row_in id end_rows ≡ Some (value_row id CommandLine word)
   ends_with id word here = stays (λ (r : Row). bytes_eq r.id id) (value_row id CommandLine word) shape.rules with_batches here
 
@@ -181,7 +181,7 @@ module _ (given : Given) (fits : Each (Fits generate_options) given) (s c b : Te
   batches_row : row_in (codes "BATCHES") end_rows ≡ Some (value_row (codes "BATCHES") CommandLine b)
   batches_row = ends_with (codes "BATCHES") b (row-new (codes "BATCHES") with_clients CommandLine b no_batches)
 
-  -- the options are as before
+  -- the options' rows are as before
   shown : (id : Text) → bytes_eq (codes "SEED") id ≡ false → bytes_eq (codes "CLIENTS") id ≡ false → bytes_eq (codes "BATCHES") id ≡ false → Shows given with_batches id
   shown id no_s no_c no_b =
       row-other id with_clients (value_row (codes "BATCHES") CommandLine b) no_b

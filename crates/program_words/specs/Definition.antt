@@ -1,4 +1,4 @@
--- The command of `clap` that reads the words of a call, as what clap's parse reads of a command.
+-- The command of `clap` that reads the words of a call: what clap's parse looks at in a command.
 use Rattle.std.specs.Prelude.{ℕ, [], ◌∷◌, Some, true, codes}
 use Rattle.model_base.specs.declared.limits.TheConstants.{MAX_CLIENTS, MAX_SIZE}
 use Rattle.clap.specs.declared.builder.action.ArgAction.TheVariants.{SetTrue}
@@ -14,7 +14,7 @@ number_option name least most default =
 abbrev pub optional_number : Text → ℕ → ℕ → Rule
 optional_number name least most = record (new_rule name) { long = Some name; parser = Some (Unsigned least most) }
 
--- a word that has its place, and may not be left out: a whole number from `least` to `most`
+-- a word in a fixed place, which may not be left out: a whole number from `least` to `most`
 abbrev pub number_word : Text → ℕ → ℕ → Rule
 number_word name least most = record (new_rule name) { required = true; parser = Some (Unsigned least most) }
 
@@ -22,11 +22,12 @@ number_word name least most = record (new_rule name) { required = true; parser =
 abbrev pub flag : Text → Rule
 flag name = record (new_rule name) { long = Some name; action = Some SetTrue }
 
--- what the table is made of: `one` tree under one lock, or trees in `shards`. The matches may have any word for it
+-- what the table is made of: `one` tree under one lock, or trees in `shards`. The matches may have any word as its
+-- value
 abbrev pub table : Rule
 table = record (new_rule (codes "table")) { long = Some (codes "table"); defaults = codes "one" ∷ [] }
 
--- how many shards the table has, where it is in shards
+-- how many shards the table has, if it is in shards
 abbrev pub shards : Rule
 shards = number_option (codes "shards") 1 64 (codes "16")
 
@@ -46,19 +47,19 @@ group_bytes = number_option (codes "group-bytes") 1 16777216 (codes "1048576")
 abbrev pub last : Rule
 last = number_option (codes "last") 0 72057594037927935 (codes "0")
 
--- the number of the log, where it has one
+-- the number of the log, if it has one
 abbrev pub number : Rule
 number = optional_number (codes "number") 1 4294967295
 
--- whether the log goes on behind what it recovers
+-- whether the log goes on after what it recovers
 abbrev pub resume : Rule
 resume = flag (codes "resume")
 
--- which ends of the log its recovery accepts. The matches may have any word for it
+-- which ends of the log its recovery accepts. The matches may have any word as its value
 abbrev pub mode : Rule
 mode = record (new_rule (codes "mode")) { long = Some (codes "mode"); defaults = codes "point" ∷ [] }
 
--- what the numbers of a script are drawn from, how many clients it has, and how many batches each commits
+-- the seed from which a script's numbers are drawn, how many clients it has, and how many batches each commits
 abbrev pub seed : Rule
 seed = number_word (codes "SEED") 0 2147483647
 
@@ -84,7 +85,7 @@ abbrev pub generate : App
 generate = with_rule (with_rule (with_rule (with_rule (with_rule (with_rule (new_app (codes "gen")) pipelined) table)
     shards) seed) clients) batches
 
--- the program, which wants a command, and has no help
+-- the program, which requires a command, and has no help
 abbrev pub program : App
 program = record (new_app (codes "writepath")) {
   top = record (new_app (codes "writepath")).top {

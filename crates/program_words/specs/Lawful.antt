@@ -1,5 +1,6 @@
--- The lawful words of a call, in plain words: the program's name, a command, and its options in any order, each at most
--- once, and with its value in a word of its own where it has one. Behind the options of `gen` stand its three numbers.
+-- The lawful words of a call, defined without clap: the program's name, a command, and its options in any order, each
+-- at most once, and with its value, if it has one, in a word of its own. The three numbers of `gen` come after its
+-- options.
 use Rattle.std.specs.Prelude.{ℕ, ◌-◌, ◌^◌, ◌++◌, ◌&&◌, ◌||◌, Bool, true, false, List, [], ◌∷◌, Option, Some, None, String, string_bytes, map, find, length, take, drop, codes, bytes_eq, nat_le, if◌then◌else◌, unwrap_or, is_some, option_and_then, option_map}
 use Rattle.std.specs.declared.alloc.Global.{Global}
 use Rattle.model_base.specs.declared.limits.TheConstants.{MAX_CLIENTS, MAX_SIZE}
@@ -20,7 +21,7 @@ within least most word = option_and_then
 
 -- ---- the options
 
--- an option `--name`, and which words may be its value; a flag has none, and stands for `true`
+-- an option `--name`, and which words may be its value; a flag has none, and means `true`
 pub record Known : Type 0 where
   pub name : Word
   pub is_flag : Bool
@@ -60,7 +61,7 @@ last = number_option (codes "last") 0 (2 ^ 56 - 1)
 abbrev pub number : Known
 number = number_option (codes "number") 1 (2 ^ 32 - 1)
 
--- the log goes on behind what it recovers
+-- the log goes on after what it recovers
 abbrev pub resume : Known
 resume = flag (codes "resume")
 
@@ -72,7 +73,7 @@ mode = record {
   takes = λ value. bytes_eq value (codes "point") || bytes_eq value (codes "tail") || bytes_eq value (codes "absolute");
 }
 
--- what each command takes
+-- which options each command takes
 
 abbrev pub run_options : List Known
 run_options = pipelined ∷ table ∷ shards ∷ group_bytes ∷ batch_bytes ∷ last ∷ number ∷ resume ∷ mode ∷ []
@@ -88,24 +89,24 @@ generate_options = pipelined ∷ table ∷ shards ∷ []
 
 -- ---- the options that words give
 
--- names and values
+-- the options that were given, each with its name and its value
 abbrev pub Given : Type 0
 Given = List (Word × Word)
 
--- the value of an option, where it was given
+-- the value of an option, if it was given
 abbrev pub value_of : Word → Given → Option Word
 value_of name given = option_map (λ g. g.1) (find (λ g. bytes_eq g.0 name) given)
 
 abbrev pub word_of : Known → Word
 word_of option = codes "--" ++ option.name
 
--- the option that a word names, where it has not come before
+-- the option that a word names, if it has not been given before
 abbrev pub named : List Known → Given → Word → Option Known
 named known given word =
     option_and_then (λ option. if is_some (value_of option.name given) then None else Some option)
     (find (λ option. bytes_eq (word_of option) word) known)
 
--- the words are options of these, and nothing else; they come behind those that were given
+-- if the words are some of these options and nothing else, they are added after those that were given before
 abbrev pub with_options : List Known → List Word → Given → Option Given
 with_options known [] given = Some given
 with_options known (word ∷ []) given =
@@ -122,15 +123,15 @@ options_of known words = with_options known words []
 
 -- ---- what a command asks for
 
--- the number of an option that is given
+-- the number of an option, if it is given
 abbrev pub number_given : Known → Given → Option ℕ
 number_given option given = option_and_then number_of (value_of option.name given)
 
--- one that is not given may have a default
+-- the number of an option, or its default if it is not given
 abbrev pub number_or : ℕ → Known → Given → ℕ
 number_or default option given = unwrap_or (number_given option given) default
 
--- how many shards the table has; none where it is one tree
+-- how many shards the table has; `None` if it is one tree
 abbrev pub shards_given : Given → Option ℕ
 shards_given given =
     if bytes_eq (unwrap_or (value_of table.name given) (codes "one")) (codes "shards")
@@ -154,14 +155,14 @@ abbrev pub replay_with : Given → Invocation
 replay_with given = Replay (is_some (value_of pipelined.name given)) (number_or 1048576 group_bytes given)
     (number_or MAX_SIZE batch_bytes given) (number_or 0 last given)
 
--- `gen` wants a seed below 2^31, up to 64 clients, and up to 100000 batches of each
+-- `gen` takes a seed below 2^31, from 1 to 64 clients, and from 1 to 100000 batches of each
 abbrev pub generate_with : Bool → Option ℕ → List Word → Option Invocation
 generate_with in_stages in_shards (seed ∷ clients ∷ batches ∷ []) =
     option_and_then (λ s. option_and_then (λ c. option_map (λ b. Generate in_stages in_shards s c b)
     (within 1 100000 batches)) (within 1 MAX_CLIENTS clients)) (within 0 (2 ^ 31 - 1) seed)
 generate_with in_stages in_shards _ = None
 
--- its last three words are these numbers
+-- what `gen` asks for: its last three words are these numbers, and those before are its options
 abbrev pub generate_asked : List Word → Option Invocation
 generate_asked words =
     let before = length words - 3 in
@@ -169,7 +170,7 @@ generate_asked words =
     (drop before words))
     (options_of generate_options (take before words))
 
--- what a command asks for with the words behind it
+-- what a command asks for with the words after it
 abbrev pub command_asked : Word → List Word → Option Invocation
 command_asked command words =
     if bytes_eq command (codes "run") then option_map run_with (options_of run_options words)

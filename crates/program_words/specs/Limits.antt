@@ -4,16 +4,16 @@ use Rattle.model_base.specs.declared.limits.TheConstants.{MAX_CLIENTS, MAX_SIZE}
 use Rattle.program_words.specs.declared.invocation.Invocation.{Invocation}
 use Rattle.program_words.specs.declared.invocation.Invocation.TheVariants.{Run, Recover, Replay, Generate}
 
--- a table in shards has from one to 64
+-- a table in shards has from 1 to 64 of them
 abbrev pub KeepsShards : Option ℕ → Type 0
 KeepsShards shards = IfSome shards (λ n. (1 ≤ n) × (n ≤ 64))
 
--- a log's number, where it has one, is not zero, and below 2^32
+-- a log's number, if it has one, is from 1 to 2^32 - 1
 abbrev pub KeepsNumber : Option ℕ → Type 0
 KeepsNumber number = IfSome number (λ n. (1 ≤ n) × (n < 2 ^ 32))
 
--- a batch may have its head at least, a write group a byte, and the sequence number is below 2^56; a script that
--- is made has from one client to 64, each with from one batch to 100000
+-- a batch's limit has room for its header at least, a write group's for one byte, and the sequence number is below
+-- 2^56; a script made from a seed has from 1 to 64 clients, each with from 1 to 100000 batches
 abbrev pub KeepsLimits : Invocation → Type 0
 KeepsLimits (Run pipelined shards group_bytes batch_bytes last number resume mode) = KeepsShards shards
     × (1 ≤ group_bytes) × (group_bytes ≤ 16777216) × (12 ≤ batch_bytes) × (batch_bytes ≤ MAX_SIZE) × (last < 2 ^ 56)

@@ -14,7 +14,7 @@ use Rattle.program_words.specs.declared.invocation.Invocation.TheVariants.{Run, 
 use Rattle.program_words.specs.declared.invocation.WordsError.{WordsError}
 use Rattle.program_words.specs.declared.invocation.WordsError.TheVariants.{Usage, NoMemory}
 
--- every refusal by clap is one of the words, but for want of memory
+-- every refusal by clap is a refusal of the words, except where there was no memory
 abbrev pub refusal_of : ErrorKind → WordsError
 refusal_of OutOfMemory = NoMemory
 refusal_of _ = Usage
@@ -34,11 +34,12 @@ abbrev pub bool_of : Text → Option Bool
 bool_of text = if bytes_eq text (codes "true") then Some true
     else if bytes_eq text (codes "false") then Some false else None
 
--- whether the matches have a flag
+-- whether a flag is given, by the matches
 abbrev pub flag_in : Text → List Row → Option Bool
 flag_in id rows = option_and_then bool_of (one_of id rows)
 
--- how many shards a table of this kind has, by the number that the matches have for them; none where it is one tree
+-- how many shards a table of this kind has, where `shards` is the number that the matches have for them; `Some None`
+-- if it is one tree
 abbrev pub shards_of : Text → Option ℕ → Option (Option ℕ)
 shards_of kind shards = if bytes_eq kind (codes "one") then Some None
     else if bytes_eq kind (codes "shards") then option_map (λ n. Some n) shards else None
@@ -67,11 +68,11 @@ run_by rows =
     (number_in (codes "batch-bytes") rows)) (number_in (codes "group-bytes") rows))
     (shards_in rows)) (flag_in (codes "pipelined") rows)
 
--- and `recover`
+-- what `recover` asks for
 abbrev pub recover_by : List Row → Option Invocation
 recover_by rows = option_map (λ mode. Recover (number_in (codes "number") rows) mode) (mode_in rows)
 
--- and `replay`
+-- what `replay` asks for
 abbrev pub replay_by : List Row → Option Invocation
 replay_by rows =
     option_and_then (λ pipelined. option_and_then (λ group_bytes. option_and_then
@@ -79,7 +80,7 @@ replay_by rows =
     (number_in (codes "last") rows)) (number_in (codes "batch-bytes") rows)) (number_in (codes "group-bytes") rows))
     (flag_in (codes "pipelined") rows)
 
--- and `gen`
+-- what `gen` asks for
 abbrev pub generate_by : List Row → Option Invocation
 generate_by rows =
     option_and_then (λ pipelined. option_and_then (λ shards. option_and_then (λ seed. option_and_then

@@ -20,7 +20,7 @@ pub fn writepath<'a>(alloc: Global) -> Result<Command<'a>, AllocError>
     with_command(with_replay, generate(alloc))
 }
 
-/// The command with one more below it, where there was memory to make that one.
+/// The command with another command below it, if there was memory to make that one.
 fn with_command<'a>(
     command: Command<'a>,
     made: Result<Command<'a>, AllocError>,
@@ -30,7 +30,7 @@ fn with_command<'a>(
     command.subcommand(made?)
 }
 
-/// The program without its commands: it wants one, and has no help, for every refusal has one text.
+/// The program without its commands: it requires one, and has no help, since every refusal has the same text.
 fn program<'a>(alloc: Global) -> Command<'a>
     ensures { app_of result ≡ clap_words.program }
 {
@@ -101,7 +101,8 @@ fn with_limits<'a>(command: Command<'a>, alloc: Global) -> Result<Command<'a>, A
         .arg(last(alloc))
 }
 
-/// What the table is made of: `one` tree under one lock, or trees in `shards`. The matches may have any word for it.
+/// What the table is made of: `one` tree under one lock, or trees in `shards`. The matches may have any word as its
+/// value.
 fn table<'a>(alloc: Global) -> Arg<'a>
     ensures rule { rule_of result ≡ clap_words.table }
     ensures local { result.global ≡ false }
@@ -109,7 +110,7 @@ fn table<'a>(alloc: Global) -> Arg<'a>
     Arg::new(alloc, "table").long("table").default_value("one")
 }
 
-/// How many shards the table has, where it is in shards.
+/// How many shards the table has, if it is in shards.
 fn shards<'a>(alloc: Global) -> Arg<'a>
     ensures rule { rule_of result ≡ clap_words.shards }
     ensures local { result.global ≡ false }
@@ -125,7 +126,7 @@ fn pipelined<'a>(alloc: Global) -> Arg<'a>
     flag(alloc, "pipelined")
 }
 
-/// The most bytes of a batch: its head alone has 12.
+/// The most bytes of a batch; its header alone has 12.
 fn batch_bytes<'a>(alloc: Global) -> Arg<'a>
     ensures rule { rule_of result ≡ clap_words.batch_bytes }
     ensures local { result.global ≡ false }
@@ -149,7 +150,7 @@ fn last<'a>(alloc: Global) -> Arg<'a>
     number_option(alloc, "last", 0, 72057594037927935, "0")
 }
 
-/// The number of the log, where it has one.
+/// The number of the log, if it has one.
 fn number<'a>(alloc: Global) -> Arg<'a>
     ensures rule { rule_of result ≡ clap_words.number }
     ensures local { result.global ≡ false }
@@ -157,7 +158,7 @@ fn number<'a>(alloc: Global) -> Arg<'a>
     optional_number(alloc, "number", 1, 4294967295)
 }
 
-/// Whether the log goes on behind what it recovers.
+/// Whether the log goes on after what it recovers.
 fn resume<'a>(alloc: Global) -> Arg<'a>
     ensures rule { rule_of result ≡ clap_words.resume }
     ensures local { result.global ≡ false }
@@ -165,8 +166,8 @@ fn resume<'a>(alloc: Global) -> Arg<'a>
     flag(alloc, "resume")
 }
 
-/// Which ends of the log its recovery accepts: any, to the `point` where it ends; that of a log whose `tail` was cut
-/// off; or that of a whole log alone, which is `absolute`. The matches may have any word for it.
+/// Which ends of the log its recovery accepts: with `point` any; with `tail` that of a whole log, and of one whose
+/// last write was cut off; with `absolute` that of a whole log alone. The matches may have any word as its value.
 fn mode<'a>(alloc: Global) -> Arg<'a>
     ensures rule { rule_of result ≡ clap_words.mode }
     ensures local { result.global ≡ false }
@@ -206,7 +207,7 @@ fn optional_number<'a>(alloc: Global, name: &'a str, least: u64, most: u64) -> A
         .value_parser(ValueParser::unsigned(least, most))
 }
 
-/// A word that has its place, and may not be left out: a whole number from `least` to `most`.
+/// A word in a fixed place, which may not be left out: a whole number from `least` to `most`.
 fn number_word<'a>(alloc: Global, name: &'a str, least: u64, most: u64) -> Arg<'a>
     ensures rule { rule_of result ≡ clap_words.number_word name.entry.now least most }
     ensures local { result.global ≡ false }

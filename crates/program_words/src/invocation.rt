@@ -21,7 +21,7 @@ pub enum Invocation {
     Run {
         /// Whether the log is handed on before a group is inserted.
         pipelined: bool,
-        /// How many shards the table has; none where it is one tree under one lock.
+        /// How many shards the table has; `None` if it is one tree under one lock.
         shards: Option<u64>,
         /// The most bytes of a write group.
         group_bytes: u64,
@@ -29,17 +29,17 @@ pub enum Invocation {
         batch_bytes: u64,
         /// The sequence number before that of the first batch.
         last: u64,
-        /// The number of the log; none where it has none.
+        /// The number of the log; `None` if it has none.
         number: Option<u64>,
-        /// Whether the log goes on behind what it recovers; else it is written over where it has a number, and has to
-        /// be empty where it has none.
+        /// Whether the log goes on after what it recovers. If not, it is written over if it has a number, and must be
+        /// empty if it has none.
         resume: bool,
-        /// Which ends of the log its recovery accepts, where the log goes on.
+        /// Which ends of the log its recovery accepts, if the log goes on.
         mode: Mode,
     },
     /// To say what the log recovers.
     Recover {
-        /// The number of the log; none where it has none.
+        /// The number of the log; `None` if it has none.
         number: Option<u64>,
         /// Which ends of the log its recovery accepts.
         mode: Mode,
@@ -55,15 +55,15 @@ pub enum Invocation {
         /// The sequence number before that of the first batch.
         last: u64,
     },
-    /// To make a script.
+    /// To run the script that a seed makes.
     Generate {
         /// Whether the log is handed on before a group is inserted.
         pipelined: bool,
-        /// How many shards the table has; none where it is one tree under one lock.
+        /// How many shards the table has; `None` if it is one tree under one lock.
         shards: Option<u64>,
-        /// What its numbers are drawn from.
+        /// The seed from which the script's numbers are drawn.
         seed: u64,
-        /// How many clients it has.
+        /// How many clients the script has.
         clients: u64,
         /// How many batches each client commits.
         batches: u64,
@@ -170,14 +170,14 @@ fn generate_by(options: &ArgMatches) -> Option<Invocation>
     })
 }
 
-/// How many shards the table has, by the matches; none where it is one tree.
+/// How many shards the table has, by the matches; `Some(None)` if it is one tree.
 fn shards_in(options: &ArgMatches) -> Option<Option<u64>>
     ensures { result ≡ meaning.shards_in (rows_of (found_of options.now)) }
 {
     shards_of(text_in("table", options)?, number_in("shards", options))
 }
 
-/// How many shards a table of this kind has, by the number that the matches have for them.
+/// How many shards a table of this kind has, where `shards` is the number that the matches have for them.
 fn shards_of(kind: &str, shards: Option<u64>) -> Option<Option<u64>>
     ensures { result ≡ meaning.shards_of kind.now shards }
 {
@@ -214,7 +214,7 @@ fn text_in<'a>(id: &str, options: &ArgMatches<'a>) -> Option<&'a str>
     options.get_str(id)
 }
 
-/// Whether the matches have a flag.
+/// Whether a flag is given, by the matches.
 fn flag_in(id: &str, options: &ArgMatches) -> Option<bool>
     ensures { result ≡ meaning.flag_in id.now (rows_of (found_of options.now)) }
 {

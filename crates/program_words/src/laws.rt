@@ -8,13 +8,13 @@ ghost use Rattle.program_words.specs.declared.invocation.Invocation.TheVariants.
 ghost use Rattle.program_words.specs.Lawful.{lawful_in, lawful_of};
 ghost use Rattle.program_words.specs.Meaning.{invocation_in, invocation_of};
 
-/// Lawful words ask for what they say.
+/// If words are lawful, clap takes them, and they ask for what `specs/Lawful` says.
 pub fn lawful_words()
     ensures { (words : List (String Global)) (asked : Invocation) → lawful_of words ≡ Some asked
         → invocation_of words ≡ Some asked }
 {}
 
-/// Lawful words, and what they say.
+/// Lawful words, and what they ask for by `specs/Lawful`.
 pub fn words_that_are_lawful()
     ensures run { lawful_in (codes "writepath" ∷ codes "run" ∷ codes "--last" ∷ codes "5" ∷ codes "--shards"
         ∷ codes "64" ∷ codes "--batch-bytes" ∷ codes "12" ∷ codes "--table" ∷ codes "shards"
@@ -50,7 +50,7 @@ pub fn words_that_are_lawful()
         ∷ codes "2" ∷ codes "3" ∷ []) ≡ Some (Generate false (Some 16) 7 2 3) }
 {}
 
-/// Words that ask for something, in lawful form and in another that is read too.
+/// Words that ask for something. Some aren't lawful, but clap takes them too, such as `--last=4` and `04`.
 pub fn words_that_ask()
     ensures run { invocation_in (codes "writepath" ∷ codes "run" ∷ [])
         ≡ Some (Run false None 1048576 16777216 0 None false Point) }

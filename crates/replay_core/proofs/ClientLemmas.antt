@@ -91,7 +91,7 @@ clients_set plans seats clients i plan seat client are h p is = record {
         let other : j ≢ i = λ same. grind (arith, nat_tests) in
         are.each j pj sj cj ep (sym (set_other seats i j seat other) ∙ es) (sym (set_other clients i j client other) ∙ ec)
 
--- who has left with an answer isn't idle
+-- a client whose writer has left with an answer isn't idle
 found_counts : (c : ℕ) (leaving : List core.Writer) (w : core.Writer) → find (λ (v : core.Writer). v.client == c) leaving ≡ Some w → 1 ≤ count_by (λ n. n == c) (map (λ (v : core.Writer). v.client) leaving)
 found_counts c [] w e = cc
 found_counts c (v ∷ leaving) w e = by_first (found_counts c leaving w) (v.client == c) refl e
@@ -118,7 +118,7 @@ leaving_is_busy o s c client w is there found = by_idle client.idle (is.once c c
 pub empty_lines : (plan : ClientPlan) (n : ℕ) → records_in plan (record { from = n; to = n }) ≡ []
 empty_lines plan n = let none : n - n ≡ 0 = omega arith in rw none refl
 
--- who is told leaves no other trace
+-- a client that gets its answer is no longer among those that have left, and the others still are
 pub find_filter : (m c : ℕ) (leaving : List core.Writer) → find (λ (w : core.Writer). w.client == c) (filter (λ (w : core.Writer). not (w.client == m)) leaving)
     ≡ (if c == m then None else find (λ (w : core.Writer). w.client == c) leaving)
 find_filter m c [] = none (c == m)

@@ -1,4 +1,4 @@
--- What an event came to, from the test that the code makes.
+-- The result of an event, from the test that the code makes.
 use Rattle.std.proofs.Common.{◌≡◌, Bool, true, false, ◌&&◌, Option, Some, None, refl, sym, ap, ◌∙◌, subst}
 use Rattle.model_core.specs.Core as core
 use Rattle.model_core.specs.Step.{when}

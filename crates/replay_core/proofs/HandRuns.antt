@@ -6,7 +6,7 @@ use Rattle.std.proofs.lemmas.List.{map-append, drop-drop, length-map, length-tak
 use Rattle.std.proofs.Math.Seq.{take-length}
 use Rattle.model_base.specs.declared.group.Item.{Item}
 use Rattle.model_base.specs.Batch.{count_of}
-use Rattle.model_base.specs.History.{Entry, max_sequence}
+use Rattle.model_base.specs.History.{Entry, max_sequence, last_sequence}
 use Rattle.model_core.specs.Core as core
 use Rattle.model_core.specs.Step as event
 use Rattle.replay_core.specs.declared.phases.LogPhase.{LogPhase}
@@ -41,7 +41,7 @@ log_group_is o r s c m =
     ∙ ap (λ b. event.when ((is_built r.log && b) && not s.log_failed) (event.logged_group s (core.with_runs s.assigned (hand_of r)))) (leads_line r.plans.items c r.in_second r.in_hand r.linked.items)
     ∙ ap (λ b. event.when ((is_built r.log && leads_front c r.in_second r.in_hand r.linked.items) && not b) (event.logged_group s (core.with_runs s.assigned (hand_of r)))) m.log_failed
 
--- Whether one has a run
+-- Whether any writer has a run
 
 none_has : (s : core.State) (ws : List core.Writer) → core.entries_of s ws ≡ [] → list_any core.has_run ws ≡ false
 none_has s [] e = refl
@@ -65,7 +65,7 @@ none_logged s ws e = ap (λ b. if b then event.with_group s ws (core.entries_of 
 pub some_logged : (s : core.State) (ws : List core.Writer) → 0 < length (core.entries_of s ws) → event.logged_group s ws ≡ event.with_group s ws (core.entries_of s ws)
 some_logged s ws h = ap (λ b. if b then event.with_group s ws (core.entries_of s ws) else record (event.leave s ws) { log = core.free }) (some_has s ws h)
 
--- a run changes nothing of how a group is logged
+-- giving runs doesn't change whether a group stays out of the log
 pub unlogged_alike : (last : ℕ) (ws : List core.Writer) → event.is_unlogged (core.with_runs last ws) ≡ event.is_unlogged ws
 unlogged_alike last [] = refl
 unlogged_alike last (w ∷ ws) = by_fit (nat_le (last + count_of w.records) max_sequence)
@@ -79,7 +79,7 @@ none_more [] [] e = refl
 none_more [] (y ∷ ys) e = absurd (omega (arith, e))
 none_more (x ∷ xs) ys e = none_more xs ys (omega (arith, e))
 
--- The line with another group in its place
+-- The line with another group in place of the group in hand
 
 abbrev pub with_group_at : {A : Type 0} → ℕ → ℕ → List A → List A → List A
 with_group_at start len group xs = take start xs ++ (group ++ drop len (drop start xs))
@@ -145,7 +145,7 @@ hand_shown plans start len group xs h e =
     ap (λ zs. take len (drop start zs)) (map_group_at f start len group xs)
     ∙ hand_at start len (map f group) (map f xs) (omega (arith, h, length-map xs f)) (length-map group f ∙ e)
 
--- but for answers the line is as it was
+-- the line is as it was, except for answers
 pub unanswered_at : (start len : ℕ) (group xs : List Writer) → map without_answer group ≡ map without_answer (take len (drop start xs)) → map without_answer (with_group_at start len group xs) ≡ map without_answer xs
 unanswered_at start len group xs e =
     map_group_at without_answer start len group xs
@@ -183,11 +183,11 @@ all_counted plans (w ∷ ws) e = (ap (λ ns. get_or ns 0 0) e, all_counted plans
 abbrev group_of : State → List Writer
 group_of r = take r.in_hand (drop r.in_second r.linked.items)
 
--- what stands in the line for it, and what it came to
+-- the line and the entries after the group in hand has got its runs
 pub record HandGot (r : State) (s : core.State) (linked group : List Writer) (es : List CoreEntry) (last : ℕ) : Type 0 where
   pub runs : map (shown_writer r.plans.items) group ≡ core.with_runs s.assigned (hand_of r)
   pub listed : map (shown_entry r.plans.items) es ≡ s.entries ++ core.entries_of s (map (shown_writer r.plans.items) group)
-  pub reached : last ≡ core.last_entry s.assigned (core.entries_of s (map (shown_writer r.plans.items) group))
+  pub reached : last ≡ last_sequence s.assigned (core.entries_of s (map (shown_writer r.plans.items) group))
   pub shown : take r.in_hand (drop r.in_second (map (shown_writer r.plans.items) linked)) ≡ map (shown_writer r.plans.items) group
   pub writers : AreWriters r.plans.items linked r.items.items
   pub line : (t : core.State) (log2 : LogPhase) → t.second ≡ s.second → t.queue ≡ s.queue → t.log ≡ shown_log log2 (map (shown_writer r.plans.items) group) → has_group log2 ≡ true
@@ -243,7 +243,7 @@ hand_got_at o r s m built group es last same gives =
     record {
       runs = got.runs ∙ ap (λ n. core.with_runs n (map f (group_of r))) (sym m.assigned) ∙ ap (core.with_runs s.assigned) hand;
       listed = got.listed;
-      reached = got.reached ∙ ap (λ n. core.last_entry n (core.entries_of s (map f group))) (sym m.assigned);
+      reached = got.reached ∙ ap (λ n. last_sequence n (core.entries_of s (map f group))) (sym m.assigned);
       shown = hand_shown plans r.in_second r.in_hand group r.linked.items within size;
       writers = writers_alike plans r.linked.items (with_group_at r.in_second r.in_hand group r.linked.items) r.items.items (unanswered_at r.in_second r.in_hand group r.linked.items same) m.writers;
       line = λ t log2 seconds queues log some. line_at plans s t r.second.items r.in_second r.in_hand r.log log2 r.linked.items group m.line within size seconds queues log some;
@@ -261,7 +261,7 @@ drop_none n [] e = let none : n ≡ 0 = omega (arith, e) in ap (λ k. drop k [])
 drop_none zero (x ∷ xs) e = absurd (omega (arith, e))
 drop_none (suc n) (x ∷ xs) e = drop_none n xs (omega (arith, e))
 
--- a vector's items, written over by as many
+-- a vector's items, all written over by the same number of items
 pub written_over : {A : Type 0} (n : ℕ) (xs ys : List A) → length xs ≡ n → length ys ≡ n → xs ≡ take n (xs ++ drop (length xs) ys)
 written_over n xs ys e k =
     let over : xs ≡ xs ++ drop (length xs) ys = append_none xs ∙ ap (λ zs. xs ++ zs) (sym (drop_none (length xs) ys (k ∙ sym e))) in

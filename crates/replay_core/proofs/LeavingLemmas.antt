@@ -31,7 +31,7 @@ done_set done place client (suc c) x h e = by_test (suc c == client) refl
         let other : c ≢ place = λ same. let yes : suc c ≡ client = omega arith in grind (arith, nat_tests) in
         get_or-set_other done place c x None other
 
--- one more has left
+-- one more writer has left
 pub done_more : (plans : List ClientPlan) (old new : List (Option Writer)) (leaving : List core.Writer) (w : Writer) → AreDone plans old leaving
     → ((c : ℕ) → done_of new c ≡ option_or (done_of old c) (if w.client == c then Some w else None)) → AreDone plans new (leaving ++ shown_writer plans w ∷ [])
 done_more plans old new leaving w are set = λ c.
@@ -92,7 +92,7 @@ note_some old w x some c = by_test (w.client == c) refl
         here ∙ sym (ap (λ o. option_or o (Some w)) here)
     by_test false t = or_none (done_of old c)
 
--- a whole group, one after another
+-- one more writer of a group has left
 pub group_more : (plans : List ClientPlan) (new : List (Option Writer)) (leaving : List core.Writer) (ws : List Writer) (i : ℕ) (d : Writer) → i < length ws
     → AreDone plans new ((leaving ++ map (shown_writer plans) (take i ws)) ++ shown_writer plans (get_or ws i d) ∷ []) → AreDone plans new (leaving ++ map (shown_writer plans) (take (i + 1) ws))
 group_more plans new leaving ws i d h are =

@@ -1,4 +1,4 @@
--- The line of those that wait.
+-- The line of writers that wait.
 use Rattle.std.proofs.Common.{◌≡◌, ℕ, zero, suc, ◌+◌, ◌<◌, List, [], ◌∷◌, ◌++◌, length, take, drop, map, refl, sym, ap, ◌∙◌, arith}
 use Rattle.std.specs.List.{drop-map}
 use Rattle.std.proofs.lemmas.List.{drop-drop}
@@ -29,7 +29,7 @@ pub items_queue : (plans : List ClientPlan) (ws : List Writer) (items : List Ite
 items_queue plans ws items n e =
     sym (drop-map core.item_of n (map (shown_writer plans) ws)) ∙ ap (drop n) (items_shown plans ws ∙ sym e)
 
--- the group that is taken, also of an empty queue
+-- the group that is taken out of the queue, also where the queue is empty
 pub group_taken : (max n : ℕ) (queue : List core.Writer) (items : List Item) → map core.item_of queue ≡ items → (0 < length items → n ≡ group_len max items)
     → (take n queue ≡ take (group_len max (map core.item_of queue)) queue) × (drop n queue ≡ drop (group_len max (map core.item_of queue)) queue)
 group_taken max zero [] items e is = (refl, refl)

@@ -40,7 +40,7 @@ records_at plans c place plan lines e there =
     let k : c ≡ suc place = omega arith in
     ap (λ n. records_of plans n lines) k ∙ ap (λ o. option_map_or (λ p. records_in p lines) o []) there
 
--- A line is behind the client.
+-- A client has passed a line, so the clients have fewer lines left.
 pub lines_less : (clients : List core.Client) (i : ℕ) (old new : core.Client) → i < length clients → slice_get clients i ≡ Some old → length new.left + 1 ≤ length old.left → lines_left (slice_set clients i new) + 1 ≤ lines_left clients
 lines_less [] i old new h there fewer = absurd (omega arith)
 lines_less (x ∷ clients) zero old new h there fewer =

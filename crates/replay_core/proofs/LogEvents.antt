@@ -220,7 +220,7 @@ leads_within c start len ws e = at_within c start ws (both_parts (nat_lt 0 len) 
 pub built_parts : (log : LogPhase) (b : Bool) → (is_built log && b) ≡ true → (is_built log ≡ true) × (b ≡ true)
 built_parts log b e = both_parts (is_built log) b e
 
--- what stands where no writer is
+-- a default for places where no writer is
 abbrev pub no_writer : Writer
 no_writer = record {
   client = 0;

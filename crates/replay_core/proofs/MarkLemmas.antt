@@ -86,7 +86,7 @@ launched_finish marks new last ins fin d l here set = record {
     same_insert c true t = let e : c ≡ d = grind (arith, nat_tests) in ap (λ n. is_inserted (mark_of marks n)) e ∙ here
     same_insert c false t = refl
 
--- who has inserted is a client
+-- a number that is marked as inserted is that of a client
 pub inserted_is_client : (marks : List Mark) (c : ℕ) → is_inserted (mark_of marks c) ≡ true → (1 ≤ c) × (c ≤ length marks)
 inserted_is_client marks zero e = cc
 inserted_is_client marks (suc c) e = by_place (slice_get_cases marks c).1

@@ -75,7 +75,7 @@ fresh_clients plans seats small z = record {
   each = each_fresh plans seats small z;
 }
 
--- no line is passed
+-- before the first event all lines are left
 pub all_left : (plans : List ClientPlan) → lines_left (map core.idle_client plans) ≡ sum_by (λ (p : ClientPlan). length p) plans
 all_left [] = refl
 all_left (p ∷ plans) =

@@ -79,7 +79,7 @@ counts_none counts es len zeros none =
         let within : k < length (replicate len 0) = slice_get_within (replicate len 0) k n h in
         sym (get_or_from_slice_get (replicate len 0) k n 0 h) ∙ same_at len k 0
 
--- what is put after a list leaves its prefixes
+-- an item put after a list leaves the list's prefixes as they were
 pub prefix_push : {A : Type 0} (n len capacity : ℕ) (xs ys : List A) (x : A) → n ≤ length xs → (len < capacity → ys ≡ xs ++ x ∷ []) → (capacity ≤ len → ys ≡ xs) → take n ys ≡ take n xs
 prefix_push n len capacity xs ys x h pushed full = by_test (nat_lt len capacity) refl
   where

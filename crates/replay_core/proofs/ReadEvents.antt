@@ -1,4 +1,4 @@
--- Which lines are reads, and what they are answered.
+-- Which lines are reads, and how they are answered.
 use Rattle.std.proofs.Common.{◌≡◌, ◌⊎◌, inl, inr, ℕ, zero, suc, ◌+◌, ◌-◌, ◌<◌, ◌≤◌, true, false, List, length, slice_get, slice_set, Option, Some, None, refl, sym, ap, ◌∙◌, subst, arith}
 use Rattle.std.proofs.lemmas.List.{length-drop}
 use Rattle.std.specs.Prelude.{if◌then◌else◌}
@@ -40,7 +40,7 @@ read_is s (Some (many keys)) e = record { command = many keys; reply = _; line =
 read_is s (Some (scan lo hi)) e = record { command = scan lo hi; reply = _; line = refl; answered = refl; loud = refl; at = refl }
 read_is s (Some other) e = absurd (cc e)
 
--- behind its call a client has fewer lines left
+-- after its call a client has fewer lines left
 pub fewer_left : (plan : ClientPlan) (seat : Seat) (client : core.Client) (a : Ahead) (v : core.Ahead) → IsClient plan seat client → IsAhead plan seat.next a client.calls client v → a.call < length plan
     → length v.client.left + 1 ≤ length client.left
 fewer_left plan seat client a v is ahead there =
@@ -62,7 +62,7 @@ nobody_at s n zero e h = refl
 nobody_at s n (suc c) e (inl z) = absurd (omega arith)
 nobody_at s n (suc c) e (inr lt) = slice_get_past s.clients c (omega arith)
 
--- a client that waits comes to no read
+-- a client that waits can't read
 pub read_waits : (s : core.State) (c : ℕ) (client : core.Client) → core.client_at s c ≡ Some client → client.idle ≡ false → event.read s c (core.client_at s c) ≡ None
 read_waits s c client there busy =
     ap (event.read s c) there ∙ ap (λ b. if b then event.read_call s c (core.next_call client).client (core.next_call client).call else None) busy

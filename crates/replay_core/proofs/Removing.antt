@@ -16,7 +16,7 @@ use Rattle.replay_core.specs.Shown.{shown_writer, groups_of_lengths, total}
 use Rattle.replay_core.specs.Mirrors.{AreWriters, IsClientOf, answers_in_hand}
 use Rattle.replay_core.proofs.TableEvents.{known_take, known_drop}
 
--- what is left without a part in the middle
+-- a list without a part in its middle
 abbrev pub without : {A : Type 0} → ℕ → ℕ → List A → List A
 without start end xs = take start xs ++ drop end xs
 
@@ -39,7 +39,7 @@ drop_of_take n start xs h =
     let e : start ≡ n + (start - n) = omega arith in
     ap (λ k. drop n (take k xs)) e ∙ drop-take n (start - n) xs
 
--- the groups of the second queue stand before what is left out
+-- the groups of the second queue come before what is taken out, and are as they were
 pub cut_front : {A : Type 0} (ns : List ℕ) (start : ℕ) (xs back : List A) → total ns ≤ start → start ≤ length xs → groups_of_lengths ns (take start xs ++ back) ≡ groups_of_lengths ns xs
 cut_front [] start xs back few h = refl
 cut_front (n ∷ ns) start xs back few h =

@@ -35,7 +35,7 @@ pub counted_sum : (came : Bool) (counts : Counts) → (counts_after_event came c
 counted_sum true counts = omega arith
 counted_sum false counts = omega arith
 
--- none has come, the last one neither
+-- where no event has come, the last one hasn't come either
 pub none_came : (came : Bool) (counts : Counts) → (counts_after_event came counts).taken ≡ 0 → (came ≡ false) × (counts.taken ≡ 0)
 none_came true counts e = absurd (omega (arith, e))
 none_came false counts e = (refl, e)

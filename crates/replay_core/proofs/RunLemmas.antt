@@ -9,7 +9,7 @@ use Rattle.std.proofs.lemmas.List.Sums.{length-filter}
 use Rattle.model_base.specs.declared.write.Refusal.TheVariants as no
 use Rattle.model_base.specs.Batch.{Record, count_of}
 use Rattle.model_base.specs.Calls.{accepted, refused}
-use Rattle.model_base.specs.History.{Entry, max_sequence, last_of, flag_of}
+use Rattle.model_base.specs.History.{Entry, max_sequence, last_of, flag_of, last_sequence}
 use Rattle.log_batch.specs.declared.run.Run.{Run}
 use Rattle.model_core.specs.Core as core
 use Rattle.replay_plans.specs.declared.plan.ClientPlan.{ClientPlan}
@@ -19,16 +19,16 @@ use Rattle.replay_plans.specs.Plans.{records_of}
 use Rattle.replay_core.specs.Shown.{CoreEntry, shown_writer, shown_entry}
 use Rattle.replay_core.specs.Runs.{GotRuns, IsCounted}
 
-last_more : (last : ℕ) (xs ys : List Entry) → core.last_entry last (xs ++ ys) ≡ core.last_entry (core.last_entry last xs) ys
+last_more : (last : ℕ) (xs ys : List Entry) → last_sequence last (xs ++ ys) ≡ last_sequence (last_sequence last xs) ys
 last_more last [] ys = refl
 last_more last (x ∷ xs) ys = last_more (last_of x) xs ys
 
 entries_more : (s : core.State) (xs ys : List core.Writer) → core.entries_of s (xs ++ ys) ≡ core.entries_of s xs ++ core.entries_of s ys
 entries_more s xs ys = filter_map-append (λ (w : core.Writer). option_map (core.entry_of s w) (core.run_of w.answer)) xs ys
 
--- the sequence that is reached when these have got their runs
+-- the sequence given last when these writers have got their runs
 abbrev reached : core.State → ℕ → List core.Writer → ℕ
-reached s last ws = core.last_entry last (core.entries_of s (core.with_runs last ws))
+reached s last ws = last_sequence last (core.entries_of s (core.with_runs last ws))
 
 run_end : (last n : ℕ) → last + 1 + n - 1 ≡ last + n
 run_end last n = omega arith
@@ -51,10 +51,10 @@ runs_more s last (x ∷ xs) ys = by_fit (nat_le (last + count_of x.records) max_
         → core.with_runs last (xs ++ ys) ≡ core.with_runs last xs ++ core.with_runs (reached s last xs) ys
         → (if b then accepted_writer last x ∷ core.with_runs (last + n) (xs ++ ys) else refused_writer last x ∷ core.with_runs last (xs ++ ys))
         ≡ (if b then accepted_writer last x ∷ core.with_runs (last + n) xs else refused_writer last x ∷ core.with_runs last xs)
-        ++ core.with_runs (core.last_entry last (core.entries_of s (if b then accepted_writer last x ∷ core.with_runs (last + n) xs else refused_writer last x ∷ core.with_runs last xs))) ys
+        ++ core.with_runs (last_sequence last (core.entries_of s (if b then accepted_writer last x ∷ core.with_runs (last + n) xs else refused_writer last x ∷ core.with_runs last xs))) ys
     by_fit true h k =
         ap (λ ws. accepted_writer last x ∷ ws) h
-        ∙ ap (λ k. accepted_writer last x ∷ (core.with_runs (last + n) xs ++ core.with_runs (core.last_entry k (core.entries_of s (core.with_runs (last + n) xs))) ys)) (sym (run_end last n))
+        ∙ ap (λ k. accepted_writer last x ∷ (core.with_runs (last + n) xs ++ core.with_runs (last_sequence k (core.entries_of s (core.with_runs (last + n) xs))) ys)) (sym (run_end last n))
     by_fit false h k = ap (λ ws. refused_writer last x ∷ ws) k
 
 pub append_none : {A : Type 0} (xs : List A) → xs ≡ xs ++ []
@@ -65,14 +65,14 @@ append_none (x ∷ xs) = ap (λ ys. x ∷ ys) (append_none xs)
 pub got_none : (plans : List ClientPlan) (s : core.State) (last : ℕ) (entries : List CoreEntry) → s.entries ≡ map (shown_entry plans) entries → GotRuns plans s s.entries last [] [] entries last
 got_none plans s last entries e = record { runs = refl; listed = sym e ∙ append_none s.entries; reached = refl }
 
--- one more gets its run, or is refused
+-- one more writer gets its run, or is refused
 pub got_more : (plans : List ClientPlan) (s : core.State) (front : List Entry) (last : ℕ) (old new : List Writer) (entries : List CoreEntry) (given : ℕ) (w v : Writer) (entries2 : List CoreEntry) (given2 : ℕ)
     → GotRuns plans s front last old new entries given → GotRuns plans s (map (shown_entry plans) entries) given (w ∷ []) (v ∷ []) entries2 given2
     → GotRuns plans s front last (old ++ w ∷ []) (new ++ v ∷ []) entries2 given2
 got_more plans s front last old new entries given w v entries2 given2 got one =
     let f : Writer → core.Writer = shown_writer plans in
     let shown : map f (new ++ v ∷ []) ≡ map f new ++ map f (v ∷ []) = map-append f new (v ∷ []) in
-    let here : given ≡ reached s last (map f old) = got.reached ∙ ap (λ ws. core.last_entry last (core.entries_of s ws)) got.runs in
+    let here : given ≡ reached s last (map f old) = got.reached ∙ ap (λ ws. last_sequence last (core.entries_of s ws)) got.runs in
     let all : core.entries_of s (map f new ++ map f (v ∷ [])) ≡ core.entries_of s (map f new) ++ core.entries_of s (map f (v ∷ [])) = entries_more s (map f new) (map f (v ∷ [])) in
     let all_shown : core.entries_of s (map f (new ++ v ∷ [])) ≡ core.entries_of s (map f new) ++ core.entries_of s (map f (v ∷ [])) = ap (core.entries_of s) shown ∙ all in
     record {
@@ -87,9 +87,9 @@ got_more plans s front last old new entries given w v entries2 given2 got one =
           ∙ append_assoc front (core.entries_of s (map f new)) (core.entries_of s (map f (v ∷ [])))
           ∙ ap (λ es. front ++ es) (sym all_shown);
       reached = one.reached
-          ∙ ap (λ k. core.last_entry k (core.entries_of s (map f (v ∷ [])))) got.reached
+          ∙ ap (λ k. last_sequence k (core.entries_of s (map f (v ∷ [])))) got.reached
           ∙ sym (last_more last (core.entries_of s (map f new)) (core.entries_of s (map f (v ∷ []))))
-          ∙ ap (core.last_entry last) (sym all_shown);
+          ∙ ap (last_sequence last) (sym all_shown);
     }
 
 -- One writer
@@ -101,7 +101,7 @@ counted_on plans c n (x ∷ xs) = counted_on plans c (n + cond (x.client == c) 1
 accepted_is : (plans : List ClientPlan) (c : ℕ) (xs : List CoreEntry) → count_by (λ (x : Entry). x.client == c) (map (shown_entry plans) xs) ≡ count_by (λ (e : CoreEntry). e.client == c) xs
 accepted_is plans c xs = counted_on plans c 0 xs
 
--- the how many-th accepted batch of its client it will be
+-- the ordinal of a client's next accepted batch: one more than its entries so far
 pub ordinal_is : (plans : List ClientPlan) (s : core.State) (c n : ℕ) (xs : List CoreEntry) → s.entries ≡ map (shown_entry plans) xs → n ≡ count_by (λ (e : CoreEntry). e.client == c) xs → n + 1 ≡ core.ordinal_at s c
 ordinal_is plans s c n xs e h =
     let all : length (filter (λ (x : Entry). x.client == c) s.entries) ≡ count_by (λ (e : CoreEntry). e.client == c) xs =
@@ -174,7 +174,7 @@ drop_at (x ∷ xs) (suc i) d = drop_at xs i d
 pub same_at : {A : Type 0} (xs ys : List A) (i : ℕ) (d : A) → drop i xs ≡ drop i ys → get_or xs i d ≡ get_or ys i d
 same_at xs ys i d e = sym (drop_at xs i d) ∙ ap (λ zs. get_or zs 0 d) e ∙ drop_at ys i d
 
--- the others of a group are as they were
+-- the items after the place that was set are as they were
 pub rest_more : {A : Type 0} (xs ys : List A) (i : ℕ) (y : A) → drop i xs ≡ drop i ys → drop (i + 1) (slice_set xs i y) ≡ drop (i + 1) ys
 rest_more xs ys i y e =
     let one : i + 1 ≡ suc i = omega arith in
@@ -202,7 +202,7 @@ entries_before plans s first entries more n e len listed =
     let long : length s.entries ≡ n = ap length e ∙ length-map first (shown_entry plans) ∙ sym len in
     sym (take_front s.entries more) ∙ ap (take (length s.entries)) (sym listed) ∙ ap (λ k. take k (map (shown_entry plans) entries)) long ∙ take-map (shown_entry plans) n entries
 
--- the next of the group gets its run, or is refused
+-- the next writer of the group gets its run, or is refused
 pub next_got : (plans : List ClientPlan) (s : core.State) (last i : ℕ) (old now : List Writer) (entries : List CoreEntry) (given : ℕ) (w v d : Writer) (entries2 : List CoreEntry) (given2 : ℕ)
     → i < length old → i < length now → w ≡ get_or old i d
     → GotRuns plans s s.entries last (take i old) (take i now) entries given → GotRuns plans s (map (shown_entry plans) entries) given (w ∷ []) (v ∷ []) entries2 given2

@@ -1,4 +1,4 @@
--- Between what a state shows and how it is kept.
+-- From how a state is kept to what it shows, and back.
 use Rattle.std.proofs.Common.{◌≡◌, ℕ, zero, suc, ◌<◌, Bool, List, [], ◌∷◌, length, slice_get, Option, Some, None, sym, ◌∙◌, subst, arith}
 use Rattle.model_core.specs.declared.event.Event.{Event}
 use Rattle.model_core.specs.Core as core

@@ -1,4 +1,4 @@
--- Clients whose plans are small, on their way.
+-- Clients whose plans are small, as they go through their lines.
 use Rattle.std.proofs.Common.{◌≡◌, ◌+◌, ◌≤◌, List, [], ◌∷◌, ◌++◌, Some, arith}
 use Rattle.model_base.specs.declared.limits.TheConstants.{MAX_SIZE}
 use Rattle.model_base.specs.declared.write.WriteOptions.{WriteOptions}
@@ -40,7 +40,7 @@ small_ahead calls added (unstop ∷ left) client small = small
 small_ahead calls added (slow rate ∷ left) client small = small
 small_ahead calls added (unslow ∷ left) client small = small
 
--- A commit that is next finds a small batch.
+-- A commit that is next has a small batch.
 pub commit_small : (calls : List Call) (added : List Record) (left : List Command) (client : core.Client) (how : WriteOptions) → AreSmall added left
     → (core.ahead calls added left client).call ≡ Some (commit how) → size_of_batch ((core.ahead calls added left client).client.added) ≤ MAX_SIZE
 commit_small calls added [] client how small e = cc

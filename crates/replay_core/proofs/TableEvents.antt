@@ -102,7 +102,7 @@ pub launch_is : (o : core.Options) (r : State) (s : core.State) (c : ℕ) → Mi
     ≡ event.when (is_still r.table && leads_front c (table_start r.options.pipelined r.in_second) (table_len r.options.pipelined r.second.items r.log r.in_hand) r.linked.items) (record s { table = core.launched [] [] })
 launch_is o r s c m = launch_by o s c r.table r.marks.items r.last_finished m.table ∙ ap (λ b. event.when (is_still r.table && b) (record s { table = core.launched [] [] })) (leads_is o r s c m)
 
--- What stands for a launched group
+-- What the code keeps of a launched group
 
 pub launched_parts : (phase : TablePhase) (marks : List Mark) (last : Option ℕ) (t : core.TablePhase) → is_launched phase ≡ true → IsTable phase marks last t
     → (ins : List ℕ) × (fin : List ℕ) × (t ≡ core.launched ins fin) × IsLaunched marks last ins fin
@@ -143,7 +143,7 @@ group_last_is plans n [] = refl
 group_last_is plans n (w ∷ ws) =
     ap (λ k. event.group_last k (map (shown_writer plans) ws)) (last_shown n _ w.answer) ∙ group_last_is plans (last_after n w.answer) ws
 
--- Who has a run in the group is a client
+-- A writer with a run in the group is of a client that exists
 
 any_known : (plans : ℕ) (c : ℕ) (ws : List Writer) → AllByRecursion (IsClientOf plans) ws → list_any (λ (w : Writer). w.client == c && has_run w.answer) ws ≡ true → (1 ≤ c) × (c ≤ plans)
 any_known plans c [] known e = cc
@@ -191,7 +191,7 @@ exit_is o r s c m = exit_by o s c r.table r.marks.items r.last_finished m.table
     ∙ ap (λ b. event.when (is_published r.table && b) (after_exit s o.pipelined)) (leads_is o r s c m)
     ∙ ap (λ b. event.when (is_published r.table && leads_front c (table_start r.options.pipelined r.in_second) (table_len r.options.pipelined r.second.items r.log r.in_hand) r.linked.items) (after_exit s b)) (ap (λ (p : core.Options). p.pipelined) (sym m.options))
 
--- a group in hand that is in the table
+-- the group in hand, where it is the group in the table
 pub exit_hand : (log : LogPhase) (n start : ℕ) (s : core.State) (ws : List core.Writer) → s.log ≡ shown_log log (take n (drop start ws)) → 0 < (if is_in_log log then n else 0) → core.in_hand s.log ≡ take n (drop start ws)
 exit_hand InLog n start s ws e h = ap core.in_hand e
 exit_hand Free n start s ws e h = absurd (omega arith)

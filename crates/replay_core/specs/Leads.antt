@@ -11,17 +11,17 @@ use Rattle.replay_core.specs.Phases.{is_in_log}
 abbrev pub leads_at : ℕ → ℕ → List Writer → Bool
 leads_at c place ws = option_map_or (λ (w : Writer). w.client == c) (slice_get ws place) false
 
--- the client is the first of so many from a place on
+-- the first of `len` writers from a place on is the client's
 abbrev pub leads_front : ℕ → ℕ → ℕ → List Writer → Bool
 leads_front c place len ws = nat_lt 0 len && leads_at c place ws
 
--- whether a writer has a run, by its answer
+-- whether a writer with this answer has a run
 abbrev pub has_run : Option Answer → Bool
 has_run None = false
 has_run (Some (Accepted run)) = true
 has_run (Some (Refused why)) = false
 
--- the last sequence of its run, where it has one
+-- the last sequence of its run, or `n` if it has none
 abbrev pub last_after : ℕ → Option Answer → ℕ
 last_after n None = n
 last_after n (Some (Accepted run)) = run.last
@@ -31,7 +31,8 @@ abbrev pub finished_last : ℕ → Option ℕ → Bool
 finished_last c None = false
 finished_last c (Some d) = d == c
 
--- The group in the table, or that which comes there next: the first of the second queue, or the logged group in hand
+-- The group in the table, or the one that goes there next: where the path is pipelined the first group of the second
+-- queue, else the logged group in hand
 
 abbrev pub first_len : List ℕ → ℕ
 first_len [] = 0

@@ -1,4 +1,4 @@
--- When the state of the code is that of the machine of events.
+-- When a state of the code is a given state of the machine of events.
 use Rattle.std.specs.Prelude.{◌≡◌, ℕ, zero, suc, ◌+◌, ◌≤◌, Bool, true, false, List, length, take, drop, map, sum_by, Option, Some, None, find, slice_get, slice_index_or, option_map, ◌==◌, if◌then◌else◌, vec_len, vec_capacity}
 use Rattle.std.specs.List.{AllByRecursion}
 use Rattle.model_base.specs.declared.group.Item.{Item}
@@ -25,7 +25,7 @@ use Rattle.replay_plans.specs.Small.{AreSmall}
 
 -- Clients
 
--- a client's seat, by its plan
+-- the code's plan and seat of a client agree with the machine's client
 pub record IsClient (plan : ClientPlan) (seat : Seat) (client : core.Client) : Type 0 where
   pub left : client.left ≡ drop seat.next plan
   pub begun : seat.from ≤ seat.next
@@ -42,7 +42,7 @@ pub record AreClients (plans : List ClientPlan) (seats : List Seat) (clients : L
   pub each : (i : ℕ) (plan : ClientPlan) (seat : Seat) (client : core.Client) → slice_get plans i ≡ Some plan
       → slice_get seats i ≡ Some seat → slice_get clients i ≡ Some client → IsClient plan seat client
 
--- Those that wait: the second queue's groups, the group in hand, the queue
+-- The writers that wait, in order: the groups of the second queue, the group in hand, the queue
 pub record IsLine (ws : List core.Writer) (second : List ℕ) (in_second in_hand : ℕ) (log : LogPhase) (s : core.State) :
     Type 0 where
   pub second_sum : in_second ≡ total second
@@ -51,12 +51,12 @@ pub record IsLine (ws : List core.Writer) (second : List ℕ) (in_second in_hand
   pub no_hand : has_group log ≡ false → in_hand ≡ 0
   pub queue : s.queue ≡ drop (in_second + in_hand) ws
 
--- a client's number
+-- the writer's client is one of the clients 1 to `plans`
 pub record IsClientOf (plans : ℕ) (w : Writer) : Type 0 where
   pub from_one : 1 ≤ w.client
   pub few : w.client ≤ plans
 
--- what is kept with each of them
+-- what is kept with each waiting writer is right: its item, its count, and its client's number
 pub record AreWriters (plans : List ClientPlan) (linked : List Writer) (items : List Item) : Type 0 where
   pub items_are : items ≡ map (λ w. core.item_of (shown_writer plans w)) linked
   pub counts_are : map (λ (w : Writer). w.count) linked
@@ -79,7 +79,7 @@ IsTable table.Published marks last t = t ≡ core.published
 IsTable table.Launched marks last t = (ins : List ℕ) × (fin : List ℕ) × (t ≡ core.launched ins fin)
     × IsLaunched marks last ins fin
 
--- those that have left, found by their client's number
+-- a client's writer that has left, by the client's number
 abbrev pub done_of : List (Option Writer) → ℕ → Option Writer
 done_of left zero = None
 done_of left (suc c) = slice_index_or left c None
@@ -88,9 +88,9 @@ abbrev pub AreDone : List ClientPlan → List (Option Writer) → List core.Writ
 AreDone plans left leaving = (c : ℕ)
     → find (λ (w : core.Writer). w.client == c) leaving ≡ option_map (shown_writer plans) (done_of left c)
 
--- Room: what each vector may still come to have
+-- Room: how many items each vector may still get
 
--- those of the group in hand that have their answers
+-- how many writers of the group in hand have their answers
 abbrev pub answers_in_hand : LogPhase → ℕ → ℕ
 answers_in_hand phase.Free n = 0
 answers_in_hand (phase.Led c) n = 0
@@ -126,7 +126,7 @@ pub record Mirrors (o : core.Options) (r : State) (s : core.State) : Type 0 wher
   pub last : s.last ≡ r.last
   pub room : HasRoom r (lines_left s.clients)
 
--- What an event came to: it could not come and all is as it was, or this is the state after it.
+-- The result of an event: it could not come and all is as it was, or `t` is the state after it.
 abbrev pub MirrorsStep : Option core.State → core.Options → core.State → Bool → State → Type 0
 MirrorsStep None o s came new = (came ≡ false) × Mirrors o new s
 MirrorsStep (Some t) o s came new = (came ≡ true) × Mirrors o new t

@@ -1,4 +1,4 @@
--- What a list of events came to.
+-- The result of a list of events.
 use Rattle.std.specs.Prelude.{◌≡◌, List}
 use Rattle.model_core.specs.declared.event.Event.{Event}
 use Rattle.model_core.specs.Core as core
@@ -14,7 +14,7 @@ pub record IsReplay (o : core.Options) (counts : Counts) (new : State) (r : tabl
   pub skipped : counts.skipped ≡ r.skipped
   pub state : Shows new o r.state
 
--- from each state of the machine that is shown
+-- from each state of the machine that `old` shows
 abbrev pub Replays : List Event → State → Counts → State → Type 0
 Replays events old counts new = (o : core.Options) (s : core.State) → IsCore o s → Shows old o s
     → IsReplay o counts new (table.replay o s events)

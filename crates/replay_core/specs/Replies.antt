@@ -1,10 +1,10 @@
--- What a client is told of its commits and reads: in short by the code, in full by the machine of events.
+-- A client's replies to its commits and reads: in short in the code, in full in the machine of events.
 use Rattle.std.specs.Prelude.{◌≡◌, List, [], ◌∷◌}
 use Rattle.model_base.specs.Calls.{Reply, accepted, refused, found, found_each, rows}
 use Rattle.replay_core.specs.declared.writer.CoreReply.{CoreReply}
 use Rattle.replay_core.specs.declared.writer.CoreReply.TheVariants.{Accepted, Refused, ReadAt}
 
--- what a client was told in short and in full
+-- a reply in short and in full
 abbrev pub IsReply : CoreReply → Reply → Type 0
 IsReply (Accepted run) (accepted first last records) = (run.first ≡ first) × (run.last ≡ last)
 IsReply (Refused why) (refused r) = why ≡ r

@@ -1,4 +1,4 @@
--- What the values of the code stand for in the machine of events.
+-- What the values of the code mean in the machine of events.
 use Rattle.std.specs.Prelude.{ℕ, zero, suc, ◌+◌, List, [], ◌∷◌, take, drop, Option, Some, None, slice_get}
 use Rattle.model_base.specs.Batch.{Record}
 use Rattle.model_base.specs.History as history
@@ -25,7 +25,7 @@ options_of o = record {
   start = o.last;
 }
 
--- the clients' plans, the first that of client 1
+-- the clients' plans; the first is client 1's
 abbrev pub plans_in : State → List ClientPlan
 plans_in r = r.plans.items
 
@@ -46,7 +46,7 @@ shown_writer plans w = record {
   answer = shown_answer (records_of plans w.client w.batch) w.answer;
 }
 
--- an entry of the history, of a batch that stands in its client's plan
+-- an entry of the history whose batch is lines of its client's plan
 abbrev pub CoreEntry : Type 0
 CoreEntry = HistoryEntry Lines
 
@@ -67,7 +67,7 @@ abbrev pub groups_of_lengths : {A : Type 0} → List ℕ → List A → List (Li
 groups_of_lengths [] xs = []
 groups_of_lengths (n ∷ ns) xs = take n xs ∷ groups_of_lengths ns (drop n xs)
 
--- what stands for a client, by its number
+-- a client's item of a list, by the client's number
 abbrev pub of_client : {A : Type 0} → List A → ℕ → Option A
 of_client xs zero = None
 of_client xs (suc c) = slice_get xs c

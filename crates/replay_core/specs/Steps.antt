@@ -1,4 +1,4 @@
--- What an event comes to in the code, by what it comes to in the machine of events.
+-- What an event does in the code, by what it does in the machine of events.
 use Rattle.std.specs.Prelude.{Bool, List, take, drop, map, Option}
 use Rattle.model_core.specs.Core as core
 use Rattle.model_core.specs.CoreLaw.{IsCore}
@@ -7,7 +7,7 @@ use Rattle.replay_core.specs.declared.state.State.{State}
 use Rattle.replay_core.specs.Mirrors.{Mirrors, MirrorsStep}
 use Rattle.replay_core.specs.Shown.{shown_writer}
 
--- From each state of the machine that the code's state mirrors the event comes in both, or in neither.
+-- From each state of the machine that the code's state mirrors, the event comes in both or in neither.
 abbrev pub Steps : (core.Options → core.State → Option core.State) → State → Bool → State → Type 0
 Steps event old came new = (o : core.Options) (s : core.State) → IsCore o s → Mirrors o old s
     → MirrorsStep (event o s) o s came new

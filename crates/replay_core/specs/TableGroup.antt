@@ -1,4 +1,4 @@
--- The group in the code's table, or that which comes there next.
+-- The group in the code's table, or the one that goes there next.
 use Rattle.std.specs.Prelude.{ℕ, List}
 use Rattle.replay_core.specs.declared.state.State.{State}
 use Rattle.replay_core.specs.declared.writer.Writer.{Writer}

@@ -24,7 +24,7 @@ impl<'a> State<'a> {
         &self.plans
     }
 
-    /// What a client was told so far, in order; nothing for a number that no client has.
+    /// The replies that a client got to its commits and reads so far, in order; none for a number that no client has.
     pub fn replies(&self, client: u32) -> &[CoreReply]
         ensures { (o : core.Options) (s : core.State) → Shows self.now o s
             → MatchOption (core.client_at s client) (result.now ≡ [])
@@ -36,8 +36,8 @@ impl<'a> State<'a> {
         &self.seats[place].replies
     }
 
-    /// The batches that were given runs, in the order of their runs. Each is of a client that there is, and of at least
-    /// one record that counts.
+    /// The batches that were given runs, in the order of their runs. Each is of a client that exists, and has at least
+    /// one record that takes a sequence.
     pub fn entries(&self) -> &[HistoryEntry<Lines>]
         ensures shown { (o : core.Options) (s : core.State) → Shows self.now o s
             → map (shown_entry (plans_in self.now)) result.now ≡ s.entries }

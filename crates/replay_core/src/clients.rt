@@ -54,8 +54,8 @@ impl State<'_> {
         true
     }
 
-    /// The client's writer has left with its answer. The client is told, and is idle again. After an accepted commit
-    /// its batch is empty.
+    /// The client's writer has left with its answer. The client gets it as its reply, and is idle again. After an
+    /// accepted commit its batch is empty.
     pub(crate) fn complete(&mut self, client: u32) -> bool
         ensures steps { Steps (λ o s. event.complete s client
             (find (λ (w : core.Writer). w.client == client) s.leaving))

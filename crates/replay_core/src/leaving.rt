@@ -12,7 +12,7 @@ ghost use Rattle.replay_core.specs.Mirrors.{AreDone, IsClientOf, done_of};
 use crate::writer::{Answer, Writer};
 use model_base::Refusal;
 
-/// A client's writer, where that has left.
+/// A client's writer, if it has left and the client doesn't have its answer yet.
 pub(crate) fn done_of(done: &[Option<Writer>], client: u32) -> Option<Writer>
     ensures { result ≡ done_of done.now client }
 {
@@ -22,7 +22,7 @@ pub(crate) fn done_of(done: &[Option<Writer>], client: u32) -> Option<Writer>
     }
 }
 
-/// Notes a writer that has left, or with `None` that it was told.
+/// Notes a client's writer that has left, or with `None` that the client has its answer.
 pub(crate) fn set_done(done: &mut Vec<Option<Writer>>, client: u32, writer: Option<Writer>)
     ensures len { vec_len done.new ≡ vec_len done.old }
     ensures set { 1 ≤ client → client ≤ length done.old.items → (c : ℕ)
@@ -36,7 +36,7 @@ pub(crate) fn set_done(done: &mut Vec<Option<Writer>>, client: u32, writer: Opti
     }
 }
 
-/// A writer leaves. Where its client had one that left before, that one stays.
+/// A writer leaves. If an earlier writer of its client is noted here still, that one stays.
 pub(crate) fn note_done(done: &mut Vec<Option<Writer>>, writer: Writer)
     ensures len { vec_len done.new ≡ vec_len done.old }
     ensures noted { (plans : List ClientPlan) (leaving : List core.Writer) → AreDone plans done.old.items leaving
@@ -49,7 +49,7 @@ pub(crate) fn note_done(done: &mut Vec<Option<Writer>>, writer: Writer)
     }
 }
 
-/// A group leaves, its writers in order.
+/// The writers of a group leave, in order.
 pub(crate) fn note_group(done: &mut Vec<Option<Writer>>, group: &[Writer])
     ensures len { vec_len done.new ≡ vec_len done.old }
     ensures noted { (plans : List ClientPlan) (leaving : List core.Writer) → AreDone plans done.old.items leaving
@@ -62,7 +62,7 @@ pub(crate) fn note_group(done: &mut Vec<Option<Writer>>, group: &[Writer])
     }
 }
 
-/// A group leaves with a refusal, its writers in order.
+/// The writers of a group leave, in order, each with this refusal.
 pub(crate) fn note_refused(done: &mut Vec<Option<Writer>>, group: &[Writer], why: Refusal)
     ensures len { vec_len done.new ≡ vec_len done.old }
     ensures noted { (plans : List ClientPlan) (leaving : List core.Writer) → AreDone plans done.old.items leaving
@@ -85,14 +85,14 @@ pub(crate) fn note_refused(done: &mut Vec<Option<Writer>>, group: &[Writer], why
     }
 }
 
-/// Takes so many items out, from a place on.
+/// Takes `len` items out, from the place `start` on.
 pub(crate) fn remove_range<T: Copy>(items: &mut Vec<T>, start: usize, len: usize)
     requires { start + len ≤ vec_len items.old }
     ensures items { items.new.items ≡ take start items.old.items ++ drop (start + len) items.old.items }
     ensures len { vec_len items.new + len ≡ vec_len items.old }
     ensures capacity { vec_capacity items.old ≤ vec_capacity items.new }
 {
-    // So many items from `start` on are gone, and the others are as they were.
+    // For each pass of the loop one item from `start` on is gone, and the others are as they were.
     for _ in 0..len {
         items.remove(start);
     }

@@ -72,7 +72,7 @@ impl State<'_> {
     }
 
     /// The client's group is built, and the log hasn't failed. Runs are given in order, and a member whose run doesn't
-    /// fit is refused. Where none fits all leave.
+    /// fit is refused. Where no run fits, all members leave.
     pub(crate) fn log_group(&mut self, client: u32) -> bool
         ensures steps { Steps (λ o s. event.log_group s client s.log) self.old result self.new }
         ensures unchanged { result ≡ false → self.new ≡ self.old }
@@ -119,7 +119,7 @@ impl State<'_> {
         true
     }
 
-    /// The client's group is built and isn't to be slowed down. All its members are refused.
+    /// The client's group is built and must not be slowed down. All its members are refused.
     pub(crate) fn refuse(&mut self, client: u32, why: Refusal) -> bool
         ensures steps { Steps (λ o s. event.refuse s client why s.log) self.old result self.new }
         ensures unchanged { result ≡ false → self.new ≡ self.old }
@@ -186,7 +186,7 @@ impl State<'_> {
         true
     }
 
-    /// Whether the group in hand isn't to be slowed down, as its leader says.
+    /// Whether the group in hand must not be slowed down, by its leader's options.
     fn is_no_slowdown(&self) -> bool
         requires { self.now.in_second < length self.now.linked.items }
         ensures { (d : Writer)
@@ -195,7 +195,7 @@ impl State<'_> {
         self.linked[self.in_second].options.no_slowdown
     }
 
-    /// Whether the group in hand isn't logged, as its leader says.
+    /// Whether the group in hand stays out of the log, by its leader's options.
     fn is_unlogged(&self) -> bool
         requires { self.now.in_second < length self.now.linked.items }
         ensures { (d : Writer) → result ≡ (slice_index_or self.now.linked.items self.now.in_second d).options.no_log }
@@ -257,7 +257,7 @@ impl State<'_> {
     }
 }
 
-/// Notes how many entries a group has, where that is logged.
+/// Notes how many entries a group has, if the group is logged.
 fn note_logged(groups: &mut Vec<u64>, given: u64, unlogged: bool)
     ensures noted { vec_len groups.old < vec_capacity groups.old
         → groups.new.items ≡ (if unlogged then groups.old.items else groups.old.items ++ given ∷ []) }

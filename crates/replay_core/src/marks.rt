@@ -6,7 +6,7 @@ ghost use Rattle.replay_core.specs.declared.phases.Mark.TheVariants.{Out};
 
 use crate::phases::Mark;
 
-/// How far a client is.
+/// How far a client is with the launched group.
 pub(crate) fn mark_of(marks: &[Mark], client: u32) -> Mark
     ensures { result ≡ mark_of marks.now client }
 {
@@ -16,7 +16,7 @@ pub(crate) fn mark_of(marks: &[Mark], client: u32) -> Mark
     }
 }
 
-/// Notes how far a client is.
+/// Notes how far a client is with the launched group.
 pub(crate) fn set_mark(marks: &mut Vec<Mark>, client: u32, mark: Mark)
     ensures len { vec_len marks.new ≡ vec_len marks.old }
     ensures set { 1 ≤ client → client ≤ length marks.old.items → (c : ℕ)
@@ -30,7 +30,7 @@ pub(crate) fn set_mark(marks: &mut Vec<Mark>, client: u32, mark: Mark)
     }
 }
 
-/// Nobody has inserted.
+/// Sets all marks back: nobody has inserted.
 pub(crate) fn clear_marks(marks: &mut Vec<Mark>)
     ensures len { vec_len marks.new ≡ vec_len marks.old }
     ensures cleared { (c : ℕ) → mark_of marks.new.items c ≡ Out }

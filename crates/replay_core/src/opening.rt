@@ -1,4 +1,4 @@
-//! The state that no event has come to yet.
+//! The state before the first event.
 
 ghost use Rattle.std.specs.Prelude.{◌≡◌, ◌-◌, ◌^◌, ◌≤◌, length, sum_by, replicate, IfOk, vec_len};
 ghost use Rattle.std.specs.List.{AllZip};
@@ -18,9 +18,9 @@ impl<'a> State<'a> {
     ghost use Rattle.std.specs.List.{AllByRecursion};
     ghost use Rattle.replay_plans.specs.Small.{IsSmallPlan};
 
-    /// No event has come yet. The clients run these plans, the first plan is that of client 1. Fails where there is no
-    /// memory for all that events will need. No commit may come to a batch of more than 16 MiB, even if none before it
-    /// is accepted.
+    /// The state before the first event. The clients run these plans, the first of which is client 1's. Fails where
+    /// there is no memory for all that events will need. No commit may have a batch of more than 16 MiB, even if no
+    /// commit before it is accepted.
     pub fn new(
         alloc: Global,
         plans: Vec<ClientPlan<'a>>,
@@ -69,7 +69,7 @@ impl<'a> State<'a> {
 }
 
 impl Seat {
-    /// A client before its first line, with room for so many replies.
+    /// A client before its first line, with room for this number of replies.
     fn new(alloc: Global, replies: usize) -> Result<Seat, NoMemory>
         ensures { IfOk result (λ seat. (plan : ClientPlan) → length plan ≡ replies → IsFresh plan seat) }
     {
@@ -82,7 +82,7 @@ impl Seat {
     }
 }
 
-/// How many lines the plans have. More than a machine's memory can have are refused.
+/// How many lines the plans have together. A sum that passes `usize::MAX` is answered with `NoMemory`.
 fn total_lines(plans: &[ClientPlan<'_>]) -> Result<usize, NoMemory>
     ensures { IfOk result (λ count. count ≡ sum_by (λ (p : ClientPlan). length p) plans.now) }
 {
@@ -107,7 +107,7 @@ fn new_seats(alloc: Global, plans: &[ClientPlan<'_>]) -> Result<Vec<Seat>, NoMem
     Ok(seats)
 }
 
-/// An item so many times.
+/// A list of `len` copies of an item.
 fn repeated<T: Copy>(alloc: Global, item: T, len: usize) -> Result<Vec<T>, NoMemory>
     ensures items { IfOk result (λ list. list.items ≡ replicate len item) }
     ensures len { IfOk result (λ list. vec_len list ≡ len) }

@@ -1,4 +1,4 @@
-//! How many accepted batches each client has: the count before a batch makes its ordinal.
+//! How many accepted batches each client has: a batch's ordinal is one more than the count before it.
 
 ghost use Rattle.std.specs.Prelude.{◌≡◌, ◌<◌, ◌≤◌, ◌+◌, ◌-◌, ◌^◌, ◌++◌, ◌∷◌, [], ◌==◌, List, length, take, count_by};
 ghost use Rattle.run_outcome.specs.declared.history_entry.HistoryEntry.{HistoryEntry};
@@ -8,7 +8,8 @@ ghost use Rattle.replay_core.specs.Ordinals.{AreCounts, count_for};
 use replay_plans::Lines;
 use run_outcome::HistoryEntry;
 
-/// How many of the first `before` entries are a client's. Its count says so, and where it has none they are counted.
+/// How many of the first `before` entries are a client's. The client's count says it; if the client has no count, the
+/// entries are counted.
 pub(crate) fn accepted_before(
     counts: &[u64],
     entries: &[HistoryEntry<Lines>],
@@ -48,7 +49,7 @@ fn count_for(counts: &[u64], client: u32) -> Option<u64>
     }
 }
 
-/// Adds the entries that have come after others to the clients' counts.
+/// Adds to the clients' counts the entries that come after those counted before.
 pub(crate) fn count_entries(counts: &mut [u64], entries: &[HistoryEntry<Lines>])
     ensures { (front : List (HistoryEntry Lines)) → length front + length entries.now < 2 ^ 64
         → AreCounts counts.old front → AreCounts counts.new (front ++ entries.now) }
@@ -59,7 +60,7 @@ pub(crate) fn count_entries(counts: &mut [u64], entries: &[HistoryEntry<Lines>])
     }
 }
 
-/// Adds an entry to its client's count, where that has one.
+/// Adds an entry to its client's count, if the client has one.
 fn count_one(counts: &mut [u64], entry: &HistoryEntry<Lines>)
     ensures { (front : List (HistoryEntry Lines)) → length front < 2 ^ 64 - 1 → AreCounts counts.old front
         → AreCounts counts.new (front ++ entry.now ∷ []) }

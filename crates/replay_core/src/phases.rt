@@ -1,9 +1,9 @@
-//! Where the log and the memtable are.
+//! Which phase the log and the memtable are in.
 
 ghost use Rattle.std.specs.Prelude.{◌≡◌};
 ghost use Rattle.replay_core.specs.Phases.{is_free, is_led_by, is_built, is_in_log, is_marked, is_handed_by, is_still, is_launched, is_published, is_inserted, is_finished};
 
-/// Where the log is: with nobody, with a leader, or with a group in hand, which stands in the state.
+/// Where the log is: with nobody, with a leader, or with a group in hand, whose writers the state has.
 #[derive(Clone, Copy)]
 pub(crate) enum LogPhase {
     Free,
@@ -58,7 +58,7 @@ impl LogPhase {
     }
 }
 
-/// Where the memtable is.
+/// Which phase the memtable is in.
 #[derive(Clone, Copy)]
 pub(crate) enum TablePhase {
     Still,

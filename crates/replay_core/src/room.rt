@@ -1,8 +1,8 @@
-//! Vectors with room that was reserved.
+//! Vectors whose room was reserved before.
 
 ghost use Rattle.std.specs.Prelude.{◌≡◌, ◌<◌, ◌≤◌, ◌+◌, ◌++◌, ◌∷◌, [], vec_len, vec_capacity};
 
-/// Puts an item after the others, where there is room. This takes no memory.
+/// Puts an item after the others, if there is room. This takes no memory.
 pub(crate) fn push_within<T: Copy>(items: &mut Vec<T>, item: T)
     ensures pushed { vec_len items.old < vec_capacity items.old → items.new.items ≡ items.old.items ++ item ∷ [] }
     ensures len { vec_len items.old < vec_capacity items.old → vec_len items.new ≡ vec_len items.old + 1 }
@@ -16,7 +16,7 @@ pub(crate) fn push_within<T: Copy>(items: &mut Vec<T>, item: T)
     }
 }
 
-/// Puts an item at the end of each of two lists of one length, where both have room. This takes no memory.
+/// Puts an item at the end of each of two lists of equal length, if both have room. This takes no memory.
 pub(crate) fn push_both<A: Copy, B: Copy>(first: &mut Vec<A>, second: &mut Vec<B>, a: A, b: B)
     requires { vec_len first.old ≡ vec_len second.old }
     ensures same_len { vec_len first.new ≡ vec_len second.new }

@@ -15,9 +15,9 @@ use log_batch::{flag_of, next_run};
 use replay_plans::Lines;
 use run_outcome::HistoryEntry;
 
-/// Gives the writers of a group their runs in order, after the sequence `last`, and an entry to each that has one. A
-/// writer whose run doesn't fit is refused, and later ones that fit get theirs. `counts` are the clients' entries so
-/// far. The result is the sequence given last.
+/// Gives the writers of a group their runs in order, after the sequence `last`, and adds an entry for each that has
+/// one. A writer whose run doesn't fit is refused, and later ones whose runs fit get theirs. `counts` says how many
+/// entries each client has so far. The result is the sequence given last.
 pub(crate) fn give_runs(
     group: &mut [Writer],
     entries: &mut Vec<HistoryEntry<Lines>>,
@@ -46,8 +46,8 @@ pub(crate) fn give_runs(
     given
 }
 
-/// Gives a writer its run after the sequence `last`, and an entry, or refuses it. Entries from `before` on are those of
-/// its own group, and `counts` are those before. The result is the sequence given last.
+/// Gives a writer its run after the sequence `last` and adds its entry, or refuses it. The entries from `before` on
+/// are those of its own group, and `counts` counts the entries before them. The result is the sequence given last.
 fn give_run(
     writer: &mut Writer,
     entries: &mut Vec<HistoryEntry<Lines>>,

@@ -1,4 +1,4 @@
-//! Where a client is, and what it is told.
+//! Where a client is in its plan, and the replies that it gets.
 
 ghost use Rattle.std.specs.Prelude.{◌≡◌, ◌<◌, true, false, List, [], length, Some, MatchOption};
 ghost use Rattle.model_core.specs.Core as core;
@@ -17,7 +17,7 @@ use crate::state::Seat;
 use crate::writer::{Answer, CoreReply};
 use replay_plans::{Ahead, ClientPlan, look_ahead};
 
-/// A client that waits is told its reply.
+/// A client that waits gets its reply.
 pub(crate) fn told(seat: &mut Seat, reply: CoreReply)
     ensures { (plan : ClientPlan) (client : core.Client) (command : calls.Command) (r : calls.Reply)
         → IsClient plan seat.old client → client.idle ≡ false → IsReply reply r → is_answer r ≡ Some r
@@ -27,7 +27,7 @@ pub(crate) fn told(seat: &mut Seat, reply: CoreReply)
     seat.idle = true;
 }
 
-/// A client's batch is new and empty.
+/// Makes a client's batch new and empty.
 pub(crate) fn empty_batch(seat: &mut Seat)
     ensures { (plan : ClientPlan) (client : core.Client) → IsClient plan seat.old client
         → IsClient plan seat.new (record client { added = [] }) }
@@ -62,7 +62,7 @@ pub(crate) fn next_call(plan: &ClientPlan<'_>, seat: &Seat) -> Option<Ahead>
     Some(look_ahead(plan, seat.next, seat.from))
 }
 
-/// An idle client comes to a call and is told its reply at once.
+/// An idle client reaches a call and gets its reply at once.
 pub(crate) fn answer(seat: &mut Seat, ahead: Ahead, reply: CoreReply)
     ensures { (plan : ClientPlan) (client : core.Client) (command : calls.Command) (r : calls.Reply)
         → IsClient plan seat.old client → client.idle ≡ true
@@ -76,7 +76,7 @@ pub(crate) fn answer(seat: &mut Seat, ahead: Ahead, reply: CoreReply)
     seat.idle = true;
 }
 
-/// An idle client comes to a commit, and waits for its answer.
+/// An idle client reaches a commit, and waits for its answer.
 pub(crate) fn wait(seat: &mut Seat, ahead: Ahead)
     ensures { (plan : ClientPlan) (client : core.Client) → IsClient plan seat.old client → client.idle ≡ true
         → IsAhead plan seat.old.next ahead client.calls client (core.next_call client)

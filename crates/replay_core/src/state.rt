@@ -22,16 +22,16 @@ pub struct CoreOptions {
     pub last: u64,
 }
 
-/// Where a client is.
+/// Where a client is in its plan, and the replies that it got.
 #[derive(Drop)]
 pub(crate) struct Seat {
-    /// The line that it comes to next.
+    /// The line that it runs next.
     pub(crate) next: usize,
-    /// The line from which on its batch was added.
+    /// The line at which its batch begins.
     pub(crate) from: usize,
     /// Whether it waits for no answer.
     pub(crate) idle: bool,
-    /// What it was told, in order.
+    /// The replies that it got, in order.
     pub(crate) replies: Vec<CoreReply>,
 }
 
@@ -43,14 +43,13 @@ pub struct State<'a> {
     pub(crate) seats: Vec<Seat>,
     /// How far each client is with the launched group.
     pub(crate) marks: Vec<Mark>,
-    /// Each client's writer, where that has left with its answer and the client doesn't have it yet.
+    /// Each client's writer, if it has left with its answer and the client doesn't have the answer yet.
     pub(crate) done: Vec<Option<Writer>>,
-    /// The linked writers, in order: the groups of the second queue, the group in hand, and
-    /// the queue.
+    /// The linked writers, in order: the groups of the second queue, the group in hand, and the queue.
     pub(crate) linked: Vec<Writer>,
-    /// What grouping sees of each of them.
+    /// What grouping sees of each linked writer.
     pub(crate) items: Vec<Item>,
-    /// How many writers each group of the second queue has, and all these groups together.
+    /// How many writers each group of the second queue has; `in_second` is how many all these groups have together.
     pub(crate) second: Vec<usize>,
     pub(crate) in_second: usize,
     /// How many writers the group in hand has.
@@ -62,7 +61,7 @@ pub struct State<'a> {
     /// How many entries each logged group has.
     pub(crate) groups: Vec<u64>,
     pub(crate) entries: Vec<HistoryEntry<Lines>>,
-    /// How many of them each client has.
+    /// How many of the entries each client has.
     pub(crate) accepted: Vec<u64>,
     /// The sequence given last.
     pub(crate) assigned: u64,
@@ -80,7 +79,7 @@ pub struct State<'a> {
 }
 
 impl State<'_> {
-    /// Where the plan and the seat of a client are.
+    /// The index of a client's plan and seat, if there is such a client.
     pub(crate) fn place_of(&self, client: u32) -> Option<usize>
         ensures { MatchOption result ((client ≡ 0) ⊎ (vec_len self.now.plans < client)) (λ place. (client ≡ place + 1)
             × (place < vec_len self.now.plans)) }

@@ -17,8 +17,8 @@ pub struct Counts {
 }
 
 impl State<'_> {
-    /// Takes an event, if it may come. Where it may not nothing changes, and the answer is false. The plans stay as
-    /// they are. This takes no memory.
+    /// Takes an event, if it may come. If it may not, nothing changes, and the answer is false. The plans stay as they
+    /// are. This takes no memory.
     pub fn step(&mut self, event: Event) -> bool
         ensures takes { Takes event self.old result self.new }
         ensures unchanged { result ≡ false → self.new ≡ self.old }

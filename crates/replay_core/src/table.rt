@@ -21,7 +21,7 @@ impl State<'_> {
     ghost use Rattle.replay_core.specs.Mirrors.{Mirrors, mark_of};
     ghost use Rattle.replay_core.specs.Steps.{Steps};
 
-    /// Nothing is launched, and the client leads the group that comes next.
+    /// Nothing is launched, and the client leads the group that comes next. That group is launched.
     pub(crate) fn launch(&mut self, client: u32) -> bool
         ensures steps { Steps (λ o s. event.launch o s client s.table) self.old result self.new }
         ensures unchanged { result ≡ false → self.new ≡ self.old }
@@ -79,7 +79,7 @@ impl State<'_> {
         true
     }
 
-    /// All are finished, the client last. The group's last sequence is published.
+    /// All members with runs have finished, the client as the last one. The group's last sequence is published.
     pub(crate) fn publish(&mut self, client: u32) -> bool
         ensures steps { Steps (λ o s. event.publish o s client s.table) self.old result self.new }
         ensures unchanged { result ≡ false → self.new ≡ self.old }
@@ -136,7 +136,7 @@ impl State<'_> {
         self.in_second -= len;
     }
 
-    /// Where the group begins that is in the table or comes there next.
+    /// Where the group that is in the table, or goes there next, begins among the linked writers.
     fn table_start(&self) -> usize
         ensures { result ≡ table_start_in self.now }
     {
@@ -147,7 +147,7 @@ impl State<'_> {
         }
     }
 
-    /// How many writers it has.
+    /// How many writers that group has.
     fn table_len(&self) -> usize
         ensures { result ≡ table_len_in self.now }
     {
@@ -183,7 +183,7 @@ impl State<'_> {
             .any(|writer| writer.client == client && writer.has_run())
     }
 
-    /// Whether all that have runs in the group in the table are finished.
+    /// Whether all members with runs of the group in the table have finished.
     fn all_finished(&self) -> bool
         ensures { result
             ≡ list_all (λ w. not (has_run w.answer) || is_finished (mark_of self.now.marks.items w.client))
@@ -219,7 +219,7 @@ fn finished_last(client: u32, last_finished: Option<u32>) -> bool
     }
 }
 
-/// The last sequence of a run, where the answer has one.
+/// The last sequence of the answer's run, or `last` if the answer has none.
 fn last_after(last: u64, answer: Option<Answer>) -> u64
     ensures { result ≡ last_after last answer }
 {

@@ -1,10 +1,10 @@
-//! Batches on their way, and what becomes of them.
+//! Batches that wait to be written, and how they are answered.
 
 use log_batch::Run;
 use model_base::{Refusal, WriteOptions};
 use replay_plans::Lines;
 
-/// What a client was told of a commit or a read.
+/// A client's reply to a commit or a read.
 #[derive(Clone, Copy, Debug, PartialEq, Eq)]
 pub enum CoreReply {
     /// The sequences of the batch.
@@ -21,8 +21,8 @@ pub(crate) enum Answer {
     Refused { why: Refusal },
 }
 
-/// A batch that waits: whose, how it is to be written, how many records of it count, and its answer, once it has
-/// one.
+/// A batch that waits: whose it is, how it must be written, how many of its records take a sequence, and its answer,
+/// once it has one.
 #[derive(Clone, Copy)]
 pub(crate) struct Writer {
     pub(crate) client: u32,

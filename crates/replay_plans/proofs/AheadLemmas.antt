@@ -1,4 +1,4 @@
--- The way to a client's next call, a line at a time.
+-- The search for a client's next call, a line at a time.
 use Rattle.std.proofs.Common.{◌≡◌, ◌≢◌, ◌⊎◌, inl, inr, ℕ, ◌+◌, ◌≤◌, List, [], ◌∷◌, ◌++◌, length, drop, Some, None, refl, sym, ap, ◌∙◌, subst, arith, append-nil}
 use Rattle.std.specs.Prelude.{slice_get}
 use Rattle.std.specs.List.{cons_option}
@@ -14,7 +14,7 @@ use Rattle.replay_plans.specs.Ahead.{IsAhead}
 use Rattle.replay_plans.specs.Plans.{added_between}
 use Rattle.replay_plans.proofs.LineLemmas.{front_line, added_more, none_added}
 
--- the way has come to a line
+-- the search has reached the line `i`, and the batch begins at the line `from`
 pub record Reached (plan : List Command) (at start i from : ℕ) (calls : List Call) (client : core.Client) : Type 0 where
   pub now : List Call
   pub answers : answers_of now ≡ answers_of calls
@@ -26,14 +26,14 @@ quiet_more : (calls : List Call) (command : Command) → answers_of (calls ++ re
 quiet_more [] command = refl
 quiet_more (c ∷ calls) command = ap (cons_option (is_answer c.reply)) (quiet_more calls command)
 
--- the kinds of what the way ends at
+-- the kinds of commands that the search stops at
 pub calls_alone : (k : CommandKind) → (k ≡ Commit) ⊎ ((k ≡ Read) ⊎ (k ≡ Token)) → (k ≢ Addition) × (k ≢ Clear)
 calls_alone k (inl is) = (λ e. cc, λ e. cc)
 calls_alone k (inr (inl is)) = (λ e. cc, λ e. cc)
 calls_alone k (inr (inr is)) = (λ e. cc, λ e. cc)
 
 module _ (plan : List Command) (at start i from : ℕ) (calls : List Call) (client : core.Client) where
-  -- the way goes past a line that adds
+  -- the search passes a line that adds to the batch
   pub past_addition : (x : Command) → slice_get plan i ≡ Some x → kind_of x ≡ Addition → Reached plan at start i from calls client → Reached plan at start (i + 1) from calls client
   past_addition (add a) here is r = record {
     now = r.now ++ record { command = add a; reply = quiet } ∷ [];
@@ -45,7 +45,7 @@ module _ (plan : List Command) (at start i from : ℕ) (calls : List Call) (clie
   }
   past_addition other here is r = absurd (cc is)
 
-  -- or that empties the batch
+  -- the search passes a line that empties the batch
   pub past_clear : (x : Command) → slice_get plan i ≡ Some x → kind_of x ≡ Clear → Reached plan at start i from calls client → Reached plan at start (i + 1) (i + 1) calls client
   past_clear clear here is r = record {
     now = r.now ++ record { command = clear; reply = quiet } ∷ [];
@@ -57,7 +57,7 @@ module _ (plan : List Command) (at start i from : ℕ) (calls : List Call) (clie
   }
   past_clear other here is r = absurd (cc is)
 
-  -- the way ends at a call
+  -- the search ends at a call
   pub at_call : (x : Command) → slice_get plan i ≡ Some x → (kind_of x ≢ Addition) × (kind_of x ≢ Clear) → Reached plan at start i from calls client
       → IsAhead plan at (record { call = i; next = i + 1; from = from }) calls client (core.ahead calls (added_between start at plan) (drop at plan) client)
   at_call x here alone r =
@@ -86,7 +86,7 @@ module _ (plan : List Command) (at start i from : ℕ) (calls : List Call) (clie
       adds_none (add a) alone = absurd (alone.0 refl)
       adds_none other alone = refl
 
-  -- the way ends with the lines
+  -- the search ends after the last line
   pub at_end : i ≡ length plan → Reached plan at start i from calls client
       → IsAhead plan at (record { call = length plan; next = length plan; from = from }) calls client (core.ahead calls (added_between start at plan) (drop at plan) client)
   at_end e r =

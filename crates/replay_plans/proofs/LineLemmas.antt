@@ -10,13 +10,13 @@ use Rattle.model_base.specs.Calls.{Command}
 use Rattle.run_command_list.specs.Kinds.{record_added}
 use Rattle.replay_plans.specs.Plans.{between, added_between}
 
--- it stands before those that are left behind it
+-- the lines from a place on are the line there and those after it
 pub front_line : (plan : List Command) (i : ℕ) (x : Command) → slice_get plan i ≡ Some x → drop i plan ≡ x ∷ drop (i + 1) plan
 front_line plan i x here =
     let next : suc i ≡ i + 1 = omega arith in
     drop-cons plan i x (slice_get_within plan i x here) ∙ ap (λ y. y ∷ drop (suc i) plan) (get_or_from_slice_get plan i x x here) ∙ ap (λ k. x ∷ drop k plan) next
 
--- what it adds stands behind what those before it add
+-- what a line adds comes after what the lines before it add
 pub added_more : (from i : ℕ) (plan : List Command) (x : Command) → from ≤ i → slice_get plan i ≡ Some x
     → added_between from (i + 1) plan ≡ added_between from i plan ++ cons_option (record_added x) []
 added_more from i plan x begun here =

@@ -14,7 +14,7 @@ abbrev pub SmallFrom : ℕ → List Command → Type 0
 SmallFrom size [] = ⊤
 SmallFrom size (x ∷ left) = (fits x size ≡ true) × SmallFrom (size_after x size) left
 
--- a running size and the size of the records so far
+-- `size` is the size of a batch of these records, at most the largest 64-bit number
 abbrev Sized : ℕ → List Record → Type 0
 Sized size added = size ≡ min (size_of_batch added) (2 ^ 64 - 1)
 
@@ -44,7 +44,7 @@ small_of size added (other ∷ left) h s = (refl, small_of _ added left (sized_s
 pub small_lines : (plan : List Command) → SmallFrom 12 plan ↔ AreSmall [] plan
 small_lines plan = (small_to 12 [] plan sized_empty, small_of 12 [] plan sized_empty)
 
--- the line at a place, and those behind it
+-- the lines from a place on are small just where the line there may come and those after it are small
 pub small_next : (plan : List Command) (i size : ℕ) (x : Command) → slice_get plan i ≡ Some x → SmallFrom size (drop i plan) ↔ ((fits x size ≡ true) × SmallFrom (size_after x size) (drop (i + 1) plan))
 small_next plan i size x here = (λ s. subst (SmallFrom size) (front_line plan i x here) s, λ s. subst (SmallFrom size) (sym (front_line plan i x here)) s)
 

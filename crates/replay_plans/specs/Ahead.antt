@@ -1,4 +1,4 @@
--- What the way to a client's next call comes to.
+-- What the search for a client's next call finds.
 use Rattle.std.specs.Prelude.{◌≡◌, ℕ, ◌+◌, ◌<◌, ◌≤◌, Bool, true, false, List, length, drop, Option, Some, None, slice_get}
 use Rattle.model_base.specs.declared.write.WriteOptions.{WriteOptions}
 use Rattle.model_base.specs.Calls.{Command, commit, get, many, scan, Call}
@@ -7,7 +7,8 @@ use Rattle.replay_plans.specs.declared.ahead.Ahead.{Ahead}
 use Rattle.replay_plans.specs.Plans.{added_between}
 use Rattle.replay_plans.specs.Answers.{answers_of}
 
--- from a line of a plan on, for a client with these calls so far
+-- the code's answer `a` and the machine's answer `v` agree on a client's next call, from the line `at` of its plan on,
+-- after these calls
 pub record IsAhead (plan : List Command) (at : ℕ) (a : Ahead) (calls : List Call) (client : core.Client)
     (v : core.Ahead) : Type 0 where
   pub call : v.call ≡ slice_get plan a.call

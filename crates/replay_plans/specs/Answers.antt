@@ -2,7 +2,7 @@
 use Rattle.std.specs.Prelude.{List, filter_map, Option, Some, None}
 use Rattle.model_base.specs.Calls.{Reply, quiet, accepted, refused, found, found_each, rows, done, held, not_held, no_memory, Call}
 
--- the replies to commits and reads
+-- all replies but `quiet`; on the core these are the replies to commits and reads
 abbrev pub is_answer : Reply → Option Reply
 is_answer quiet = None
 is_answer (accepted first last records) = Some (accepted first last records)

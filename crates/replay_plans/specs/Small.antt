@@ -1,11 +1,11 @@
--- The sizes of what lines add, and plans whose batches aren't too large.
+-- The sizes of the records that lines add, and plans whose batches aren't too large.
 use Rattle.std.specs.Prelude.{ℕ, ◌+◌, ◌-◌, ◌^◌, min, nat_le, ◌≤◌, Bool, true, List, [], ◌∷◌, ◌++◌, length, Option, Some, None, if◌then◌else◌}
 use Rattle.model_base.specs.declared.limits.TheConstants.{MAX_SIZE}
 use Rattle.model_base.specs.Batch.{Record, is_counted, record_bytes, size_of_batch}
 use Rattle.model_base.specs.Calls.{Command, add, clear, commit}
 use Rattle.run_command_list.specs.Kinds.{record_added}
 
--- the bytes of a record, if there is one, and how many sequences it takes
+-- how many bytes a record has, if there is one, and how many sequences it takes
 abbrev pub record_size : Option Record → ℕ
 record_size None = 0
 record_size (Some r) = length (record_bytes r)
@@ -14,8 +14,8 @@ abbrev pub record_count : Option Record → ℕ
 record_count None = 0
 record_count (Some r) = if is_counted r then 1 else 0
 
--- Each commit of these commands, by a client with these records in its batch, finds a batch of at most 16 MiB, even if
--- no commit before it is accepted.
+-- Each commit of these commands, by a client that has these records in its batch, has a batch of at most 16 MiB, even
+-- if no commit before it is accepted.
 abbrev pub AreSmall : List Record → List Command → Type 0
 AreSmall added [] = Unit {0}
 AreSmall added (add r ∷ left) = AreSmall (added ++ r ∷ []) left
@@ -26,14 +26,14 @@ AreSmall added (other ∷ left) = AreSmall added left
 abbrev pub IsSmallPlan : List Command → Type 0
 IsSmallPlan plan = AreSmall [] plan
 
--- Line by line
+-- The batch's size, line by line
 
--- whether a command may come to a batch of so many bytes
+-- whether a command may come where the batch has this size; a commit may not, if the batch is too large
 abbrev pub fits : Command → ℕ → Bool
 fits (commit how) size = nat_le size MAX_SIZE
 fits other size = true
 
--- a size with the bytes of a record, up to the largest 64-bit number
+-- a size with the bytes of one more record, at most the largest 64-bit number
 abbrev pub size_with : Option Record → ℕ → ℕ
 size_with added size = min (size + record_size added) (2 ^ 64 - 1)
 

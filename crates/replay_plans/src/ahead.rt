@@ -1,4 +1,4 @@
-//! The way to a client's next commit or read.
+//! Finds a client's next call: a commit, a read, or a command about a token.
 
 ghost use Rattle.std.specs.Prelude.{◌≡◌, ◌≤◌, ◌+◌, ◌-◌, false, List, length, drop, slice_get};
 ghost use Rattle.std.specs.Option.{option_map_or, option_and_then};
@@ -11,17 +11,18 @@ use crate::plan::ClientPlan;
 use model_base::WriteOptions;
 use run_command_list::{CommandKind, CommandView};
 
-/// Where a client's next commit or read stands, if there is one, and where the batch begins that it has by then.
+/// The line of a client's next call (a commit, a read, or a command about a token), or the plan's length where there
+/// is none; and the line at which its batch begins by then.
 #[derive(Clone, Copy, Debug)]
 pub struct Ahead {
     pub call: usize,
-    /// The line after it.
+    /// The line after the call, or the plan's length where there is no call.
     pub next: usize,
     pub from: usize,
 }
 
-/// Looks for the next call of a client that stands before a line, with a batch from `from` on. What adds to the batch
-/// or empties it is passed on the way.
+/// Looks for a client's next call, from the line `at` on, where its batch begins at the line `from`. Lines that add to
+/// the batch or empty it are passed over.
 pub fn look_ahead(plan: &ClientPlan<'_>, at: usize, from: usize) -> Ahead
     ensures { (calls : List Call) (client : core.Client) → from ≤ at → at ≤ length plan.now
         → IsAhead plan.now at result calls client (core.ahead calls (added_between from at plan.now)
@@ -50,7 +51,7 @@ pub fn look_ahead(plan: &ClientPlan<'_>, at: usize, from: usize) -> Ahead
     }
 }
 
-/// The options of the commit at a line, if that is one.
+/// The options of the commit at a line, if the line is a commit.
 pub fn commit_at(plan: &ClientPlan<'_>, line: usize) -> Option<WriteOptions>
     ensures { result ≡ option_and_then commit_of (slice_get plan.now line) }
 {
@@ -63,7 +64,7 @@ pub fn commit_at(plan: &ClientPlan<'_>, line: usize) -> Option<WriteOptions>
     }
 }
 
-/// Whether a read stands at a line.
+/// Whether a line is a read.
 pub fn is_read(plan: &ClientPlan<'_>, line: usize) -> bool
     ensures { result ≡ option_map_or is_read (slice_get plan.now line) false }
 {

@@ -1,5 +1,5 @@
-//! What the clients of the write path's core are going to do: the plan of each, the batches that its lines make, and
-//! the way to its next commit or read.
+//! What the clients of the write path's core will do: each client's plan, the batches that its lines make, and the
+//! search for its next call.
 #![tactic(auto)]
 
 mod ahead;

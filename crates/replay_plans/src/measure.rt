@@ -1,4 +1,4 @@
-//! The batches that lines of a plan make.
+//! How large the batches are that lines of a plan make.
 
 ghost use Rattle.std.specs.Prelude.{◌≡◌, ◌<◌, ◌≤◌, ◌+◌, ◌-◌, ◌^◌, length, min};
 ghost use Rattle.model_base.specs.Batch.{record_bytes, size_of_batch};
@@ -15,7 +15,7 @@ use base_bytes::varint32_len;
 use log_batch::{HEADER_LEN, Measure, RecordView};
 use run_command_list::CommandView;
 
-/// Measures the batch of some lines. A size that passes `u64::MAX` stays there.
+/// Measures the batch of some lines. A size above `u64::MAX` is given as `u64::MAX`.
 pub fn measure_batch(plan: &ClientPlan<'_>, batch: Lines) -> Measure
     ensures { batch.from ≤ batch.to → batch.to ≤ length plan.now
         → size_of_batch (added_between batch.from batch.to plan.now) < 2 ^ 64
@@ -33,7 +33,7 @@ pub fn measure_batch(plan: &ClientPlan<'_>, batch: Lines) -> Measure
     measure
 }
 
-/// The measure of a batch and the record that a line adds.
+/// A batch's measure after the record that a line adds, if it adds one.
 fn with_line(measure: Measure, line: &CommandView<'_>) -> Measure
     ensures size { measure.size + record_size (record_added (command_of line.now)) < 2 ^ 64
         → result.size ≡ measure.size + record_size (record_added (command_of line.now)) }
@@ -46,7 +46,7 @@ fn with_line(measure: Measure, line: &CommandView<'_>) -> Measure
     }
 }
 
-/// The bytes of the record that a line adds. A size that passes `u64::MAX` stays there.
+/// How many bytes the record that a line adds has. A size above `u64::MAX` is given as `u64::MAX`.
 pub(crate) fn line_size(line: &CommandView<'_>) -> u64
     ensures { result ≡ min (record_size (record_added (command_of line.now))) (2 ^ 64 - 1) }
 {
@@ -56,7 +56,7 @@ pub(crate) fn line_size(line: &CommandView<'_>) -> u64
     }
 }
 
-/// The bytes of a record.
+/// How many bytes a record has.
 fn size_of(view: RecordView<'_>) -> u64
     ensures { result ≡ min (length (record_bytes (record_of view.entry))) (2 ^ 64 - 1) }
 {
@@ -71,7 +71,7 @@ fn size_of(view: RecordView<'_>) -> u64
     }
 }
 
-/// The bytes of a string after its length, and of the length.
+/// How many bytes a string has in a record, with those of the length before it.
 fn string_size(len: usize) -> u64
     ensures { result ≡ min (len + length (varint len)) (2 ^ 64 - 1) }
 {

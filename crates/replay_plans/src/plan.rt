@@ -1,4 +1,4 @@
-//! What a client is going to do.
+//! What a client will do.
 
 ghost use Rattle.std.specs.Prelude.{◌≡◌, ◌<◌, length, map, Some, IfOk, slice_get};
 ghost use Rattle.run_command_list.specs.Views.{command_of};
@@ -8,9 +8,9 @@ use run_command_list::{CommandList, CommandView};
 use std::alloc::Global;
 use std::marker::Model;
 
-/// A client's commands, in the order in which it comes to them. Their words are parts of the list that the plan was
-/// made of. Contracts see the list of commands. Of the write controller's tokens the core knows nothing: a client that
-/// comes to such a command stays there.
+/// A client's commands, in the order in which it runs them. Their words are parts of the list that the plan was made
+/// from. Contracts see the list of commands. The core knows nothing of the write controller's tokens: a client that
+/// reaches a command about one stays there.
 #[derive(Drop)]
 pub struct ClientPlan<'a> {
     lines: Vec<CommandView<'a>>,
@@ -27,7 +27,7 @@ impl<'a> Model for ClientPlan<'a> {
 }
 
 impl<'a> ClientPlan<'a> {
-    /// The commands of a list.
+    /// The plan with the commands of a list.
     pub fn of(alloc: Global, commands: &'a CommandList) -> Result<ClientPlan<'a>, NoMemory>
         ensures { IfOk result (λ plan. plan ≡ commands.now) }
     {
@@ -62,7 +62,8 @@ impl<'a> ClientPlan<'a> {
     }
 }
 
-/// The lines of a client's plan from one place on and before another, counted from 0. What they add is a batch.
+/// The lines of a client's plan from the place `from` on and before the place `to`, counted from 0. What they add is a
+/// batch.
 #[derive(Clone, Copy, Debug, PartialEq, Eq)]
 pub struct Lines {
     pub from: usize,

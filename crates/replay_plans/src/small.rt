@@ -11,8 +11,8 @@ use log_batch::HEADER_LEN;
 use model_base::MAX_SIZE;
 use run_command_list::{CommandKind, CommandView};
 
-/// Whether no commit of these plans comes to a batch of more than 16 MiB, even if none before it is accepted.
-/// The core requires it of its clients' plans.
+/// Whether no commit of these plans has a batch of more than 16 MiB, even if no commit before it is accepted. The core
+/// requires this of its clients' plans.
 pub fn are_small(plans: &[ClientPlan<'_>]) -> bool
     ensures { result ≡ true ↔ AllByRecursion IsSmallPlan plans.now }
 {
@@ -25,12 +25,12 @@ pub fn are_small(plans: &[ClientPlan<'_>]) -> bool
     true
 }
 
-/// Whether no commit of a plan comes to a batch that is too large.
+/// Whether no commit of a plan has a batch that is too large, even if no commit before it is accepted.
 fn is_small(plan: &ClientPlan<'_>) -> bool
     ensures { result ≡ true ↔ AreSmall [] plan.now }
 {
     let mut size = HEADER_LEN as u64;
-    // No commit so far comes to too large a batch, and what is added so far has this size.
+    // No commit so far has a batch that is too large, and `size` is the size of the batch after the lines so far.
     for place in 0..plan.len() {
         let line = plan.line(place);
         if !fits(line, size) {
@@ -41,7 +41,7 @@ fn is_small(plan: &ClientPlan<'_>) -> bool
     true
 }
 
-/// Whether a line may come to a batch of this size.
+/// Whether a line may come where the batch has this size. A commit may not, if the batch is too large.
 fn fits(line: &CommandView<'_>, size: u64) -> bool
     ensures { result ≡ fits (command_of line.now) size }
 {

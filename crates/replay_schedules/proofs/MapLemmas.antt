@@ -30,12 +30,12 @@ commands_written m (other ∷ commands) = commands_written m commands
 pub lines_written : (m : Pairs) (lines : List CommandView) → fold (λ (p : Pairs) (v : CommandView). after_line p (command_of v)) m lines ≡ after_records m (records_added lines)
 lines_written m lines = sym (fold-map after_line command_of m lines) ∙ commands_written m (map command_of lines)
 
--- the part of a plan that some of its lines are
+-- a part of the code's lines has the commands of the same part of the plan
 part_of : (lines : List CommandView) (plan : ClientPlan) (from to : ℕ) → map command_of lines ≡ plan → map command_of (between from to lines) ≡ between from to plan
 part_of lines plan from to are =
     sym (take-map command_of (to - from) (drop from lines)) ∙ ap (take (to - from)) (sym (drop-map command_of from lines)) ∙ ap (between from to) are
 
--- what they add is the batch
+-- what these lines add is the batch
 pub batch_of : (plans : List ClientPlan) (client place : ℕ) (plan : ClientPlan) (lines : List CommandView) (batch : Lines) → client ≡ place + 1 → place < length plans → plan ≡ get_or plans place plan
     → map command_of lines ≡ plan → records_added (between batch.from batch.to lines) ≡ records_of plans client batch
 batch_of plans client place plan lines batch number there is are =
@@ -59,7 +59,7 @@ prefix_shown plans at (e ∷ es) within =
 
 -- More entries
 
--- a list's elements up to the first that fails the test, past some that pass it
+-- how many elements from the first on pass a test, counted on after `n` that pass it
 prefix_past : {A : Type 0} (p : A → Bool) (xs : List A) (n : ℕ) → n ≤ prefix_len p xs → n + prefix_len p (drop n xs) ≡ prefix_len p xs
 prefix_past p xs zero h = omega arith
 prefix_past p [] (suc n) h = absurd (omega (arith, h))
@@ -69,7 +69,7 @@ prefix_past p (x ∷ xs) (suc n) h = by_case (p x) refl (prefix_past p xs n)
     by_case true e others = let len : prefix_len p (x ∷ xs) ≡ 1 + prefix_len p xs = rw e refl in let past = others (omega (arith, h, len)) in omega (arith, past, len)
     by_case false e others = let len : prefix_len p (x ∷ xs) ≡ 0 = rw e refl in absurd (omega (arith, h, len))
 
--- at a later sequence it isn't shorter
+-- at a later sequence the prefix isn't shorter
 prefix_later : (a b : ℕ) (es : List CoreEntry) → a ≤ b → prefix_len (λ (e : CoreEntry). nat_le e.run.last a) es ≤ prefix_len (λ (e : CoreEntry). nat_le e.run.last b) es
 prefix_later a b [] h = omega arith
 prefix_later a b (e ∷ es) h = by_case (nat_le e.run.last a) refl (prefix_later a b es h)
@@ -83,12 +83,12 @@ prefix_later a b (e ∷ es) h = by_case (nat_le e.run.last a) refl (prefix_later
         omega (arith, len, len_later, others)
     by_case false is others = let len : prefix_len (λ (x : CoreEntry). nat_le x.run.last a) (e ∷ es) ≡ 0 = rw is refl in omega (arith, len)
 
--- the first entries, so many of them
+-- writing the first `n` entries makes their map
 first_written : (plans : List ClientPlan) (es : List CoreEntry) (n : ℕ) → after_entries plans [] (take n es) ≡ map_of (take n (map (shown_entry plans) es))
 first_written plans es n =
     sym (ap (map_over []) (take-map (shown_entry plans) n es) ∙ fold-map (λ (m : Pairs) (x : Entry). after_records m x.records) (shown_entry plans) [] (take n es))
 
--- The map has some entries that are up to a sequence, and those are written that it lacks up to a later one.
+-- The map has some entries up to a sequence, and those that it doesn't have up to a later sequence are written.
 pub moved_on : (plans : List ClientPlan) (es : List CoreEntry) (entries : List Entry) (old new : MapUpTo) (at count : ℕ) (more : List CoreEntry) → AllByRecursion (IsWithinPlans plans) es → map (shown_entry plans) es ≡ entries
     → IsMapOf entries old → old.at ≤ at → count ≡ min old.count (length es) → more ≡ take_while (λ (e : CoreEntry). nat_le e.run.last at) (drop count es)
     → new.map ≡ after_entries plans old.map more → new.at ≡ at → new.count ≡ count + length more

@@ -1,4 +1,4 @@
--- What the clients of a schedule were told is what the machine's clients were told.
+-- The replies of a schedule's clients are those of the machine's clients.
 use Rattle.std.proofs.Common.{◌≡◌, ◌⊎◌, inl, inr, ℕ, zero, suc, ◌+◌, ◌<◌, ◌≤◌, true, false, List, [], ◌∷◌, ◌++◌, length, map, take_while, nat_le, drop, get_or, Option, Some, None, slice_get, Vec, refl, ap, sym, ◌∙◌, subst, arith, append_assoc, append-nil, length-append}
 use Rattle.std.specs.Prelude.{MatchOption, ⊤}
 use Rattle.std.specs.List.{AllByRecursion, AllZip}
@@ -32,7 +32,7 @@ use Rattle.replay_schedules.specs.Replaying.{reply_by, first_reply, replies_by, 
 
 -- A read's map
 
--- the entries up to a boundary are those of its front
+-- the entries up to the last sequence of a history's front are that front
 up_to_front : (start : ℕ) (front rest : List Entry) (last : ℕ) → IsHistory start (front ++ rest) → last ≡ last_sequence start front → take_while (λ (x : Entry). nat_le (last_of x) last) (front ++ rest) ≡ front
 up_to_front start [] [] last history ends = refl
 up_to_front start [] (x ∷ rest) last history ends =
@@ -49,7 +49,7 @@ map_at start entries front at history up =
 
 -- One client
 
--- what a command is answered with
+-- a reply that a command may get
 abbrev IsTold : List Entry → Command → calls.Reply → Type 0
 IsTold entries (add r) calls.quiet = ⊤
 IsTold entries clear calls.quiet = ⊤
@@ -96,7 +96,7 @@ none_told entries [] = refl
 none_told entries (add r ∷ xs) = none_told entries xs
 none_told entries (other ∷ xs) = none_told entries xs
 
--- a call more, where the others are shown
+-- one call more, where the calls after it are shown
 one_shown : (entries : List Entry) (x : Command) (xs : List Command) (command : calls.Command) (r : calls.Reply) (cs : List calls.Call) (told : List CoreReply) → IsTold entries x r
     → AreReplies told (answers_of (record { command = command; reply = r } ∷ cs))
     → ((left : List CoreReply) → AreReplies left (answers_of cs) → ShowsReplies (replies_by entries xs left) cs)
@@ -157,7 +157,7 @@ some_at [] i lt = absurd (omega (arith, lt))
 some_at (x ∷ xs) zero lt = (x, refl)
 some_at (x ∷ xs) (suc i) lt = some_at xs i (omega (arith, lt))
 
--- each command is one that a script may say
+-- each command is one that a script may have
 abbrev pub AreSaid : ClientPlan → Type 0
 AreSaid plan = AllByRecursion IsClientsCommand plan
 
@@ -213,7 +213,7 @@ first_at entries command [] (suc n) t e = absurd (cc e)
 first_at entries command (r ∷ rs) zero t e = let same : r ≡ t = same_Some r t e in ap (λ x. option_map_or one (reply_by entries command x) []) same
 first_at entries command (r ∷ rs) (suc n) t e = first_at entries command rs n t e
 
--- it stands behind those before it, where its command has it
+-- the replies with this one more end with the first of the replies that were left
 pub reply_at : (entries : List Entry) (command : Command) (told : List CoreReply) (replies new : List Reply) (t : CoreReply) (r : Reply) → slice_get told (length replies) ≡ Some t → reply_by entries command t ≡ Some r → new ≡ replies ++ r ∷ []
     → new ≡ replies ++ first_reply entries command (drop (length replies) told)
 reply_at entries command told replies new t r at is e =
@@ -230,7 +230,7 @@ none_at entries command [] replies (suc n) e = sym (append-nil replies)
 none_at entries command (r ∷ rs) replies zero e = absurd (cc e)
 none_at entries command (r ∷ rs) replies (suc n) e = none_at entries command rs replies n e
 
--- a command more
+-- one command more
 pub reply_more : (entries : List Entry) (commands : List Command) (told : List CoreReply) (replies new : List Reply) (i : ℕ) (x : Command) → slice_get commands i ≡ Some x
     → replies ++ replies_by entries (drop i commands) (drop (length replies) told) ≡ replies_by entries commands told → new ≡ replies ++ next_reply entries (drop (length replies) told) x
     → new ++ replies_by entries (drop (i + 1) commands) (drop (length new) told) ≡ replies_by entries commands told

@@ -31,12 +31,12 @@ pub history_shown : (plans : List ClientPlan) (es : List CoreEntry) (entries : L
     → AllZip ShowsEntry (map (entry_by plans) es) entries
 history_shown plans es entries within are = subst (AllZip ShowsEntry (map (entry_by plans) es)) are (entries_shown plans es within)
 
--- what a line adds stands after the others
+-- what a line adds comes after the other records
 line_added : (old : Contents) (x : Command) → (option_map_or (with_addition old) (record_added x) old).records ≡ old.records ++ filter_map record_added (x ∷ [])
 line_added old (add r) = refl
 line_added old other = sym (append-nil old.records)
 
--- a line more
+-- one line more
 pub line_more : (lines : List CommandView) (i : ℕ) (x : CommandView) (old new : Contents) → i < length lines → x ≡ get_or lines i x → old.records ≡ records_added (take i lines)
     → new ≡ option_map_or (with_addition old) (record_added (command_of x)) old → new.records ≡ records_added (take (i + 1) lines)
 line_more lines i x old new here is so_far e =

@@ -1,4 +1,4 @@
--- The core that was run shows what the schedule came to.
+-- The core that was run shows the result of the schedule.
 use Rattle.std.proofs.Common.{◌≡◌, List, [], ◌∷◌, sym, subst}
 use Rattle.std.specs.List.{AllByRecursion}
 use Rattle.model_core.specs.Core.{opening_state}
@@ -24,7 +24,7 @@ each_said : (plans : List ClientPlan) → AllByRecursion (AllByRecursion IsClien
 each_said [] said = tt
 each_said (p ∷ plans) said = (said.0, each_said plans said.1)
 
--- the plans of a script's clients
+-- the plans of a script's clients have commands that a script may have
 pub are_said : (plans : List ClientPlan) (script : Script) → plans ≡ commands_of script → HasClientsCommands script → AllByRecursion AreSaid plans
 are_said plans script same said = each_said plans (subst (AllByRecursion (AllByRecursion IsClientsCommand)) (sym same) said)
 

@@ -1,4 +1,5 @@
--- The batches of a script all of whose additions fit one are small enough for the core, even if no commit is accepted.
+-- Where all that each client of a script adds fits one batch, the batches are small enough for the core, even if no
+-- commit is accepted.
 use Rattle.std.proofs.Common.{◌≡◌, ◌+◌, ◌≤◌, List, [], ◌∷◌, ◌++◌, length, ap, sym, ◌∙◌, subst, arith, append-nil, length-append}
 use Rattle.std.specs.List.{AllByRecursion}
 use Rattle.std.proofs.lemmas.Grind.{flat_map-append}
@@ -18,7 +19,7 @@ body_more : (records : List Record) (r : Record) → length (body (records ++ r 
 body_more records r =
     ap length (flat_map-append record_bytes records (r ∷ []) ∙ ap (λ bytes. body records ++ bytes) (append-nil (record_bytes r))) ∙ length-append (body records) (record_bytes r)
 
--- a batch, and the additions that are left
+-- the commands that are left are small where what they add still fits the batch
 small_commands : (cs : List Command) (added : List Record) → size_of_batch added + length (body (additions_of cs)) ≤ MAX_SIZE → AreSmall added cs
 small_commands [] added fits = tt
 small_commands (add r ∷ cs) added fits =
@@ -45,6 +46,6 @@ all_small : (plans : List ClientPlan) → AllByRecursion Fit plans → AllByRecu
 all_small [] fit = tt
 all_small (p ∷ plans) fit = (one_small p fit.0, all_small plans fit.1)
 
--- the plans of a script's clients
+-- the plans of a script's clients are small
 pub small_plans : (plans : List ClientPlan) (script : Script) → plans ≡ scripts.commands_of script → FitsBatches script → AllByRecursion IsSmallPlan plans
 small_plans plans script same fit = all_small plans (subst (AllByRecursion Fit) (sym same) fit)

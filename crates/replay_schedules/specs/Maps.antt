@@ -31,7 +31,7 @@ abbrev pub after_entries : List ClientPlan → Pairs → List CoreEntry → Pair
 after_entries plans m entries = fold
     (λ (m : Pairs) (e : CoreEntry). after_records m (records_of plans e.client e.batch)) m entries
 
--- The map has the first entries, so many of them, and none whose run ends after its sequence.
+-- The map has the first `m.count` entries, and none whose run ends after its sequence.
 pub record IsMapOf (entries : List Entry) (m : MapUpTo) : Type 0 where
   pub some : m.count ≤ prefix_len (λ (x : Entry). nat_le (last_of x) m.at) entries
   pub map : m.map ≡ map_of (take m.count entries)

@@ -1,4 +1,4 @@
--- What a schedule of events comes to on the core of its script's clients.
+-- The result of a schedule of events on the core of its script's clients.
 use Rattle.std.specs.Prelude.{◌≡◌, length, map}
 use Rattle.std.specs.List.{AllZip}
 use Rattle.model_core.specs.Core.{Client, opening_state, published_map}
@@ -13,7 +13,7 @@ use Rattle.run_outcome.specs.Shows.{ShowsReplies, ShowsEntry}
 abbrev pub replayed_of : CoreOptions → Schedule → core.Replayed
 replayed_of o s = core.replay (options_of o) (opening_state (options_of o) s.script) s.events
 
--- The values show what the schedule came to.
+-- The values show the result of the schedule.
 pub record ShowsReplayed (shown : Replayed) (r : core.Replayed) : Type 0 where
   pub taken : r.taken ≡ shown.counts.taken
   pub skipped : r.skipped ≡ shown.counts.skipped

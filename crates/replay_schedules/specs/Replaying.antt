@@ -1,4 +1,4 @@
--- What a schedule's clients were told, and the history of their batches, from what the core shows.
+-- The replies that a schedule's clients got, and the history of their batches, from what the core shows.
 use Rattle.std.specs.Prelude.{◌≡◌, ℕ, suc, List, [], ◌∷◌, ◌++◌, length, map, drop, Option, Some, None, slice_get, MatchOption, Vec}
 use Rattle.std.specs.Option.{option_map_or}
 use Rattle.std.specs.declared.alloc.Global.{Global}
@@ -23,13 +23,13 @@ use Rattle.replay_core.specs.Shown.{CoreEntry}
 use Rattle.replay_core.specs.Shows.{Shows}
 use Rattle.replay_schedules.specs.Maps.{map_up_to}
 
--- it is so in each state of the machine of events that the core shows
+-- `is` holds in each state of the machine of events that the core shows
 abbrev pub InEachShown : State → (machine.State → Type 0) → Type 0
 InEachShown core is = (o : machine.Options) (s : machine.State) → IsCore o s → Shows core o s → is s
 
 -- Replies
 
--- a read is answered by the map at its sequence, also one of several keys; no other command is read
+-- a read is answered from the map at its sequence, also a read of several keys; no other command reads
 abbrev pub read_by : List history.Entry → ℕ → Command → Option Reply
 read_by entries at (get key) = Some (reply.Found at (value_at (map_up_to at entries) key))
 read_by entries at (many keys) = Some (reply.FoundEach at (map (value_at (map_up_to at entries)) keys))
@@ -45,8 +45,8 @@ abbrev pub first_reply : List history.Entry → Command → List CoreReply → L
 first_reply entries command [] = []
 first_reply entries command (r ∷ rs) = option_map_or (λ (said : Reply). said ∷ []) (reply_by entries command r) []
 
--- the reply to the next command, if that has one by now: commits and reads alone have one, the first of those that are
--- left
+-- the reply to the next command, if the command has one by now: only commits and reads have one, the first of the
+-- replies that are left
 abbrev pub next_reply : List history.Entry → List CoreReply → Command → List Reply
 next_reply entries told (commit options) = first_reply entries (commit options) told
 next_reply entries told (get key) = first_reply entries (get key) told
@@ -54,19 +54,19 @@ next_reply entries told (many keys) = first_reply entries (many keys) told
 next_reply entries told (scan lo hi) = first_reply entries (scan lo hi) told
 next_reply entries told other = []
 
--- commits and reads have these replies, in order
+-- the replies to these commands: the commits and reads among them have those of `told`, in order
 abbrev pub replies_by : List history.Entry → List Command → List CoreReply → List Reply
 replies_by entries [] told = []
 replies_by entries (c ∷ cs) told = next_reply entries told c
     ++ replies_by entries cs (drop (length (next_reply entries told c)) told)
 
--- what a client was told of its commands, by its number
+-- the replies that a client got to its commands, by its number
 pub record IsTranscript (s : machine.State) (client : ℕ) (commands : List Command) (replies : List Reply) : Type 0 where
   pub told : List CoreReply
   pub is_told : MatchOption (client_at s client) (told ≡ []) (λ c. AreReplies told (answers_of c.calls))
   pub replies_are : replies ≡ replies_by s.entries commands told
 
--- what so many clients were told, from the first on
+-- the replies that the first `count` clients got
 pub record AreTranscripts (s : machine.State) (plans : List ClientPlan) (count : ℕ)
     (transcripts : List (Vec Reply Global)) : Type 0 where
   pub each : length transcripts ≡ count

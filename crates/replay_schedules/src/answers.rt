@@ -11,7 +11,7 @@ use model_base::NoMemory;
 use run_command_list::Words;
 use std::alloc::Global;
 
-/// What the map has of a key.
+/// The value of a key in the map, if it has one.
 pub(crate) fn value_in(alloc: Global, pairs: &ByteMap, key: &[u8]) -> Result<Found, NoMemory>
     ensures { IfOk result (λ found. found_value found ≡ value_at pairs.now key.now) }
 {
@@ -21,7 +21,7 @@ pub(crate) fn value_in(alloc: Global, pairs: &ByteMap, key: &[u8]) -> Result<Fou
     }
 }
 
-/// What the map has of each of these keys, in their order.
+/// The value of each of these keys in the map, if it has one, in the order of the keys.
 pub(crate) fn values_in(
     alloc: Global,
     pairs: &ByteMap,

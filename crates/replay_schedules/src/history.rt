@@ -56,7 +56,7 @@ fn entry_of(
     })
 }
 
-/// The batch of what lines add.
+/// The batch with what these lines add.
 fn batch_of(alloc: Global, lines: &[CommandView<'_>]) -> Result<Batch, NoMemory>
     ensures { IfOk result (λ batch. batch.records ≡ records_added lines.now) }
 {
@@ -68,7 +68,8 @@ fn batch_of(alloc: Global, lines: &[CommandView<'_>]) -> Result<Batch, NoMemory>
     Ok(batch)
 }
 
-/// Adds what a line adds. A batch that would be too large is one for which there is no memory.
+/// Adds to a batch the record that a line adds, if it adds one. A batch that would be too large is answered with
+/// `NoMemory`.
 fn add_line(batch: &mut Batch, line: &CommandView<'_>) -> Result<(), NoMemory>
     ensures { OnOk result
         (batch.new ≡ option_map_or (with_addition batch.old) (record_added (command_of line.now)) batch.old) }

@@ -1,5 +1,5 @@
-//! A schedule of events, run on the core of its script's clients: the replies that each is told, the one history of
-//! their batches, and the maps that these make: the published one, and the one of each read.
+//! A schedule of events, run on the core of its script's clients: the replies that each client gets, the one history
+//! of their batches, and the maps that these make: the published one, and the one of each read.
 #![tactic(auto)]
 
 mod answers;

@@ -69,8 +69,8 @@ fn write_entry(
     }
 }
 
-/// The commands of its client's plan that an entry's batch stands in, if there is that client. What they add are its
-/// records.
+/// The commands of a client's plan that make an entry's batch, if there is such a client. What they add are the
+/// batch's records.
 pub fn batch_lines<'a, 'b>(
     state: &'a State<'b>,
     entry: &HistoryEntry<Lines>,
@@ -106,7 +106,7 @@ fn write_lines(map: &mut ByteMap, lines: &[CommandView<'_>]) -> Result<(), NoMem
     Ok(())
 }
 
-/// Does to a map what the record that a command adds says.
+/// Applies to a map the record that a command adds, if it adds one.
 fn write_line(map: &mut ByteMap, line: &CommandView<'_>) -> Result<(), NoMemory>
     ensures { OnOk result (map.new ≡ after_line map.old (command_of line.now)) }
 {

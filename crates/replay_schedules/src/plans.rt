@@ -1,4 +1,4 @@
-//! What the clients of a script are going to do on the core.
+//! What the clients of a script will do on the core.
 
 ghost use Rattle.std.specs.Prelude.{◌≡◌, IfOk};
 ghost use Rattle.run_scripts.specs.Scripts.{commands_of};

@@ -23,12 +23,12 @@ use run_outcome::HistoryEntry;
 use std::alloc::Global;
 
 /// The map of the first entries of a core, up to a sequence. A read at a later sequence writes only the entries that
-/// it lacks, so reads whose sequences never fall write each entry once, all together.
+/// the map doesn't have yet, so reads whose sequences never fall write each entry only once in all.
 #[derive(Drop)]
 pub struct MapUpTo {
     alloc: Global,
     map: ByteMap,
-    /// The sequence, and how many entries are in the map.
+    /// The sequence; `count` is how many entries are in the map.
     at: u64,
     count: usize,
 }
@@ -46,8 +46,8 @@ impl MapUpTo {
         }
     }
 
-    /// The value of a key after the entries whose runs end at a sequence or before. The map moves there. Without memory
-    /// it begins anew before the first entry.
+    /// The value of a key after the entries whose runs end at a sequence or before. The map moves to that sequence.
+    /// Where there is no memory it begins anew before the first entry.
     pub fn value(&mut self, state: &State<'_>, key: &[u8], at: u64) -> Result<Found, NoMemory>
         ensures value { (o : core.Options) (s : core.State) → IsCore o s → Shows state.now o s
             → IsMapOf s.entries self.old
@@ -60,8 +60,8 @@ impl MapUpTo {
         value_in(self.alloc, &self.map, key)
     }
 
-    /// The values of several keys there, in the order of the keys, all at that one sequence. The map moves there as for
-    /// one key.
+    /// The values of several keys after the entries whose runs end at a sequence or before, in the order of the keys,
+    /// all at that one sequence. The map moves there as for one key.
     pub fn values(
         &mut self,
         state: &State<'_>,
@@ -79,8 +79,8 @@ impl MapUpTo {
         values_in(self.alloc, &self.map, keys)
     }
 
-    /// The keys from `lo` on and below `hi` with their values there, in the byte order of the keys. The map moves there
-    /// as for one key.
+    /// The keys from `lo` on and below `hi`, with their values after the entries whose runs end at a sequence or
+    /// before, in the byte order of the keys. The map moves there as for one key.
     pub fn rows(
         &mut self,
         state: &State<'_>,
@@ -99,14 +99,14 @@ impl MapUpTo {
         rows_in(self.alloc, &self.map, lo, hi)
     }
 
-    /// The map as it stands.
+    /// The map as it is now.
     pub(crate) fn into_map(self) -> ByteMap
         ensures { result ≡ self.map }
     {
         self.map
     }
 
-    /// Moves the map to a sequence. Without memory it begins anew.
+    /// Moves the map to a sequence. Where there is no memory it begins anew.
     pub(crate) fn move_to(&mut self, state: &State<'_>, at: u64) -> Result<(), NoMemory>
         ensures map { (o : core.Options) (s : core.State) → IsCore o s → Shows state.now o s
             → IsMapOf s.entries self.old
@@ -123,7 +123,7 @@ impl MapUpTo {
         written
     }
 
-    /// Where the map is past a sequence it begins anew.
+    /// If the map is past a sequence, it begins anew.
     fn move_back(&mut self, at: u64)
         ensures at { self.new.at ≤ at }
         ensures kept { (entries : List history.Entry) → IsMapOf entries self.old → IsMapOf entries self.new }

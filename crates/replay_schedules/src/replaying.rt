@@ -17,24 +17,24 @@ use run_outcome::{HistoryEntry, Reply};
 use run_scripts::Schedule;
 use std::alloc::Global;
 
-/// What a schedule came to.
+/// The result of a schedule.
 #[derive(Drop)]
 pub struct Replayed {
-    /// How many of its events came, and how many could not come where they stood.
+    /// How many of its events came, and how many could not come at their places.
     pub counts: Counts,
-    /// The replies of each client to its commits and reads so far, in order of the clients' numbers.
+    /// The replies that each client got to its commits and reads so far, in order of the clients' numbers.
     pub transcripts: Vec<Vec<Reply>>,
     /// The batches that were given runs, in order of their sequences.
     pub history: Vec<HistoryEntry<Batch>>,
-    /// The published sequence, and the map there.
+    /// The published sequence; `map` is the map at it.
     pub last: u64,
     pub map: ByteMap,
     /// How many groups were logged.
     pub groups: u64,
 }
 
-/// Runs a schedule on the core of its script's clients, of which there are 1 to 64. Their commands are
-/// those that a script may say, and all that each adds fits one batch of 16 MiB.
+/// Runs a schedule on the core of its script's clients, of which there are 1 to 64. Their commands are those that a
+/// script may have, and all that each client adds fits one batch of 16 MiB.
 pub fn replay_schedule(
     alloc: Global,
     schedule: Schedule,

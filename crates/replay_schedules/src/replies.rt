@@ -1,4 +1,4 @@
-//! What the clients of a script were told on the core.
+//! The replies that the clients of a script got on the core.
 
 ghost use Rattle.std.specs.Prelude.{◌≡◌, ◌++◌, ◌≤◌, length, drop, slice_get, IfOk, OnOk};
 ghost use Rattle.base_bytes.specs.Answers.{found_value};
@@ -16,7 +16,7 @@ use run_command_list::{CommandKind, CommandView};
 use run_outcome::Reply;
 use std::alloc::Global;
 
-/// What each client was told.
+/// The replies that each client got.
 pub fn transcripts_of(alloc: Global, core: &State<'_>) -> Result<Vec<Vec<Reply>>, NoMemory>
     requires { length (plans_in core.now) ≤ MAX_CLIENTS }
     ensures { InEachShown core.now (λ s. IfOk result (λ t.
@@ -32,7 +32,7 @@ pub fn transcripts_of(alloc: Global, core: &State<'_>) -> Result<Vec<Vec<Reply>>
     Ok(transcripts)
 }
 
-/// What a client was told of its commands: these replies to its commits and reads, in order.
+/// The replies that a client got to its commands: `told` has those to its commits and reads, in order.
 fn replies_of(
     alloc: Global,
     plan: &ClientPlan<'_>,
@@ -51,7 +51,7 @@ fn replies_of(
     Ok(replies)
 }
 
-/// Adds the reply to a client's next command, if that has one by now.
+/// Adds the reply to a client's next command, if the command has one by now.
 fn add_reply(
     replies: &mut Vec<Reply>,
     reads: &mut MapUpTo,
@@ -67,12 +67,12 @@ fn add_reply(
     match command.kind() {
         CommandKind::Commit | CommandKind::Read => add_next(replies, reads, command, told, core),
         CommandKind::Addition | CommandKind::Clear => Ok(()),
-        // The core knows no write controller, so no script with a schedule says this.
+        // The core knows no write controller, so no script with a schedule has this.
         CommandKind::Token => Ok(()),
     }
 }
 
-/// Adds the first of the replies that are left, to a commit or a read.
+/// Adds the reply to a commit or a read: the first of the replies that are left.
 fn add_next(
     replies: &mut Vec<Reply>,
     reads: &mut MapUpTo,
@@ -104,8 +104,8 @@ fn reply_at(told: &[CoreReply], at: usize) -> Option<CoreReply>
     }
 }
 
-/// The reply to a command, of which the core tells all but what was read. It is `None` where a command that reads
-/// nothing is said to have been read, which the core never says.
+/// The reply to a command. The core says all of it except the values that were read. The result is `None` where the
+/// core says that a command was a read which isn't one; the core never says this.
 fn reply_of(
     reads: &mut MapUpTo,
     command: &CommandView<'_>,
@@ -123,7 +123,7 @@ fn reply_of(
     }
 }
 
-/// The reply to a command that was read at a sequence, if it is one that reads.
+/// The reply to a command that was answered by reading at a sequence, if the command is a read.
 fn read_of(
     reads: &mut MapUpTo,
     command: &CommandView<'_>,

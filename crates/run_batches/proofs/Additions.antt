@@ -1,4 +1,4 @@
--- What a batch more makes of a list.
+-- What one more batch changes in a list.
 use Rattle.std.proofs.Common.{◌≡◌, ℕ, ◌+◌, ◌<◌, ◌≤◌, ◌^◌, List, [], ◌∷◌, ◌++◌, length, take, drop, refl, sym, ap, ◌∙◌, arith, append-nil, length-append}
 use Rattle.std.proofs.lemmas.Grind.{flat_map-append}
 use Rattle.std.proofs.lemmas.Nat.{from_le_bytes-to_le_bytes_4}
@@ -17,7 +17,7 @@ use Rattle.run_batches.specs.OneList.{Fits, AreBatches, same_batches}
 pub count_read : (bytes : List ℕ) (b : Contents) → IsBatchOf bytes b → from_le_bytes w32 (take 4 (drop 8 bytes)) ≡ count_of b.records
 count_read bytes b is = ap (λ (l : List ℕ). from_le_bytes w32 (take 4 (drop 8 l))) is.spelled ∙ from_le_bytes-to_le_bytes_4 (count_of b.records) is.count_fits
 
--- A small batch is told by its bytes.
+-- A small batch is determined by its bytes.
 pub small_batch : (bytes : List ℕ) (b : Contents) → bytes ≡ batch_bytes b → b.sequence < 2 ^ 64 → count_of b.records < 2 ^ 32 → size_of_batch b.records ≤ MAX_SIZE → IsBatchOf bytes b
 small_batch bytes b spelled sequence count size = record {
   spelled = spelled;
@@ -42,7 +42,7 @@ all_fit : (batches : List (AcceptedBatch Contents)) (k : AcceptedBatch Contents)
 all_fit [] k fit one = (one, tt)
 all_fit (j ∷ batches) k fit one = (fit.0, all_fit batches k fit.1 one)
 
--- the list with a batch more
+-- the list with one more batch
 pub with_batch : (old now ends later : List ℕ) (h : AreBatches old ends) (k : AcceptedBatch Contents) → Fits k → now ≡ old ++ bytes_of k → later ≡ ends ++ length now ∷ []
     → (more : AreBatches now later) × (more.batches ≡ h.batches ++ k ∷ [])
 with_batch old now ends later h k fits is is_later =
@@ -51,7 +51,7 @@ with_batch old now ends later h k fits is is_later =
     is_later ∙ ap (λ (l : List ℕ). l ++ length now ∷ []) h.ends_are ∙ sym (ends-added 0 (length now) h.batches k (omega (arith, ap length spelled))) in
     (record { batches = h.batches ++ k ∷ []; fit = all_fit h.batches k h.fit fits; spelled = spelled; ends_are = ends_are }, refl)
 
--- the same bytes and ends are the same list
+-- equal bytes and equal ends are those of the same list
 pub as_before : (old now ends later : List ℕ) (h : AreBatches old ends) → now ≡ old → later ≡ ends → (same : AreBatches now later) × (same.batches ≡ h.batches)
 as_before old now ends later h is is_later =
     (record { batches = h.batches; fit = h.fit; spelled = is ∙ h.spelled; ends_are = is_later ∙ h.ends_are }, refl)

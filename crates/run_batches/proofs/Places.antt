@@ -1,4 +1,4 @@
--- Where a batch of a list stands.
+-- Where a batch of a list is in the bytes.
 use Rattle.std.proofs.Common.{◌≡◌, ℕ, zero, suc, ◌+◌, ◌-◌, ◌<◌, ◌≤◌, List, [], ◌∷◌, ◌++◌, length, take, drop, get_or, refl, sym, ap, ◌∙◌, subst, arith, append_assoc, length-append}
 use Rattle.std.proofs.Math.Seq.{take-length, take-append_seam, drop-append_seam}
 use Rattle.std.specs.List.{AllByRecursion}
@@ -9,7 +9,7 @@ use Rattle.run_batches.specs.Layout.{bytes_of, body, ends_from}
 use Rattle.run_batches.specs.OneList.{Fits, AreBatches}
 use Rattle.run_batches.proofs.Additions.{as_before}
 
--- the batch at a place, between the bytes of those before it and of those behind it
+-- the batch at a place, between the bytes of the batches before it and of those after it
 record Stands (begin : ℕ) (batches : List (AcceptedBatch Contents)) (at : ℕ) : Type 0 where
   pub kept : AcceptedBatch Contents
   pub is : slice_get batches at ≡ Some kept
@@ -83,14 +83,14 @@ is_at bytes ends h at at_in =
           ∙ take-append_seam own s.behind;
     }
 
--- The same by what calls say of the bytes, of the ends and of the list.
+-- `IsAt`, from what calls say of the bytes, of the ends and of the list.
 pub found_at : (bytes ends : List ℕ) (h : AreBatches bytes ends) (at : ℕ) (slice places : List ℕ) (batches : List (AcceptedBatch Contents)) → slice ≡ bytes → places ≡ ends → h.batches ≡ batches → at < length batches → IsAt slice places batches at
 found_at bytes ends h at slice places batches is_slice is_places is at_in =
     let same = as_before bytes slice ends places h is_slice is_places in
     let all : same.0.batches ≡ batches = same.1 ∙ is in
     subst (λ (l : List (AcceptedBatch Contents)). IsAt slice places l at) all (is_at slice places same.0 at (omega (arith, at_in, ap length all)))
 
--- What stands behind the first byte.
+-- What comes after the first byte.
 pub behind_first : (part : List ℕ) (x : ℕ) (own : List ℕ) → part ≡ x ∷ own → take (length part - 1) (drop 1 part) ≡ own
 behind_first part x own is =
     let one_less : length part - 1 ≡ length own = omega (arith, ap length is) in

@@ -15,7 +15,7 @@ byte_of Sync = 2
 abbrev pub flag_of : ℕ → Flag
 flag_of byte = if byte == 0 then Log else (if byte == 1 then NoLog else Sync)
 
--- a batch behind its flag
+-- a batch after its flag
 abbrev pub bytes_of : AcceptedBatch Contents → List ℕ
 bytes_of kept = byte_of kept.flag ∷ batch_bytes kept.batch
 
@@ -23,7 +23,7 @@ bytes_of kept = byte_of kept.flag ∷ batch_bytes kept.batch
 abbrev pub body : List (AcceptedBatch Contents) → List ℕ
 body batches = flat_map bytes_of batches
 
--- where each of them ends, if the first begins here
+-- where each batch ends, if the first one begins at `begin`
 abbrev pub ends_from : ℕ → List (AcceptedBatch Contents) → List ℕ
 ends_from begin [] = []
 ends_from begin (kept ∷ rest) =

@@ -1,4 +1,4 @@
--- Bytes are those of one batch at most, so that they tell it.
+-- Bytes are those of at most one batch, so that they determine it.
 use Rattle.std.specs.Prelude.{◌≡◌, ℕ, List, take, drop}
 use Rattle.std.specs.Int.{w64, from_le_bytes}
 use Rattle.std.specs.List.{AllByRecursion-prop}

@@ -1,4 +1,4 @@
--- Bytes, cut where batches end, are those of one list of batches at most.
+-- Bytes, with the places where batches end in them, are those of at most one list of batches.
 use Rattle.std.specs.Prelude.{◌≡◌, ℕ, ◌+◌, List, [], ◌∷◌, ◌++◌, length, take, drop, get_or}
 use Rattle.std.specs.List.{AllByRecursion, AllByRecursion-prop}
 use Rattle.std.specs.Coded.{Coded-set, coded_ℕ, coded_list}
@@ -12,7 +12,7 @@ use Rattle.run_batches.specs.declared.accepted.AcceptedBatch.{AcceptedBatch}
 use Rattle.run_batches.specs.OneBatch.{batch_bytes, IsBatchOf, IsBatchOf-prop, one_batch}
 use Rattle.run_batches.specs.Layout.{byte_of, flag_of, bytes_of, body, ends_from}
 
--- what is told by its bytes
+-- a batch that its bytes determine
 abbrev pub Fits : AcceptedBatch Contents → Type 0
 Fits kept = IsBatchOf (batch_bytes kept.batch) kept.batch
 
@@ -37,7 +37,7 @@ one_kept a b fit_a fit_b same =
     (subst (λ (l : List ℕ). IsBatchOf l b.batch) (sym bytes) fit_b) in
     λ i. record { flag = flags i; batch = batches i }
 
--- what begins the same bytes, and is equally long, is the same, and so is what follows it
+-- two beginnings of the same bytes that have the same length are equal, and so is what follows them
 same_fronts : (a b x y : List ℕ) → length a ≡ length b → a ++ x ≡ b ++ y → (a ≡ b) × (x ≡ y)
 same_fronts a b x y long same = (
   sym (take-append_seam a x) ∙ ap (λ (l : List ℕ). take (length a) l) same

@@ -9,10 +9,10 @@ use log_batch::{Records, read_batch};
 use model_base::Flag;
 use std::marker::Model;
 
-/// Where the count stands in a batch's bytes: behind its sequence.
+/// Where the count is in a batch's bytes: after its sequence.
 const COUNT_AT: usize = 8;
 
-/// An accepted batch, and how it was committed. `B` is what stands for the batch: the batch itself with its sequence
+/// An accepted batch, and how it was committed. `B` represents the batch: it is the batch itself with its sequence
 /// set, or a part of a list's bytes.
 #[derive(Drop)]
 pub struct AcceptedBatch<B> {
@@ -36,7 +36,7 @@ impl<'a> Model for AcceptedBatchRef<'a> {
 }
 
 impl<'a> AcceptedBatchRef<'a> {
-    /// That of these bytes.
+    /// The batch of these bytes.
     pub(crate) fn of(bytes: &'a [u8]) -> AcceptedBatchRef<'a>
         requires { IsOneBatch bytes.now }
         ensures { IsBatchOf bytes.now result }

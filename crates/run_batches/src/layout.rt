@@ -1,4 +1,4 @@
-//! What stands for a batch: a byte for its flag, and its own bytes.
+//! How a batch is kept: a byte for its flag, and its own bytes.
 
 ghost use Rattle.std.specs.Prelude.{◌≡◌};
 ghost use Rattle.run_batches.specs.OneBatch.{IsBatchOf};
@@ -33,11 +33,11 @@ pub fn flag_of(byte: u8) -> Flag
     }
 }
 
-/// The bytes of a batch, which tell it.
+/// The bytes of a batch, which determine it.
 pub fn bytes_of(batch: &Batch) -> &[u8]
     ensures { IsBatchOf result.now batch.now }
 {
-    // From these the proof knows that the numbers of the header fit, and the lengths of the strings.
+    // From these calls the proof knows that the numbers of the header fit, and the lengths of the strings.
     let _fit = (batch.sequence(), batch.count(), batch.size());
     batch.bytes()
 }

@@ -1,5 +1,5 @@
-//! The accepted batches of a client as bytes one after another, which take little memory: a batch its bytes, one for
-//! how it was committed, and four for where it ends, and no allocation of its own.
+//! The accepted batches of a client, kept as bytes one after another. They take little memory: a batch takes its own
+//! bytes, one for how it was committed, four for where it ends, and no allocation of its own.
 //!
 //! | Bytes | What they are |
 //! |---|---|
@@ -8,7 +8,8 @@
 //! | 4 | how many of its records count, the lowest byte first |
 //! | the others | its records, as `log_batch` lays them out |
 //!
-//! No length stands among them. Where each batch ends stands in a list beside the bytes, so that each is found at once.
+//! There is no length among these bytes. A list next to them says where each batch ends, so that each is found at
+//! once.
 #![tactic(auto)]
 
 mod accepted;

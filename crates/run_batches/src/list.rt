@@ -10,7 +10,8 @@ use model_base::{Flag, NoMemory};
 use std::alloc::Global;
 use std::marker::Model;
 
-/// The accepted batches of a client, from the first on, each with how it was committed. Contracts see the list of them.
+/// The accepted batches of a client, from the first on, each with how it was committed. Contracts see the list of
+/// them.
 #[derive(Drop)]
 pub struct BatchList {
     bytes: Vec<u8>,
@@ -39,8 +40,8 @@ impl BatchList {
         }
     }
 
-    /// Makes room for so many batches more, of so many bytes in all: each has its own, and one for its flag. That only
-    /// spares growth: the list asks for more by itself.
+    /// Makes room for `batches` more batches, which have `bytes` bytes in all: each has its own bytes, and one for its
+    /// flag. This only saves growth later: the list asks for more memory by itself.
     pub fn reserve(&mut self, batches: usize, bytes: usize) -> Result<(), NoMemory>
         ensures { self.new ≡ self.old }
     {
@@ -49,8 +50,8 @@ impl BatchList {
         Ok(())
     }
 
-    /// Puts a copy of a batch behind the others. Where memory fails, the list stays as it was. There is none for a list
-    /// of 2^32 bytes or more.
+    /// Appends a copy of a batch. Where memory fails, the list stays as it was. There is no memory for a list of 2^32
+    /// bytes or more.
     pub fn push(&mut self, flag: Flag, batch: &Batch) -> Result<(), NoMemory>
         ensures ok { OnOk result (self.new ≡ self.old ++ record { flag = flag; batch = batch.now } ∷ []) }
         ensures err { OnErr result (self.new ≡ self.old) }
@@ -85,8 +86,8 @@ impl BatchList {
     }
 }
 
-/// Puts a flag's byte and a batch's bytes behind the others, and then their end behind the other ends. Where memory
-/// fails, the ends stay as they were, and a part may stand behind the bytes.
+/// Appends a flag's byte and a batch's bytes to the bytes, and then their end to the ends. Where memory fails, the
+/// ends stay as they were, and a part may be left at the end of the bytes.
 fn append(bytes: &mut Vec<u8>, ends: &mut Vec<u32>, flag: u8, batch: &[u8]) -> Result<(), NoMemory>
     ensures ok { OnOk result (bytes.new.items ≡ bytes.old.items ++ flag ∷ batch.now) }
     ensures end { OnOk result (ends.new.items ≡ ends.old.items ++ length bytes.new.items ∷ []) }
@@ -102,7 +103,7 @@ fn append(bytes: &mut Vec<u8>, ends: &mut Vec<u32>, flag: u8, batch: &[u8]) -> R
     Ok(())
 }
 
-/// The part of the bytes that stands for the batch at a place: from where the one before it ends to where it ends.
+/// The part of the bytes that holds the batch at a place: from where the batch before it ends to where it ends.
 fn part_at<'a>(bytes: &'a [u8], ends: &[u32], at: usize) -> &'a [u8]
     requires at_in { at < length ends.now }
     requires rising { slice_index (0 ∷ ends.now) at ≤ slice_index ends.now at }

@@ -1,4 +1,4 @@
--- What a command more makes of a list.
+-- What one more command changes in a list.
 use Rattle.std.proofs.Common.{◌≡◌, ℕ, ◌+◌, ◌<◌, ◌≤◌, List, [], ◌∷◌, ◌++◌, length, sym, ap, ◌∙◌, arith, append-nil, length-append}
 use Rattle.std.proofs.lemmas.Grind.{flat_map-append, common_steps}
 use Rattle.std.proofs.lemmas.List.Sums.{count_by-le-length}
@@ -26,7 +26,7 @@ pub all_fit : (commands : List Command) (c : Command) → AllByRecursion Fits co
 all_fit [] c fit one = (one, tt)
 all_fit (d ∷ commands) c fit one = (fit.0, all_fit commands c fit.1 one)
 
--- Each command has a byte at least.
+-- Each command has at least one byte.
 pub some_bytes : (c : Command) → 0 < length (bytes_of c)
 some_bytes (add (value k v)) = omega arith
 some_bytes (add (deletion k)) = omega arith
@@ -53,7 +53,7 @@ small_len bytes len commits h = (
   omega (arith, h.len_is, h.commits_is, count_by-le-length is_commit h.are.commands),
 )
 
--- the list with one command more
+-- the list with one more command
 pub with_command : (old now : List ℕ) (len commits more : ℕ) (h : IsList old len commits) (c : Command) → Fits c → now ≡ old ++ bytes_of c → more ≡ commits_in (c ∷ []) → IsList now (len + 1) (commits + more)
 with_command old now len commits more h c fits is is_more = record {
   are = record {

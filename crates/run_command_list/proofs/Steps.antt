@@ -36,7 +36,7 @@ pub a_fixed64 : (bytes : List ℕ) (n : ℕ) (rest : List ℕ) → 8 ≤ length 
 unfolding read_fixed64
 a_fixed64 bytes n rest enough is_n is_rest = rw (le-ltb (length bytes) 8 enough, is_n, is_rest) refl
 
--- the number and what is behind it are the bytes
+-- the number and what comes after it are the bytes
 pub fixed32_spelled : (bytes : List ℕ) (n : ℕ) (rest : List ℕ) → to_le_bytes w32 n ≡ take 4 (drop 0 bytes) → rest ≡ drop 4 bytes → bytes ≡ to_le_bytes w32 n ++ rest
 fixed32_spelled bytes n rest is_n is_rest = sym (ap (λ (l : List ℕ). l ++ rest) is_n ∙ ap (λ (l : List ℕ). take 4 bytes ++ l) is_rest ∙ take-append-drop 4 bytes)
 
@@ -57,7 +57,7 @@ word_spelled bytes n behind w rest len is_n is_w is_rest =
     let parts : behind ≡ w ++ rest = sym (ap (λ (l : List ℕ). l ++ rest) is_w ∙ ap (λ (l : List ℕ). take n behind ++ l) is_rest ∙ take-append-drop n behind) in
     len ∙ ap (λ (l : List ℕ). to_le_bytes w32 n ++ l) parts ∙ ap (λ (k : ℕ). to_le_bytes w32 k ++ (w ++ rest)) (sym is_n) ∙ sym (append_assoc (to_le_bytes w32 (length w)) w rest)
 
--- so many words, and then the rest
+-- `found` words, and then the rest
 pub record Walked (bytes rest : List ℕ) (found : ℕ) : Type 0 where
   pub words : List (List ℕ)
   pub short : AreShort words
@@ -83,7 +83,7 @@ walked_more bytes rest found w behind walked short first = record {
       ∙ ap (λ (l : List ℕ). l ++ behind) (sym (words_added walked.words w));
 }
 
--- where a word breaks off, fewer are read than were asked
+-- where a word breaks off before as many words as were asked for, nothing is read
 pub words_cut : (words : List (List ℕ)) (rest : List ℕ) (n : ℕ) → AreShort words → length words < n → ◌≡◌ {A = Read (List ℕ)} None (read_word rest) → ◌≡◌ {A = Read (List (List ℕ))} None (read_words n (bytes_of_words words ++ rest))
 unfolding read_words
 words_cut words rest zero short fewer none = absurd (omega (arith, fewer))
@@ -108,7 +108,7 @@ walked_front bytes rest front n walked is =
 pub walked_fewer : (bytes rest : List ℕ) (n : ℕ) → Walked bytes rest n → length rest ≤ length bytes
 walked_fewer bytes rest n walked = omega (arith, ap length walked.spelled, length-append (bytes_of_words walked.words) rest)
 
--- as many as were asked
+-- as many words as were asked for
 pub walked_as_many : (bytes rest : List ℕ) (found n : ℕ) → Walked bytes rest found → found ≤ n → n ≤ found → Walked bytes rest n
 walked_as_many bytes rest found n walked most least = record {
   words = walked.words;

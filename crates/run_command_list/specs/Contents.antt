@@ -1,4 +1,4 @@
--- What commands in bytes are.
+-- When bytes are those of commands, or of words.
 use Rattle.std.specs.Prelude.{◌≡◌, ℕ, ◌<◌, ◌^◌, Bool, true, false, List, [], ◌∷◌, length, count_by}
 use Rattle.std.specs.List.{AllByRecursion}
 use Rattle.model_base.specs.Batch.{value, deletion, single_deletion, log_data}
@@ -31,17 +31,17 @@ is_commit other = false
 abbrev pub commits_in : List Command → ℕ
 commits_in commands = count_by is_commit commands
 
--- the length of each fits in four bytes
+-- the length of each word fits in four bytes
 abbrev pub AreShort : List (List ℕ) → Type 0
 AreShort ws = AllByRecursion (λ w. length w < 2 ^ 32) ws
 
--- what fits in the bytes of its layout
+-- a command whose lengths and numbers fit in the bytes of its layout
 pub record Fits (c : Command) : Type 0 where
   pub words : AreShort (words_of c)
   pub count : length (words_of c) < 2 ^ 32
   pub rate : rate_of c < 2 ^ 64
 
--- The bytes are those of so many words. No other words have these bytes.
+-- The bytes are those of `count` words. No other words have these bytes.
 pub record AreWords (bytes : List ℕ) (count : ℕ) : Type 0 where
   pub words : List (List ℕ)
   pub short : AreShort words
@@ -54,7 +54,7 @@ pub record AreCommands (bytes : List ℕ) : Type 0 where
   pub fit : AllByRecursion Fits commands
   pub spelled : bytes ≡ body commands
 
--- The bytes are those of so many commands, of which so many are commits.
+-- The bytes are those of `len` commands, of which `commits` are commits.
 pub record IsList (bytes : List ℕ) (len commits : ℕ) : Type 0 where
   pub are : AreCommands bytes
   pub len_is : len ≡ length are.commands

@@ -5,14 +5,14 @@ use Rattle.model_base.specs.OptionBits.{option_bits}
 use Rattle.model_base.specs.Batch.{value, deletion, single_deletion, log_data}
 use Rattle.model_base.specs.Calls.{Command, add, clear, commit, get, many, scan, stop, unstop, slow, unslow}
 
--- a word behind its length
+-- a word after its length
 abbrev pub bytes_of_word : List ℕ → List ℕ
 bytes_of_word bytes = to_le_bytes w32 (length bytes) ++ bytes
 
 abbrev pub bytes_of_words : List (List ℕ) → List ℕ
 bytes_of_words words = flat_map bytes_of_word words
 
--- a tag, and what stands behind it
+-- a tag, and what comes after it
 abbrev pub bytes_of : Command → List ℕ
 bytes_of (add (value key v)) = 1 ∷ (bytes_of_word key ++ bytes_of_word v)
 bytes_of (add (deletion key)) = 2 ∷ bytes_of_word key

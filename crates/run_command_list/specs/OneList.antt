@@ -1,4 +1,4 @@
--- Bytes are of one list of words, and of one list of commands, at most.
+-- Bytes are those of at most one list of words, and of at most one list of commands.
 use Rattle.std.proofs.Common.{◌≡◌, ℕ, List, [], ◌∷◌, ◌++◌, length, refl, sym, ap, ◌∙◌}
 use Rattle.std.specs.Prelude.{Some, None}
 use Rattle.std.specs.List.{AllByRecursion, AllByRecursion-prop}
@@ -10,7 +10,7 @@ use Rattle.run_command_list.specs.Contents.{words_of, commits_in, AreShort, Fits
 use Rattle.run_command_list.specs.Reading.{Read, read_byte, read_words, read_command}
 use Rattle.run_command_list.specs.ReadBack.{words_back, command_back}
 
--- the same that is read, with the same behind it
+-- where two reads give the same, they read the same thing and leave the same bytes after it
 pub one_read : {A : Type 0} (p q : A × List ℕ) → Some p ≡ Some q → (p.0 ≡ q.0) × (p.1 ≡ q.1)
 one_read {A} p q same = (ap (λ (r : A × List ℕ). r.0) pairs, ap (λ (r : A × List ℕ). r.1) pairs) where
   pairs : p ≡ q
@@ -46,7 +46,7 @@ Fits-prop c x y = λ i. record {
   rate = le_prop x.rate y.rate i;
 }
 
--- words of so many bytes are one list
+-- bytes with this count are those of one list of words only
 pub same_words : (bytes : List ℕ) (count : ℕ) (x y : AreWords bytes count) → x.words ≡ y.words
 same_words bytes count x y =
     one_words x.words y.words x.short y.short (sym x.counted ∙ y.counted) (sym x.spelled ∙ y.spelled)

@@ -1,4 +1,4 @@
--- What is read in front of bytes, with the bytes behind it.
+-- What is read at the front of bytes, with the bytes after it.
 use Rattle.std.specs.Prelude.{ℕ, zero, suc, List, [], ◌∷◌, length, take, drop, Option, Some, None, option_and_then, nat_lt, ◌==◌, if◌then◌else◌}
 use Rattle.std.specs.Int.{w32, w64, from_le_bytes}
 use Rattle.model_base.specs.OptionBits.{options_of_bits}
@@ -33,7 +33,7 @@ read_word bytes = do
   p ← read_fixed32 bytes
   read_front p.0 p.1
 
--- so many words
+-- this many words
 unfoldable pub read_words : ℕ → List ℕ → Read (List (List ℕ))
 read_words zero bytes = Some ([], bytes)
 read_words (suc n) bytes = do
@@ -41,7 +41,7 @@ read_words (suc n) bytes = do
   q ← read_words n p.1
   Some (p.0 ∷ q.0, q.1)
 
--- what stands behind the tag of a command
+-- what comes after the tag of a command
 unfoldable pub one_word : (List ℕ → Command) → List ℕ → Read Command
 one_word made bytes = do
   p ← read_word bytes
@@ -69,7 +69,7 @@ some_rate bytes = do
   p ← read_fixed64 bytes
   Some (slow p.0, p.1)
 
--- a command behind its tag
+-- a command, from the bytes after its tag
 abbrev pub read_behind : ℕ → List ℕ → Read Command
 read_behind tag bytes =
     if tag == 1 then two_words (λ k v. add (value k v)) bytes

@@ -1,4 +1,4 @@
--- The commands that are seen as parts of bytes.
+-- The commands whose words are seen as parts of bytes.
 use Rattle.std.specs.Prelude.{◌<◌, ◌^◌, ⊤, length}
 use Rattle.model_base.specs.Batch.{value, deletion, single_deletion, log_data}
 use Rattle.model_base.specs.Calls as calls

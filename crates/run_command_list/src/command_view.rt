@@ -33,7 +33,7 @@ pub enum CommandView<'a> {
     Stop,
     /// Gives the stop token back.
     Unstop,
-    /// Takes the write controller's delay token for the client, which slows writes down to so many bytes a second.
+    /// Takes the write controller's delay token for the client, which slows writes down to `rate` bytes a second.
     Slow { rate: u64 },
     /// Gives the delay token back.
     Unslow,
@@ -44,7 +44,7 @@ impl<'a> CommandView<'a> {
     ghost use Rattle.log_batch.specs.View.{record_of};
     ghost use Rattle.run_command_list.specs.Kinds.{kind_of, record_added};
 
-    /// What it is for.
+    /// What the command is for.
     pub fn kind(&self) -> CommandKind
         ensures { result ≡ kind_of (command_of self.now) }
     {

@@ -10,9 +10,9 @@ use crate::CommandView;
 use crate::reading::split_command;
 use std::marker::Model;
 
-/// The commands that bytes are, from the first on. Contracts see those that are left.
+/// The commands that bytes spell, from the first on. Contracts see the commands that are left.
 ///
-/// Each is taken apart anew, and none is copied.
+/// Each command is read from the bytes as it is asked for, and none is copied.
 #[derive(Debug, Drop)]
 pub struct Commands<'a> {
     bytes: &'a [u8],
@@ -46,7 +46,7 @@ impl<'a> Iterator for Commands<'a> {
 }
 
 impl<'a> Commands<'a> {
-    /// Those that bytes are.
+    /// The commands that these bytes spell.
     pub(crate) fn of_body(bytes: &'a [u8]) -> Commands<'a>
         requires { AreCommands bytes.now }
         ensures spelled { bytes.now ≡ body result }

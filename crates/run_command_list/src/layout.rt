@@ -1,4 +1,4 @@
-//! The bytes of a command: a tag, and what stands behind it.
+//! The bytes of a command: a tag, and what comes after it.
 
 ghost use Rattle.std.specs.Prelude.{◌≡◌, ◌<◌, ◌^◌, ◌++◌, ◌∷◌, [], length, take, OnOk, OnErr};
 ghost use Rattle.run_command_list.specs.Layout.{bytes_of_word, bytes_of};
@@ -35,8 +35,8 @@ pub const SLOW: u8 = 12;
 
 pub const UNSLOW: u8 = 13;
 
-/// Puts a word behind the bytes, and its length before it. Where memory fails, a part of it may stand there, as in
-/// all that follow.
+/// Appends a word's length and then the word to the bytes. Where memory fails, a part of what was to be appended may
+/// be left at the end of the bytes. The same is true of all functions below.
 pub fn append_word(bytes: &mut Bytes, word: &[u8]) -> Result<(), NoMemory>
     requires { length word.now < 2 ^ 32 }
     ensures ok { OnOk result (bytes.new ≡ bytes.old ++ bytes_of_word word.now) }
@@ -55,7 +55,7 @@ fn append_tagged(bytes: &mut Bytes, tag: u8, word: &[u8]) -> Result<(), NoMemory
     append_word(bytes, word)
 }
 
-/// Puts a command behind the bytes.
+/// Appends a command to the bytes.
 pub fn append_command(bytes: &mut Bytes, command: &CommandView<'_>) -> Result<(), NoMemory>
     requires { HasShortWords command.now }
     ensures ok { OnOk result (bytes.new ≡ bytes.old ++ bytes_of (command_of command.now)) }

@@ -1,9 +1,9 @@
-//! The commands of a client as bytes one after another, which take little memory: a put nine bytes and those of its
-//! key and its value, and no allocation of its own.
+//! The commands of a client, kept as bytes one after another. They take little memory: a put takes nine bytes and
+//! those of its key and its value, and no allocation of its own.
 //!
-//! Numbers have the lowest byte first. A word stands behind its length in four bytes.
+//! Numbers have the lowest byte first. A word comes after its length, which has four bytes.
 //!
-//! | Tag | Command | Behind the tag |
+//! | Tag | Command | After the tag |
 //! |---|---|---|
 //! | 1 | put | two words: the key and the value |
 //! | 2 | delete | a word: the key |
@@ -12,7 +12,7 @@
 //! | 5 | clear | nothing |
 //! | 6 | commit | a byte: 1 for sync, 2 for no log and 4 for no slowdown, added up |
 //! | 7 | get | a word: the key |
-//! | 8 | get of several keys | how many keys in four bytes, and a word for each |
+//! | 8 | get of several keys | the number of keys in four bytes, and a word for each |
 //! | 9 | scan | two words: where it begins, and what it stays below |
 //! | 10 | stop | nothing |
 //! | 11 | unstop | nothing |

@@ -44,7 +44,7 @@ impl CommandList {
         }
     }
 
-    /// Puts a command behind the others. Where memory fails, the list stays as it was.
+    /// Appends a command. Where memory fails, the list stays as it was.
     pub fn push(&mut self, command: CommandView<'_>) -> Result<(), NoMemory>
         requires { HasShortWords command }
         ensures ok { OnOk result (self.new ≡ self.old ++ command_of command.entry ∷ []) }
@@ -55,7 +55,7 @@ impl CommandList {
             self.bytes.truncate(end);
             return Err(NoMemory);
         }
-        // Each command has a byte at least.
+        // Each command has at least one byte.
         prove!(self.len < self.bytes.len());
         self.len += 1;
         self.commits += commits_of(&command);

@@ -1,4 +1,4 @@
-//! The command in front of some bytes, and what stands behind it.
+//! Reads the command at the front of some bytes, and what comes after it.
 
 ghost use Rattle.std.specs.Prelude.{◌≡◌, ◌<◌, ◌^◌, ◌++◌, length, option_map, IfSome};
 ghost use Rattle.std.specs.Int.{w32, to_le_bytes};
@@ -20,7 +20,7 @@ fn split_byte(bytes: &[u8]) -> Option<(u8, &[u8])>
     Some((*first, rest))
 }
 
-/// The number whose four bytes stand in front.
+/// The number whose four bytes are at the front, and the bytes after it.
 pub fn split_fixed32(bytes: &[u8]) -> Option<(u32, &[u8])>
     ensures read { option_map (λ p. (p.0, p.1.now)) result ≡ read_fixed32 bytes.now }
     ensures spelled { IfSome result (λ p. bytes.now ≡ to_le_bytes w32 p.0 ++ p.1.now) }
@@ -32,7 +32,7 @@ pub fn split_fixed32(bytes: &[u8]) -> Option<(u32, &[u8])>
     Some((get_fixed32(bytes, 0), rest))
 }
 
-/// The number whose eight bytes stand in front.
+/// The number whose eight bytes are at the front, and the bytes after it.
 fn split_fixed64(bytes: &[u8]) -> Option<(u64, &[u8])>
     ensures { option_map (λ p. (p.0, p.1.now)) result ≡ read_fixed64 bytes.now }
 {
@@ -43,7 +43,7 @@ fn split_fixed64(bytes: &[u8]) -> Option<(u64, &[u8])>
     Some((get_fixed64(bytes, 0), rest))
 }
 
-/// The word that stands in front, behind its length.
+/// The word at the front, which has its length before it, and the bytes after the word.
 pub fn split_word(bytes: &[u8]) -> Option<(&[u8], &[u8])>
     ensures read { option_map (λ p. (p.0.now, p.1.now)) result ≡ read_word bytes.now }
     ensures spelled { IfSome result (λ p. bytes.now ≡ bytes_of_word p.0.now ++ p.1.now) }
@@ -79,7 +79,7 @@ fn split_rate(bytes: &[u8]) -> Option<(CommandView<'_>, &[u8])>
     Some((CommandView::Slow { rate }, rest))
 }
 
-/// What stands behind a tag.
+/// The command with this tag, from the bytes after the tag, and the bytes after the command.
 fn split_behind(tag: u8, bytes: &[u8]) -> Option<(CommandView<'_>, &[u8])>
     ensures { option_map (λ p. (command_of p.0, p.1.now)) result ≡ read_behind tag bytes.now }
 {
@@ -121,7 +121,7 @@ fn split_behind(tag: u8, bytes: &[u8]) -> Option<(CommandView<'_>, &[u8])>
     }
 }
 
-/// The command in front of the bytes, and the bytes behind it.
+/// The command at the front of the bytes, and the bytes after it.
 pub fn split_command(bytes: &[u8]) -> Option<(CommandView<'_>, &[u8])>
     ensures { option_map (λ p. (command_of p.0, p.1.now)) result ≡ read_command bytes.now }
 {

@@ -1,4 +1,4 @@
-//! Words one after another, each behind its length.
+//! Words one after another, each after its length.
 
 ghost use Rattle.std.specs.Prelude.{◌≡◌, ◌<◌, ◌^◌, ◌+◌, ◌++◌, ◌∷◌, [], length, take, option_map, IfOk, OnOk, OnErr};
 ghost use Rattle.std.specs.Int.{w32, to_le_bytes};
@@ -14,7 +14,7 @@ use model_base::NoMemory;
 use std::alloc::Global;
 use std::marker::Model;
 
-/// Words as parts of bytes, from the first on. Contracts see those that are left.
+/// Words as parts of bytes, from the first on. Contracts see the words that are left.
 #[derive(Debug, Drop)]
 pub struct Words<'a> {
     bytes: &'a [u8],
@@ -48,7 +48,7 @@ impl<'a> Iterator for Words<'a> {
 }
 
 impl<'a> Words<'a> {
-    /// How many are left.
+    /// How many words are left.
     pub fn len(&self) -> usize
         ensures value { result ≡ length self.now }
         ensures limit { result < 2 ^ 32 }
@@ -66,7 +66,7 @@ impl<'a> Words<'a> {
         }
     }
 
-    /// The words as strings of their own.
+    /// Copies of the words, as strings of their own.
     pub fn copies(self, alloc: Global) -> Result<Vec<Bytes>, NoMemory>
         ensures { IfOk result (λ copies. copies.items ≡ self.entry) }
     {
@@ -77,7 +77,7 @@ impl<'a> Words<'a> {
         Ok(copies)
     }
 
-    /// So many words in front of bytes, and the bytes behind them.
+    /// The `count` words at the front of bytes, and the bytes after them.
     pub(crate) fn split(bytes: &'a [u8], count: u32) -> Option<(Words<'a>, &'a [u8])>
         ensures { option_map (λ p. (p.0, p.1.now)) result ≡ read_words count bytes.now }
     {
@@ -98,7 +98,7 @@ impl<'a> Words<'a> {
         ))
     }
 
-    /// Puts how many they are behind bytes, and then the words. Where memory fails, a part may stand there.
+    /// Appends the number of words to bytes, and then the words. Where memory fails, a part of them may be left there.
     pub(crate) fn append_to(&self, bytes: &mut Bytes) -> Result<(), NoMemory>
         ensures ok { OnOk result
             (bytes.new ≡ bytes.old ++ to_le_bytes w32 (length self.now) ++ bytes_of_words self.now) }
@@ -111,7 +111,7 @@ impl<'a> Words<'a> {
     }
 }
 
-/// Words of one's own, to be the keys of `CommandView::Many`. Contracts see the list of them.
+/// Words that the list owns, for use as the keys of `CommandView::Many`. Contracts see the list of them.
 #[derive(Debug, Drop)]
 pub struct WordList {
     bytes: Bytes,
@@ -138,7 +138,7 @@ impl WordList {
         }
     }
 
-    /// Puts a word behind the others. There is no memory for more than 2^32 - 1 words.
+    /// Appends a word. There is no memory for more than 2^32 - 1 words.
     pub fn push(&mut self, word: &[u8]) -> Result<(), NoMemory>
         requires { length word.now < 2 ^ 32 }
         ensures ok { OnOk result (self.new ≡ self.old ++ word.now ∷ []) }

@@ -18,7 +18,7 @@ use Rattle.model_runs.specs.Crashes.{HasSync, HaveSynced, HoldsSynced, text_thro
 use Rattle.model_runs.specs.Written.{WroteEntries, AreLost}
 use Rattle.model_accounts.proofs.Logs.{same_records, has_synced}
 
--- Each call worked, and whatever calls come after them
+-- Each of these calls worked, whatever calls come after them
 
 written_for : (groups : List (List Entry)) (calls more : List GroupCall) → AllZip WroteEntries groups calls → written_by (calls ++ more) ≡ map record_of_call calls ++ written_by more
 written_for [] [] more each = refl
@@ -33,7 +33,7 @@ first_for [] (c ∷ calls) more each = absurd each
 first_for (group ∷ groups) [] more each = absurd each
 first_for (group ∷ groups) (c ∷ calls) more each = ap (λ f. if_worked f (first_fault (calls ++ more)) f) (each.0).ok ∙ first_for groups calls more each.1
 
--- the groups to be synced are those that the calls were to sync
+-- the groups that had to be synced are those whose calls had to sync
 synced_for : (groups : List (List Entry)) (calls more : List GroupCall) (n : ℕ) → AllZip WroteEntries groups calls → HaveCallsSynced (calls ++ more) n → HaveSynced groups n
 synced_for [] calls more zero each have = tt
 synced_for [] calls more (suc n) each have = tt
@@ -41,7 +41,7 @@ synced_for (group ∷ groups) [] more n each have = absurd each
 synced_for (group ∷ groups) (c ∷ calls) more zero each have = ((λ to_sync. have.0 (each.0).ok (has_synced group c each.0 to_sync)), synced_for groups calls more zero each.1 have.1)
 synced_for (group ∷ groups) (c ∷ calls) more (suc n) each have = synced_for groups calls more n each.1 have
 
--- a group that was synced has its call
+-- a group that had to be synced has its call
 record IsSyncCall (calls : List GroupCall) (k : ℕ) : Type 0 where
   call : GroupCall
   there : slice_get calls k ≡ Some call
@@ -63,7 +63,7 @@ none_written : (group_bytes : ℕ) (attempts : List (List Attempt)) (fault : Opt
 none_written group_bytes attempts None last lost are = ap written_by are
 none_written group_bytes attempts (Some count) last lost are = let c = are.0 in ap written_by are.1 ∙ ap (λ f. if_worked f (record_of_call c ∷ []) []) (are.2).failed
 
--- Of the first calls
+-- What holds of the first calls
 
 written_first : (n : ℕ) (calls : List GroupCall) → written_by (take n calls) ≡ take n (written_by calls)
 written_first zero calls = refl
@@ -80,7 +80,7 @@ call_first (suc n) k [] c within at = absurd (cc at)
 call_first (suc n) zero (d ∷ calls) c within at = at
 call_first (suc n) (suc k) (d ∷ calls) c within at = call_first n k calls c (omega (arith, within)) at
 
--- a call that was to sync is among those that have
+-- a call that worked and had to sync is among the first `safe` calls, if all such calls are
 among_synced : (calls : List GroupCall) (safe k : ℕ) (c : GroupCall) → HaveCallsSynced calls safe → slice_get calls k ≡ Some c → c.failed ≡ None → c.sync ≡ true → k < safe
 among_synced [] safe k c have at worked to_sync = absurd (cc at)
 among_synced (d ∷ calls) zero zero c have at worked to_sync =
@@ -92,18 +92,18 @@ among_synced (d ∷ calls) (suc safe) (suc k) c have at worked to_sync = let les
 
 -- A log's content, however it began
 module _ (b : Beginning) where
-  -- what begins with the text of records begins with that of the first of them
+  -- what begins with the text of records begins with the text of the first of them
   begins_first : (records : List (List ℕ)) (n : ℕ) (image : List ℕ) → BeginsWith (text_after b records) image → BeginsWith (text_after b (take n records)) image
   begins_first records n image begins =
       let shorter = after_shorter b records n in
       let front : ℕ = length (text_after b (take n records)) in
       (omega (arith, shorter, begins.0), sym (take-take front (length (text_after b records)) image shorter) ∙ ap (take front) begins.1 ∙ after_front b records n)
 
-  -- the text of what was written stands in front
+  -- the text of what was written is at the front of the content
   pub written_front : (d : Disk) (calls : List GroupCall) (safe : ℕ) → HoldsCalls b d calls safe → take (length (text_after b (written_by calls))) d.content ≡ text_after b (written_by calls)
   written_front d calls safe holds = (holds.content).1
 
-  -- so what was safe of it stands in front of each image
+  -- so what was safe of it is at the front of each image
   pub safe_front : (d : Disk) (calls : List GroupCall) (safe : ℕ) (image : List ℕ) → HoldsCalls b d calls safe → IsImage d image → BeginsWith (text_after b (take safe (written_by calls))) image
   safe_front d calls safe image holds is =
       let n : ℕ = length (text_after b (take safe (written_by calls))) in
@@ -132,8 +132,8 @@ module _ (b : Beginning) (group_bytes : ℕ) (attempts : List (List Attempt)) (l
       let call = sync_call groups calls lost k group each at has in
       subst (λ (l : List (List ℕ)). length (text_after b l) < length image → reached < length image → take (length (text_after b l)) image ≡ text_after b l) (through_is fault are k) (holds k call.call call.there call.worked call.to_sync)
 
-  -- Of the first calls those that were to sync have. So an image that begins with the text of what had synced begins with
-  -- that of each synced group among them.
+  -- Of the first calls, those that had to sync have synced. So an image that begins with the text of what was synced
+  -- begins with the text up to each synced group among them.
   pub kept_is : (fault : Option ℕ) → AreLost group_bytes attempts fault last lost → (k n : ℕ) (group : List Entry) → slice_get groups k ≡ Some group → HasSync group → k < n
       → (safe : ℕ) → HaveCallsSynced (take n (calls ++ lost)) safe → (image : List ℕ) → BeginsWith (text_after b (take safe (written_by (take n (calls ++ lost))))) image → BeginsWith (text_through b groups k) image
   kept_is fault are k n group at has within safe have image begins =
@@ -148,7 +148,7 @@ module _ (b : Beginning) (group_bytes : ℕ) (attempts : List (List Attempt)) (l
   pub none_failed : AreLost group_bytes attempts None last lost → first_fault (calls ++ lost) ≡ None
   none_failed are = first_for groups calls lost each ∙ ap first_fault are
 
-  -- where no write failed the groups' text stands over what stood there, and else one record was tried
+  -- where no write failed, the groups' text is over what was there; else one more record was tried
   pub failed_write : (begun content : List ℕ) → (first_fault (calls ++ lost) ≡ None → content ≡ over (text_after b (written_by (calls ++ lost))) begun) → (o : Outcome) → o.last ≡ last → (fault : Option ℕ) → o.fault ≡ fault
       → AreLost group_bytes attempts fault last lost → MatchOption fault (content ≡ over (text_after b records) begun) (λ count. (x : List ℕ) × (failed_record lost ≡ Some x) × IsFailedWrite group_bytes attempts o x)
   failed_write begun content whole o end None e are = whole (none_failed are) ∙ ap (λ (l : List (List ℕ)). over (text_after b l) begun) (written_is None are)

@@ -24,7 +24,7 @@ all_by_places : {X : Type 0} (P : X → Type 0) (xs : List X) → ((i : ℕ) (x 
 all_by_places P [] f = tt
 all_by_places P (x ∷ xs) f = (f zero x refl, all_by_places P xs (λ i y at. f (suc i) y at))
 
--- what stands at a place within
+-- what is at a place within the list
 record At {X : Type 0} (xs : List X) (i : ℕ) : Type 0 where
   it : X
   there : slice_get xs i ≡ Some it
@@ -74,7 +74,7 @@ client_small settings ended script trace attempts o legal c is =
     let number : c - 1 + 1 ≡ c = omega (arith, some) in
     subst (λ (n : ℕ). AreSmall settings.batch_bytes (entries_of_client n trace.entries)) number (subst (AreSmall settings.batch_bytes) (sym has.part.accepted) small)
 
--- no accepted batch is larger than the settings let it be
+-- no accepted batch is larger than the settings allow
 pub small_entries : (settings : Settings) (ended : ℕ) (script : List (List Command)) (trace : Trace) (attempts : List (List Attempt)) (o : Outcome)
     → IsLegalIn settings ended script trace attempts o → settings.batch_bytes ≤ MAX_SIZE
     → AllByRecursion (λ (e : Entry). size_of_batch e.records ≤ MAX_SIZE) trace.entries
@@ -82,7 +82,7 @@ small_entries settings ended script trace attempts o legal limit =
     all_weaker (λ (e : Entry). size_of_batch e.records ≤ settings.batch_bytes) (λ (e : Entry). size_of_batch e.records ≤ MAX_SIZE) (λ e small. omega (arith, small, limit)) trace.entries
     (all_of_clients (λ (e : Entry). size_of_batch e.records ≤ settings.batch_bytes) (IsClient settings) trace.entries legal.is_trace.clients (client_small settings ended script trace attempts o legal))
 
--- where the log has no fault, commits were refused for themselves alone
+-- where the log has no fault, commits were refused only for causes of their own
 pub refused_for_themselves : (settings : Settings) (ended : ℕ) (script : List (List Command)) (trace : Trace) (attempts : List (List Attempt)) (o : Outcome)
     → IsLegalIn settings ended script trace attempts o → o.fault ≡ None
     → AllByRecursion AreRefusedForThemselves o.transcripts

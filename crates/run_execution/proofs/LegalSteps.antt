@@ -1,5 +1,5 @@
--- What each step of a client's calls keeps: no accepted batch is larger than the settings let it be, and where no fault
--- of the log ended one of the client's commits, each commit was refused for itself alone.
+-- What each step of a client's calls keeps: no accepted batch is larger than the settings allow, and where no fault of
+-- the log ended one of the client's commits, each refused commit was refused only for a cause of its own.
 use Rattle.std.proofs.Common.{◌≡◌, ℕ, ◌+◌, ◌≤◌, ◌==◌, nat_lt, Bool, true, false, not, ◌&&◌, cond, Option, Some, None, List, [], ◌∷◌, ◌++◌, MatchOption, refl, ap, sym, ◌∙◌, subst}
 use Rattle.std.specs.List.{AllByRecursion}
 use Rattle.std.proofs.lemmas.Bool.{ltb-false}
@@ -34,7 +34,7 @@ all_back : {X : Type 0} (P : X → Type 0) (xs ys : List X) → AllByRecursion P
 all_back P [] ys a = a
 all_back P (x ∷ xs) ys a = all_back P xs ys a.1
 
--- The early checks, of which the second is that of the size
+-- The early checks, the second of which is that of the size
 
 passed_second : (a b c d : Bool) (s t u v : Refusal) → cond a (Some s) (cond b (Some t) (cond c (Some u) (cond d (Some v) None))) ≡ None → b ≡ false
 passed_second true b c d s t u v e = absurd (cc e)
@@ -94,7 +94,7 @@ abbrev pub AreSmall : ℕ → List Entry → Type 0
 AreSmall bytes mine = AllByRecursion (λ (e : Entry). size_of_batch e.records ≤ bytes) mine
 
 -- From one place of a client to a later one no batch was accepted that is too large. Where no commit up to the later
--- was ended by a fault, none up to the earlier was, and the replies between them are as said.
+-- place was ended by a fault, none up to the earlier place was, and what `Says` says holds of the replies between them.
 pub record Keeps (bytes : ℕ) (p : Progress) (Says : Type 0) (q : Progress) : Type 0 where
   pub small : AreSmall bytes p.mine → AreSmall bytes q.mine
   pub told : NoneFaulted q.attempts → NoneFaulted p.attempts × Says
@@ -102,7 +102,7 @@ pub record Keeps (bytes : ℕ) (p : Progress) (Says : Type 0) (q : Progress) : T
 abbrev IsNoRefusal : Reply → Type 0
 IsNoRefusal reply = (why : Refusal) → reply ≡ refused why → ⊥
 
--- the case of an option, with what it is
+-- the two cases of an option, each with the equation that it is this case
 by_option : {A : Type 0} (P R : Type 0) (Q : A → Type 0) (o : Option A) → (o ≡ None → P → R) → ((a : A) → o ≡ Some a → Q a → R) → MatchOption o P Q → R
 by_option P R Q None f g h = f refl h
 by_option P R Q (Some a) f g h = g a refl h

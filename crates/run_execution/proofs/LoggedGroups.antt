@@ -15,7 +15,7 @@ use Rattle.model_base.specs.Recovery.{Logged, logged_bytes, last_after, AreInOrd
 use Rattle.log_writer.specs.Crashes.{AreRisingBatches}
 use Rattle.model_runs.specs.Written.{AreOfOwnClients, WroteEntries}
 
--- A small batch is read
+-- A small batch can be read
 
 strings_short : (strings : List (List ℕ)) → length (flat_map varstring strings) < 2 ^ 32 → AllByRecursion (λ s. length s < 2 ^ 32) strings
 strings_short [] few = tt
@@ -35,7 +35,7 @@ readable (r ∷ records) few =
     let all = length-append (record_bytes r) (body records) in
     (record { tag = each_tag r; lengths = strings_short (strings_of r) (omega (arith, few, all)) }, readable records (omega (arith, few, all)))
 
--- each record has a byte at least
+-- each record has at least one byte
 few_records : (records : List Record) → length records ≤ length (body records)
 few_records [] = omega arith
 few_records (r ∷ records) = omega (arith, few_records records, length-append (record_bytes r) (body records))
@@ -57,7 +57,7 @@ same_records [] some = refl
 same_records ([] ∷ groups) some = absurd (omega (arith, some.0))
 same_records ((e ∷ entries) ∷ groups) some = ap (λ l. record_of_entries (e ∷ entries) ∷ l) (same_records groups some.1)
 
--- a batch of 16 MiB at most, of one of 64 clients
+-- a batch of at most 16 MiB, of one of 64 clients
 abbrev pub Suits : Entry → Type 0
 Suits e = (size_of_batch e.records ≤ MAX_SIZE) × (e.client ≤ MAX_CLIENTS)
 
@@ -67,8 +67,8 @@ body_joined (e ∷ entries) suit =
     let small : size_of_batch e.records ≤ MAX_SIZE = suit.0.0 in
     omega (arith, small, length-append (header 0 (count_of e.records)) (body e.records), ap length (flat_map-append record_bytes e.records (joined entries)), length-append (body e.records) (body (joined entries)), body_joined entries suit.1)
 
--- No client has two entries of a group. So a group has few entries (no more than there are numbers up to the greatest client), and its batches
--- have less than 2 ^ 32 bytes together.
+-- No client has two entries in a group. So a group has few entries (no more than there are numbers up to the greatest
+-- client), and its batches have less than 2 ^ 32 bytes together.
 
 distinct : (entries : List Entry) → AreOfOwnClients entries → IsDistinct eqb (map (λ (e : Entry). e.client) entries)
 unfolding IsDistinct
@@ -89,7 +89,7 @@ below (e ∷ entries) suit q among = elim (or_cases (eqb q e.client) (list_any (
 few_entries : (entries : List Entry) → AreOfOwnClients entries → AllByRecursion Suits entries → length entries ≤ MAX_CLIENTS + 1
 few_entries entries apart suit = omega (arith, length-map entries (λ (e : Entry). e.client), length-le_from_distinct_below (map (λ (e : Entry). e.client) entries) (MAX_CLIENTS + 1) (distinct entries apart) (below entries suit))
 
--- The runs of the logged entries rise, whatever stands between them
+-- The runs of the logged entries rise, whatever is between them
 
 record Above (low : ℕ) (e : Entry) : Type 0 where
   first : low < e.first
@@ -123,7 +123,8 @@ unfolding Rise
 rise_ends low [] within rise = within
 rise_ends low (e ∷ entries) within rise = rise_ends (last_of e) entries (rise.0).fits rise.1
 
--- the counts of entries whose runs follow sum up to the last of the runs
+-- the counts of entries whose runs follow each other lead from the sequence before the first run to the last sequence
+-- of the runs
 count_joined : (e : Entry) (entries : List Entry) → count_of (joined (e ∷ entries)) ≡ count_of e.records + count_of (joined entries)
 count_joined e entries = sum_by-append (λ r. cond (is_counted r) 1 0) e.records (joined entries)
 
@@ -233,7 +234,7 @@ order_take last zero batches ordered = tt
 order_take last (suc n) [] ordered = tt
 order_take last (suc n) (b ∷ batches) ordered = (ordered.0, order_take (last_after last b) n batches ordered.1)
 
--- Behind batches that a log keeps
+-- After batches that a log keeps
 
 -- these records are batches whose runs rise, up to a last sequence
 pub record AreKept (start : ℕ) (records : List (List ℕ)) : Type 0 where
@@ -251,7 +252,7 @@ order_joined : (last : ℕ) (xs ys : List Logged) → AreInOrder last xs → Are
 order_joined last [] ys first later = later
 order_joined last (x ∷ xs) ys first later = (first.0, order_joined (last_after last x) xs ys first.1 later)
 
--- and the first of the records of the groups above it, so many
+-- kept records, and after them the records of the first `n` groups, are batches whose runs rise
 pub rising_groups : (start : ℕ) (entries : List Entry) (groups : List (List Entry)) (calls : List GroupCall) (n : ℕ) → IsHistory start entries → AllByRecursion Suits entries
     → all_of groups ≡ logged_entries entries → AllByRecursion RunsFollow groups → AllZip WroteEntries groups calls → (records : List (List ℕ)) → AreKept start records → AreRisingBatches (records ++ take n (records_of groups))
 rising_groups start entries groups calls n is suit cut runs each records kept =

@@ -47,7 +47,7 @@ kept_safe (Some x) (Some y) kept told same = told ∙ ap all_safe same
 
 -- What a run goes on from
 
--- batches whose runs rise, up to its last sequence
+-- what a run goes on from is batches whose runs rise, up to its last sequence
 pub keeps_as : (start : LogStart) (before : Before) (told : Option Disk) (from : ℕ) → GoesOnFrom start told before → before.last ≤ from → IfSome told (λ d. KeepsBatches (beginning_of start before) from)
 keeps_as New before told from goes below = if_any told _ (λ d. subst (λ (b : Before). KeepsBatches (beginning_of New b) from) (sym goes) (keeps_none (number_in New) from))
 keeps_as (Over number) before told from goes below = if_any told _ (λ d. subst (λ (b : Before). KeepsBatches (beginning_of (Over number) b) from) (sym goes) (keeps_none (number_in (Over number)) from))
@@ -81,7 +81,7 @@ recovers_as law (Behind number) before told images goes = if_so told (λ d. Reco
         subst (λ (l : List (List ℕ)). RecoversPrefix number l image (λ n. ⊤)) (spells_one number before.kept (map logged_bytes r.batches) kept spelled spells) (law number image d.content r to.is meets)
 
 module _ {D : Type 0} {ghosts : Ghosts D} where
-  -- A log that was opened so
+  -- A log that was opened as `start` says
 
   pub begins_as : ((disk : D) (log : LogWriter D ghosts) → HasOpened disk log → HasBegun new_log disk log) → ((disk : D) (n : ℕ) (log : LogWriter D ghosts) → HasReused disk n log → HasBegun (record { number = Some n; kept = [] }) disk log)
       → ((disk : D) (b : Beginning) (log : LogWriter D ghosts) → HasResumed disk (length b.kept) b.number log → IfSome (ghosts.told disk) (λ d. take (length b.kept) d.content ≡ b.kept) → HasBegun b disk log)
@@ -90,14 +90,14 @@ module _ {D : Type 0} {ghosts : Ghosts D} where
   begins_as opened reused resumed (Over n) before disk log goes has_opened = subst (λ (b : Before). HasBegun (beginning_of (Over n) b) disk log) (sym goes) (reused disk n log has_opened)
   begins_as opened reused resumed (Behind number) before disk log goes has_opened = resumed disk (record { number = number; kept = before.kept }) log has_opened.0 has_opened.1
 
-  -- over what stands on the disk, or behind what is kept of it
+  -- the log begins over what is on the disk, or after what is kept of it
   pub content_as : (start : LogStart) (before : Before) (disk : D) (log : LogWriter D ghosts) → HasOpenedAs start before disk log → Told (ghosts.told disk) (ghosts.told (disk_of log)) (λ x y. y.content ≡ begun_on start before x.content)
   content_as New before disk log has_opened = same_content (ghosts.told disk) (ghosts.told (disk_of log)) (has_opened.looked_at).same
   content_as (Over n) before disk log has_opened = told_so (ghosts.told disk) (ghosts.told (disk_of log)) has_opened.told (λ x y e. ap (λ (d : Disk). d.content) e)
   content_as (Behind number) before disk log has_opened =
       told_so (ghosts.told disk) (ghosts.told (disk_of log)) (kept_safe (ghosts.told disk) (ghosts.told (disk_of log)) before.kept (has_opened.0).told has_opened.1) (λ x y e. ap (λ (d : Disk). d.content) e)
 
-  -- which is nothing where it is new
+  -- where the log is new, nothing is on the disk
   pub empty_as : (start : LogStart) (before : Before) (disk : D) (log : LogWriter D ghosts) → HasOpenedAs start before disk log → start ≡ New → IfSome (ghosts.told disk) (λ d. d.content ≡ [])
   empty_as New before disk log has_opened new = has_opened.empty
   empty_as (Over n) before disk log has_opened new = absurd (cc new)
@@ -133,9 +133,9 @@ module _ {D : Type 0} {ghosts : Ghosts D} where
   pub opened_over : (n : ℕ) (disk : D) (log : LogWriter D ghosts) → HasReused disk n log → IsOpenedFor ghosts (Over n) disk (record { log = log; map = []; last = 0 })
   opened_over n disk log has_reused = record { before = nothing; goes_on = refl; is_opened = has_reused; map = refl; last = refl; none = λ e. refl }
 
--- Where it was not opened
+-- Where the log was not opened
 
--- the disk tells what it told, or it is as it would be
+-- the disk tells what it told before, or it is as the opening of the log would leave it
 pub as_found : (start : LogStart) (before : Before) (a now : Option Disk) (R : Disk → Disk → Type 0) → GoesOnFrom start a before → ((x y : Disk) → R x y → IsOpened start before x y) → Told a now (λ x y. (y ≡ x) ⊎ R x y) → IsAsFound start a now
 as_found start before None None R goes to told = inl refl
 as_found start before None (Some y) R goes to told = absurd told
@@ -145,8 +145,8 @@ as_found start before (Some x) (Some y) R goes to told = ⊎_elim (λ same. inl 
 module _ {D : Type 0} (ghosts : Ghosts D) (disk now : D) where
   pub refused_new : (mode : Mode) (why : OpenError) → IsOpenError ghosts disk now why → IsRefused ghosts New mode disk now (end_of why)
   refused_new mode (Fault count) error = let cause = error.cause in let now_is = cause.1 in (inl (error.looked_at).same, (cause.0, omega (arith, now_is)))
-  refused_new mode (NotEmpty len) error = (let cause = error.cause in (refl, (error.looked_at).same, cause.0, cause.1))
-  refused_new mode NoMemory error = inl (error.looked_at).same
+  refused_new mode (NotEmpty len) error = let cause = error.cause in (refl, cause.0, cause.1, (error.looked_at).same, error.no_fault)
+  refused_new mode NoMemory error = (inl (error.looked_at).same, error.no_fault)
 
   pub refused_over : (n : ℕ) (mode : Mode) (why : OpenError) → IsReuseError ghosts disk now why → IsRefused ghosts (Over n) mode disk now (end_of why)
   refused_over n mode why error = by_cause why error.cause
@@ -157,7 +157,7 @@ module _ {D : Type 0} (ghosts : Ghosts D) (disk now : D) where
       by_cause : (why : OpenError) → IsCauseOver ghosts disk now why → IsRefused ghosts (Over n) mode disk now (end_of why)
       by_cause (Fault count) cause = let now_is = cause.1 in (found, (cause.0, omega (arith, now_is)))
       by_cause (NotEmpty len) cause = absurd cause
-      by_cause NoMemory cause = found
+      by_cause NoMemory cause = (found, ap ghosts.faults cause)
 
   pub time_new : (why : OpenError) → IsOpenError ghosts disk now why → GoesOn ghosts.moment ghosts.from disk now
   time_new why error = let time = (error.looked_at).time in record { later = time.later; forgets = time.forgets }

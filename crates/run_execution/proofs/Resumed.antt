@@ -1,4 +1,4 @@
--- A log that goes on behind what is recovered of it.
+-- A log that goes on after what is recovered of it.
 use Rattle.std.proofs.Common.{◌≡◌, ◌⊎◌, inl, ℕ, ◌≤◌, List, length, take, map, replicate, IfSome, Option, Some, None, ap, sym, ◌∙◌, subst, arith, length-take}
 use Rattle.std.proofs.lemmas.List.{length-replicate}
 use Rattle.base_devices.specs.Disk.{Disk, IsImage, Told, TimePasses, all_safe, cut_at}
@@ -22,7 +22,7 @@ use Rattle.run_outcome.specs.Running.{Before, GoesOnFrom, IsAsFound, GoesOn}
 use Rattle.run_execution.specs.Ends.{HasAcceptedEnd, HasOpenedAs, IsRefused, end_of}
 use Rattle.run_execution.proofs.Openings.{as_found}
 
--- What is recovered, and the bytes that are kept. Where the disk doesn't tell them they are as many.
+-- What is recovered, and the bytes that are kept. Where the disk doesn't tell them, as many zeros take their place.
 
 pub kept_of : Option Disk → ℕ → List ℕ
 kept_of None n = replicate n 0
@@ -60,7 +60,7 @@ module _ (number : Option ℕ) (shown : Recovered) where
   kept_there None has = tt
   kept_there (Some d) has = ap (λ (n : ℕ). take n d.content) (kept_len (Some d) has)
 
-  -- the file has it in front
+  -- what is kept is at the front of the file
   pub spells_behind : (told now : Option Disk) → now ≡ told → IsRecoveredOf told → IfSome now (λ d. SpellsInFront number shown.kept d.content)
   spells_behind told now same has = subst (λ (t : Option Disk). IfSome t (λ d. SpellsInFront number shown.kept d.content)) (sym same) (of_told told has)
     where
@@ -72,7 +72,7 @@ module _ (number : Option ℕ) (shown : Recovered) where
           record { within = within d has; records = records; spelled = subst (λ (n : ℕ). SpellsWhole number (take n d.content) records) (sym (has.shows).kept) keeps.spelled }
 
   module _ {D : Type 0} (ghosts : Ghosts D) (disk read : D) (same : ghosts.told read ≡ ghosts.told disk) (time : TimePasses ghosts.told ghosts.moment ghosts.from ghosts.since disk read) (no_fault : ghosts.faults read ≡ ghosts.faults disk) (has : IsRecoveredOf (ghosts.told disk)) where
-    -- What goes on behind a disk that was read goes on behind it as it was before.
+    -- A log that goes on over a disk that was read goes on over the disk as it was before it was read.
     read_first : (log : LogWriter D ghosts) → ((image : List ℕ) → ghosts.from disk ≤ ghosts.moment disk → ghosts.since disk (ghosts.moment disk) image → IfSome (ghosts.told disk) (λ d. IsImage d image))
         → HasResumed read shown.kept number log → HasResumed disk shown.kept number log
     read_first log only resumed =
@@ -94,7 +94,7 @@ module _ (number : Option ℕ) (shown : Recovered) where
     opened_behind log only resumed =
         (subst (λ (n : ℕ). HasResumed disk n number log) (sym (kept_len (ghosts.told disk) has)) (read_first log only resumed), kept_there (ghosts.told disk) has)
 
-    -- and why not
+    -- and where the log was not opened, why
     module _ (now : D) where
       pub refused_behind : (mode : Mode) (why : OpenError) → IsResumeError ghosts read now shown.kept why → IsRefused ghosts (Behind number) mode disk now (end_of why)
       refused_behind mode why error = by_cause why error.cause
@@ -107,7 +107,7 @@ module _ (number : Option ℕ) (shown : Recovered) where
           by_cause : (why : OpenError) → IsCauseOver ghosts read now why → IsRefused ghosts (Behind number) mode disk now (end_of why)
           by_cause (Fault count) cause = let now_is = cause.1 in (found, (subst (λ (n : ℕ). Rose n count) no_fault cause.0, omega (arith, now_is)))
           by_cause (NotEmpty len) cause = absurd cause
-          by_cause NoMemory cause = found
+          by_cause NoMemory cause = (found, ap ghosts.faults cause ∙ no_fault)
 
       pub time_behind : (why : OpenError) → IsResumeError ghosts read now shown.kept why → GoesOn ghosts.moment ghosts.from disk now
       time_behind why error =

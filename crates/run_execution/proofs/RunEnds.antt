@@ -1,4 +1,4 @@
--- How a run ends, by what it came to over its opened log.
+-- How a run ends, from its result over its opened log.
 use Rattle.std.proofs.Common.{◌≡◌, ℕ, ◌≤◌, max, List, [], ◌∷◌, ◌++◌, length, take, IfSome, Option, None, Vec, Global, refl, ap, sym, ◌∙◌, subst, arith, length-append}
 use Rattle.model_base.specs.declared.limits.TheConstants.{MAX_CLIENTS, MAX_SIZE}
 use Rattle.base_devices.specs.declared.disk.Disk.{Ghosts}
@@ -22,18 +22,19 @@ use Rattle.log_writer.specs.Words.{disk_of, len_of, fault_of}
 use Rattle.log_writer.specs.Opening.{HasBegun}
 use Rattle.log_writer.specs.Written.{Wrote, no_call, one_more, IsWritten, first_fault, written_by, HoldsSynced, HoldsCalls, IsTextOver, Stands, HasCauseSince}
 use Rattle.run_outcome.specs.declared.log_start.LogStart.{LogStart}
-use Rattle.run_outcome.specs.Running.{Execution, Before, GoesOnFrom, beginning_of, IsRunOf, HasRun, IsAsFound, GoesOn}
+use Rattle.run_outcome.specs.Running.{Execution, Before, GoesOnFrom, beginning_of, IsRunOf, HasRun, GoesOn}
 use Rattle.run_threads.specs.declared.run.ClientsEnd.{ClientsEnd}
 use Rattle.run_threads.specs.declared.run.ClientsEnd.TheVariants.{NotRun, Untold, Told}
 use Rattle.run_threads.specs.Runs.{HaveRun, ComesTo, log_of, outcome_with}
 use Rattle.run_execution.specs.declared.opening.Opened.{Opened}
+use Rattle.run_execution.specs.declared.end.RunEnd.TheVariants.{NoMemory}
 use Rattle.log_recovery.specs.declared.modes.Mode.{Mode}
-use Rattle.run_execution.specs.Ends.{HasOutcome, HasOpenedAs, IsOpenedFor, options_behind, execution_on, EndsOn, end_of_run}
+use Rattle.run_execution.specs.Ends.{HasOutcome, HasOpenedAs, IsOpenedFor, IsRefused, options_behind, execution_on, EndsOn, end_of_run}
 use Rattle.run_execution.proofs.LegalRuns.{small_entries, refused_for_themselves}
 use Rattle.run_execution.proofs.Openings.{ImageLaw, keeps_as, recovers_as, content_as, empty_as, found_as, no_fault_as}
 use Rattle.run_execution.proofs.SafeLogs.{len_is, safe_log, left_since, kept_left, held_images, is_written, goes_on, later}
 
--- the same of what is equal
+-- the same result for equal settings, scripts and calls
 pub comes_to : {L : Type 0} (fault : L → Option ℕ) (faults : L → ℕ) (ran : ClientsEnd L) (s t : Settings) (xs ys : List (List Command)) (v w : List GroupCall → L → Type 0)
     → s ≡ t → xs ≡ ys → v ≡ w → ComesTo s xs v fault faults ran → ComesTo t ys w fault faults ran
 comes_to fault faults ran s t xs ys v w same_settings same_script same_calls comes =
@@ -50,7 +51,7 @@ settings_behind {ghosts = ghosts} start disk opened options last n m is last_is 
     ∙ (ap (λ (k : ℕ). settings_of (options_behind options is.before) is.before.map k (ghosts.faults (disk_of opened.log))) same
     ∙ ap (settings_of (options_behind options is.before) is.before.map m) (no_fault_as start is.before disk opened.log is.is_opened)))
 
--- What the laws say of a log that began so, and of its calls
+-- What the laws say of a log with this beginning, and of its calls
 module _ {D : Type 0} (ghosts : Ghosts D) (b : Beginning) where
   module _ (disk : D) where
     abbrev StandsBy : Type 0
@@ -118,6 +119,7 @@ module _ {D : Type 0} {ghosts : Ghosts D} where
             outcome = o;
             run = run;
             refusals = refused_for_themselves settings ended script ran.trace ran.attempts o legal;
+            counted = (cause calls log written).no_fault;
             log = safe_log disk opened log execution o run few (small_entries settings ended script ran.trace ran.attempts o legal bounded)
                 (keeps_as start before (ghosts.told disk) ran.trace.start goes (let first = (legal.is_trace).start in omega (arith, first))) (empty_as start before disk opened has_opened) (content_as start before disk opened has_opened) begun ran.writes.by
                 (stands calls log written) (content calls opened log begun ran.writes.by) (held_images b ghosts.moment ghosts.from ghosts.since (ghosts.told disk) disk (disk_of log) calls (held calls log written))
@@ -133,24 +135,23 @@ module _ {D : Type 0} {ghosts : Ghosts D} where
         unfolding has_outcome
         has_run ran shows =
             let there = has_outcome ran in
-            let calls = ran.writes.calls ++ ran.writes.lost in
             record {
               outcome = there.outcome;
               shows = shows (len_of log);
               run = there.run;
               refusals = there.refusals;
-              counted = (cause calls log (is_written (beginning_of start before) disk opened log calls begun ran.writes.by)).no_fault;
+              counted = there.counted;
               log = there.log;
             }
 
-    -- how the run ends, by what it came to
+    -- how the run ends, from its result
     pub is_end : (mode : Mode) (ran : ClientsEnd (LogWriter D ghosts)) → ComesTo settings script (Wrote opened) fault_of (λ l. ghosts.faults (disk_of l)) ran
         → EndsOn ghosts options start mode script disk (disk_of (log_of ran)) (end_of_run ran)
-    is_end mode (NotRun log) wrote = subst (λ (l : LogWriter D ghosts). IsAsFound start (ghosts.told disk) (ghosts.told (disk_of l))) (sym (not_written opened [] log wrote refl)) (found_as start before disk opened goes has_opened)
+    is_end mode (NotRun log) wrote = subst (λ (l : LogWriter D ghosts). IsRefused ghosts start mode disk (disk_of l) NoMemory) (sym (not_written opened [] log wrote refl)) (found_as start before disk opened goes has_opened, no_fault_as start before disk opened has_opened)
     is_end mode (Untold log last) ran = (before, goes, has_outcome log last ran)
     is_end mode (Told log last transcripts history state) told = (before, goes, has_run log last transcripts history state told.0 told.1)
 
-  -- what no call wrote, or these calls
+  -- the disk's time has gone on, and its count of faults hasn't fallen, whether calls wrote the log or none did
   abbrev WentOn : LogWriter D ghosts → LogWriter D ghosts → Type 0
   WentOn opened log = GoesOn ghosts.moment ghosts.from (disk_of opened) (disk_of log) × (ghosts.faults (disk_of opened) ≤ ghosts.faults (disk_of log))
 

@@ -47,7 +47,7 @@ any_prefix b kept records image spells none r is =
     let front : map logged_bytes r.batches ≡ take (length r.batches) (kept ++ records) = recovers_front b.number image (text_after b records) (kept ++ records) r (spells_on b.number b.kept kept records spells) is none in
     record { many = length r.batches; some = omega (arith, ap length front, length_map logged_bytes r.batches, length-take (length r.batches) (kept ++ records)); same = front; enough = tt }
 
--- all that was begun goes on after the groups' records
+-- records with one that may have failed begin with the records
 begins_with : (records : List (List ℕ)) (x : Option (List ℕ)) → (more : List (List ℕ)) × (with_failed_record records x ≡ records ++ more)
 begins_with records None = ([], sym (append-nil records))
 begins_with records (Some x) = (x ∷ [], refl)
@@ -58,7 +58,7 @@ pub record KeepsBatches (b : Beginning) (start : ℕ) : Type 0 where
   pub spelled : SpellsWhole b.number b.kept records
   pub are : AreKept start records
 
--- which may be none
+-- a log may keep nothing
 pub keeps_none : (number : Option ℕ) (start : ℕ) → KeepsBatches (record { number = number; kept = [] }) start
 keeps_none number start = record {
   records = [];
@@ -83,7 +83,7 @@ module _ (b : Beginning) (trace : Trace) (keeps : KeepsBatches b trace.start) (a
   written = written_is b group_bytes attempts last groups calls lost each o.fault are
 
   module _ (begun : List ℕ) (d : Disk) (safe : ℕ) (holds : HoldsCalls b d all safe) (whole : first_fault all ≡ None → d.content ≡ over (text_after b (written_by all)) begun) where
-    -- all that was to be synced is recovered
+    -- all that had to be synced is recovered
     at_end : LeavesPrefix group_bytes attempts o b groups (IsImage d) (HasAllSafe groups)
     at_end x may image is none kept spells r recovered =
         let some : safe ≤ length records = omega (arith, holds.some, ap length written) in
@@ -125,7 +125,7 @@ module _ (b : Beginning) (trace : Trace) (keeps : KeepsBatches b trace.start) (a
           length_is = len;
         }
 
--- What was written stands over what stood there when the log began.
+-- What was written is over what was there when the log began.
 over_begun : (start : LogStart) (before : Before) (t : List ℕ) (a b c : Option Disk) → Told a b (λ x y. y.content ≡ begun_on start before x.content) → Told b c (IsTextOver t) → Told a c (λ x z. z.content ≡ over t (begun_on start before x.content))
 over_begun start before t None None c same text = both_none c text
   where
@@ -156,13 +156,13 @@ tells_on (Some x) None c first second = absurd first
 tells_on (Some x) (Some y) None first second = second
 tells_on (Some x) (Some y) (Some z) first second = tt
 
--- batches of 16 MiB at most, of no more than 64 clients
+-- batches of at most 16 MiB, of no more than 64 clients
 all_suit : (settings : Settings) → settings.clients ≤ MAX_CLIENTS → (entries : List Entry) → AllByRecursion (λ (e : Entry). IsClient settings e.client) entries
     → AllByRecursion (λ (e : Entry). size_of_batch e.records ≤ MAX_SIZE) entries → AllByRecursion Suits entries
 all_suit settings few [] clients small = tt
 all_suit settings few (e ∷ entries) clients small = ((small.0, let within = clients.0.1 in omega (arith, within, few)), all_suit settings few entries clients.1 small.1)
 
--- what a disk tells only where it goes on to tell
+-- what holds where a disk tells its content later holds where it tells it before
 if_told : (P : Type 0) (a b : Option Disk) → Told a b (λ x y. ⊤) → IfSome b (λ d. P) → IfSome a (λ d. P)
 if_told P None b told p = tt
 if_told P (Some x) None told p = absurd told
@@ -185,7 +185,7 @@ since_images b moment from since (Some d) old new before P kept holds leaves ima
     kept holds.0 (holds.1).have_synced image (only.each image known left)
 
 module _ {D : Type 0} {ghosts : Ghosts D} where
-  -- No call turns back the disk's time or its count of faults, and a disk that tells its content goes on to.
+  -- No call turns back the disk's time or its count of faults, and a disk that tells its content goes on to tell it.
   record GoesFurther (old new : LogWriter D ghosts) : Type 0 where
     told : Told (ghosts.told (disk_of old)) (ghosts.told (disk_of new)) (λ x y. ⊤)
     time : GoesOn ghosts.moment ghosts.from (disk_of old) (disk_of new)
@@ -229,7 +229,7 @@ module _ {D : Type 0} {ghosts : Ghosts D} where
   tells_since b disk opened log calls begun wrote =
       tells_on (ghosts.told disk) (ghosts.told (disk_of opened)) (ghosts.told (disk_of log)) (both_tell (ghosts.told disk) (ghosts.told (disk_of opened)) _ begun.told) (calls_go_on opened calls log wrote).told
 
-  -- its time goes on
+  -- the disk's time goes on
   pub goes_on : (opened log : LogWriter D ghosts) (calls : List GroupCall) → Wrote opened calls log → GoesOn ghosts.moment ghosts.from (disk_of opened) (disk_of log)
   goes_on opened log calls wrote = (calls_go_on opened calls log wrote).time
 
@@ -243,7 +243,8 @@ module _ {D : Type 0} {ghosts : Ghosts D} where
   len_is b trace attempts group_bytes wrote log writes stands =
       stands.len ∙ ap (λ (l : List (List ℕ)). length (text_after b l)) (written_is b group_bytes attempts (last_sequence trace.start trace.entries) writes.parts writes.calls writes.lost writes.each (fault_of log) writes.none_else)
 
-  -- Once the call that wrote a synced group had returned, a crash left the text up to it.
+  -- Once the call that wrote a synced group had returned, each image that a crash left begins with the text up to that
+  -- group's end.
   pub left_since : (b : Beginning) (disk ended : D) (group_bytes : ℕ) (attempts : List (List Attempt)) (last : ℕ) (groups : List (List Entry)) (calls lost : List GroupCall) (each : AllZip WroteEntries groups calls) (fault : Option ℕ)
       → AreLost group_bytes attempts fault last lost
       → ((before : List GroupCall) (log : LogWriter D ghosts) → IsWritten b disk before log → Stands b before log)
@@ -262,7 +263,7 @@ module _ {D : Type 0} {ghosts : Ghosts D} where
       (kept_is b group_bytes attempts last groups calls lost each fault are k n group at has within) (stands before between written).told (begins before after between now left.wrote) image
       (subst (λ (e : D). ghosts.from e ≤ ghosts.moment (disk_of between)) (sym left.is_ended) left.remembered) (subst (λ (e : D). ghosts.since e (ghosts.moment (disk_of between)) image) (sym left.is_ended) left.left))
 
-  -- Once the log had begun, a crash left what it keeps.
+  -- Once the log had begun, each image that a crash left begins with what the log keeps.
   pub kept_left : (b : Beginning) (disk ended : D) (calls : List GroupCall)
       → ((before : List GroupCall) (log : LogWriter D ghosts) → IsWritten b disk before log → Stands b before log)
       → ((before after : List GroupCall) (old new : LogWriter D ghosts) → Wrote old after new → IfSome (ghosts.told (disk_of old)) (λ d. (safe : ℕ) → HoldsCalls b d before safe
@@ -281,7 +282,7 @@ module _ {D : Type 0} {ghosts : Ghosts D} where
       none_taken zero = refl
       none_taken (suc n) = refl
 
-  -- what it holds, and what a crash leaves of it
+  -- what the log holds, and what a crash leaves of it
   pub safe_log : (disk : D) (opened log : LogWriter D ghosts) (execution : Execution) (o : Outcome) (run : IsRunOf execution o) → length execution.script ≤ MAX_CLIENTS
       → AllByRecursion (λ (e : Entry). size_of_batch e.records ≤ MAX_SIZE) run.trace.entries
       → IfSome (ghosts.told disk) (λ d. KeepsBatches (own execution) run.trace.start)

@@ -1,4 +1,4 @@
--- How a run ends, and what stands then.
+-- How a run ends, and what is true then.
 use Rattle.std.specs.Prelude.{◌≡◌, ◌≢◌, ◌<◌, ℕ, max, List, [], length, take, Option, None, IfSome, ⊤}
 use Rattle.std.specs.List.{AllByRecursion}
 use Rattle.base_devices.specs.Disk.{Disk, Told}
@@ -30,49 +30,50 @@ use Rattle.run_execution.specs.declared.opening.Opened.{Opened}
 use Rattle.run_execution.specs.declared.end.RunEnd.{RunEnd}
 use Rattle.run_execution.specs.declared.end.RunEnd.TheVariants as end
 
--- a log that was not opened ends the run
+-- how a run ends whose log was not opened
 abbrev pub end_of : OpenError → RunEnd
 end_of (why.Fault count) = end.DiskFault count
 end_of (why.NotEmpty len) = end.NotEmpty len
 end_of why.NoMemory = end.NoMemory
 
--- what a run over an opened log came to
+-- how a run over an opened log ended
 abbrev pub end_of_run : {D : Type 0} {ghosts : Ghosts D} → ClientsEnd (LogWriter D ghosts) → RunEnd
 end_of_run (clients.NotRun log) = end.NoMemory
 end_of_run (clients.Untold log last) = end.NoOutcome
 end_of_run (clients.Told log last transcripts history state) =
     end.Ran (outcome_with transcripts history last state (len_of log) (fault_of log))
 
--- A script was run, and this is its outcome. The log is left so where the disk tells it. Where the log has no fault,
--- commits were refused for themselves alone.
+-- A script was run, and this is its outcome. The log is that of the outcome, where the disk tells its content. Where
+-- the log has no fault, the disk has counted none in the run, and commits were refused only for causes of their own.
 pub record HasOutcome (execution : Execution) (old new : Option Disk) : Type 0 where
   pub outcome : calls.Outcome
   pub run : IsRunOf execution outcome
   pub refusals : outcome.fault ≡ None → AllByRecursion AreRefusedForThemselves outcome.transcripts
+  pub counted : outcome.fault ≡ None → execution.ended ≡ execution.settings.opened
   pub log : Told old new (LeavesSafeLog execution outcome run)
 
--- The log was opened so: a new one on an empty disk, one with a number over what stands there, and one that goes on
--- behind the bytes that are kept.
+-- The log was opened in one of three ways: a new one on an empty disk, one with a number over what is there, or one
+-- that goes on after the bytes that are kept.
 abbrev pub HasOpenedAs : {D : Type 0} {ghosts : Ghosts D} → LogStart → Before → D → LogWriter D ghosts → Type 0
 HasOpenedAs New before disk log = HasOpened disk log
 HasOpenedAs (Over number) before disk log = HasReused disk number log
 HasOpenedAs {ghosts = ghosts} (Behind number) before disk log = HasResumed disk (length before.kept) number log
     × IfSome (ghosts.told disk) (λ d. take (length before.kept) d.content ≡ before.kept)
 
--- these options, but for the last sequence, which is that of what the run goes on from, where that is greater
+-- these options; but their last sequence is that of what the run goes on from, where that one is greater
 abbrev pub options_behind : Options → Before → Options
 options_behind options before = record options { last = max options.last before.last }
 
--- The clients of a script have run over a log that was opened so, or none has. `opened` is how many faults the disk
--- had counted then, and `map` the table's.
+-- The clients of a script have run over this opened log, or none has. `opened` is how many faults the disk had counted
+-- at its opening, and `map` is the table's map then.
 abbrev pub HasRunOver : {D : Type 0} {ghosts : Ghosts D} → LogWriter D ghosts → Options → Pairs → ℕ
     → List (List calls.Command) → ClientsEnd (LogWriter D ghosts) → Type 0
 HasRunOver {D} {ghosts} log options map opened script ran =
     ComesTo (settings_of options map (length script) opened) script (Wrote log) fault_of
     (λ l. ghosts.faults (disk_of l)) ran
 
--- a run of a script with these options, whose log is opened so, and which goes on from that, from one state of its disk
--- to another
+-- a run of a script with these options, whose log is opened as `start` says and which goes on from `before`; it begins
+-- with the disk `old` and leaves the disk `new`
 abbrev pub execution_on : {D : Type 0} → Ghosts D → Options → LogStart → Before → List (List calls.Command) → D → D
     → Execution
 execution_on ghosts options start before script old new = record {
@@ -94,7 +95,7 @@ pub record IsOpenedFor {D : Type 0} (ghosts : Ghosts D) (start : LogStart) (disk
   pub is_opened : HasOpenedAs start before disk opened.log
   pub map : opened.map ≡ before.map
   pub last : opened.last ≡ before.last
-  -- a last sequence of 0 has no keys
+  -- where the last sequence is 0, there are no keys
   pub none : before.last ≡ 0 → before.map ≡ []
 
 -- the file recovers to an end that the mode accepts
@@ -127,20 +128,23 @@ Ran end.NoOutcome = ⊤
 Ran (end.Ran shown) = ⊤
 
 module _ {D : Type 0} (ghosts : Ghosts D) (start : LogStart) (mode : Mode) (old new : D) where
-  -- The log was not opened, or no client ran, and this is told. The disk is as it was found.
+  -- The log was not opened, or no client ran, and the run's end says why. The disk is as it was found. Its count of
+  -- faults is as before, unless the end is a fault.
   abbrev pub IsRefused : RunEnd → Type 0
   IsRefused (end.DiskFault count) = IsAsFound start (ghosts.told old) (ghosts.told new)
       × IsReached (ghosts.faults old) count (ghosts.faults new)
-  IsRefused (end.NotEmpty len) = (start ≡ New) × (ghosts.told new ≡ ghosts.told old) × (0 < len)
+  IsRefused (end.NotEmpty len) = (start ≡ New) × (0 < len)
       × IfSome (ghosts.told old) (λ d. length d.content ≡ len)
+      × (ghosts.told new ≡ ghosts.told old) × (ghosts.faults new ≡ ghosts.faults old)
   IsRefused (end.Damage at why) = IsDamaged start mode (ghosts.told old) at why
       × (ghosts.told new ≡ ghosts.told old) × (ghosts.faults new ≡ ghosts.faults old)
   IsRefused end.NoMemory = IsAsFound start (ghosts.told old) (ghosts.told new)
+      × (ghosts.faults new ≡ ghosts.faults old)
   IsRefused end.NoOutcome = ⊥
   IsRefused (end.Ran shown) = ⊥
 
-  -- The run of a script ends so, on this disk, and leaves that one: it was refused, or there is an outcome, of a run
-  -- that went on from what it was to go on from.
+  -- The run of a script on the disk `old` ends in this way, and leaves the disk `new`: it was refused, or there is an
+  -- outcome, of a run that went on from what it had to go on from.
   module _ (options : Options) (script : List (List calls.Command)) where
     abbrev pub Went : (Execution → Type 0) → Type 0
     Went Ran = (before : Before) × GoesOnFrom start (ghosts.told old) before

@@ -17,15 +17,15 @@ use run_threads::ClientsEnd;
 pub enum RunEnd {
     /// The disk failed before the log was opened. This is the disk's fault count.
     DiskFault { count: u64 },
-    /// The log holds so many bytes already.
+    /// The log holds this many bytes already.
     NotEmpty { len: u64 },
-    /// The log was to go on, and the mode doesn't accept that its recovery ends at this offset for this reason.
+    /// The log should have gone on, but the mode doesn't accept that its recovery ends at this offset for this reason.
     Damage { at: u64, why: EndReason },
     /// Nothing was run, since there was no memory for it.
     NoMemory,
-    /// All was run, and there was no memory for its outcome.
+    /// All was run, but there was no memory for its outcome.
     NoOutcome,
-    /// It has this outcome.
+    /// The run has this outcome.
     Ran(Outcome<ByteMap>),
 }
 

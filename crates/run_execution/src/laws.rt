@@ -1,4 +1,4 @@
-//! From what a run over an opened log comes to, to how the whole run ends.
+//! From the result of a run over an opened log to the end of the whole run.
 
 ghost use Rattle.std.specs.Prelude.{◌≤◌, ℕ, List, length};
 ghost use Rattle.model_base.specs.Calls.{Command};
@@ -18,7 +18,7 @@ use log_recovery_laws::an_image_of_the_file;
 use log_writer::{beginnings, crashes_between_calls, written_by_calls};
 use model_base::{MAX_CLIENTS, MAX_SIZE};
 
-/// A log was opened on a disk, and all clients of a script have run over it, or none has.
+/// What follows if a log was opened on a disk, and all clients of a script have run over it, or none has.
 pub fn runs_leave_safe_logs<D: Disk>()
     // Then the run ends as it should, and the log is left as it should be.
     ensures ends { (disk : D) (opened : Log D ⟦<D as Disk>⟧) (options : RunOptions) (start : LogStart) (mode : Mode)

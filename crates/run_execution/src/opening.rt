@@ -21,7 +21,7 @@ pub(crate) struct Opened<D: Disk> {
     pub(crate) last: u64,
 }
 
-/// Opens the log of a run. One that goes on is recovered first, by the mode, and cut behind what is kept.
+/// Opens the log of a run. A log that goes on is recovered first, with the mode, and cut after what is kept.
 pub(crate) fn open_log<D: Disk>(
     alloc: Global,
     disk: D,
@@ -59,7 +59,7 @@ fn anew<D: Disk>(alloc: Global, log: LogWriter<D>) -> Opened<D>
     }
 }
 
-/// Recovers the log, and opens it behind what is kept.
+/// Recovers the log, and opens it to go on after what is kept.
 fn open_behind<D: Disk>(
     alloc: Global,
     mut disk: D,

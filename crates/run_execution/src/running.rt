@@ -23,7 +23,7 @@ use std::sync::Wait;
 use std::thread::Threads;
 
 /// Runs a script over the write path of a disk's log, each client in a thread of its own, and gives the disk back. The
-/// log is opened as the setup says. The gate is told of what happens.
+/// log is opened as the setup says. The gate hears of what happens.
 pub fn execute<
     D: Disk + Send,
     C: Clock + Send + Drop,
@@ -49,7 +49,7 @@ pub fn execute<
     }
 }
 
-/// Runs a script over an opened log. Both gates are told.
+/// Runs a script over an opened log. Both gates hear of what happens.
 fn run_over<
     D: Disk + Send,
     C: Clock + Send + Drop,

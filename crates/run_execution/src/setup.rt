@@ -5,7 +5,7 @@ use model_base::Options;
 use run_outcome::LogStart;
 use std::alloc::Global;
 
-/// Where a script is run: the runtime with its threads, the memory, and who is told of what the clients do.
+/// Where a script is run: the runtime with its threads, the memory, and the gate, which hears of what the clients do.
 #[derive(Drop)]
 pub struct Host<'a, R, G> {
     pub rt: &'a R,
@@ -13,8 +13,8 @@ pub struct Host<'a, R, G> {
     pub gate: &'a G,
 }
 
-/// How the write path is set up: its limits, how its log is opened, which ends its recovery accepts where it goes on,
-/// how many shards its table has, and whether groups go into the table in a stage of their own.
+/// How the write path is set up: its limits, how its log is opened, which ends of its recovery are accepted where it
+/// goes on, how many shards its table has, and whether groups go into the table in a stage of their own.
 ///
 /// The last sequence of a run whose log goes on is that of its options or the recovered one, whichever is greater.
 #[derive(Drop)]

@@ -2,7 +2,7 @@
 
 use engine_calls::Gate;
 
-/// A gate that others have too.
+/// A gate that others use too.
 #[derive(Drop)]
 pub struct SharedGate<'a, G> {
     pub gate: &'a G,

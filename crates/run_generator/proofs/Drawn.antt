@@ -1,4 +1,4 @@
--- One record, one batch and one client more.
+-- One more record, one more batch and one more client.
 use Rattle.std.proofs.Common.{◌≡◌, ℕ, ◌+◌, ◌-◌, ◌<◌, zero, suc, List, [], ◌∷◌, ◌++◌, map, ap, sym, ◌∙◌, arith, append_assoc}
 use Rattle.std.specs.List.{range_with_len}
 use Rattle.std.proofs.lemmas.List.FromFn.{map-range_with_len_more}
@@ -19,7 +19,7 @@ batches_more (suc n) client state some =
     let same : n ≡ suc n - 1 = omega arith in
     ap (λ m. b.made ++ batches_drawn m client b.state) same
 
--- with one record more, what is left of them is one less
+-- with one more record, one less of them is left
 pub records_go_on : (left client state after : ℕ) (cs ds : List Command) → 0 < left
     → ds ≡ cs ++ add (record_drawn client state).made ∷ [] → after ≡ (record_drawn client state).state
     → ds ++ (records_drawn (left - 1) client after).made ≡ cs ++ (records_drawn left client state).made
@@ -34,7 +34,7 @@ pub records_end_at : (left client state after : ℕ) → 0 < left → after ≡ 
 records_end_at left client state after some is =
     ap (λ (s : ℕ). (records_drawn (left - 1) client s).state) is ∙ ap (λ d. d.state) (sym (records_more left client state some))
 
--- with one batch more, what is left of them is one less
+-- with one more batch, one less of them is left
 pub batches_go_on : (left client state after : ℕ) (cs ds : List Command) → 0 < left
     → ds ≡ cs ++ (batch_drawn client state).made → after ≡ (batch_drawn client state).state
     → ds ++ batches_drawn (left - 1) client after ≡ cs ++ batches_drawn left client state

@@ -1,4 +1,4 @@
--- All that a client adds fits one batch: a record has 12 bytes at most, and a batch four records.
+-- All that a client adds fits into one batch: a record has 12 bytes at most, and a batch four records.
 use Rattle.std.proofs.Common.{◌≡◌, ℕ, zero, suc, ◌+◌, ◌*◌, ◌/◌, ◌%◌, ◌<◌, ◌≤◌, Bool, true, false, cond, nat_lt, ◌==◌, List, [], ◌∷◌, ◌++◌, length, map, codes, decimal, ap, arith, length-append}
 use Rattle.std.specs.List.{AllByRecursion, range_with_len}
 use Rattle.std.proofs.lemmas.Bool.{cond-true, lt-ltb}
@@ -20,7 +20,7 @@ one_byte k n small = ap length (cond-true (nat_lt n 128) (n ∷ []) ((128 + n % 
 varstring_len : (w : List ℕ) → length w < 128 → length (varstring w) ≡ length w + 1
 varstring_len w small = omega (arith, one_byte 4 (length w) small, length-append (varint (length w)) w)
 
--- a key has 4 to 6 bytes, and a value one to three
+-- a key has one to six bytes, and a value one to three
 pub key_len : (client n : ℕ) → client ≤ MAX_CLIENTS → n < 100 → (1 ≤ length (key_of client n)) × (length (key_of client n) ≤ 6)
 key_len client n few small =
     let c = codes "c" ++ decimal client in

@@ -1,4 +1,4 @@
--- The numbers that values are.
+-- Values as numbers.
 use Rattle.std.specs.Prelude.{ℕ, ◌^◌, ◌<◌, Bool, nat_lt, List, sum_by}
 use Rattle.std.specs.List.{list_all, AllByRecursion}
 use Rattle.model_base.specs.Map.{Pairs}

@@ -9,7 +9,7 @@ use model_base::{MAX_CLIENTS, NoMemory, WriteOptions};
 use run_command_list::{CommandList, CommandView};
 use std::alloc::Global;
 
-/// A batch has one record to so many.
+/// A batch has one record to this many.
 const MOST_RECORDS: u64 = 4;
 
 /// The options of each commit.
@@ -19,7 +19,7 @@ const PLAIN: WriteOptions = WriteOptions {
     no_slowdown: false,
 };
 
-/// Puts so many records of a client behind its commands.
+/// Appends `count` records of a client to its commands.
 fn add_records(
     alloc: Global,
     client: u32,
@@ -40,7 +40,7 @@ fn add_records(
     Ok(())
 }
 
-/// Puts a client's next batch behind its commands: its records, and the commit that writes them.
+/// Appends a client's next batch to its commands: its records, and the commit that writes them.
 fn add_batch(
     alloc: Global,
     client: u32,
@@ -56,7 +56,7 @@ fn add_batch(
     commands.push(CommandView::Commit { options: PLAIN })
 }
 
-/// The commands of a client with so many batches.
+/// The commands of a client with this many batches.
 pub fn batches_of(
     alloc: Global,
     seed: u64,

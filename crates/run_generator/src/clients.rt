@@ -17,7 +17,7 @@ pub fn generate(alloc: Global, seed: u64, clients: u32, batches: u64) -> Result<
     requires batches { (1 ≤ batches) × (batches ≤ 100000) }
     ensures ok { IfOk result (λ s. commands_of s ≡ script_of_seed seed clients batches) }
 
-    // All that a client adds fits one batch, whatever becomes of its commits.
+    // All that a client adds fits into one batch, whatever the outcome of its commits.
     ensures fits { IfOk result FitsBatches }
 
     // Each command is of a form that a script may say, and its words are short.

@@ -1,6 +1,6 @@
 //! The script that a seed makes: for each client its batches of random puts and deletions, each written by a plain
-//! commit. `base_draws` has the numbers, `records` and `batches` what they make, and `clients` the script. `summary`
-//! sums up what its values came to.
+//! commit. `base_draws` draws the numbers, `records` and `batches` make commands of them, and `clients` makes the
+//! script. `summary` has the sum of the values that a run leaves.
 #![tactic(auto)]
 
 mod batches;

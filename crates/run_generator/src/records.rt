@@ -14,7 +14,7 @@ use std::alloc::Global;
 /// How many keys a client has.
 const KEYS: u64 = 100;
 
-/// One record in so many is a deletion.
+/// One record in this many is a deletion.
 const KINDS: u64 = 4;
 
 /// How many values there are.
@@ -32,7 +32,7 @@ fn key(alloc: Global, client: u32, number: u64) -> Result<Bytes, NoMemory>
     Ok(key)
 }
 
-/// Puts the command that adds the next record of a client behind its commands.
+/// Appends the command that adds a client's next record to the client's commands.
 pub fn add_record(
     alloc: Global,
     client: u32,

@@ -10,7 +10,7 @@ use run_scripts::value_of_digits;
 pub fn sum_of(map: &ByteMap) -> Option<u128>
     ensures { result ≡ (if have_numbers map.now then Some (sum_of_values map.now) else None) }
 {
-    // So many numbers below 2^64 come to less than 2^128.
+    // This many numbers below 2^64 have a sum below 2^128.
     let count = map.len();
     prove!(count <= usize::MAX);
     let mut sum: u128 = 0;

@@ -16,7 +16,7 @@ use Rattle.model_base.specs.Calls.{Command, commit, Reply, accepted, refused, no
 use Rattle.model_base.specs.Script.{Script}
 use Rattle.run_laws.proofs.Plain.{AreSound}
 use Rattle.run_laws.proofs.Counts.{sequences_of, sound}
-use Rattle.run_laws.specs.Accepting.{HasRoom, HoldsNothingUp, asked_by, ComesTo, PassesChecks, IsAccepted}
+use Rattle.run_laws.specs.Accepting.{HasRoom, HoldsNothingUp, asked_by, ReachesCommit, PassesChecks, IsAccepted}
 use Rattle.run_laws.proofs.Follows.{batch_by, tokens_by}
 use Rattle.run_laws.proofs.Splits.{Comes, comes_to}
 use Rattle.run_laws.proofs.Room.{takes_less}
@@ -45,7 +45,7 @@ module _ (settings : Settings) (ended : ℕ) (script : Script) (o : Outcome) (cl
   abbrev most : ℕ
   most = history.end_of_history settings ended script o legal
 
-  -- it may only be accepted
+  -- the commit can't be refused
   never_refused : (p : Progress) (knows : ℕ) (why : Refusal) (status : Option WriteStatus) → most + count_of p.pending ≤ max_sequence → (how.no_slowdown ≡ false) ⊎ HoldsNothingUp script
       → AreSound most (with_attempt p.attempts p.pending how status) → MayRefuse trace.controller_calls p knows how why status → ⊥
   never_refused p knows (no.Incomplete stops delays wait) status room (inl waits) s may = let yes = may.0 in cc
@@ -81,15 +81,15 @@ module _ (settings : Settings) (ended : ℕ) (script : Script) (o : Outcome) (cl
   statuses_sound attempts commands calls no_fault right =
       subst (AreSound most) right.commits (sound most trace legal.legal.groups o.fault (client + 1) 0 attempts no_fault (history.last_within settings ended script o legal) right.statuses)
 
-  -- a commit that isn't accepted had room
-  has_room_at : {commands : List Command} {attempts : List Attempt} (to : ComesTo o client before how reply) (right : IsLegalTranscript settings trace legal.legal.groups o.fault (client + 1) commands to.calls attempts)
+  -- if a commit wasn't accepted, its batch had room
+  has_room_at : {commands : List Command} {attempts : List Attempt} (to : ReachesCommit o client before how reply) (right : IsLegalTranscript settings trace legal.legal.groups o.fault (client + 1) commands to.calls attempts)
       → (c : Comes settings trace (client + 1) fresh before (record { command = commit how; reply = reply }) to.after right.end) → c.next.mine ≡ c.at.mine → HasRoom settings o → most + count_of c.at.pending ≤ max_sequence
   has_room_at to right c same room =
       let all = ap sequences_of right.accepted in
       let less = takes_less settings trace (client + 1) to.calls before how reply to.after right.end to.split c same in
       history.has_room settings ended script o legal client to.calls (count_of c.at.pending) to.there (omega (arith, all, less)) room
 
-  pub accepted_or_no_memory : o.fault ≡ None → ComesTo o client before how reply → PassesChecks settings before how → HasRoom settings o
+  pub accepted_or_no_memory : o.fault ≡ None → ReachesCommit o client before how reply → PassesChecks settings before how → HasRoom settings o
       → (how.no_slowdown ≡ false) ⊎ HoldsNothingUp script → IsAccepted (batch_after before) reply ⊎ (reply ≡ no_memory)
   accepted_or_no_memory no_fault to checks room freed =
       let t = history.right_of settings ended script o legal client to.calls to.there in let right = t.right in

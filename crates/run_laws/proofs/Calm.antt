@@ -59,7 +59,7 @@ module _ (settings : Settings) (trace : Trace) (client : ℕ) where
       → tokens_of client trace.controller_calls ≡ end.asked ++ given_back end.asked → tokens_of client trace.controller_calls ≡ []
   no_tokens_of commands calls end quiet is tokens = tokens ∙ ap (λ asked. asked ++ given_back asked) (none_asked commands calls end quiet is)
 
--- So the history has none
+-- So the history has no tokens
 
 abbrev pub HasNoTokens : List ControllerCall → Type 0
 HasNoTokens controller_calls = AllByRecursion (λ (t : ControllerCall). is_token t.action ≡ false) controller_calls
@@ -90,7 +90,7 @@ no_tokens settings (t ∷ controller_calls) named none = (
   no_tokens settings controller_calls named.1 (λ client is. none_kept ((t.client == client) && is_token t.action) t _ (none client is)),
 )
 
--- and what is told of it is no stop and no delay
+-- and no call reports a stop or a slowdown
 
 abbrev IsCalm : Numbers → Type 0
 IsCalm n = (n.stops ≡ 0) × (n.delays ≡ 0)

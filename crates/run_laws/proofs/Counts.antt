@@ -1,4 +1,4 @@
--- How many sequences a history takes, and that no client takes more than it adds.
+-- How many sequences a history takes, and that no client takes more sequences than it adds records.
 use Rattle.std.proofs.Common.{◌≡◌, ℕ, ◌+◌, ◌≤◌, List, [], ◌∷◌, ◌++◌, length, sum_by, Option, Some, None, refl, ap, subst, arith, length-append}
 use Rattle.std.proofs.lemmas.List.Sums.{sum_by-cons, sum_by-append, sum_by_push, count_by-le-length}
 use Rattle.model_base.specs.Batch.{Record, is_counted, count_of}
@@ -27,7 +27,7 @@ front_is : (start : ℕ) (front rest : List Entry) → IsHistory start (front ++
 front_is start [] rest h = tt
 front_is start (e ∷ front) rest h = (h.0, front_is (last_of e) front rest h.1)
 
--- no boundary is past all sequences
+-- no boundary is above the last of these sequences
 pub boundary_within : (start : ℕ) (entries : List Entry) (last : ℕ) → IsHistory start entries → IsBoundary start entries last → last ≤ start + sequences_of entries
 boundary_within start entries last h b =
     let front = b.0 in let up_to = b.1 in
@@ -40,7 +40,7 @@ counted start (e ∷ entries) h =
     let first = h.0.counted in
     omega (arith, first, counted (last_of e) entries h.1, sum_by-cons (λ (e : Entry). e.count) e entries, sum_by-cons (λ (e : Entry). count_of e.records) e entries)
 
--- where there was no fault, the statuses are sound
+-- if there was no fault, the statuses are sound
 sound_one : (most : ℕ) (trace : Trace) (groups : List Group) (fault : Option ℕ) (client call : ℕ) (status : WriteStatus) → fault ≡ None → ((last : ℕ) → IsBoundary trace.start trace.entries last → last ≤ most)
     → IsStatus trace groups fault client call status → IsSound most status
 sound_one most trace groups fault client call succeeded none within is = tt
@@ -83,7 +83,7 @@ weighs_run settings trace client p [] q run = let same = ap weight run in omega 
 weighs_run settings trace client p (c ∷ calls) q run =
     omega (arith, weighs_run settings trace client run.0 calls q run.2, weighs client p c.command run.0 (moves settings trace client p c.command c.reply run.0 run.1.replies), sum_by-cons adds_one c.command (commands_of calls))
 
--- it takes no more than it adds
+-- a client takes no more sequences than it adds records
 pub takes : (settings : Settings) (trace : Trace) (client : ℕ) (commands : List Command) (calls : List Call) (end : Progress) → IsTranscript settings trace client commands calls end → sequences_of end.mine ≤ additions commands
 takes settings trace client commands calls end is =
     let r = run_of settings trace client commands calls end is in let all = ap additions r.of_commands in

@@ -1,4 +1,4 @@
--- What holds of each record that can be drawn holds of all that a generated client adds.
+-- What holds of each record that can be drawn holds of all records that a generated client adds.
 use Rattle.std.proofs.Common.{◌≡◌, ℕ, zero, suc, ◌+◌, ◌-◌, ◌*◌, ◌%◌, ◌^◌, ◌<◌, Bool, true, false, cond, ◌==◌, [], ◌∷◌, decimal, ◌∙◌, arith}
 use Rattle.std.specs.List.{AllByRecursion}
 use Rattle.std.proofs.lemmas.Fmt.{decimal_by_steps}

@@ -50,7 +50,7 @@ short_drawn client few = record {
   values = λ n v small below. (refl, put_len (key_of client n) (decimal v) (key_len client n few small) (length-decimal-le 3 v (omega arith) (omega arith) (omega arith)));
 }
 
--- after so many records of its batch come the rest of it and its next commands
+-- n more records of its batch may come before a client's next commands
 plain_records : (n client state before : ℕ) (commands : List Command) → client ≤ MAX_CLIENTS → IsPlain (before + n) commands → IsPlain before ((records_drawn n client state).made ++ commands)
 plain_records zero client state before commands few is = let same : before + 0 ≡ before = omega arith in subst (λ k. IsPlain k commands) same is
 plain_records (suc n) client state before commands few is =
@@ -66,7 +66,7 @@ plain_batches (suc n) client state few =
     plain_records (1 + more) client begun 0 (commit plain ∷ rest) few (refl, omega arith, omega arith, plain_batches n client b.state few) in
     subst (IsPlain 0) (sym (append_assoc records.made (commit plain ∷ []) rest)) whole
 
--- it adds four records a batch at most
+-- a client adds at most four records for each batch
 
 records_added : (n client state : ℕ) → additions (records_drawn n client state).made ≡ n
 records_added zero client state = refl

@@ -17,7 +17,7 @@ use Rattle.run_laws.proofs.Drawn.{HoldsOfDrawn, of_batches}
 abbrev pub commands_drawn : ℕ → ℕ → ℕ → List Command
 commands_drawn seed batches client = batches_drawn batches client (first_state seed client)
 
--- the client's transcript, which is right
+-- the client's transcript, and that it is right
 pub record HasTranscript (settings : Settings) (trace : Trace) (groups : List Group) (o : Outcome) (i : ℕ) (commands : List Command) : Type 0 where
   pub calls : List Call
   pub there : slice_get o.transcripts i ≡ Some calls

@@ -8,7 +8,7 @@ use Rattle.model_base.specs.Outcomes.{entries_of_client}
 pub same_number : (a b : ℕ) → a ≡ b → (a == b) ≡ true
 same_number a b e = grind (arith, nat_tests)
 
--- the clients of entries are some numbers
+-- the clients of these entries are among the numbers from 1 to this one
 abbrev pub AreOfClients : ℕ → List Entry → Type 0
 AreOfClients clients entries = AllByRecursion (λ (e : Entry). (1 ≤ e.client) × (e.client ≤ clients)) entries
 

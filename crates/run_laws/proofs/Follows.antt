@@ -1,4 +1,4 @@
--- A client's batch, its tokens and its accepted batches are those that its calls and their replies make.
+-- A client's batch, its tokens and its accepted batches are those that its calls and replies make.
 use Rattle.std.proofs.Common.{◌≡◌, ℕ, List, [], ◌∷◌, ◌++◌, fold, Option, Some, None, MatchOption, sym, ap, ◌∙◌, subst}
 use Rattle.model_base.specs.declared.write.WriteOptions.{WriteOptions}
 use Rattle.model_base.specs.declared.write.Refusal.{Refusal}

@@ -11,15 +11,16 @@ use Rattle.model_base.specs.Script.{Script}
 use Rattle.model_base.specs.Outcomes.{entries_of_client}
 use Rattle.run_laws.specs.Summaries.{batches_after, batches_of}
 
--- the entries of the clients from a number on
+-- the entries of the clients whose numbers are at least this one
 abbrev pub entries_from : ℕ → List Entry → List Entry
 entries_from client entries = filter (λ (e : Entry). nat_le client e.client) entries
 
--- their clients are below a number
+-- the clients of these entries have numbers below this one
 abbrev pub AreBelow : ℕ → List Entry → Type 0
 AreBelow clients entries = AllByRecursion (λ (e : Entry). e.client < clients) entries
 
--- the sum is that over one client's entries and that over those of later ones
+-- the sum over these clients' entries is the sum over the first client's entries and the one over the later clients'
+-- entries
 module _ (f : Entry → ℕ) (client : ℕ) where
   abbrev Splits : List Entry → Type 0
   Splits entries = sum_by f (entries_from client entries) ≡ sum_by f (entries_of_client client entries) + sum_by f (entries_from (client + 1) entries)
@@ -59,7 +60,7 @@ all_from_one (e ∷ entries) named =
 below_same : (m n : ℕ) (entries : List Entry) → m ≡ n → AreBelow m entries → AreBelow n entries
 below_same m n entries e below = subst (λ k. AreBelow k entries) e below
 
--- a sum is bounded by that of each client
+-- if the sum over each of n clients' entries is at most `most`, the whole sum is at most n times that
 pub sum_within : (f : Entry → ℕ) (most first n : ℕ) (entries : List Entry) → AreBelow (first + n) entries
     → ((client : ℕ) → first ≤ client → client < first + n → sum_by f (entries_of_client client entries) ≤ most) → sum_by f (entries_from first entries) ≤ n * most
 sum_within f most first zero entries below each =
@@ -68,7 +69,7 @@ sum_within f most first (suc n) entries below each =
     let rest = sum_within f most (first + 1) n entries (below_same (first + suc n) (first + 1 + n) entries (omega arith) below) (λ client some few. each client (omega arith) (omega arith)) in
     omega (arith, splits f first entries, rest, each first (omega arith) (omega arith))
 
--- The batches of clients, from a number on
+-- The batches of clients, from this number on
 
 -- the entries have just the batches of a script's clients
 abbrev pub HaveBatches : List Entry → ℕ → Script → Type 0
@@ -91,7 +92,7 @@ sum_by-map f [] = refl
 sum_by-map f (e ∷ entries) =
     omega (arith, sum_by-map f entries, sum_by-cons f e.records (map (λ (e : Entry). e.records) entries), sum_by-cons (λ (e : Entry). f e.records) e entries)
 
--- a sum over all batches is that over the entries
+-- a sum over all batches is the one over the entries
 pub sums_are : (f : List Record → ℕ) (entries : List Entry) (first : ℕ) (script : Script) → AreBelow (first + length script) entries → HaveBatches entries first script
     → sum_by (λ (e : Entry). f e.records) (entries_from first entries) ≡ sum_by f (batches_of script)
 sums_are f entries first [] below has = ap (sum_by (λ (e : Entry). f e.records)) (none_from first entries (below_same (first + 0) first entries (omega arith) below))

@@ -1,4 +1,4 @@
--- Whose a generated key is: the number after its first letter, up to the letter `k`.
+-- Which client a generated key belongs to: the number after the key's first letter, up to the letter `k`.
 use Rattle.std.proofs.Common.{◌≡◌, ℕ, ◌+◌, ◌-◌, ◌*◌, ◌/◌, ◌%◌, ◌^◌, ◌<◌, false, cond, ◌==◌, List, [], ◌∷◌, ◌++◌, codes, decimal, ap, ◌∙◌, append_assoc, arith}
 use Rattle.std.proofs.lemmas.Bool.Decides.{nat_tests}
 use Rattle.std.proofs.lemmas.Fmt.{decimal_by_steps}

@@ -1,4 +1,4 @@
--- A legal outcome: how far its history goes, and when its controller's history is without tokens.
+-- A legal outcome: how far its history goes, and when its controller's history has no tokens.
 use Rattle.std.proofs.Common.{◌≡◌, ℕ, ◌+◌, ◌-◌, ◌<◌, ◌≤◌, List, [], length, Some, slice_get, ap, subst, arith}
 use Rattle.std.specs.List.{AllByRecursion}
 use Rattle.model_base.specs.Calls.{Command, Call, Outcome}
@@ -18,7 +18,7 @@ use Rattle.run_laws.proofs.Splits.{place_within}
 use Rattle.run_laws.proofs.Room.{takes, TakeWithin, all_take_less}
 use Rattle.run_laws.proofs.Calm.{AsksNothing, HasNoTokens, no_tokens_of, no_tokens}
 
--- what a client's transcript is of, and that it is right
+-- the commands that a client's transcript answers, and that it is right
 pub record HasCommands (settings : Settings) (trace : Trace) (groups : List Group) (o : Outcome) (i : ℕ) (calls : List Call) : Type 0 where
   pub commands : List Command
   pub attempts : List Attempt
@@ -34,7 +34,7 @@ module _ (settings : Settings) (ended : ℕ) (script : Script) (o : Outcome) (le
       let calls = there_is o.transcripts i (omega arith) in let right = l.each i commands calls.0 there calls.1 in
       record { calls = calls.0; there = calls.1; attempts = right.0; right = right.2 }
 
-  -- the commands that a transcript is of
+  -- the commands that a transcript answers
   pub right_of : (i : ℕ) (calls : List Call) → slice_get o.transcripts i ≡ Some calls → HasCommands settings trace legal.legal.groups o i calls
   right_of i calls there =
       let l = legal.legal in let count = l.count in let within = place_within o.transcripts i calls there in
@@ -63,7 +63,7 @@ module _ (settings : Settings) (ended : ℕ) (script : Script) (o : Outcome) (le
   named : AllByRecursion (λ (e : Entry). 1 ≤ e.client) trace.entries
   named = all_mapped _ _ (λ e is. is.0) trace.entries legal.legal.is_trace.clients
 
-  -- where a client takes less than its calls commit, there is room for so much more
+  -- if a client takes fewer sequences than its calls commit records, there is room for the difference
   pub has_room : (client : ℕ) (calls : List Call) (less : ℕ) → slice_get o.transcripts client ≡ Some calls → sequences_of (entries_of_client (client + 1) trace.entries) + less ≤ count_of_commits [] calls
       → HasRoom settings o → end_of_history + less ≤ max_sequence
   has_room client calls less there one room =
@@ -72,7 +72,7 @@ module _ (settings : Settings) (ended : ℕ) (script : Script) (o : Outcome) (le
       let whole = ap sequences_of (all_from_one trace.entries named) in
       omega (arith, room, whole, all_take_less 1 o.transcripts trace.entries client calls less below take_within there here)
 
-  -- where no client asks for a stop or a slowdown, there are no tokens
+  -- if no client asks for a stop or a slowdown, there are no tokens
 
   none_of : HoldsNothingUp script → (i : ℕ) → i < length script → tokens_of (i + 1) trace.controller_calls ≡ []
   none_of quiet i within =

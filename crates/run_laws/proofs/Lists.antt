@@ -27,13 +27,13 @@ pub all_mapped : {X : Type 0} (P Q : X → Type 0) → ((x : X) → P x → Q x)
 all_mapped P Q f [] a = tt
 all_mapped P Q f (x ∷ xs) a = (f x a.0, all_mapped P Q f xs a.1)
 
--- the element at a place within a list
+-- a list has an element at each place below its length
 pub there_is : {X : Type 0} (xs : List X) (i : ℕ) → i < length xs → (x : X) × (slice_get xs i ≡ Some x)
 there_is [] i within = absurd (omega arith)
 there_is (x ∷ xs) zero within = (x, refl)
 there_is (x ∷ xs) (suc i) within = there_is xs i (omega (arith, within))
 
--- one of a list that is made from consecutive numbers
+-- an element of a list that is made from consecutive numbers
 pub made_at : {X : Type 0} (f : ℕ → X) (first n i : ℕ) (x : X) → slice_get (map f (range_with_len first n)) i ≡ Some x → (i < n) × (x ≡ f (first + i))
 made_at f first zero i x there = absurd (cc)
 made_at f first (suc n) zero x there =

@@ -23,7 +23,7 @@ Rises m = T (is_sorted byte_order m)
 abbrev pub is_key : List ℕ → List ℕ → Bool
 is_key q key = eq_by_cmp byte_order q key
 
--- An insertion and a removal, in the words of maps in the order of their keys
+-- Insertion and removal, as they are defined for maps in the order of their keys
 
 as_put : (m : Pairs) (key v : List ℕ) → insert_entry byte_order m key v ≡ put byte_order key v m
 as_put [] key v = refl
@@ -34,7 +34,7 @@ as_put (e ∷ m) key v =
       | Greater ↦ ap (λ (es : Pairs). e ∷ es) (as_put m key v)
     ]
 
--- all but a key
+-- all pairs but those of a key
 abbrev others : List ℕ → Pairs → Pairs
 others key m = where_key byte_order (λ k. not (is_key key k)) m
 
@@ -68,7 +68,7 @@ as_others (e ∷ m) key s =
 abbrev pub value_of : List ℕ → Pairs → Option (List ℕ)
 value_of q m = find byte_order q m
 
--- what a record does to it
+-- what a record does to the value of a key
 abbrev pub changed : List ℕ → Record → Option (List ℕ) → Option (List ℕ)
 changed q (value key v) old = cond (is_key q key) (Some v) old
 changed q (deletion key) old = cond (is_key q key) None old
@@ -114,7 +114,7 @@ after_all : (m : Pairs) (records : List Record) (q : List ℕ) → Rises m → v
 after_all m [] q s = refl
 after_all m (r ∷ records) q s = after_all (after_record m r) records q (rises_one m r s) ∙ ap (changed_by q records) (after_one m r q s)
 
--- records that do the same to each key make the same map
+-- records that do the same to the value of each key make the same map
 pub same_map : (records others : List Record) → ((q : List ℕ) → changed_by q records None ≡ changed_by q others None) → after_records [] records ≡ after_records [] others
 same_map records others same =
     same_entries byte_order byte_total exact_bytes (after_records [] records) (after_records [] others) (rises [] records tt) (rises [] others tt)

@@ -60,7 +60,7 @@ module _ (seed clients batches ended : ℕ) (settings : Settings) (o : Outcome) 
   owned : AreOwned trace.entries
   owned = all_drawn seed clients batches ended settings o legal IsOwned (λ client some most. owned_drawn client (omega (arith, few, most)))
 
-  -- each client takes 400,000 sequences at most, and so all together 25,600,000
+  -- each client takes at most 400,000 sequences, and so all together take at most 25,600,000
   one_within : (i : ℕ) → i < clients → sequences_of (entries_of_client (i + 1) trace.entries) ≤ 400000
   one_within i within =
       let t = transcript_of seed clients batches ended settings o legal i within in let right = t.right in
@@ -80,7 +80,7 @@ module _ (seed clients batches ended : ℕ) (settings : Settings) (o : Outcome) 
   trace_start : trace.start ≡ 0
   trace_start = legal.legal.is_trace.start ∙ start
 
-  -- so no commit was refused, and its client's batches are those that its commands make
+  -- so no commit was refused, and each client's batches are those that its commands make
   batches_are : (i : ℕ) → i < clients → map (λ (e : Entry). e.records) (entries_of_client (i + 1) trace.entries) ≡ batches_after [] (commands_drawn seed batches (i + 1))
   batches_are i within =
       let t = transcript_of seed clients batches ended settings o legal i within in let right = t.right in

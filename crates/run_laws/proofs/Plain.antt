@@ -1,5 +1,5 @@
--- A client that only adds short counted records and commits one to four of them at a time: where its commits aren't
--- refused for a fault or for want of a run, its accepted batches are just those that its commands make.
+-- A client that only adds short counted records and commits one to four of them at a time. If its commits aren't
+-- refused for a fault or because no run fits, its accepted batches are just those that its commands make.
 use Rattle.std.proofs.Common.{◌≡◌, ℕ, ◌+◌, ◌*◌, ◌≤◌, Bool, true, false, cond, ◌==◌, nat_lt, List, [], ◌∷◌, ◌++◌, length, map, Option, Some, None, MatchOption, refl, sym, ap, ◌∙◌, subst, append_assoc, append-nil, arith, length-append}
 use Rattle.std.specs.List.{AllByRecursion}
 use Rattle.std.proofs.lemmas.Bool.Decides.{nat_tests}
@@ -23,7 +23,7 @@ use Rattle.run_laws.specs.Summaries.{batches_after}
 use Rattle.run_laws.proofs.Lists.{all_front, all_back, all_both}
 use Rattle.run_laws.proofs.Progresses.{Moves, stays, adds, clears, accepts, refuses, moves}
 
--- counted, and of 12 bytes at most
+-- a record that counts and has at most 12 bytes
 abbrev pub IsShort : Record → Type 0
 IsShort r = (is_counted r ≡ true) × (length (record_bytes r) ≤ 12)
 
@@ -57,7 +57,7 @@ passes records a some few =
 
 -- Its attempts
 
--- a status that isn't a fault, and says of no sequence past the most that it is full
+-- a status that is no fault, and is `full` only after a sequence up to `most`
 abbrev pub IsSound : ℕ → WriteStatus → Type 0
 IsSound most succeeded = Unit {0}
 IsSound most (slowed place) = Unit {0}
@@ -88,17 +88,17 @@ sound_run most settings trace client p (c ∷ calls) q run a =
 
 -- Its calls
 
--- where it stands, with so many records in its batch
+-- the client's progress, with n short records in its batch and no tokens
 pub record Stands (n : ℕ) (p : Progress) : Type 0 where
   pub long : length p.pending ≡ n
   pub short : AllByRecursion IsShort p.pending
   pub asked : p.asked ≡ []
 
--- its accepted batches, and after them those that its next commands make
+-- the client's accepted batches, and after them those that its next commands make
 abbrev pub made_with : Progress → List Command → List (List Record)
 made_with p commands = map (λ (e : Entry). e.records) p.mine ++ batches_after p.pending commands
 
--- after a call all is as it was, with one command less to come
+-- after a call this still holds, with one command less to come
 pub record GoesOn (p : Progress) (command : Command) (commands : List Command) (q : Progress) : Type 0 where
   pub n : ℕ
   pub stands : Stands n q
@@ -119,7 +119,7 @@ module _ (most : ℕ) (small : most + 4 ≤ max_sequence) (settings : Settings) 
   }
   after_add n p r commands other q is s e = absurd e
 
-  -- it may only be accepted
+  -- the commit can't be refused
   never_refused : (n : ℕ) (p : Progress) (knows : ℕ) (how : WriteOptions) (why : Refusal) (status : Option WriteStatus) → how ≡ plain → n ≤ 4 → Stands n p
       → AreSound most (with_attempt p.attempts p.pending how status) → MayRefuse trace.controller_calls p knows how why status → ⊥
   never_refused n p knows how (no.Incomplete stops delays wait) status is few s a may = let no_wait : how.no_slowdown ≡ false = ap (λ (x : WriteOptions). x.no_slowdown) is in let yes = may.0 in cc

@@ -1,4 +1,4 @@
--- Where a client stands after a call: what its batch, its accepted batches and its attempts become.
+-- A client's progress after a call: what its batch, its accepted batches and its attempts are then.
 use Rattle.std.proofs.Common.{◌≡◌, ℕ, List, [], ◌∷◌, ◌++◌, Option, Some, None, MatchOption, refl, sym, ap, ◌∙◌, subst, append-nil, append_assoc}
 use Rattle.std.specs.List.{AllByRecursion}
 use Rattle.model_base.specs.declared.write.WriteOptions.{WriteOptions}
@@ -16,7 +16,7 @@ use Rattle.model_base.specs.Replies.{Adds, Clears, Stays, IsAttempted, ReadsAt, 
 use Rattle.model_base.specs.Calls.{Command, add, clear, commit, get, many, scan, stop, unstop, slow, unslow, Reply, quiet, accepted, refused, found, found_each, rows, done, held, not_held, no_memory, Call}
 use Rattle.run_laws.proofs.Lists.{all_front, all_both}
 
--- what a call may change of the client's records and attempts
+-- what a call may change of the client's batch, accepted batches and attempts
 pub data Moves (client : ℕ) (p : Progress) (command : Command) (q : Progress) : Type 0 where
   stays : q.pending ≡ p.pending → q.mine ≡ p.mine → q.attempts ≡ p.attempts → Moves client p command q
   adds : (r : Record) → command ≡ add r → q.pending ≡ p.pending ++ r ∷ [] → q.mine ≡ p.mine → q.attempts ≡ p.attempts → Moves client p command q
@@ -136,7 +136,7 @@ commands_of-append : (calls more : List Call) → commands_of (calls ++ more) �
 commands_of-append [] more = refl
 commands_of-append (c ∷ calls) more = ap (λ cs. c.command ∷ cs) (commands_of-append calls more)
 
--- the calls that a client's transcript has before it is cut off, as a run
+-- the calls of a client's transcript, without the one that found no memory, as a run
 pub record HasRun (settings : Settings) (trace : Trace) (client : ℕ) (commands : List Command) (end : Progress) : Type 0 where
   pub calls : List Call
   pub run : Run settings trace client fresh calls end

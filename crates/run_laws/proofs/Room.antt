@@ -1,4 +1,4 @@
--- The clients take no more sequences than their calls commit.
+-- The clients take no more sequences than their calls commit records.
 use Rattle.std.proofs.Common.{◌≡◌, ℕ, zero, suc, ◌+◌, ◌≤◌, List, [], ◌∷◌, ◌++◌, length, fold, sum_by, Some, slice_get, refl, ap, ◌∙◌, subst, arith}
 use Rattle.std.proofs.lemmas.List.Sums.{sum_by-cons, sum_by_push}
 use Rattle.model_base.specs.declared.write.WriteOptions.{WriteOptions}
@@ -16,12 +16,12 @@ use Rattle.run_laws.specs.Accepting.{count_committed, count_of_commits}
 use Rattle.run_laws.proofs.Follows.{mine_with, follows, add_call, batch_by}
 use Rattle.run_laws.proofs.Splits.{Comes}
 
--- what the calls of two lists commit, one list after the other
+-- how many records the calls of two lists commit, one list after the other
 commits_append : (batch : List Record) (calls more : List Call) → count_of_commits batch (calls ++ more) ≡ count_of_commits batch calls + count_of_commits (fold add_call batch calls) more
 commits_append batch [] more = omega arith
 commits_append batch (c ∷ calls) more = omega (arith, commits_append (added_by batch c.command c.reply) calls more)
 
--- what a client takes by a call, and by all its calls
+-- how many sequences a client takes by one call, and by all its calls
 
 by_commit : (client : ℕ) (p : Progress) (how : WriteOptions) (reply : Reply) → sequences_of (mine_with client p (commit how) reply) ≤ sequences_of p.mine + count_of p.pending
 by_commit client p how (accepted first last records) = omega (arith, sum_by_push (λ (e : Entry). e.count) p.mine (next_entry client p.mine how first p.pending))
@@ -39,7 +39,7 @@ takes_run settings trace client p (c ∷ calls) q run =
     let mine = ap sequences_of f.mine in let batch = ap (λ records. count_of_commits records calls) f.batch in
     omega (arith, mine, batch, by_command client p c.command c.reply, takes_run settings trace client run.0 calls q run.2)
 
--- a client takes no more than its calls commit
+-- a client takes no more sequences than its calls commit records
 pub takes : (settings : Settings) (trace : Trace) (client : ℕ) (commands : List Command) (calls : List Call) (end : Progress) → IsTranscript settings trace client commands calls end
     → sequences_of end.mine ≤ count_of_commits [] calls
 takes settings trace client commands calls end (whole is run) = omega (arith, takes_run settings trace client fresh calls end run)
@@ -47,7 +47,7 @@ takes settings trace client commands calls end (cut_off front last rest cut is r
     let all = ap (count_of_commits []) cut in
     omega (arith, all, takes_run settings trace client fresh front end run, commits_append [] front (record { command = last; reply = no_memory } ∷ []))
 
--- where a commit wasn't accepted, it takes so much less
+-- if a commit wasn't accepted, the client takes fewer, by the number of that batch's records
 pub takes_less : (settings : Settings) (trace : Trace) (client : ℕ) (calls before : List Call) (how : WriteOptions) (reply : Reply) (after : List Call) (end : Progress)
     → calls ≡ before ++ record { command = commit how; reply = reply } ∷ after → (c : Comes settings trace client fresh before (record { command = commit how; reply = reply }) after end) → c.next.mine ≡ c.at.mine
     → sequences_of end.mine + count_of c.at.pending ≤ count_of_commits [] calls
@@ -72,7 +72,7 @@ takes_less settings trace client calls before how reply after end split c same =
       commits_append (added_by (fold add_call [] before) (commit how) reply) c.kept c.lost,
     )
 
--- each client, whose numbers go up from the first, takes no more than its calls commit
+-- each of these clients, numbered from `first` on, takes no more sequences than its calls commit records
 abbrev pub TakeWithin : ℕ → List (List Call) → List Entry → Type 0
 TakeWithin first transcripts entries =
     (i : ℕ) (calls : List Call) → slice_get transcripts i ≡ Some calls → sequences_of (entries_of_client (first + i) entries) ≤ count_of_commits [] calls
@@ -91,7 +91,7 @@ rest_take first calls transcripts entries each i others there =
     let number : first + suc i ≡ first + 1 + i = omega arith in
     subst (λ k. sequences_of (entries_of_client k entries) ≤ count_of_commits [] others) number (each (suc i) others there)
 
--- so all together take no more than all commits come to
+-- so all clients together take no more sequences than all commits have records
 all_take : (first : ℕ) (transcripts : List (List Call)) (entries : List Entry) → AreBelow (first + length transcripts) entries → TakeWithin first transcripts entries
     → sequences_of (entries_from first entries) ≤ sum_by (count_of_commits []) transcripts
 all_take first [] entries below each = sum_within (λ (e : Entry). e.count) 0 first 0 entries below (λ client some few. absurd (omega arith))
@@ -99,7 +99,7 @@ all_take first (calls ∷ transcripts) entries below each =
     let rest = all_take (first + 1) transcripts entries (below_same (first + suc (length transcripts)) (first + 1 + length transcripts) entries (omega arith) below) (rest_take first calls transcripts entries each) in
     omega (arith, rest, first_takes first calls transcripts entries each, splits (λ (e : Entry). e.count) first entries, sum_by-cons (count_of_commits []) calls transcripts)
 
--- and so much less where one of them takes less
+-- and if one client takes fewer, so do all together, by the same number
 pub all_take_less : (first : ℕ) (transcripts : List (List Call)) (entries : List Entry) (place : ℕ) (calls : List Call) (less : ℕ) → AreBelow (first + length transcripts) entries → TakeWithin first transcripts entries
     → slice_get transcripts place ≡ Some calls → sequences_of (entries_of_client (first + place) entries) + less ≤ count_of_commits [] calls
     → sequences_of (entries_from first entries) + less ≤ sum_by (count_of_commits []) transcripts

@@ -1,4 +1,4 @@
--- The map of interleaved entries is that of the same batches client by client, where no key is of two clients.
+-- The map of interleaved entries is that of the same batches client by client, if no two clients have a key in common.
 use Rattle.std.proofs.Common.{◌≡◌, ◌≢◌, ◌⊎◌, ℕ, suc, ◌+◌, ◌<◌, ◌≤◌, true, false, ◌==◌, List, [], ◌∷◌, ◌++◌, length, flat_map, Option, None, refl, sym, ap, ◌∙◌, inl, inr, arith}
 use Rattle.std.specs.declared.cmp.Ordering.{Ordering}
 use Rattle.std.specs.declared.cmp.Ordering.TheVariants.{Less, Equal, Greater}
@@ -24,7 +24,7 @@ use Rattle.run_laws.proofs.Keys.{owner}
 use Rattle.run_laws.proofs.Maps.{is_key, changed, changed_by, same_map}
 use Rattle.run_laws.proofs.Interleaved.{AreBelow, HaveBatches, batches_first, batches_rest}
 
--- a record's key is of the client
+-- the record's key belongs to this client
 abbrev pub IsOwned : ℕ → Record → Type 0
 IsOwned client (value key v) = owner key ≡ client
 IsOwned client (deletion key) = owner key ≡ client
@@ -60,7 +60,7 @@ untouched client q (r ∷ records) old owned apart = ap (changed_by q records) (
 changed_by-append : (q : List ℕ) (records more : List Record) (old : Option (List ℕ)) → changed_by q (records ++ more) old ≡ changed_by q more (changed_by q records old)
 changed_by-append q records more old = fold-append (λ o r. changed q r o) old records more
 
--- a number is another one or isn't
+-- two numbers are the same or aren't
 abbrev WhichOf : ℕ → ℕ → Type 0
 WhichOf a b = ((a ≡ b) × ((a == b) ≡ true)) ⊎ ((a ≢ b) × ((a == b) ≡ false))
 
@@ -75,11 +75,11 @@ which a b =
     ]
 
 module _ (q : List ℕ) where
-  -- what entries do to the key
+  -- what these entries do to the value of the key
   abbrev done_by : List Entry → Option (List ℕ) → Option (List ℕ)
   done_by entries old = changed_by q (records_of entries) old
 
-  -- those of another client do nothing
+  -- the entries of another client do nothing to it
   untouched_own : (client : ℕ) (entries : List Entry) (old : Option (List ℕ)) → AreOwned entries → owner q ≢ client → done_by (entries_of_client client entries) old ≡ old
   untouched_own client [] old owned apart = refl
   untouched_own client (e ∷ entries) old owned apart =
@@ -90,7 +90,7 @@ module _ (q : List ℕ) where
         | inr other ↦ rw (other.1) rest
       ]
 
-  -- so all entries do what those of the key's owner do
+  -- so all entries together do what those of the key's owner do
   own_only : (entries : List Entry) (old : Option (List ℕ)) → AreOwned entries → done_by entries old ≡ done_by (entries_of_client (owner q) entries) old
   own_only [] old owned = refl
   own_only (e ∷ entries) old owned =
@@ -107,7 +107,7 @@ module _ (q : List ℕ) where
 
   -- Batch by batch
 
-  -- what batches do to it
+  -- what these batches do to the value of the key
   abbrev done_in : List (List Record) → Option (List ℕ) → Option (List ℕ)
   done_in batches old = changed_by q (flat_map (λ records. records) batches) old
 
@@ -123,7 +123,7 @@ module _ (q : List ℕ) where
       ap (λ batches. done_in batches old) (sym (batches_first entries first commands script has))
       ∙ ap (λ records. changed_by q records old) (flat_map-map (λ (records : List Record). records) (λ (e : Entry). e.records) (entries_of_client first entries))
 
-  -- clients after the owner do nothing
+  -- the batches of clients after the owner do nothing
   later : (entries : List Entry) (first : ℕ) (script : Script) (old : Option (List ℕ)) → AreOwned entries → HaveBatches entries first script → owner q < first → done_in (batches_of script) old ≡ old
   later entries first [] old owned has past = refl
   later entries first (commands ∷ script) old owned has past =
@@ -131,7 +131,7 @@ module _ (q : List ℕ) where
       ∙ ap (done_in (batches_of script)) (done_first entries first commands script old has ∙ untouched_own first entries old owned (λ e. absurd (omega (arith, past, e))))
       ∙ later entries (first + 1) script old owned (batches_rest entries first commands script has) (omega (arith, past))
 
-  -- clients from one on, up to the owner, do what the owner's entries do
+  -- the batches of the clients from this one on, up to the owner's, do what the owner's entries do
   up_to_owner : (entries : List Entry) (first : ℕ) (script : Script) (old : Option (List ℕ)) → AreOwned entries → AreBelow (first + length script) entries → HaveBatches entries first script → first ≤ owner q
       → done_in (batches_of script) old ≡ done_by (entries_of_client (owner q) entries) old
   up_to_owner entries first [] old owned below has from =

@@ -17,7 +17,7 @@ use Rattle.run_laws.proofs.Progresses.{HasOnly}
 use Rattle.run_laws.proofs.Drawn.{HoldsOfDrawn, value_of_digits-decimal}
 use Rattle.run_laws.proofs.DrawnTranscripts.{all_drawn}
 
--- What holds of each pair still does after records whose values have it
+-- If each value that some records set has a property, a map whose values have it still does after these records
 
 module _ (P : List ℕ × List ℕ → Type 0) where
   inserted : (m : Pairs) (key v : List ℕ) → AllByRecursion P m → ((k : List ℕ) → P (k, v)) → AllByRecursion P (insert_entry byte_order m key v)

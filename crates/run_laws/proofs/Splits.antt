@@ -16,7 +16,7 @@ head_same e = cc
 tail_same : {X : Type 0} {x y : X} {xs ys : List X} → x ∷ xs ≡ y ∷ ys → xs ≡ ys
 tail_same e = cc
 
--- an element of a list with one more at its end is that one, or stands before it
+-- an element of a list with one more at its end is that last one, or comes before it
 last_or_before : {X : Type 0} (front before after : List X) (cut c : X) → front ++ cut ∷ [] ≡ before ++ c ∷ after
     → (c ≡ cut) ⊎ ((rest : List X) × (front ≡ before ++ c ∷ rest) × (after ≡ rest ++ cut ∷ []))
 last_or_before [] [] after cut c e = inl (sym (head_same e))
@@ -28,7 +28,7 @@ last_or_before (f ∷ front) (b ∷ before) after cut c e =
       | inr more ↦ inr (more.0, ap (λ x. x ∷ front) (head_same e) ∙ ap (λ xs. b ∷ xs) more.1, more.2)
     ]
 
--- the run up to a call, and on by those of the calls after it that weren't cut off
+-- the run up to a call, the call, and the run of those calls after it that weren't cut off
 pub record Comes (settings : Settings) (trace : Trace) (client : ℕ) (start : Progress) (before : List Call) (c : Call) (after : List Call) (end : Progress) : Type 0 where
   pub at : Progress
   pub run : Run settings trace client start before at

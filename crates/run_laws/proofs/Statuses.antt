@@ -1,4 +1,4 @@
--- The statuses of a client's commits are those that its last ones stand among.
+-- If all statuses are sound at the end of a client's run, they are sound at each of its steps.
 use Rattle.std.proofs.Common.{ℕ, List, [], ◌∷◌, Option, Some, None, subst}
 use Rattle.model_base.specs.declared.write.WriteOptions.{WriteOptions}
 use Rattle.model_base.specs.Batch.{Record}

@@ -1,4 +1,4 @@
--- What may stand against a commit, by the script and the clients' calls.
+-- What may keep a commit from being accepted, by the script and the clients' calls.
 use Rattle.std.specs.Prelude.{◌≡◌, ◌⊎◌, ℕ, ◌+◌, ◌≤◌, Bool, true, false, List, [], ◌∷◌, ◌++◌, fold, sum_by, Some, slice_get}
 use Rattle.std.specs.List.{AllByRecursion}
 use Rattle.model_base.specs.declared.write.WriteOptions.{WriteOptions}
@@ -12,19 +12,20 @@ use Rattle.model_base.specs.Progress.{added_by, batch_after}
 use Rattle.model_base.specs.Calls.{Command, commit, stop, unstop, slow, unslow, Reply, accepted, done, Call, Outcome}
 use Rattle.model_base.specs.Script.{Script}
 
--- how many records a command commits of the batch at hand: all that count, where it is a commit
+-- how many records a command commits of the client's current batch: all that count, if it is a commit, and otherwise
+-- none
 abbrev pub count_committed : List Record → Command → ℕ
 count_committed batch (commit how) = count_of batch
 count_committed batch other = 0
 
--- how many a client's calls commit, from this batch on: each commit all of the batch that it then has. So a batch that
--- was refused and is committed again counts again.
+-- How many records a client's calls commit, where `batch` is its batch before them. Each commit counts the whole batch
+-- that the client then has, so a batch that was refused and is committed again is counted again.
 abbrev pub count_of_commits : List Record → List Call → ℕ
 count_of_commits batch [] = 0
 count_of_commits batch (c ∷ calls) =
     count_committed batch c.command + count_of_commits (added_by batch c.command c.reply) calls
 
--- There are sequences for all batches that the clients came to commit, each as often as it was committed.
+-- There are sequences for the batches of all commits that the clients reached, each batch as often as it was committed.
 abbrev pub HasRoom : Settings → Outcome → Type 0
 HasRoom settings o = settings.start + sum_by (count_of_commits []) o.transcripts ≤ max_sequence
 
@@ -34,11 +35,11 @@ asks_to_wait stop = true
 asks_to_wait (slow rate) = true
 asks_to_wait other = false
 
--- no client of a script does
+-- no client of a script has such a command
 abbrev pub HoldsNothingUp : Script → Type 0
 HoldsNothingUp script = AllByRecursion (AllByRecursion (λ command. asks_to_wait command ≡ false)) script
 
--- a commit that may wait, or a script in which no client does
+-- the commit may wait, or no client of the script asks the controller to stop or to slow writes
 abbrev pub IsNotHeldUp : Script → WriteOptions → Type 0
 IsNotHeldUp script how = (how.no_slowdown ≡ false) ⊎ HoldsNothingUp script
 
@@ -54,16 +55,17 @@ asked_with asked other reply = asked
 abbrev pub asked_by : List Call → List Action
 asked_by calls = fold (λ asked c. asked_with asked c.command c.reply) [] calls
 
--- The client of this number (from 0) comes to a commit: after these calls it commits so, and is told that.
-pub record ComesTo (o : Outcome) (client : ℕ) (before : List Call) (how : WriteOptions) (reply : Reply)
+-- The client with this number (from 0) reaches a commit: after these calls it commits with these options, and gets this
+-- reply.
+pub record ReachesCommit (o : Outcome) (client : ℕ) (before : List Call) (how : WriteOptions) (reply : Reply)
     : Type 0 where
   pub calls : List Call
   pub there : slice_get o.transcripts client ≡ Some calls
   pub after : List Call
   pub split : calls ≡ before ++ record { command = commit how; reply = reply } ∷ after
 
--- the batch after these calls has a counted record and isn't too large, a sync is of a batch that the log has, and the
--- client doesn't itself hold a stop
+-- the batch after these calls has a counted record and isn't too large; if it was to be synced, it was to be logged
+-- too; and the client doesn't hold a stop token itself
 pub record PassesChecks (settings : Settings) (before : List Call) (how : WriteOptions) : Type 0 where
   pub some : 1 ≤ count_of (batch_after before)
   pub fits : size_of_batch (batch_after before) ≤ settings.batch_bytes

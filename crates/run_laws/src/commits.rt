@@ -1,7 +1,7 @@
 //! When a commit is accepted.
 //!
-//! Where the log has no fault, a commit that a client comes to is accepted, or finds no memory, unless one of a few
-//! causes holds of it, each of which is seen from the script and from what the clients were told. `specs/Accepting` has
+//! If the log has no fault, a commit that a client reaches is accepted, or finds no memory, unless one of a few causes
+//! holds for it. Each cause can be seen from the script and from what the clients were answered. `specs/Accepting` has
 //! the causes.
 
 ghost use Rattle.std.specs.Prelude.{◌≡◌, ◌⊎◌, ℕ, List, None};
@@ -11,15 +11,15 @@ ghost use Rattle.model_base.specs.Trace.{Settings};
 ghost use Rattle.model_base.specs.Progress.{batch_after};
 ghost use Rattle.model_base.specs.Outcomes.{IsLegal};
 ghost use Rattle.model_base.specs.Script.{Script};
-ghost use Rattle.run_laws.specs.Accepting.{HasRoom, IsNotHeldUp, ComesTo, PassesChecks, IsAccepted};
+ghost use Rattle.run_laws.specs.Accepting.{HasRoom, IsNotHeldUp, ReachesCommit, PassesChecks, IsAccepted};
 
-/// In a legal outcome without a fault of the log, a commit is accepted, or finds no memory, where its batch and its
-/// options pass the checks, there are sequences for all batches that the clients came to commit, and either the commit
-/// may wait or no client asks for a stop or a slowdown.
+/// In a legal outcome without a fault of the log, a commit is accepted or finds no memory if three things hold: its
+/// batch and its options pass the checks; there are sequences for the batches of all commits that the clients reached;
+/// and either the commit may wait, or no client asks for a stop or a slowdown.
 pub fn commits_are_accepted()
     ensures accepted { (settings : Settings) (ended : ℕ) (script : Script) (o : Outcome) (client : ℕ)
         (before : List Call) (how : WriteOptions) (reply : Reply)
-        → IsLegal settings ended script o → o.fault ≡ None → ComesTo o client before how reply
+        → IsLegal settings ended script o → o.fault ≡ None → ReachesCommit o client before how reply
         → PassesChecks settings before how → HasRoom settings o → IsNotHeldUp script how
         → IsAccepted (batch_after before) reply ⊎ (reply ≡ no_memory) }
 {}

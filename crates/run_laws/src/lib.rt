@@ -1,6 +1,6 @@
 //! Laws of legal outcomes: what all outcomes of one generated script have in common, and when a commit is accepted.
 //!
-//! Each is the contract of a function that does nothing: who needs the law calls it.
+//! Each is the contract of a function that does nothing: a proof that needs the law calls the function.
 #![tactic(auto)]
 
 mod commits;

@@ -1,8 +1,8 @@
 //! What all outcomes of one generated script have in common.
 //!
-//! A generated script has several clients, each of which commits batches with keys of its own. In which order these
-//! batches stand in the one history is up to the schedule; the numbers that are printed of it are not.
-//! `specs/Summaries` says what the summary is, by the script alone.
+//! A generated script has several clients, each of which commits batches with keys of its own. The order of these
+//! batches in the one history depends on the schedule; the numbers that are printed of it don't. `specs/Summaries`
+//! says what the summary is, by the script alone.
 
 ghost use Rattle.std.specs.Prelude.{◌≡◌, ℕ, ◌<◌, ◌≤◌, [], None};
 ghost use Rattle.std.specs.List.{AllByRecursion};
@@ -16,8 +16,8 @@ ghost use Rattle.run_laws.specs.Summaries.{summary_of};
 
 use model_base::{MAX_CLIENTS, MAX_SIZE};
 
-/// All legal outcomes of one generated script that began with nothing, and in which no call failed, have one summary,
-/// whatever the schedule.
+/// All legal outcomes of one generated script, of at most 64 clients and 100000 batches of each, have one summary,
+/// whatever the schedule, if they began with nothing, a batch may have `MAX_SIZE` bytes, and no call failed.
 pub fn summaries_are_one()
     ensures one_summary { (seed clients batches ended : ℕ) (settings : Settings) (o : Outcome)
         → clients ≤ MAX_CLIENTS → batches ≤ 100000 → settings.start ≡ 0 → settings.opening ≡ []
@@ -25,8 +25,8 @@ pub fn summaries_are_one()
         → IsLegal settings ended (script_of_seed seed clients batches) o → o.fault ≡ None
         → AllByRecursion NoneWithoutMemory o.transcripts
         → summary_text o ≡ summary_of (script_of_seed seed clients batches) }
-    // In any legal outcome, also one with a fault, each value of the map is a number below 1000, where it was so
-    // before.
+    // In any legal outcome, even one with a fault, each value of the map is a number below 1000, if it was so before
+    // the run.
     ensures small_values { (seed clients batches ended : ℕ) (settings : Settings) (o : Outcome)
         → AllByRecursion (λ p. value_of_digits p.1 < 1000) settings.opening
         → IsLegal settings ended (script_of_seed seed clients batches) o

@@ -1,4 +1,4 @@
--- The entries of a client's batches: how many there are, the one at a place, and one more.
+-- The entries of a client's batches: how many there are, the one at a place, and one more of them.
 use Rattle.std.specs.Prelude.{Some, slice_get}
 use Rattle.std.proofs.Common.{◌≡◌, ℕ, zero, suc, ◌+◌, List, [], ◌∷◌, ◌++◌, length, ap, ◌∙◌, refl, arith}
 use Rattle.log_batch.specs.Contents.{Contents}
@@ -18,7 +18,7 @@ entries_of-append client xs ys =
     let same : 1 + length xs ≡ length xs + 1 = omega arith in
     entries_from-append client 1 xs ys ∙ ap (λ (n : ℕ). entries_of client xs ++ entries_from client n ys) same
 
--- one batch more
+-- one more batch
 pub entries_of-push : (client : ℕ) (kept : List (AcceptedBatch Contents)) (k : AcceptedBatch Contents) → entries_of client (kept ++ k ∷ []) ≡ entries_of client kept ++ entry_of client (length kept + 1) k ∷ []
 entries_of-push client kept k = entries_of-append client kept (k ∷ [])
 

@@ -16,17 +16,17 @@ use Rattle.run_outcome.specs.Places.{no_batch, places_by, entry_at, entries_at, 
 use Rattle.run_outcome.proofs.Entries.{entries_of-at}
 use Rattle.run_outcome.proofs.PlacesOfAll.{all_entries, all_places}
 
--- no place
+-- a place where there is no batch
 abbrev pub none : ℕ → BatchPlace
 none first = record { first = first; client = 0; at = 0 }
 
--- a filter of what a function gives
+-- one step of filtering what a function gives
 both : {A B : Type 0} (f : A → B) (b : Bool) (x : A) (xs : List B) (ys : List A) → xs ≡ map f ys → cond b (f x ∷ xs) xs ≡ map f (cond b (x ∷ ys) ys)
 both f true x xs ys h = ap (λ zs. f x ∷ zs) h
 both f false x xs ys h = h
 
 module _ (lists : List (List (AcceptedBatch Contents))) where
-  -- those of one first sequence
+  -- entries with the same first sequence are those at the places with that first sequence
   filtered : (k : ℕ) (places : List BatchPlace) → ArePlaces lists places
       → filter (λ (e : HistoryEntry Contents). e.run.first == k) (entries_at lists places) ≡ entries_at lists (filter (λ (p : BatchPlace). p.first == k) places)
   filtered k [] are = refl

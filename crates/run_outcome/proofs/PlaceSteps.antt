@@ -1,4 +1,4 @@
--- Places that are put behind one another, in the steps of the loops.
+-- Places that are appended one after another, in the steps of the loops.
 use Rattle.std.specs.Prelude.{Some, slice_get}
 use Rattle.std.proofs.Common.{◌≡◌, ℕ, ◌+◌, ◌<◌, ◌≤◌, List, [], ◌∷◌, ◌++◌, length, drop, get_or, ap, sym, ◌∙◌, append_assoc}
 use Rattle.std.proofs.lemmas.List.{append-nil, at_drop_more, at_drop_all}
@@ -9,7 +9,7 @@ use Rattle.run_outcome.specs.declared.places.BatchPlace.{BatchPlace}
 use Rattle.run_outcome.specs.Places.{places_from, places_by}
 
 module _ (client : ℕ) (list : List (AcceptedBatch Contents)) (placed all : List BatchPlace) (at : ℕ) (so_far : placed ++ places_from client at (drop at list) ≡ all) where
-  -- one batch more
+  -- one more batch
   pub place_more : (kept : AcceptedBatch Contents) (first : ℕ) (more : List BatchPlace) → slice_get list at ≡ Some kept → first ≡ kept.batch.sequence
       → more ≡ placed ++ record { first = first; client = client; at = at } ∷ [] → more ++ places_from client (at + 1) (drop (at + 1) list) ≡ all
   place_more kept first more here begins is =
@@ -24,7 +24,7 @@ module _ (client : ℕ) (list : List (AcceptedBatch Contents)) (placed all : Lis
   placed_all end = sym (append-nil placed) ∙ (ap (λ (l : List (AcceptedBatch Contents)). placed ++ places_from client at l) (sym (at_drop_all (λ (l : List (AcceptedBatch Contents)). l) list at end)) ∙ so_far)
 
 module _ (lists : List (List (AcceptedBatch Contents))) (placed all : List BatchPlace) (index : ℕ) (so_far : placed ++ places_by (index + 1) (drop index lists) ≡ all) where
-  -- one client more
+  -- one more client
   pub client_more : (list : List (AcceptedBatch Contents)) (more : List BatchPlace) → index < length lists → list ≡ get_or lists index list
       → more ≡ placed ++ places_from (index + 1) 0 list → more ++ places_by (index + 1 + 1) (drop (index + 1) lists) ≡ all
   client_more list more here at_index is =

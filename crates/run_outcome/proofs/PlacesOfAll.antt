@@ -1,4 +1,5 @@
--- The places of all clients' batches are places, and the entries there are those of the clients one after another.
+-- At the places of all clients' batches there are batches (`IsPlace`), and the entries there are those of the clients
+-- one after another.
 use Rattle.std.specs.Prelude.{Some, slice_get}
 use Rattle.std.proofs.Common.{◌≡◌, ℕ, suc, ◌+◌, ◌-◌, ◌<◌, ◌≤◌, List, [], ◌∷◌, ◌++◌, length, get_or, refl, ap, sym, ◌∙◌, subst, arith}
 use Rattle.std.proofs.lemmas.List.{map-append}
@@ -34,7 +35,7 @@ module _ (lists : List (List (AcceptedBatch Contents))) where
           first = ap (λ (k : AcceptedBatch Contents). k.batch.sequence) (sym (found at kept here));
         }
 
-    -- those from one on
+    -- the batches of a client's list from this place on
     module _ (at : ℕ) (kept : AcceptedBatch Contents) (rest : List (AcceptedBatch Contents)) (each : (k : ℕ) (x : AcceptedBatch Contents) → slice_get (kept ∷ rest) k ≡ Some x → slice_get list (at + k) ≡ Some x) where
       here : slice_get list at ≡ Some kept
       here = let same : at + 0 ≡ at = omega arith in subst (λ (n : ℕ). slice_get list n ≡ Some kept) same (each 0 kept refl)
@@ -58,7 +59,7 @@ module _ (lists : List (List (AcceptedBatch Contents))) where
     whole : (k : ℕ) (x : AcceptedBatch Contents) → slice_get list k ≡ Some x → slice_get list (0 + k) ≡ Some x
     whole k x h = let same : k ≡ 0 + k = omega arith in subst (λ (n : ℕ). slice_get list n ≡ Some x) same h
 
-  -- those of the clients from one on
+  -- the batches of the clients from this one on
   module _ (client : ℕ) (numbered : 1 ≤ client) (list : List (AcceptedBatch Contents)) (others : List (List (AcceptedBatch Contents)))
       (each : (k : ℕ) (l : List (AcceptedBatch Contents)) → slice_get (list ∷ others) k ≡ Some l → slice_get lists (client + k - 1) ≡ Some l) where
     this : slice_get lists (client - 1) ≡ Some list

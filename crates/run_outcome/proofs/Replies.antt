@@ -1,4 +1,4 @@
--- The calls that have replies, and one call more.
+-- The calls that have replies, and one more call.
 use Rattle.std.specs.List.{AllZip}
 use Rattle.std.proofs.Common.{◌≡◌, Bool, true, false, not, cond, List, [], ◌∷◌, ◌++◌, ap, sym, ◌∙◌, subst}
 use Rattle.std.proofs.lemmas.List.{append-nil}
@@ -20,7 +20,7 @@ has_reply Held c shows = ap is_quiet shows
 has_reply NotHeld c shows = ap is_quiet shows
 has_reply NoMemory c shows = ap is_quiet shows
 
--- one call more that has a reply, or has none
+-- one more call, with a reply or without one
 pub with_reply : (cs : List calls.Call) (c : calls.Call) → is_quiet c.reply ≡ false → with_replies (cs ++ c ∷ []) ≡ with_replies cs ++ c ∷ []
 with_reply cs c replied =
     filter-append (λ (d : calls.Call). not (is_quiet d.reply)) cs (c ∷ []) ∙ ap (λ (b : Bool). with_replies cs ++ cond (not b) (c ∷ []) []) replied
@@ -35,12 +35,12 @@ zip_more R [] (v ∷ ys) x y all here = absurd all
 zip_more R (u ∷ xs) [] x y all here = absurd all
 zip_more R (u ∷ xs) (v ∷ ys) x y all here = (all.0, zip_more R xs ys x y all.1 here)
 
--- what is told so far, with the reply to one call more
+-- the replies so far, with the reply to one more call
 pub told_more : (replies : List Reply) (cs : List calls.Call) (r : Reply) (c : calls.Call) → ShowsReplies replies cs → ShowsReply r c → ShowsReplies (replies ++ r ∷ []) (cs ++ c ∷ [])
 told_more replies cs r c so_far shows =
     subst (AllZip ShowsReply (replies ++ r ∷ [])) (sym (with_reply cs c (has_reply r c shows))) (zip_more ShowsReply replies (with_replies cs) r c so_far shows)
 
--- one call more that has no reply
+-- one more call that has no reply
 pub told_still : (replies : List Reply) (cs : List calls.Call) (c : calls.Call) → ShowsReplies replies cs → c.reply ≡ calls.quiet → ShowsReplies replies (cs ++ c ∷ [])
 told_still replies cs c so_far none =
     subst (AllZip ShowsReply replies) (sym (without_reply cs c (ap is_quiet none))) so_far

@@ -1,4 +1,4 @@
--- What a stable sort by a number keeps: of each number the elements, in their order.
+-- What a stable sort by a number keeps: the elements with each number, in their order.
 use Rattle.std.proofs.Common.{◌≡◌, ℕ, ◌<◌, ◌==◌, ◌&&◌, not, cond, Bool, true, false, List, [], ◌∷◌, filter, refl, ap, sym, ◌∙◌, arith, inl, inr, ◌⊎◌, nat_lt, nat_cmp, is_lt, eqb-true}
 use Rattle.std.specs.List.Sorted.{ties}
 use Rattle.std.proofs.lemmas.Bool.Decides.{nat_tests}
@@ -23,7 +23,7 @@ tie_is a b false true e h k l = rw (h, k) (let no = apart b a (inl (ltb-true b a
 tie_is a b false false true h k l = let eq = eqb-true b a l in let yes = same b a eq in let yes' = same a b (sym eq) in rw (h, k, yes, yes') refl
 tie_is a b false false false h k l = absurd (grind (arith, nat_tests))
 
--- where an element has that number
+-- the elements with a number, where an element has it
 pub of_number : {X : Type 0} (key : X → ℕ) (one : X) (k : ℕ) → key one ≡ k → (xs ys : List X)
     → filter (ties (λ (x y : X). is_lt (nat_cmp (key x) (key y))) one) xs ≡ filter (ties (λ (x y : X). is_lt (nat_cmp (key x) (key y))) one) ys
     → filter (λ x. key x == k) xs ≡ filter (λ x. key x == k) ys

@@ -1,10 +1,10 @@
--- The history's entries that the values of the code are.
+-- The entries of the model's history that the code's values represent.
 use Rattle.std.specs.Prelude.{◌+◌, ◌-◌, List}
 use Rattle.model_base.specs.Batch.{Record}
 use Rattle.model_base.specs.History as history
 use Rattle.run_outcome.specs.declared.history_entry.HistoryEntry.{HistoryEntry}
 
--- an entry whose batch has these records
+-- the model's entry, where `records` gives the records of the batch
 abbrev pub entry_of : {B : Type 0} → (HistoryEntry B → List Record) → HistoryEntry B → history.Entry
 entry_of records e = record {
   client = e.client;

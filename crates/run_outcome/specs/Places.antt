@@ -1,4 +1,4 @@
--- Where the batches of the clients' lists stand, and the entries there.
+-- Where the batches are in the clients' lists, and the entries there.
 use Rattle.std.specs.Prelude.{◌≡◌, ℕ, ◌+◌, ◌-◌, ◌<◌, ◌≤◌, List, [], ◌∷◌, ◌++◌, length, map, slice_index_or}
 use Rattle.std.specs.List.{All}
 use Rattle.model_base.specs.declared.history.Flag.TheVariants.{Log}
@@ -14,12 +14,12 @@ places_from client at [] = []
 places_from client at (kept ∷ rest) =
     record { first = kept.batch.sequence; client = client; at = at } ∷ places_from client (at + 1) rest
 
--- those of clients one after another, from that of this number on
+-- the places of clients' batches one after another, from the client with this number on
 abbrev pub places_by : ℕ → List (List (AcceptedBatch Contents)) → List BatchPlace
 places_by client [] = []
 places_by client (kept ∷ others) = places_from client 0 kept ++ places_by (client + 1) others
 
--- a batch that says nothing
+-- an empty batch, for where there is none
 abbrev pub no_batch : AcceptedBatch Contents
 no_batch = record { flag = Log; batch = empty }
 
@@ -27,7 +27,7 @@ module _ (lists : List (List (AcceptedBatch Contents))) where
   abbrev pub list_at : BatchPlace → List (AcceptedBatch Contents)
   list_at place = slice_index_or lists (place.client - 1) []
 
-  -- the batch there, or one that says nothing
+  -- the batch at a place, or `no_batch` where there is none
   abbrev pub kept_at : BatchPlace → AcceptedBatch Contents
   kept_at place = slice_index_or (list_at place) place.at no_batch
 
@@ -37,7 +37,7 @@ module _ (lists : List (List (AcceptedBatch Contents))) where
   abbrev pub entries_at : List BatchPlace → List (HistoryEntry Contents)
   entries_at order = map entry_at order
 
-  -- there is a batch, which begins with this sequence
+  -- at the place there is a batch, and its first sequence is the place's
   pub record IsPlace (place : BatchPlace) : Type 0 where
     pub numbered : 1 ≤ place.client
     pub client : place.client ≤ length lists

@@ -1,4 +1,4 @@
--- What a run of a script comes to: an outcome, and the log that it leaves.
+-- What a run of a script results in: an outcome, and the log that it leaves.
 use Rattle.std.specs.Prelude.{◌≡◌, ◌⊎◌, ℕ, ◌≤◌, ⊤, List, [], length, take, Option, Some, None, IfSome}
 use Rattle.std.specs.List.{AllByRecursion}
 use Rattle.base_devices.specs.Disk.{Disk, Told, IsImage, all_safe, rewound, cut_at}
@@ -18,7 +18,7 @@ use Rattle.log_recovery_laws.specs.Images.{MeetsNoOther}
 use Rattle.model_runs.specs.Refusals.{AreRefusedForThemselves}
 use Rattle.model_runs.specs.Crashes.{IsRun, IsSafe}
 
--- the number of a log that is opened so, if it has one
+-- the number of a log that is opened in this way, if it has one
 abbrev pub number_in : LogStart → Option ℕ
 number_in New = plain_log
 number_in (Over number) = Some number
@@ -33,7 +33,8 @@ pub record Before : Type 0 where
 abbrev pub nothing : Before
 nothing = record { map = []; last = 0; kept = [] }
 
--- a log with this number in the file recovers that, to the end of its last record that is kept
+-- the file, read as a log with this number or without one, recovers `before`, whose kept bytes reach to the end of the
+-- last record that is kept
 pub record RecoversTo (number : Option ℕ) (file : List ℕ) (before : Before) : Type 0 where
   pub recovered : Recovered
   pub is : IsRecovered number file recovered
@@ -41,17 +42,17 @@ pub record RecoversTo (number : Option ℕ) (file : List ℕ) (before : Before) 
   pub last : before.last ≡ recovered_last recovered
   pub kept : before.kept ≡ take recovered.kept file
 
--- A run whose log begins anew goes on from nothing. Else it goes on from what the log recovers, where the disk tells
--- its content.
+-- A run whose log begins anew goes on from nothing. Else it goes on from what the log recovers; that is said where the
+-- disk tells its content.
 abbrev pub GoesOnFrom : LogStart → Option Disk → Before → Type 0
 GoesOnFrom New told before = before ≡ nothing
 GoesOnFrom (Over number) told before = before ≡ nothing
 GoesOnFrom (Behind number) told before = IfSome told (λ d. RecoversTo number d.content before)
 
--- How a run was set up, what its clients were to do, the count of faults of the log's disk at its end, how its log was
--- opened, and what it went on from. Then what a crash may have left: at some moment of the run (images), and once some
--- calls of the log writer had returned, while others went on or after them (since). And by which of these calls the
--- disk came to be as it was handed back.
+-- How a run was set up, the commands of its clients, the count of faults of the log's disk at its end, how its log was
+-- opened, and what it went on from. Then what a crash may have left: at some moment of the run (`images`), and once
+-- some calls of the log writer had returned, while others went on or after them (`since`). Last, the calls by which the
+-- disk became as it was handed back (`wrote`).
 pub record Execution : Type 1 where
   pub settings : Settings
   pub script : List (List calls.Command)
@@ -62,7 +63,7 @@ pub record Execution : Type 1 where
   pub since : List GroupCall → List GroupCall → List ℕ → Type 0
   pub wrote : List GroupCall → Type 0
 
--- how the log begins that is opened so
+-- how a log begins that is opened in this way
 abbrev pub beginning_of : LogStart → Before → Beginning
 beginning_of start before = record { number = number_in start; kept = before.kept }
 
@@ -71,15 +72,15 @@ abbrev pub IsRunOf : Execution → calls.Outcome → Type 0
 IsRunOf execution o = IsRun execution.settings execution.ended execution.script
     (beginning_of execution.start execution.before) execution.wrote o
 
--- what stands on the disk as the log begins: all that was there, or what the log keeps
+-- what is on the disk as the log begins: all that was there, or what the log keeps
 abbrev pub begun_on : LogStart → Before → List ℕ → List ℕ
 begun_on New before content = content
 begun_on (Over number) before content = content
 begun_on (Behind number) before content = before.kept
 
--- A log that goes on was opened behind what its file recovers. Until it is cut a crash may leave the file as it was,
--- with what stood there behind the kept records: so of an image it is said too that it recovers a prefix of these,
--- where its recovery meets nothing that recovery of the file doesn't meet.
+-- A log that goes on was opened after what its file recovers. Until the file is cut, a crash may leave it as it was,
+-- with what was there after the kept records. So this too is said of an image: it recovers a prefix of the kept
+-- records, where its recovery meets nothing that recovery of the file doesn't meet.
 abbrev pub RecoversKept : LogStart → Before → List ℕ → (List ℕ → Type 0) → Type 0
 RecoversKept start before content images = (image : List ℕ) → images image
     → MeetsNoOther (number_in start) image content → (kept : List (List ℕ))
@@ -90,8 +91,8 @@ IfGoesOn New T = Unit {0}
 IfGoesOn (Over number) T = Unit {0}
 IfGoesOn (Behind number) T = T
 
--- A new log was found empty. It holds the logged batches of the outcome behind what it keeps, and a crash leaves a
--- prefix of them.
+-- Where the log is a new one, the disk was found empty. The log holds the logged batches of the outcome after what it
+-- keeps, and a crash leaves a prefix of them, unless a checksum matches by chance.
 pub record LeavesSafeLog (execution : Execution) (o : calls.Outcome) (run : IsRunOf execution o)
     (opened ended : Disk) : Type 0 where
   pub found_empty : execution.start ≡ New → opened.content ≡ []
@@ -100,7 +101,7 @@ pub record LeavesSafeLog (execution : Execution) (o : calls.Outcome) (run : IsRu
   pub went_on : IfGoesOn execution.start
       (RecoversKept execution.start execution.before opened.content execution.images)
 
--- the disk as the opening of the log leaves it, or would
+-- the disk as the opening of the log leaves it, or would leave it
 abbrev pub IsOpened : LogStart → Before → Disk → Disk → Type 0
 IsOpened New before old new = new ≡ old
 IsOpened (Over number) before old new = new ≡ rewound old
@@ -112,8 +113,8 @@ abbrev pub IsAsFound : LogStart → Option Disk → Option Disk → Type 0
 IsAsFound start old new =
     (new ≡ old) ⊎ ((before : Before) × GoesOnFrom start old before × Told old new (IsOpened start before))
 
--- The values show the outcome of a run, and the log is left so where the disk tells it. Where the log has no fault the
--- disk has counted none, and commits were refused for themselves alone.
+-- The values show the outcome of a run, and the log is that of the outcome, where the disk tells its content. Where the
+-- log has no fault, the disk has counted none in the run, and commits were refused only for causes of their own.
 pub record HasRun (execution : Execution) (old new : Option Disk) (shown : Outcome Pairs) : Type 0 where
   pub outcome : calls.Outcome
   pub shows : ShowsOutcome shown outcome

@@ -1,5 +1,5 @@
--- The replies, the entries and the outcome that the values of the code show. What no value of a reply holds is the
--- records of an accepted batch.
+-- The replies, the entries and the outcome of the model that the code's values show. The records of an accepted batch
+-- are in no value of a reply.
 use Rattle.std.specs.Prelude.{◌≡◌, Bool, true, false, not, List, filter}
 use Rattle.std.specs.List.{AllZip, list_any}
 use Rattle.model_base.specs.Batch.{Record}
@@ -23,7 +23,7 @@ lacks_memory Done = false
 lacks_memory Held = false
 lacks_memory NotHeld = false
 
--- a reply, whatever command it is to; what adds to a batch or empties it has none
+-- the value shows the call's reply, whatever its command; a command that adds to a batch or empties it has none
 abbrev pub ShowsReply : Reply → calls.Call → Type 0
 ShowsReply (Accepted run) c = (records : List Record) × (c.reply ≡ calls.accepted run.first run.last records)
 ShowsReply (Refused why) c = c.reply ≡ calls.refused why
@@ -39,7 +39,7 @@ abbrev pub is_quiet : calls.Reply → Bool
 is_quiet calls.quiet = true
 is_quiet other = false
 
--- of a client's calls those that have a reply
+-- those of a client's calls that have a reply
 abbrev pub with_replies : List calls.Call → List calls.Call
 with_replies cs = filter (λ (c : calls.Call). not (is_quiet c.reply)) cs
 

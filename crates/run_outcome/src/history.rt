@@ -22,7 +22,7 @@ pub struct History {
 
 #[derive(Drop)]
 enum Batches {
-    /// Those of a client that is alone stand in order, and their history takes no memory of its own.
+    /// The batches of a single client are in order, and their history takes no memory of its own.
     OfOne(BatchList),
     OfAll(Merged),
 }
@@ -40,7 +40,7 @@ impl Model for History {
 }
 
 impl History {
-    /// That of a client that is alone: its batches as they stand.
+    /// The history of a single client: its batches in the order that they have.
     pub fn of_one(list: BatchList) -> History
         ensures { result ≡ entries_of 1 list }
     {
@@ -49,11 +49,12 @@ impl History {
         }
     }
 
-    /// That of all clients, the first of which has the number 1: their batches in order of their first sequences.
+    /// The history of all clients, the first of which has the number 1: their batches in order of their first
+    /// sequences.
     pub fn of_all(alloc: Global, lists: Vec<BatchList>) -> Result<History, NoMemory>
         requires few { length lists.items < 2 ^ 32 }
         ensures rising { IfOk result (λ history. IsNonDecreasingBy (λ e. e.run.first) history) }
-        // those of one first sequence stay as they were
+        // entries with the same first sequence stay in the order that they had
         ensures kept { IfOk result (λ history. (first : ℕ) → filter (λ e. e.run.first == first) history
             ≡ filter (λ e. e.run.first == first) (entries_of_all lists.items)) }
     {

@@ -1,19 +1,20 @@
-//! What a run of a script's clients comes to, as values: the replies that each is told, the one history of all batches,
-//! and what the log then holds; and what such values show.
+//! The outcome of a run of a script's clients, as values: the replies that each client gets, the one history of all
+//! batches, and what the log then holds. The crate also says what such values show.
 //!
-//! - [`Reply`] is what a client is told of a call. A call that only adds to a batch, or empties it, has none.
-//! - [`History`] puts the accepted batches of all clients into the order of their sequences, and leaves them where they
-//!   are. A client that is alone has its batches in order already. Those of several are found by their places
-//!   (`places`), which are sorted by first sequences (`merged`): a place takes sixteen bytes.
-//!   [`HistoryEntry`] is one of them with its run.
+//! - [`Reply`] is what a client gets as the reply to a call. A call that only adds to a batch, or empties it, has
+//!   none.
+//! - [`History`] puts the accepted batches of all clients into the order of their sequences, and leaves them where
+//!   they are. A single client has its batches in order already. Those of several clients are found by their places
+//!   (`places`), which are sorted by first sequences (`merged`): a place takes sixteen bytes. [`HistoryEntry`] is one
+//!   accepted batch with its run.
 //! - [`Outcome`] is all of it, with the map and the log's length.
 //! - [`LogStart`] is how the log of a run is opened.
 //!
 //! - `specs/Shows`: the replies, the entries and the outcome of the model that values show.
-//! - `specs/Histories`: the entries that the clients' lists of accepted batches are.
-//! - `specs/Places`: where these batches stand in the lists.
-//! - `specs/Running`: what a run of a script comes to.
-//! - `proofs/Replies`, `proofs/Entries`: what one call more, or one batch more, makes of them, for the crates above.
+//! - `specs/Histories`: the history's entries of the clients' lists of accepted batches.
+//! - `specs/Places`: where these batches are in the lists.
+//! - `specs/Running`: what a run of a script results in.
+//! - `proofs/Replies`, `proofs/Entries`: what one more call, or one more batch, changes in them, for higher crates.
 #![tactic(auto)]
 
 mod entry;

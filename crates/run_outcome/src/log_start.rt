@@ -5,8 +5,8 @@
 pub enum LogStart {
     /// A plain log, on an empty disk.
     New,
-    /// A log with this number, over what stands on the disk.
+    /// A log with this number, over what is on the disk.
     Over { number: u32 },
-    /// A log with a number or a plain one, behind what the disk recovers as such a log.
+    /// A log with a number or a plain one, which goes on after what the disk recovers as such a log.
     Behind { number: Option<u32> },
 }

@@ -14,7 +14,7 @@ use std::marker::Model;
 
 /// The batches of all clients in order of their first sequences. Contracts see the list of their entries.
 ///
-/// What is sorted is where they stand: the batches stay in their clients' lists.
+/// Only the batches' places are sorted: the batches stay in their clients' lists.
 #[derive(Drop)]
 pub struct Merged {
     lists: Vec<BatchList>,
@@ -36,11 +36,11 @@ impl Model for Merged {
 }
 
 impl Merged {
-    /// Of all clients' lists, the first of which is that of the client with the number 1.
+    /// Merges all clients' lists, the first of which is that of the client with the number 1.
     pub fn of_lists(alloc: Global, lists: Vec<BatchList>) -> Result<Merged, NoMemory>
         requires { length lists.items < 2 ^ 32 }
         ensures rising { IfOk result (λ merged. IsNonDecreasingBy (λ e. e.run.first) merged) }
-        // those of one first sequence stay as they were
+        // entries with the same first sequence stay in the order that they had
         ensures kept { IfOk result (λ merged. (first : ℕ) → filter (λ e. e.run.first == first) merged
             ≡ filter (λ e. e.run.first == first) (entries_of_all lists.items)) }
     {

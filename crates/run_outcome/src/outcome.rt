@@ -1,4 +1,4 @@
-//! What a run comes to: each client's replies, the one history of batches, and what the log then holds.
+//! The outcome of a run: each client's replies, the one history of batches, and what the log then holds.
 
 ghost use Rattle.std.specs.Prelude.{◌≡◌};
 ghost use Rattle.std.specs.List.{list_any};
@@ -6,7 +6,7 @@ ghost use Rattle.run_outcome.specs.Shows.{lacks_memory};
 
 use crate::{History, Reply};
 
-/// The outcome of a run. `M` is what holds the map; contracts see it as a list of keys with their values.
+/// The outcome of a run. `M` holds the map; contracts see it as a list of keys with their values.
 #[derive(Drop)]
 pub struct Outcome<M> {
     /// The replies of each client, in order of the clients' numbers.
@@ -16,7 +16,8 @@ pub struct Outcome<M> {
     /// The published sequence, and the map there.
     pub last: u64,
     pub state: M,
-    /// The bytes that the log kept and those of the groups that were written whole, and the count of the log's fault.
+    /// The log's length: the bytes that it kept, and those of the groups that were written whole. Then the count of
+    /// the log's fault, if it has one.
     pub log_len: u64,
     pub fault: Option<u64>,
 }

@@ -1,4 +1,4 @@
-//! Where the batches of several clients stand.
+//! Where the batches of several clients are in their lists.
 
 ghost use Rattle.std.specs.Prelude.{◌≡◌, ◌<◌, ◌-◌, ◌^◌, ◌++◌, min, length, sum_by, IfOk, OnOk};
 ghost use Rattle.run_outcome.specs.Places.{places_from, places_by};
@@ -7,17 +7,18 @@ use model_base::NoMemory;
 use run_batches::BatchList;
 use std::alloc::Global;
 
-/// Where a batch stands, with the first sequence of its run. It takes sixteen bytes.
+/// Where a batch is, with the first sequence of its run. It takes sixteen bytes.
 #[derive(Drop)]
 pub struct BatchPlace {
     pub first: u64,
-    /// In whose list. Clients are numbered from 1.
+    /// In which client's list. Clients are numbered from 1.
     pub client: u32,
-    /// The how many-th there, from 0 on.
+    /// The batch's index in that list, from 0 on.
     pub at: u32,
 }
 
-/// The places of all clients' batches, client by client. There is no memory for more than 2^32 - 1 batches of a client.
+/// The places of all clients' batches, client by client. There is no memory for more than 2^32 - 1 batches of a
+/// client.
 pub fn places_of(alloc: Global, lists: &[BatchList]) -> Result<Vec<BatchPlace>, NoMemory>
     requires { length lists.now < 2 ^ 32 }
     ensures { IfOk result (λ places. places.items ≡ places_by 1 lists.now) }
@@ -30,7 +31,7 @@ pub fn places_of(alloc: Global, lists: &[BatchList]) -> Result<Vec<BatchPlace>, 
     Ok(places)
 }
 
-/// How many batches there are, or as many as a `usize` counts.
+/// How many batches there are, or the greatest `usize` where they are more.
 fn count_of(lists: &[BatchList]) -> usize
     ensures { result ≡ min (sum_by length lists.now) (2 ^ 64 - 1) }
 {
@@ -41,7 +42,7 @@ fn count_of(lists: &[BatchList]) -> usize
     count
 }
 
-/// Puts the places of a client's batches behind the others.
+/// Appends the places of a client's batches.
 fn add_places(places: &mut Vec<BatchPlace>, client: u32, list: &BatchList) -> Result<(), NoMemory>
     ensures { OnOk result (places.new.items ≡ places.old.items ++ places_from client 0 list.now) }
 {

@@ -1,19 +1,19 @@
-//! What a client is told.
+//! What a client gets as replies.
 
 use base_bytes::{Bytes, FoundList, PairList};
 use log_batch::Run;
 use model_base::Refusal;
 
-/// The reply to a command. What adds to a batch or empties it has none.
+/// The reply to a command. A command that adds to a batch or empties it has none.
 #[derive(Drop)]
 pub enum Reply {
     /// The batch was written under these sequences.
     Accepted(Run),
     /// The batch was not written.
     Refused(Refusal),
-    /// What was read at which sequence.
+    /// What was read, and at which sequence.
     Found { at: u64, value: Option<Bytes> },
-    /// What was read of several keys at one sequence, in the order in which they were asked.
+    /// What was read of several keys at one sequence, in the order in which the keys were asked for.
     FoundEach { at: u64, values: FoundList },
     /// The keys of a range with their values at a sequence, in the byte order of the keys.
     Rows { at: u64, rows: PairList },

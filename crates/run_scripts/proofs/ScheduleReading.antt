@@ -14,7 +14,7 @@ use Rattle.run_scripts.specs.Schedules.{line_added, event_added, IsScheduleFault
 use Rattle.run_scripts.proofs.ScriptParts.{slice_split-cons}
 use Rattle.run_scripts.specs.ReplayLanguage.{replay_grammar, event_words}
 
--- a word with more behind it names no client
+-- a word with more after it names no client
 pub client_alone-more : (clients : ℕ) (rest : List ℕ) (word : List ℕ) (behind : Option (Bor (List ℕ))) → is_some behind ≡ true → slice_split (λ b. eqb b 32) rest ≡ word ∷ parts_of 32 (option_copied behind) → None ≡ client_alone clients (slice_split (λ b. eqb b 32) rest)
 client_alone-more clients rest word None some parts = cc
 client_alone-more clients rest word (Some text) some parts =
@@ -28,7 +28,7 @@ more_words line word (Some text) some parts =
     let more = slice_split-cons (λ b. eqb b 32) text.now in
     rw (parts, more.2) (ne_eqb _ 1 (omega arith))
 
--- an event more is a line more
+-- one more event is one more line
 pub with_event_added : (d : Draft) (n : ℕ) (events now : List Event) (l : List ℕ) (r : Result (Unit {0}) LineError) → is_passed_over l ≡ false → d.events ≡ Some events → n ≡ length d.script → Reads {A = Unit {0}} {B = List Event} (λ _. now) (event_added n events l) r
     → Reads {A = Unit {0}} {B = Draft} (λ _. record { script = d.script; events = Some now }) (line_added d l) r
 with_event_added d n events now l r said in_schedule clients reads =
@@ -42,7 +42,7 @@ with_event_added d n events now l r said in_schedule clients reads =
     of_event (Err k) (Err (error.Fault kind)) is = ap (λ (es : Read (List Event)). es >>= λ s. Ok (record { script = d.script; events = Some s })) is
     of_event event (Err error.NoMemory) is = tt
 
--- a line behind others
+-- a line after others
 pub after_line-is : (d : Draft) (n : ℕ) (l : List ℕ) → after_line replay_grammar event_words (Ok d) (n, l) ≡ at_line n (line_added d l)
 after_line-is d n l =
     elim (is_passed_over l) as (λ v. cond v (Ok d) (at_line n (model.line_added replay_grammar event_words d.script d.events l)) ≡ at_line n (cond v (Ok d) (model.line_added replay_grammar event_words d.script d.events l))) [ true ↦ refl | false ↦ refl ]
@@ -57,7 +57,7 @@ after_line-empty : (g : Grammar) (words : List model.EventWord) (r : Result Draf
 after_line-empty g words (Ok d) n = refl
 after_line-empty g words (Err fault) n = refl
 
--- what stands behind the last line feed is passed over if it is empty
+-- what comes after the last line feed is passed over if it is empty
 pub fold_after_line-without_empty_end : (g : Grammar) (words : List model.EventWord) (r : Result Draft Fault) (n : ℕ) (ls : List (List ℕ)) → fold (after_line g words) r (enumerate_from n (without_empty_end ls)) ≡ fold (after_line g words) r (enumerate_from n ls)
 fold_after_line-without_empty_end g words r n [] = refl
 fold_after_line-without_empty_end g words r n ([] ∷ []) = after_line-empty g words r n

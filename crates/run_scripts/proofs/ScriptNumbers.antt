@@ -3,11 +3,11 @@ use Rattle.std.proofs.Common.{◌≡◌, ℕ, ◌-◌, ◌+◌, ◌*◌, ◌^◌
 use Rattle.std.proofs.lemmas.Bool.{cond-true, cond-false, lt-ltb, le-ltb}
 use Rattle.std.proofs.lemmas.List.{at_drop_more, at_drop_all}
 
--- a digit behind those so far
+-- one more digit, after those so far
 abbrev pub more : ℕ → ℕ → ℕ
 more n d = 10 * n + (d - 48)
 
--- a value never falls as digits follow
+-- a value never gets smaller when more digits follow
 fold_more-ge : (n : ℕ) (ds : List ℕ) → n ≤ fold more n ds
 fold_more-ge n [] = omega arith
 fold_more-ge n (d ∷ ds) = let h = fold_more-ge (more n d) ds in omega arith
@@ -18,7 +18,7 @@ value_of_all n value i ds fits past is =
     let same = sym (at_drop_all (fold more n) ds i past) ∙ is in
     rw (← same) (sym (cond-true _ _ _ (lt-ltb n (2 ^ 64) fits)))
 
--- a value that doesn't fit with some of the digits doesn't with all
+-- a value that doesn't fit with some of the digits doesn't fit with all of them
 pub value_too_large : (n value i : ℕ) (ds : List ℕ) → i < length ds → 2 ^ 64 ≤ 10 * n + (get_or ds i 0 - 48) → fold more n (drop i ds) ≡ value → None ≡ cond (ltb value (2 ^ 64)) (Some value) None
 value_too_large n value i ds inside large is =
     let next = at_drop_more (fold more n) ds i 0 inside in

@@ -8,19 +8,19 @@ use Rattle.run_scripts.specs.declared.lines.LineError.TheVariants as error
 use Rattle.run_scripts.specs.Scripts.{IsFaultOf}
 use Rattle.run_scripts.specs.ScriptLines.{line_added, Reads, error_at}
 
--- a command behind those of the last client
+-- one more command, after those of the last client
 add_to_last-set : (y : List Command) (ys : List (List Command)) (x d : List Command) (c : Command) → x ≡ get_or (y ∷ ys) (length ys) d ++ c ∷ [] → add_to_last (y ∷ ys) c ≡ set (y ∷ ys) (length ys) x
 add_to_last-set y [] x d c is = ap (λ (cs : List Command). cs ∷ []) (sym is)
 add_to_last-set y (z ∷ zs) x d c is = ap (λ (rest : List (List Command)). y ∷ rest) (add_to_last-set z zs x d c is)
 
--- the same at the end of a list that is known by its length
+-- one more command of the last client, where the list's length is known
 pub with_command-set : (xs : List (List Command)) (n : ℕ) (x d : List Command) (c : Command) → n ≡ length xs → 0 < n → x ≡ get_or xs (n - 1) d ++ c ∷ [] → with_command xs c ≡ Ok (set xs (n - 1) x)
 with_command-set [] n x d c len some is = absurd (omega arith)
 with_command-set (y ∷ ys) n x d c len some is =
     let last : n - 1 ≡ length ys = omega arith in
     rw last (ap Ok (add_to_last-set y ys x d c (rw last at is)))
 
--- a line behind others
+-- a line after others
 pub after_line-is : (g : Grammar) (script : Script) (n : ℕ) (l : List ℕ) → after_line g (Ok script) (n, l) ≡ at_line n (line_added g script l)
 after_line-is g script n l =
     elim (is_passed_over l) as (λ v. cond v (Ok script) (at_line n (line_of g.forms l >>= with_line g.client_limit script)) ≡ at_line n (cond v (Ok script) (line_of g.forms l >>= with_line g.client_limit script))) [ true ↦ refl | false ↦ refl ]
@@ -35,7 +35,7 @@ after_line-empty : (g : Grammar) (r : Result Script Fault) (n : ℕ) → r ≡ a
 after_line-empty g (Ok script) n = refl
 after_line-empty g (Err fault) n = refl
 
--- what stands behind the last line feed is passed over if it is empty
+-- what comes after the last line feed is passed over if it is empty
 pub fold_after_line-without_empty_end : (g : Grammar) (r : Result Script Fault) (n : ℕ) (ls : List (List ℕ)) → fold (after_line g) r (enumerate_from n (without_empty_end ls)) ≡ fold (after_line g) r (enumerate_from n ls)
 fold_after_line-without_empty_end g r n [] = refl
 fold_after_line-without_empty_end g r n ([] ∷ []) = after_line-empty g r n

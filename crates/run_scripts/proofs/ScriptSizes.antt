@@ -1,4 +1,4 @@
--- All that a client adds fits one batch, since each record is shorter than its line.
+-- All that a client adds fits into one batch, since each record is shorter than its line.
 use Rattle.std.proofs.Common.{suc, ◌/◌, ◌%◌, ◌*◌, Bool, true, false, cond, nat_lt, ◌≡◌, ℕ, ◌+◌, ◌<◌, ◌≤◌, List, [], ◌∷◌, ◌++◌, length, sum_by, ap, arith, length-append}
 use Rattle.std.specs.List.{AllByRecursion}
 use Rattle.std.proofs.lemmas.Bool.{cond-true, lt-ltb}
@@ -13,7 +13,7 @@ use Rattle.run_scripts.specs.declared.language.Language.{Language}
 use Rattle.run_scripts.specs.Languages.{IsCommandOf, HasCommandsOf}
 use Rattle.run_scripts.specs.Scripts.{additions_of, FitsBatches, line_len, lines_len, script_len, IsShort}
 
--- a length of two bytes at most is spelled in two
+-- the length of a short word is spelled in at most two bytes
 one_byte : (k n : ℕ) → n < 128 → length (varint_within (suc k) n) ≡ 1
 unfolding varint_within
 one_byte k n small = ap length (cond-true (nat_lt n 128) (n ∷ []) ((128 + n % 128) ∷ varint_within k (n / 128)) (lt-ltb n 128 small))
@@ -26,7 +26,7 @@ two_bytes n short = by_size (nat_lt n 128) (one_byte 3 (n / 128) (omega arith))
     by_size true one = omega arith
     by_size false one = omega arith
 
--- a word behind its length
+-- a word after its length
 word_len : (w : List ℕ) → IsShort w → (length (varstring w) ≤ length w + 2) × (length w ≤ 1024)
 word_len w short = (omega (arith, two_bytes (length w) short.1, length-append (varint (length w)) w), short.1)
 
@@ -37,7 +37,7 @@ one_len tag w = omega (arith, ap length (append-nil (varstring w)))
 two_len : (tag : ℕ) (w v : List ℕ) → length (tag ∷ (varstring w ++ (varstring v ++ []))) ≡ 1 + length (varstring w) + length (varstring v)
 two_len tag w v = omega (arith, length-append (varstring w) (varstring v ++ []), ap length (append-nil (varstring v)))
 
--- how long records are together, at lines of this length
+-- how long records are together, where their lines have this length
 record IsWithin (rs : List Record) (len : ℕ) : Type 0 where
   lines : length (body rs) + length rs ≤ len
   words : length (body rs) ≤ 2053 * length rs
@@ -77,7 +77,7 @@ within language (unstop ∷ cs) short = without_record unstop cs _ (within langu
 within language (slow rate ∷ cs) short = without_record (slow rate) cs _ (within language cs short.1)
 within language (unslow ∷ cs) short = without_record unslow cs _ (within language cs short.1)
 
--- Many records are shorter than their lines by as much as a header has; few are short.
+-- Many records together are shorter than their lines by more than a batch's header; few records are short anyway.
 client_fits : (language : Language) (cs : List Command) → AllByRecursion (IsCommandOf language) cs → lines_len cs ≤ 16777217 → size_of_batch (additions_of cs) ≤ MAX_SIZE
 client_fits language cs short lines =
     let rs = additions_of cs in
@@ -91,6 +91,6 @@ clients_fit language (cs ∷ rest) short lines =
     let sum = sum_by-cons lines_len cs rest in
     (client_fits language cs short.0 (omega (arith, lines, sum)), clients_fit language rest short.1 (omega (arith, lines, sum)))
 
--- what is read of a text of 16 MiB
+-- what is read from a text of 16 MiB
 pub fits_batches : (language : Language) (script : Script) → HasCommandsOf language script → script_len script ≤ 16777217 → FitsBatches script
 fits_batches language script short lines = clients_fit language script.clients.items short lines

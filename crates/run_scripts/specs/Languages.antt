@@ -9,20 +9,20 @@ use Rattle.run_scripts.specs.declared.language.Language.TheVariants.{Replay, Who
 use Rattle.run_scripts.specs.declared.script.Script.{Script}
 use Rattle.run_scripts.specs.Scripts.{commands_of, IsClientsCommand}
 
--- whether the write controller's tokens are among its lines
+-- whether a language has the lines of the write controller's tokens
 abbrev pub has_tokens : Language → Bool
 has_tokens Replay = false
 has_tokens Whole = true
 
--- the forms of its lines beside those that every language has
+-- the forms of a language's lines in addition to those that every language has
 abbrev pub more_forms : Language → List model.CommandForm
 more_forms language = if has_tokens language then model.token_forms else []
 
--- up to sixty-four clients have these lines
+-- the grammar of a language: its lines, for up to sixty-four clients
 abbrev pub grammar_of : Language → Grammar
 grammar_of language = record whole_grammar { forms = model.client_forms ++ more_forms language }
 
--- what a line of a language may say: a command that it has, its words short
+-- what a line of a language may say: a command that the language has, with short words
 abbrev pub IsCommandOf : Language → Command → Type 0
 IsCommandOf language stop = has_tokens language ≡ true
 IsCommandOf language unstop = has_tokens language ≡ true

@@ -8,7 +8,7 @@ use Rattle.model_core.specs.declared.event.Event.TheVariants.{Boundary, Second, 
 abbrev pub replay_grammar : Grammar
 replay_grammar = record whole_grammar { forms = client_forms }
 
--- all events but the write controller's have a word; these three may come in a pipelined path alone
+-- all events but the write controller's have a word; the three that are named here may come only in a pipelined path
 abbrev pub event_words : List EventWord
 event_words =
     first_event_words ++ (codes "boundary", Boundary) ∷ (codes "second", Second) ∷ (codes "next", Next) ∷ []

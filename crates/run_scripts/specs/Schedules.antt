@@ -20,7 +20,7 @@ draft_of d = record { script = commands_of d.script; events = events_of d.events
 abbrev pub schedule_of : Schedule → model.Schedule
 schedule_of s = record { script = commands_of s.script; events = s.events.items }
 
--- the event that a word says of a client, if it is one of these words
+-- the event of a client that a word names, if it is one of these words
 abbrev pub event_named : List model.EventWord → List ℕ → ℕ → Option Event
 event_named words w client = option_map (λ x. x.1 client) (find (λ x. bytes_eq w x.0) words)
 
@@ -33,7 +33,7 @@ line_added d l = if is_passed_over l then Ok d
 abbrev pub event_added : ℕ → List Event → List ℕ → Read (List Event)
 event_added clients events l = model.event_of clients event_words l >>= λ event. Ok (events ++ event ∷ [])
 
--- A fault and its line are those that are given. Want of memory says nothing of the text.
+-- The fault and its line are those in `given`. That there was no memory says nothing of the text.
 abbrev pub IsScheduleFaultOf : {A : Type 0} → Result A Fault → ScriptError → Type 0
 IsScheduleFaultOf given (script_error.Fault line kind) = given ≡ Err (record { line = line; kind = kind })
 IsScheduleFaultOf given script_error.NoMemory = Unit {0}

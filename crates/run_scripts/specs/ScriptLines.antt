@@ -23,7 +23,7 @@ line_said (line.Section n) = section n
 line_said (line.Command c) = command (command_of c)
 line_said (line.Many keys) = command (many keys)
 
--- how long the line is if it adds a record, with its line feed
+-- the length of the line with its line feed, if it adds a record, and 0 if it doesn't
 abbrev pub said_len : Line → ℕ
 said_len (line.Section n) = 0
 said_len (line.Command c) = line_len (command_of c)
@@ -35,21 +35,21 @@ MayBeSaid language (line.Section n) = Unit {0}
 MayBeSaid language (line.Command c) = IsCommandOf language (command_of c)
 MayBeSaid language (line.Many keys) = IsCommandOf language (many keys)
 
--- What is read is what the definition gives, and so is a fault. Want of memory says nothing of the text.
+-- What is read is what the definition gives, and so is a fault. That there was no memory says nothing of the text.
 abbrev pub Reads : {A B : Type 0} → (A → B) → model.Read B → Result A LineError → Type 0
 Reads view given (Ok x) = given ≡ Ok (view x)
 Reads view given (Err (Fault kind)) = given ≡ Err kind
 Reads view given (Err NoMemory) = Unit {0}
 
--- all these parts, if each is a word
+-- all these parts, if each of them is a word
 abbrev pub all_words : List (List ℕ) → model.Read (List (List ℕ))
 all_words ws = if list_all model.is_word ws then Ok ws else Err Form
 
--- the number that one word is, where there is no other
+-- the number that the one word spells, where there is no other word
 abbrev pub number_alone : List (List ℕ) → model.Read ℕ
 number_alone ws = model.or_form (alone ws) >>= λ w. model.or_form (model.number_of w)
 
--- what is read after the first word of a form
+-- what `rest` reads of the words after the first word of a form; where one of them is no word, the form is wrong
 abbrev pub behind_word : (List (List ℕ) → model.Read model.Line) → List (List ℕ) → model.Read model.Line
 behind_word rest ws = if list_all model.is_word ws then rest ws else Err Form
 
@@ -57,11 +57,11 @@ behind_word rest ws = if list_all model.is_word ws then rest ws else Err Form
 abbrev pub said_added : Grammar → model.Script → List ℕ → model.Read model.Script
 said_added g script l = line_of g.forms l >>= with_line g.client_limit script
 
--- the same of any line
+-- a script in this grammar, and one more line of any kind
 abbrev pub line_added : Grammar → model.Script → List ℕ → model.Read model.Script
 line_added g script l = if model.is_passed_over l then Ok script else said_added g script l
 
--- the error in a script that is one in its line of this number
+-- the script's error, where this is the error of its line with this number
 abbrev pub error_at : ℕ → LineError → ScriptError
 error_at n (Fault kind) = script_error.Fault n kind
 error_at n NoMemory = script_error.NoMemory

@@ -1,14 +1,14 @@
--- The parts of a text round a separator.
+-- The parts of a text between separators.
 use Rattle.std.specs.Prelude.{ℕ, ◌+◌, ◌&&◌, ◌==◌, List, [], ◌∷◌, length, Option, Some, None, if◌then◌else◌}
 use Rattle.std.specs.List.{slice_split}
 use Rattle.model_base.specs.Script.{is_word}
 
--- the parts of what stands after a separator, where there is one
+-- the parts of what comes after a separator, where there is one
 abbrev pub parts_of : ℕ → Option (List ℕ) → List (List ℕ)
 parts_of separator None = []
 parts_of separator (Some text) = slice_split (λ b. b == separator) text
 
--- how many bytes that are, with the separator
+-- how many bytes come after a separator, with the separator
 abbrev pub len_behind : Option (List ℕ) → ℕ
 len_behind None = 0
 len_behind (Some text) = length text + 1

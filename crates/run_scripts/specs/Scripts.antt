@@ -12,17 +12,17 @@ use Rattle.run_scripts.specs.declared.script.ScriptError.TheVariants.{Fault, NoM
 abbrev pub commands_of : Script → List (List Command)
 commands_of script = script.clients.items
 
--- all records that commands add, clears and commits aside
+-- all records that commands add, whatever clears and commits there are
 abbrev pub additions_of : List Command → List Record
 additions_of [] = []
 additions_of (add r ∷ cs) = r ∷ additions_of cs
 additions_of (other ∷ cs) = additions_of cs
 
--- all that a client adds fits one batch of 16 MiB, even if no commit is accepted
+-- all that a client adds fits into one batch of 16 MiB, even if no commit is accepted
 abbrev pub FitsBatches : Script → Type 0
 FitsBatches script = AllByRecursion (λ cs. size_of_batch (additions_of cs) ≤ MAX_SIZE) (commands_of script)
 
--- how long a line is that adds a record, with its line feed; other lines aside
+-- the length of a line that adds a record, with its line feed; 0 for other lines
 abbrev pub line_len : Command → ℕ
 line_len (add (value key v)) = length key + length v + 6
 line_len (add (deletion key)) = length key + 5
@@ -38,7 +38,7 @@ line_len unstop = 0
 line_len (slow rate) = 0
 line_len unslow = 0
 
--- a word of a script has at least one byte, and no more than these
+-- a word of a script has at least one byte, and at most 1024
 abbrev pub IsShort : List ℕ → Type 0
 IsShort word = (1 ≤ length word) × (length word ≤ 1024)
 
@@ -49,7 +49,7 @@ AddsShort (deletion key) = IsShort key
 AddsShort (single_deletion key) = IsShort key
 AddsShort (log_data text) = IsShort text
 
--- a command that writes or commits, or reads one key, its words short
+-- a command that adds to the batch, empties it or commits it, or reads one key, with short words
 abbrev pub IsScriptCommand : Command → Type 0
 IsScriptCommand (add r) = AddsShort r
 IsScriptCommand clear = Unit {0}
@@ -62,29 +62,29 @@ IsScriptCommand unstop = ⊥
 IsScriptCommand (slow rate) = ⊥
 IsScriptCommand unslow = ⊥
 
--- or one that reads several keys
+-- such a command, or one that reads several keys or a range of keys, with short words
 abbrev pub IsClientsCommand : Command → Type 0
 IsClientsCommand (many keys) = AllByRecursion IsShort keys
 IsClientsCommand (scan lo hi) = IsShort lo × IsShort hi
 IsClientsCommand other = IsScriptCommand other
 
--- how long the lines of a client are that add records
+-- the length of all lines of a client that add records
 abbrev pub lines_len : List Command → ℕ
 lines_len cs = sum_by line_len cs
 
--- how long those of all clients are
+-- the length of all such lines of all clients
 abbrev pub script_len : Script → ℕ
 script_len script = sum_by lines_len (commands_of script)
 
--- each command is of the first kind
+-- each command is one of `IsScriptCommand`
 abbrev pub HasScriptCommands : Script → Type 0
 HasScriptCommands script = AllByRecursion (AllByRecursion IsScriptCommand) (commands_of script)
 
--- each command is of one of the two
+-- each command is one of `IsClientsCommand`
 abbrev pub HasClientsCommands : Script → Type 0
 HasClientsCommands script = AllByRecursion (AllByRecursion IsClientsCommand) (commands_of script)
 
--- A fault and its line are those that are given. Want of memory says nothing of the text.
+-- The fault and its line are those in `given`. That there was no memory says nothing of the text.
 abbrev pub IsFaultOf : Result model.Script model.Fault → ScriptError → Type 0
 IsFaultOf given (Fault line kind) = given ≡ Err (record { line = line; kind = kind })
 IsFaultOf given NoMemory = Unit {0}

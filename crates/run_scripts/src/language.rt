@@ -6,14 +6,14 @@ ghost use Rattle.run_scripts.specs.Languages as languages;
 /// What a script may say. `grammar_of` has its grammar.
 #[derive(Clone, Copy)]
 pub enum Language {
-    /// That of a script with a schedule.
+    /// The language of a script with a schedule.
     Replay,
-    /// Every line.
+    /// The language that has every line.
     Whole,
 }
 
 impl Language {
-    /// Whether it has the write controller's tokens, `stop`, `unstop`, `slow` and `unslow`.
+    /// Whether the language has the lines of the write controller's tokens, `stop`, `unstop`, `slow` and `unslow`.
     pub fn has_tokens(self) -> bool
         ensures { result ≡ languages.has_tokens self }
     {

@@ -26,7 +26,7 @@ pub enum Line<'a> {
     Section(u64),
     /// A command of the client whose section it is. Its words are parts of the line.
     Command(CommandView<'a>),
-    /// The reading of several keys, which are put together in words of their own.
+    /// A read of several keys, which are gathered in a list of their own.
     Many(WordList),
 }
 
@@ -38,10 +38,10 @@ pub enum LineError {
 }
 
 impl LineError {
-    /// A command in another form.
+    /// A command with other words after it than it takes.
     pub const FORM: LineError = LineError::Fault(ScriptFault::Form);
 
-    /// The error of the script in which it is the line of this number.
+    /// The script's error, where this is the error of its line with this number.
     pub fn at_line(self, line: u64) -> ScriptError
         ensures { result ≡ error_at line self }
     {
@@ -72,7 +72,7 @@ impl<T: Drop> From<AllocFailed<T>> for LineError {
     }
 }
 
-/// Whether a line is empty or a comment, and nothing is read in it.
+/// Whether a line is empty or a comment, so that nothing is read from it.
 pub fn is_passed_over(line: &[u8]) -> bool
     ensures { result ≡ model.is_passed_over line.now }
 {
@@ -92,7 +92,7 @@ pub fn read_line(alloc: Global, language: Language, line: &[u8]) -> Result<Line<
     read_words(alloc, language, word, rest)
 }
 
-/// Reads a line by its first word and what stands behind it.
+/// Reads a line, given its first word and what comes after it.
 fn read_words<'a>(
     alloc: Global,
     language: Language,
@@ -119,7 +119,7 @@ fn read_words<'a>(
     read_second(alloc, language, word, rest)
 }
 
-/// Reads a line of the other words that every language has.
+/// Reads a line with any other first word than those that `read_words` knows.
 fn read_second<'a>(
     alloc: Global,
     language: Language,
@@ -146,7 +146,7 @@ fn read_second<'a>(
     read_other(alloc, language, word, rest)
 }
 
-/// Reads a line of several keys, or one that not every language has.
+/// Reads a line that reads several keys, or one that not every language has.
 fn read_other<'a>(
     alloc: Global,
     language: Language,
@@ -192,14 +192,14 @@ fn read_token<'a>(word: &[u8], rest: Option<&'a [u8]>) -> Result<Line<'a>, LineE
     Err(LineError::Fault(ScriptFault::Word))
 }
 
-/// Whether these are spaces and printing characters alone.
+/// Whether these bytes are only spaces and printing characters.
 pub fn are_plain(line: &[u8]) -> bool
     ensures { result ≡ model.are_plain line.now }
 {
     line.iter().all(|byte| (b' '..=b'~').contains(byte))
 }
 
-/// Reads what stands after `client`.
+/// Reads what comes after `client`.
 fn read_section(rest: Option<&[u8]>) -> Result<Line<'_>, LineError>
     ensures line { let words = parts_of 32 (option_copied rest.entry) in
         Reads line_said (behind_word (model.one_number model.section) words) result }
@@ -210,7 +210,7 @@ fn read_section(rest: Option<&[u8]>) -> Result<Line<'_>, LineError>
     Ok(Line::Section(number))
 }
 
-/// Reads what stands after `put`.
+/// Reads what comes after `put`.
 fn read_put(rest: Option<&[u8]>) -> Result<Line<'_>, LineError>
     ensures line { let words = parts_of 32 (option_copied rest.entry) in
         let put = model.two_words (λ k v. model.command (calls.add (value k v))) in
@@ -222,7 +222,7 @@ fn read_put(rest: Option<&[u8]>) -> Result<Line<'_>, LineError>
     Ok(Line::Command(CommandView::Put { key, value }))
 }
 
-/// Reads what stands after `del`.
+/// Reads what comes after `del`.
 fn read_delete(rest: Option<&[u8]>) -> Result<Line<'_>, LineError>
     ensures line { let words = parts_of 32 (option_copied rest.entry) in
         let delete = model.one_word (λ k. model.command (calls.add (deletion k))) in
@@ -234,7 +234,7 @@ fn read_delete(rest: Option<&[u8]>) -> Result<Line<'_>, LineError>
     Ok(Line::Command(CommandView::Delete { key }))
 }
 
-/// Reads what stands after `sdel`.
+/// Reads what comes after `sdel`.
 fn read_single_delete(rest: Option<&[u8]>) -> Result<Line<'_>, LineError>
     ensures line { let words = parts_of 32 (option_copied rest.entry) in
         let single_delete = model.one_word (λ k. model.command (calls.add (single_deletion k))) in
@@ -246,7 +246,7 @@ fn read_single_delete(rest: Option<&[u8]>) -> Result<Line<'_>, LineError>
     Ok(Line::Command(CommandView::SingleDelete { key }))
 }
 
-/// Reads what stands after `note`.
+/// Reads what comes after `note`.
 fn read_note(rest: Option<&[u8]>) -> Result<Line<'_>, LineError>
     ensures line { let words = parts_of 32 (option_copied rest.entry) in
         let note = model.one_word (λ t. model.command (calls.add (log_data t))) in
@@ -258,7 +258,7 @@ fn read_note(rest: Option<&[u8]>) -> Result<Line<'_>, LineError>
     Ok(Line::Command(CommandView::Note { text }))
 }
 
-/// Reads what stands after the word of a command that has no other.
+/// Reads what comes after the word of a command that has no other word.
 fn read_alone<'a>(said: CommandView<'a>, rest: Option<&[u8]>) -> Result<Line<'a>, LineError>
     ensures line { let words = parts_of 32 (option_copied rest.entry) in
         Reads line_said (behind_word (model.no_word (model.command (command_of said.entry))) words) result }
@@ -272,7 +272,7 @@ fn read_alone<'a>(said: CommandView<'a>, rest: Option<&[u8]>) -> Result<Line<'a>
     Ok(Line::Command(said))
 }
 
-/// Reads what stands after `commit`.
+/// Reads what comes after `commit`.
 fn read_commit(rest: Option<&[u8]>) -> Result<Line<'_>, LineError>
     ensures line { let words = parts_of 32 (option_copied rest.entry) in
         Reads line_said (behind_word model.commit_flags words) result }
@@ -293,7 +293,7 @@ fn read_commit(rest: Option<&[u8]>) -> Result<Line<'_>, LineError>
     Ok(Line::Command(CommandView::Commit { options }))
 }
 
-/// Reads what stands after `get`.
+/// Reads what comes after `get`.
 fn read_get(rest: Option<&[u8]>) -> Result<Line<'_>, LineError>
     ensures line { let words = parts_of 32 (option_copied rest.entry) in
         let get = model.one_word (λ k. model.command (calls.get k)) in
@@ -305,7 +305,7 @@ fn read_get(rest: Option<&[u8]>) -> Result<Line<'_>, LineError>
     Ok(Line::Command(CommandView::Get { key }))
 }
 
-/// Reads what stands after `many`.
+/// Reads what comes after `many`.
 fn read_many(alloc: Global, rest: Option<&[u8]>) -> Result<Line<'_>, LineError>
     ensures line { let words = parts_of 32 (option_copied rest.entry) in
         let many = model.some_words (λ keys. model.command (calls.many keys)) in
@@ -320,7 +320,7 @@ fn read_many(alloc: Global, rest: Option<&[u8]>) -> Result<Line<'_>, LineError>
     Ok(Line::Many(keys))
 }
 
-/// Reads what stands after `scan`.
+/// Reads what comes after `scan`.
 fn read_scan(rest: Option<&[u8]>) -> Result<Line<'_>, LineError>
     ensures line { let words = parts_of 32 (option_copied rest.entry) in
         let scan = model.two_words (λ lo hi. model.command (calls.scan lo hi)) in
@@ -332,7 +332,7 @@ fn read_scan(rest: Option<&[u8]>) -> Result<Line<'_>, LineError>
     Ok(Line::Command(CommandView::Scan { lo, hi }))
 }
 
-/// Reads what stands after `slow`.
+/// Reads what comes after `slow`.
 fn read_slow(rest: Option<&[u8]>) -> Result<Line<'_>, LineError>
     ensures line { let words = parts_of 32 (option_copied rest.entry) in
         let slow = model.one_number (λ rate. model.command (calls.slow rate)) in
@@ -344,7 +344,7 @@ fn read_slow(rest: Option<&[u8]>) -> Result<Line<'_>, LineError>
     Ok(Line::Command(CommandView::Slow { rate }))
 }
 
-/// Whether a flag stands first in what is left of a line, and what is left without it.
+/// Whether a flag comes first in what is left of a line, and what is left without the flag.
 fn take_flag<'a>(rest: Option<&'a [u8]>, flag: &[u8]) -> (bool, Option<&'a [u8]>)
     ensures flag { result.0 ≡ model.is_first flag.now (parts_of 32 (option_copied rest.entry)) }
     ensures behind { parts_of 32 (option_copied result.1)
@@ -361,7 +361,7 @@ fn take_flag<'a>(rest: Option<&'a [u8]>, flag: &[u8]) -> (bool, Option<&'a [u8]>
     }
 }
 
-/// Reads the one word that stands after a command's.
+/// Reads the one word that comes after a command's own word.
 fn read_word(rest: Option<&[u8]>) -> Result<&[u8], LineError>
     ensures word { Reads (λ w. w.now) (model.or_form (alone (parts_of 32 (option_copied rest.entry)))) result }
     ensures len { IfOk result (λ w. length w.now + 1 ≡ len_behind (option_copied rest.entry)) }
@@ -388,7 +388,7 @@ fn read_all_words(alloc: Global, rest: Option<&[u8]>) -> Result<WordList, LineEr
     Ok(words)
 }
 
-/// Reads the one number that stands after a command's word.
+/// Reads the one number that comes after a command's word.
 fn read_number(rest: Option<&[u8]>) -> Result<u64, LineError>
     ensures { Reads (λ n. n) (number_alone (parts_of 32 (option_copied rest.entry))) result }
 {

@@ -14,8 +14,8 @@ pub fn number_of(word: &[u8]) -> Option<u64>
     (buffer.format(value).as_bytes() == word).then_some(value)
 }
 
-/// The value of digits, if it is below `2^64`. Any other byte is read as some value too: only
-/// what is printed for the value tells it from a digit.
+/// The value of digits, if it is below `2^64`. A byte that isn't a digit is read as some value too: only printing the
+/// value again, as `number_of` does, shows that it isn't one.
 pub fn value_of_digits(word: &[u8]) -> Option<u64>
     ensures { result ≡ (if nat_lt (model.value_of_digits word.now) (2 ^ 64)
         then Some (model.value_of_digits word.now) else None) }

@@ -1,24 +1,21 @@
 //! All lines of a script.
 //!
-//! A script is lines that end with a line feed, which the last may lack. Empty lines and lines that
-//! begin with `#` are passed over whole. The others are words of 1 to 1024 printing characters, with
-//! one space between them:
+//! A script is lines that end with a line feed; the last one may be without it. Empty lines and lines that begin with
+//! `#` are passed over whole. The other lines are words of 1 to 1024 printing characters, with one space between them:
 //!
 //! - `client N` begins the section of client N: 1, then 2, and so on;
-//! - `put K V`, `del K`, `sdel K` and `note T` add a value, a deletion, a single deletion and log
-//!   data to its batch;
+//! - `put K V`, `del K`, `sdel K` and `note T` add a value, a deletion, a single deletion and log data to its batch;
 //! - `clear` empties the batch;
-//! - `commit` writes the batch, and after it may stand `sync`, `nolog` and `noslow`, each or not, in
-//!   this order;
-//! - `get K` reads a key, `many K K ..` one key or more at one sequence, and `scan LO HI` the keys
-//!   from LO on and below HI;
-//! - `stop` and `slow R` take the write controller's stop token and its delay token, at R bytes a
-//!   second, and `unstop` and `unslow` give them back.
+//! - `commit` writes the batch, and after it there may be `sync`, `nolog` and `noslow`, any of them, in this order;
+//! - `get K` reads a key, `many K K ..` one key or more at one sequence, and `scan LO HI` the keys from LO on and
+//!   below HI;
+//! - `stop` and `slow R` take the write controller's stop token and its delay token, at R bytes a second, and `unstop`
+//!   and `unslow` give them back.
 //!
 //! A number is decimal digits without a sign or a leading zero, and below 2^64.
 //!
-//! A script of [`parse_clients`] may have all of these lines, and the one that
-//! [`parse_schedule`](crate::parse_schedule) reads all but those of the tokens.
+//! A script that [`parse_clients`] reads may have all of these lines, and one that
+//! [`parse_schedule`](crate::parse_schedule) reads may have all but those of the tokens.
 
 ghost use Rattle.std.specs.Prelude.{◌≡◌, ◌+◌, ◌≤◌, Ok, length, IfOk, IfErr, OnOk};
 ghost use Rattle.model_base.specs.Script as model;
@@ -36,15 +33,15 @@ use model_base::{MAX_CLIENTS, ScriptFault, TEXT_LIMIT};
 use run_command_list::{CommandList, CommandView};
 use std::alloc::Global;
 
-/// Parses a script of 1 to 64 clients, which may have every line. The first fault in its lines decides,
-/// and within a line the first kind in the order byte, word, form, client, clients. The text as a whole
-/// may be too long, before all else, or have no client, after all else.
+/// Parses a script of 1 to 64 clients, which may have every line. The fault is that of the first line that has one,
+/// and within a line the first kind in the order byte, word, form, client, clients. Two faults are of the whole text:
+/// that it is too long comes before all others, and that it has no client comes after all others.
 pub fn parse_clients(alloc: Global, text: &[u8]) -> Result<Script, ScriptError>
     ensures script { IfOk result (λ s. script_of whole_grammar text.now ≡ Ok (commands_of s)) }
     ensures fault { IfErr result (IsFaultOf (script_of whole_grammar text.now)) }
     ensures clients { IfOk result (λ s. (1 ≤ length s.clients.items) × (length s.clients.items ≤ MAX_CLIENTS)) }
 
-    // All that a client adds fits one batch, whatever becomes of its commits.
+    // All that a client adds fits into one batch, whatever the outcome of its commits.
     ensures fits { IfOk result FitsBatches }
 
     // The words of the commands are short.
@@ -148,7 +145,7 @@ pub fn add_said(
     }
 }
 
-/// Begins the section of a client after the others.
+/// Begins the section of a client, after those of the others.
 fn add_section(alloc: Global, script: &mut Script, number: u64) -> Result<(), LineError>
     ensures script { Reads (λ _. commands_of script.new)
         (model.with_section MAX_CLIENTS (commands_of script.old) number) result }

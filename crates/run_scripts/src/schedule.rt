@@ -1,10 +1,9 @@
 //! A script with a schedule after it: the events of the write path's core, one a line.
 //!
-//! The script's lines are those that `parser` tells. After them stands the line `schedule`, and after
-//! that a line for each event: its word and the number of a client of the script, as `link 1`. The
-//! words are `link`, `elect`, `build`, `log`, `fault`, `boundary`, `second`, `next`, `launch`, `insert`,
-//! `finish`, `publish`, `exit`, `complete` and `read`. Empty lines and comments are passed over there
-//! too.
+//! The script's lines are those that `parser` describes. After them comes the line `schedule`, and after that a line
+//! for each event: its word and the number of a client of the script, as in `link 1`. The words are `link`, `elect`,
+//! `build`, `log`, `fault`, `boundary`, `second`, `next`, `launch`, `insert`, `finish`, `publish`, `exit`, `complete`
+//! and `read`. Empty lines and comments are passed over there too.
 
 ghost use Rattle.std.specs.Prelude.{◌≡◌, ◌+◌, ◌≤◌, ◌==◌, [], Ok, Err, length, if◌then◌else◌, IfOk, IfErr, OnOk, drop, option_copied};
 ghost use Rattle.model_core.specs.Schedule as model;
@@ -41,16 +40,17 @@ struct Draft {
     events: Option<Vec<Event>>,
 }
 
-/// Parses a script of 1 to 64 clients and its schedule. Faults come as in [`parse_clients`](crate::parse_clients);
-/// without the line `schedule` the fault is `schedule`, after all others.
+/// Parses a script of 1 to 64 clients and its schedule. Faults come in the same order as in
+/// [`parse_clients`](crate::parse_clients). Where the line `schedule` is missing, the fault is `schedule`, and it
+/// comes after all others.
 pub fn parse_schedule(alloc: Global, text: &[u8]) -> Result<Schedule, ScriptError>
     ensures schedule { IfOk result (λ s. model.schedule_of replay_grammar event_words text.now
         ≡ Ok (schedule_of s)) }
     ensures fault { IfErr result (IsScheduleFaultOf
         (model.schedule_of replay_grammar event_words text.now)) }
 
-    // It has a client at least, all that each adds fits one batch, whatever becomes of its commits,
-    // and no command is of another form than one that a script of several clients may say.
+    // The script has at least one client, all that each client adds fits into one batch, whatever the outcome of its
+    // commits, no command is about the write controller's tokens, and the words of the commands are short.
     ensures clients { IfOk result (λ s. (1 ≤ length s.script.clients.items)
         × (length s.script.clients.items ≤ MAX_CLIENTS)) }
     ensures fits { IfOk result (λ s. FitsBatches s.script) }
@@ -137,7 +137,8 @@ fn begins_schedule(line: &[u8]) -> bool
     are_plain(line) && split_once(line, b' ').0 == b"schedule".as_slice()
 }
 
-/// The events at the begin of a schedule, after the line of whose words the first is `schedule`.
+/// The events at the beginning of a schedule, which are none. The first word of the line is `schedule`, and it may
+/// have no other.
 fn no_events(alloc: Global, line: &[u8]) -> Result<Vec<Event>, LineError>
     ensures events { IfOk result (λ events. (events.items ≡ []) × (length (words_of line.now) ≡ 1)) }
     ensures fault { Reads (λ _. tt {0}) (if length (words_of line.now) == 1 then Ok (tt {0}) else Err Form) result }
@@ -148,7 +149,7 @@ fn no_events(alloc: Global, line: &[u8]) -> Result<Vec<Event>, LineError>
     Ok(Vec::new(alloc))
 }
 
-/// Reads one more event of a script with so many clients.
+/// Reads one more event of a script with this many clients.
 fn add_event(events: &mut Vec<Event>, clients: usize, line: &[u8]) -> Result<(), LineError>
     requires { clients ≤ MAX_CLIENTS }
     ensures { Reads (λ _. events.new.items) (event_added clients events.old.items line.now) result }
@@ -158,7 +159,7 @@ fn add_event(events: &mut Vec<Event>, clients: usize, line: &[u8]) -> Result<(),
     Ok(())
 }
 
-/// Reads a line of a schedule for a script with so many clients.
+/// Reads a line of a schedule for a script with this many clients.
 fn read_event(clients: usize, line: &[u8]) -> Result<Event, LineError>
     requires { clients ≤ MAX_CLIENTS }
     ensures { Reads (λ event. event) (model.event_of clients event_words line.now) result }
@@ -177,7 +178,7 @@ fn read_event(clients: usize, line: &[u8]) -> Result<Event, LineError>
     Ok(event)
 }
 
-/// The one word that is left of a line, as the number of a client of so many.
+/// The one word that is left of a line, as the number of one of `clients` clients.
 fn client_alone(clients: usize, rest: Option<&[u8]>) -> Option<u32>
     requires { clients ≤ MAX_CLIENTS }
     ensures { result ≡ model.client_alone clients (parts_of 32 (option_copied rest.entry)) }
@@ -193,7 +194,7 @@ fn client_alone(clients: usize, rest: Option<&[u8]>) -> Option<u32>
     Some(number as u32)
 }
 
-/// The event that a word says of a client, if it is an event's.
+/// The event of this client that a word names, if it names one.
 fn event_named(word: &[u8], client: u32) -> Option<Event>
     ensures { result ≡ event_named event_words word.now client }
 {
@@ -215,7 +216,8 @@ fn event_named(word: &[u8], client: u32) -> Option<Event>
     applied_event_named(word, client)
 }
 
-/// The event of one who writes to the table and leaves, and of the others that are told of below.
+/// The event of this client that a word names, if it is one of those by which a group goes into the table and its
+/// leader leaves, or one of `other_event_named`.
 fn applied_event_named(word: &[u8], client: u32) -> Option<Event>
     ensures { result ≡ event_named (drop 5 event_words) word.now client }
 {
@@ -237,7 +239,8 @@ fn applied_event_named(word: &[u8], client: u32) -> Option<Event>
     other_event_named(word, client)
 }
 
-/// The event of a follower that is done, of a read, and those of a pipelined path alone.
+/// The event of this client that a word names, if it is that of a follower that is done, that of a read, or one that
+/// only a pipelined path has.
 fn other_event_named(word: &[u8], client: u32) -> Option<Event>
     ensures { result ≡ event_named (drop 10 event_words) word.now client }
 {

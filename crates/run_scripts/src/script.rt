@@ -1,4 +1,4 @@
-//! A script, as it was read, and why none was.
+//! A script, as it was read, or why none was read.
 
 use model_base::ScriptFault;
 use run_command_list::CommandList;
@@ -12,7 +12,7 @@ pub struct Script {
 /// Why a text is no script.
 #[derive(Clone, Copy, Debug, PartialEq, Eq)]
 pub enum ScriptError {
-    /// The first fault, and the number of its line, from 1; 0 where it is the whole text's.
+    /// The first fault, and the number of its line, from 1; 0 where the fault is the whole text's.
     Fault { line: u64, kind: ScriptFault },
     NoMemory,
 }

@@ -9,7 +9,7 @@ ghost use Rattle.run_scripts.specs.ScriptWords.{parts_of, len_behind, alone, pai
 /// How many bytes a word may have.
 const WORD_LIMIT: usize = 1024;
 
-/// What stands before the first `separator`, and what stands after it, where there is one.
+/// What comes before the first `separator`, and what comes after it, where there is one.
 pub fn split_once(text: &[u8], separator: u8) -> (&[u8], Option<&[u8]>)
     ensures parts { slice_split (λ b. b == separator) text.now
         ≡ result.0.now ∷ parts_of separator (option_copied result.1) }
@@ -21,14 +21,14 @@ pub fn split_once(text: &[u8], separator: u8) -> (&[u8], Option<&[u8]>)
     }
 }
 
-/// Whether this may be a word by its length.
+/// Whether this has the length of a word.
 pub fn is_word(word: &[u8]) -> bool
     ensures { result ≡ model.is_word word.now }
 {
     !word.is_empty() && word.len() <= WORD_LIMIT
 }
 
-/// The one word that is left of a line, if that is all.
+/// The one word that is left of a line, if nothing else is left.
 pub fn one_word(rest: Option<&[u8]>) -> Option<&[u8]>
     ensures word { option_copied result ≡ alone (parts_of 32 (option_copied rest.entry)) }
     ensures len { IfSome result (λ w. length w.now + 1 ≡ len_behind (option_copied rest.entry)) }
@@ -41,7 +41,7 @@ pub fn one_word(rest: Option<&[u8]>) -> Option<&[u8]>
     is_word(word).then_some(word)
 }
 
-/// The two words that are left of a line, if that is all.
+/// The two words that are left of a line, if nothing else is left.
 pub fn two_words(rest: Option<&[u8]>) -> Option<(&[u8], &[u8])>
     ensures commands { option_map (λ p. (p.0.now, p.1.now)) result
         ≡ pair_alone (parts_of 32 (option_copied rest.entry)) }

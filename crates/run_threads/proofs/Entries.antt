@@ -21,7 +21,7 @@ use Rattle.run_threads.proofs.Lists.{zip_more, zip_length}
 run_ends : (first count : ℕ) → 1 ≤ count → first + count ≤ 2 ^ 64 → first + count - 1 ≡ min (first + (count - 1)) (2 ^ 64 - 1)
 run_ends first count some within = omega arith
 
--- one more, with its run
+-- one more batch, with its run
 pub kept_more : (client first : ℕ) (mine : List history.Entry) (how : WriteOptions) (records : List Record) (kept : List (AcceptedBatch Contents)) (k : AcceptedBatch Contents) → ShowsAccepted client kept mine
     → k.flag ≡ history.flag_of how → k.batch ≡ record { sequence = first; records = records } → 1 ≤ count_of records → first + count_of records ≤ 2 ^ 64
     → ShowsAccepted client (kept ++ k ∷ []) (mine ++ next_entry client mine how first records ∷ [])
@@ -39,7 +39,7 @@ kept_more client first mine how records kept k so_far flagged made some within =
       batch = made;
     }))
 
--- a refused commit leaves them
+-- a refused commit leaves the entries as they were
 pub refused_entries : (settings : Settings) (v : Account) (records : List Record) (how : WriteOptions) (why : Refusal) (w : Account) → Refuses settings v records how why w → w.mine ≡ v.mine
 refused_entries settings v records how why w refuses = by_check (early_refusal settings.batch_bytes (holds_stop v.asked) records how) refuses
   where

@@ -1,19 +1,19 @@
--- Lists by a key: one that rises strictly has one element of a key at most, and a rising list that has the same
--- elements of each key is the same list.
+-- Lists by a key: a list that rises strictly has at most one element with each key, and a rising list that has the same
+-- elements with each key as that list is the same list.
 use Rattle.std.proofs.Common.{◌≡◌, ℕ, ◌<◌, ◌≤◌, ◌==◌, cond, Bool, true, false, List, [], ◌∷◌, length, get_or, filter, refl, ap, sym, arith, inl, inr, ◌⊎◌, suc}
 use Rattle.std.specs.List.{AllByRecursion}
 use Rattle.std.specs.List.Sorted.{IsNonDecreasingBy}
 use Rattle.std.proofs.lemmas.Bool.Decides.{nat_tests}
 use Rattle.std.proofs.lemmas.Bool.{cases_lt}
 
--- two filters in either order, at one element, by the answers of the tests
+-- two filters in either order, at one element, by the results of their tests
 swap_at : {X : Type 0} (p q : X → Bool) (x : X) (xs : List X) (b c : Bool) → p x ≡ b → q x ≡ c → filter p (filter q xs) ≡ filter q (filter p xs) → filter p (filter q (x ∷ xs)) ≡ filter q (filter p (x ∷ xs))
 swap_at p q x xs true true h k rest = rw (h, k, h) (ap (λ ys. x ∷ ys) rest)
 swap_at p q x xs true false h k rest = rw (h, k) rest
 swap_at p q x xs false true h k rest = rw (h, k, h) rest
 swap_at p q x xs false false h k rest = rw (h, k) rest
 
--- the same, at all
+-- two filters in either order give the same list
 pub filter_swap : {X : Type 0} (p q : X → Bool) (xs : List X) → filter p (filter q xs) ≡ filter q (filter p xs)
 filter_swap p q [] = refl
 filter_swap p q (x ∷ xs) = swap_at p q x xs (p x) (q x) refl refl (filter_swap p q xs)
@@ -26,7 +26,7 @@ pub same : (a b : ℕ) → a ≡ b → (a == b) ≡ true
 same a b h = grind (arith, nat_tests)
 
 module _ {X : Type 0} (key : X → ℕ) where
-  -- the elements of a key
+  -- the elements with a key
   abbrev pub at : ℕ → List X → List X
   at k xs = filter (λ x. key x == k) xs
 
@@ -46,7 +46,7 @@ module _ {X : Type 0} (key : X → ℕ) where
       let other : (key x == k) ≡ false = apart (key x) k (inr (omega arith)) in
       rw other (none_below (key x) k xs up.1 (omega arith))
 
-  -- it has one element of a key at most
+  -- a list that rises strictly has at most one element with a key
   pub one_at : (P : X → Type 0) (low k : ℕ) (xs : List X) → Climbs low xs → AllByRecursion P xs → (at k xs ≡ []) ⊎ ((x : X) × (at k xs ≡ x ∷ []) × P x)
   one_at P low k [] up all = inl refl
   one_at P low k (x ∷ xs) up all =
@@ -83,7 +83,7 @@ module _ {X : Type 0} (key : X → ℕ) where
   tails_at true x xs ys h = cc
   tails_at false x xs ys h = h
 
-  -- of each key both lists have the same elements, in the same order
+  -- for each key both lists have the same elements, in the same order
   abbrev pub SameFibres : List X → List X → Type 0
   SameFibres xs ys = (k : ℕ) → at k xs ≡ at k ys
 

@@ -12,7 +12,7 @@ use Rattle.run_outcome.proofs.Replies.{told_more, told_still}
 use Rattle.model_accounts.specs.Accounts.{Account, GivesBack}
 use Rattle.model_accounts.specs.ClientRuns.{Lacks, Went, HasRun, with_call}
 use Rattle.run_threads.specs.Answers.{ShowsTold, GoesOn}
-use Rattle.run_threads.specs.Transcripts.{HasGone, HasStopped, through, short, HasTold}
+use Rattle.run_threads.specs.Transcripts.{HasGone, HasStopped, through, short, HasReplied}
 
 pub gone_none : (settings : Settings) (client : ℕ) (a : Account) → a.number ≡ client → Went settings [] a [] → HasGone settings client [] [] a []
 gone_none settings client a number went = record { calls = []; are = refl; shows = tt; number = number; went = went }
@@ -20,7 +20,7 @@ gone_none settings client a number went = record { calls = []; are = refl; shows
 commands_more : (calls : List Call) (c : Call) → commands_of (calls ++ c ∷ []) ≡ commands_of calls ++ c.command ∷ []
 commands_more calls c = map-append (λ (x : Call). x.command) calls (c ∷ [])
 
--- with what is told of one call more
+-- the replies so far, with the reply to one more call, if it has one
 told_next : (replies : List Reply) (cs : List Call) (told : Option Reply) (c : Call) → ShowsReplies replies cs → ShowsTold told c → ShowsReplies (replies ++ option_to_list told) (cs ++ c ∷ [])
 told_next replies cs None c so_far none = rw (append-nil replies) (told_still replies cs c so_far none)
 told_next replies cs (Some reply) c so_far shows = told_more replies cs reply c so_far shows
@@ -36,7 +36,7 @@ gone_more settings client done told v before gone c r w after goes went = record
   went = went;
 }
 
--- the commands before those that are left were answered, and the client was told so
+-- the commands before those that are left were answered, and the client got the replies
 pub record HaveGone (settings : Settings) (client : ℕ) (commands left : List Command) (told : List Reply) (a : Account)
     (pending : List Record) : Type 0 where
   pub done : List Command
@@ -53,7 +53,7 @@ EndsShort settings = (calls : List Call) (v : Account) (pending : List Record) (
     → Lacks settings v pending last u → GivesBack u w → HasRun settings v.number (commands_of (with_call calls last no_memory) ++ rest) (with_call calls last no_memory) w
 
 pub has_told : (settings : Settings) (client : ℕ) (commands : List Command) (told : List Reply) (u w : Account) → EndsWhole settings → EndsShort settings
-    → HasStopped settings client commands told u → GivesBack u w → HasTold settings client commands told w
+    → HasStopped settings client commands told u → GivesBack u w → HasReplied settings client commands told w
 has_told settings client commands told u w whole cut (through pending gone) back = record {
   calls = gone.calls;
   shows = gone.shows;

@@ -13,7 +13,7 @@ none_pending Nothing other = refl
 none_pending (Pending batch) other = absurd (other batch refl)
 none_pending (Accepted kept) other = refl
 
--- the one in the making is not accepted yet
+-- a batch in the making is not accepted yet
 pub kept_with_pending : (list : List (AcceptedBatch Contents)) (current : CurrentBatch) (batch : Contents) → current ≡ Pending batch → list ++ last_accepted current ≡ list
 kept_with_pending list current batch is = ap (λ (a : CurrentBatch). list ++ last_accepted a) is ∙ append-nil list
 

@@ -21,9 +21,9 @@ use Rattle.model_accounts.specs.ClientRuns.{HasRun}
 use Rattle.run_threads.specs.declared.batches.ClientBatches.{ClientBatches}
 use Rattle.run_threads.specs.declared.jobs.Job.{Job}
 use Rattle.run_threads.specs.Answers.{accepted_in, ShowsAccepted}
-use Rattle.run_threads.specs.Transcripts.{HasTold}
+use Rattle.run_threads.specs.Transcripts.{HasReplied}
 use Rattle.run_threads.specs.Parts.{client_of, replies_of, batches_of}
-use Rattle.run_threads.specs.Jobs.{FitBatches, AreNew, HaveTold, HaveEntries, AreNone, IsRoom, AreReady, AreDone}
+use Rattle.run_threads.specs.Jobs.{FitBatches, AreNew, HaveReplied, HaveEntries, AreNone, IsRoom, AreReady, AreDone}
 use Rattle.run_threads.proofs.Lists.{all_at}
 
 below_or_at : (i n : ℕ) → i < n + 1 → (i < n) ⊎ (i ≡ n)
@@ -117,7 +117,7 @@ module _ {C : Type 0} (belongs : C → Type 0) (account : C → Account) (settin
       (zip_each (λ (b : ClientBatches) (a : Account). ShowsAccepted a.number (accepted_in b) a.mine) jobs batches_of (λ (j : Job C). account (client_of j))
       (λ i d less. (let d' = done.each i d less in subst (λ (n : ℕ). ShowsAccepted n (accepted_in (get_or jobs i d).batches) (account (get_or jobs i d).client).mine) (sym d'.number) d'.accepted)))
 
-  -- the transcripts of the clients from the one behind the number `n` on
+  -- the transcripts of the clients from the one with the number `n + 1` on
   record Collected (n : ℕ) (jobs : List (Job C)) (rest : List (List Command)) : Type 0 where
     pub transcripts : List (List Call)
     pub count : length transcripts ≡ length rest
@@ -133,7 +133,7 @@ module _ {C : Type 0} (belongs : C → Type 0) (account : C → Account) (settin
 
   abbrev TellsEach : ℕ → List (Job C) → List (List Command) → Type 0
   TellsEach n jobs rest = (i k : ℕ) (d : Job C) (v : List Command) → i < length jobs → k ≡ n + i + 1
-      → HasTold settings k (get_or rest i v) (get_or jobs i d).replies.items (account (get_or jobs i d).client)
+      → HasReplied settings k (get_or rest i v) (get_or jobs i d).replies.items (account (get_or jobs i d).client)
 
   collect : (n : ℕ) (jobs : List (Job C)) (rest : List (List Command)) → length jobs ≡ length rest → TellsEach n jobs rest → Collected n jobs rest
   collect n [] [] same told = record { transcripts = []; count = refl; show = tt; each = λ i k commands made a is h f b. absurd (cc h) }
@@ -159,7 +159,7 @@ module _ {C : Type 0} (belongs : C → Type 0) (account : C → Account) (settin
       each_at own transcripts run others (suc i) k commands made a is h f b = others i k commands made a (omega (arith, is)) h f b
 
   pub done_told : (jobs : List (Job C)) (clients : List C) (replies : List (Vec Reply Global)) → AreDone belongs account settings script jobs → length jobs ≡ length script
-      → clients ≡ map client_of jobs → replies ≡ map replies_of jobs → HaveTold settings script replies (map account clients)
+      → clients ≡ map client_of jobs → replies ≡ map replies_of jobs → HaveReplied settings script replies (map account clients)
   done_told jobs clients replies done same are replies_are =
       let all = collect 0 jobs script same (λ i k d v less is. (let here : k ≡ i + 1 = omega (arith, is) in rw here ((done.each i d less).told v))) in
       rw (are, replies_are) (record {

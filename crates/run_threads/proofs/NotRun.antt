@@ -30,7 +30,7 @@ no_entries clients (e ∷ es) named none =
     let its = rw (same e.client (i + 1) of_it) at (none i (omega arith)) in
     absurd (cc its)
 
--- a call wrote entries
+-- each call wrote entries, so without entries there was no call
 no_calls : (parts : List (List Entry)) (calls : List GroupCall) → flat_map (λ part. part) parts ≡ [] → AllZip WroteEntries parts calls → calls ≡ []
 no_calls [] [] cut each = refl
 no_calls [] (c ∷ calls) cut each = absurd each
@@ -62,7 +62,7 @@ no_lost group_bytes attempts (Some count) last lost idle are =
 abbrev pub AreNewcomers : ℕ → Pairs → List Account → Type 0
 AreNewcomers start opening accounts = (i : ℕ) (a : Account) → slice_get accounts i ≡ Some a → a ≡ newcomer start opening (i + 1)
 
--- clients who were handed back as they came
+-- clients that were handed back as they came
 pub handed_back : {C : Type 0} (P : List C → Type 0) (given back : Vec C Global) → back ≡ given → P given.items → P back.items
 handed_back {C = C} P given back is holds = subst (λ (v : Vec C Global). P v.items) (sym is) holds
 

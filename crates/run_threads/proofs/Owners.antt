@@ -1,4 +1,4 @@
--- A list whose elements have owners, taken apart by these.
+-- A list whose elements have owners, taken apart by owner.
 use Rattle.std.proofs.Common.{◌≡◌, ℕ, zero, suc, ◌+◌, ◌<◌, ◌≤◌, ◌==◌, List, [], ◌∷◌, ◌++◌, filter, refl, ap, ◌∙◌, arith, inl, inr}
 use Rattle.std.specs.List.{AllByRecursion}
 use Rattle.std.proofs.lemmas.Bool.{cases_lt}
@@ -9,7 +9,7 @@ module _ {X : Type 0} (owner : X → ℕ) where
   abbrev pub own : ℕ → List X → List X
   own n xs = filter (λ x. owner x == n) xs
 
-  -- the elements of so many owners, behind the number m
+  -- the elements of `n` owners, whose numbers begin after `m`, one owner after the other
   abbrev pub owns : ℕ → ℕ → List X → List X
   owns m zero xs = []
   owns m (suc n) xs = own (m + 1) xs ++ owns (m + 1) n xs
@@ -41,7 +41,7 @@ module _ {X : Type 0} (owner : X → ℕ) where
       filter-append (λ x. key x == k) (own (m + 1) xs) (owns (m + 1) n xs)
       ∙ (ap (λ ys. ys ++ at key k (owns (m + 1) n xs)) (filter_swap (λ x. key x == k) (λ x. owner x == m + 1) xs) ∙ ap (λ ys. own (m + 1) (at key k xs) ++ ys) (at_owns key k (m + 1) n xs))
 
-  -- all owners' elements have the fibres of the whole
+  -- all owners' elements, taken together, have the same elements with each key as the whole list
   pub owns_fibres : (key : X → ℕ) (start m n : ℕ) (xs : List X) → Climbs key start xs → AllByRecursion (IsOneOf m n) xs → SameFibres key (owns m n xs) xs
   owns_fibres key start m n xs up named k = at_owns key k m n xs ∙ elim (one_at key (IsOneOf m n) start k xs up named) [
     | inl none ↦ rw none (owns_none m n)

@@ -1,4 +1,4 @@
--- There is room for what a client adds: all of it fits one batch.
+-- There is room for what a client adds: all of it fits into one batch.
 use Rattle.std.proofs.Common.{◌≡◌, ℕ, ◌+◌, ◌≤◌, inl, inr, List, [], ◌∷◌, ◌++◌, length, ap, sym, ◌∙◌, subst, refl, arith, length-append, append_assoc}
 use Rattle.std.proofs.lemmas.Grind.{flat_map-append}
 use Rattle.model_base.specs.declared.limits.TheConstants.{MAX_SIZE}
@@ -7,14 +7,14 @@ use Rattle.model_base.specs.Calls as calls
 use Rattle.run_scripts.specs.Scripts.{additions_of}
 use Rattle.run_threads.specs.Answers.{HasRoom, IsLeft}
 
--- the length of a batch doesn't hang on its sequence
+-- the length of a batch doesn't depend on its sequence
 size_is : (sequence : ℕ) (records : List Record) → length (batch sequence records) ≡ 12 + length (body records)
 size_is sequence records = length-append (header sequence (count_of records)) (body records)
 
 size_both : (xs ys : List Record) → size_of_batch (xs ++ ys) ≡ size_of_batch xs + length (body ys)
 size_both xs ys = omega (arith, size_is 0 (xs ++ ys), size_is 0 xs, ap length (flat_map-append record_bytes xs ys), length-append (body xs) (body ys))
 
--- a front of a batch is no larger, nor what stands behind some records
+-- the first records of a batch are no larger than the batch, and neither is what comes after them
 front_small : (xs ys : List Record) (limit : ℕ) → size_of_batch (xs ++ ys) ≤ limit → size_of_batch xs ≤ limit
 front_small xs ys limit fits = omega (arith, fits, size_both xs ys)
 
@@ -37,11 +37,11 @@ module _ (records : List Record) (c : calls.Command) (rest : List calls.Command)
   both_fit : size_of_batch ((records ++ additions_of (c ∷ [])) ++ additions_of rest) ≤ MAX_SIZE
   both_fit = subst (λ (l : List Record). size_of_batch l ≤ MAX_SIZE) (ap (λ (l : List Record). records ++ l) (additions_split c rest) ∙ sym (append_assoc records (additions_of (c ∷ [])) (additions_of rest))) fits
 
-  -- for the next command
+  -- there is room for the next command
   pub has_room : HasRoom records (c ∷ [])
   has_room = front_small (records ++ additions_of (c ∷ [])) (additions_of rest) MAX_SIZE both_fit
 
-  -- and then for the others
+  -- and then there is room for the others
   pub fits_still : (after : List Record) → IsLeft records c after → HasRoom after rest
   fits_still after (inl none) = subst (λ (l : List Record). HasRoom l rest) (sym none) (rest_small (records ++ additions_of (c ∷ [])) (additions_of rest) MAX_SIZE both_fit)
   fits_still after (inr more) = subst (λ (l : List Record). HasRoom l rest) (sym more) both_fit

@@ -1,4 +1,4 @@
--- ClientBatches that show a history.
+-- Clients' batches that show a history.
 use Rattle.std.proofs.Common.{◌≡◌, ℕ, suc, ◌+◌, ◌≤◌, ◌==◌, cond, Bool, true, false, Some, List, [], ◌∷◌, ◌++◌, length, slice_get, map, filter, take, fold, refl, ap, sym, ◌∙◌, arith}
 use Rattle.std.specs.Prelude.{Result, Ok, Err, IfOk}
 use Rattle.std.specs.List.{AllByRecursion}
@@ -19,7 +19,7 @@ use Rattle.run_threads.specs.Histories.{MakeUp}
 use Rattle.run_threads.proofs.Fibres.{at, Climbs, SameFibres, climbs_lower, sorted_is}
 use Rattle.run_threads.proofs.Owners.{own, owns, IsOneOf, owns_fibres}
 
--- what shows an entry
+-- the value that shows an entry
 abbrev pub shown_of : history.Entry → HistoryEntry Contents
 shown_of e = record {
   client = e.client;
@@ -35,7 +35,7 @@ first_of e = e.run.first
 abbrev client_of : HistoryEntry Contents → ℕ
 client_of e = e.client
 
--- nothing else does
+-- no other value shows it
 shown_is : (shown : HistoryEntry Contents) (e : history.Entry) → ShowsEntry shown e → shown ≡ shown_of e
 shown_is shown e h = rw (h.last, ← h.batch, h.client, h.ordinal, h.first, h.flag) refl
 
@@ -49,7 +49,7 @@ zip_from : (entries : List history.Entry) → ShowsEntries (map shown_of entries
 zip_from [] = tt
 zip_from (e ∷ es) = (record { client = refl; ordinal = refl; first = refl; last = refl; flag = refl; batch = refl }, zip_from es)
 
--- a filter of what a function gives
+-- one step of filtering what a function gives
 at_mapped : {A B : Type 0} (f : A → B) (b : Bool) (x : A) (xs : List B) (ys : List A) → xs ≡ map f ys → cond b (f x ∷ xs) xs ≡ map f (cond b (x ∷ ys) ys)
 at_mapped f true x xs ys h = ap (λ zs. f x ∷ zs) h
 at_mapped f false x xs ys h = h
@@ -69,7 +69,8 @@ named : (n : ℕ) (entries : List history.Entry) → AllByRecursion (λ (e : his
 named n [] all = tt
 named n (e ∷ es) all = let here = all.0 in ((omega arith, omega arith), named n es all.1)
 
--- Clients' batches, of which each client's are its own of a list, from that of the number m + 1 on.
+-- Where each client's batches are its own entries in a list, all clients' batches are that list, owner by owner, from
+-- client m + 1 on.
 by_owners : (m : ℕ) (lists : List (List (AcceptedBatch Contents))) (xs : List (HistoryEntry Contents))
     → ((i k : ℕ) (batches : List (AcceptedBatch Contents)) → k ≡ m + i + 1 → slice_get lists i ≡ Some batches → entries_of k batches ≡ own client_of k xs)
     → entries_by (m + 1) lists ≡ owns client_of m (length lists) xs
@@ -101,7 +102,7 @@ fold_shown m (x ∷ xs) (e ∷ es) h =
     let same : x.batch.records ≡ e.records = ap (λ (b : Contents). b.records) h.0.batch in
     rw same (fold_shown (after_records m e.records) xs es h.1)
 
--- with one batch more
+-- the map with one more batch
 pub fold_next : (m : Pairs) (shown : List (HistoryEntry Contents)) (i : ℕ) (e : HistoryEntry Contents) → slice_get shown i ≡ Some e
     → fold (λ (m : Pairs) (e : HistoryEntry Contents). after_records m e.batch.records) m (take (i + 1) shown)
     ≡ after_records (fold (λ (m : Pairs) (e : HistoryEntry Contents). after_records m e.batch.records) m (take i shown)) e.batch.records
@@ -109,7 +110,7 @@ fold_next m shown i e there =
     let after = λ (m : Pairs) (e : HistoryEntry Contents). after_records m e.batch.records in
     fold_more after m shown i e (slice_get_within shown i e there) ∙ ap (after (fold after m (take i shown))) (get_or_from_slice_get shown i e e there)
 
--- whatever sorting them answers
+-- all clients' batches, sorted, are the history, unless there was no memory to sort them
 pub sorted_result_shows : (start : ℕ) (accepted : List (List (AcceptedBatch Contents))) (entries : List history.Entry) → MakeUp start accepted entries
     → (r : Result (List (HistoryEntry Contents)) NoMemory) → IfOk r (IsNonDecreasingBy first_of)
     → IfOk r (λ shown. SameFibres first_of shown (entries_of_all accepted)) → IfOk r (λ shown. ShowsEntries shown entries)

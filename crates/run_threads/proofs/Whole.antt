@@ -21,12 +21,12 @@ use Rattle.model_accounts.specs.ClientRuns as clients
 use Rattle.model_runs.specs.Written.{WritesLog}
 use Rattle.run_threads.specs.declared.batches.ClientBatches.{ClientBatches}
 use Rattle.run_threads.specs.Answers.{accepted_in, ShowsEntries, ShowsAccepted}
-use Rattle.run_threads.specs.Jobs.{HaveTold, HaveEntries}
+use Rattle.run_threads.specs.Jobs.{HaveReplied, HaveEntries}
 use Rattle.run_threads.specs.declared.run.ClientsEnd.TheVariants.{Told}
 use Rattle.run_threads.specs.Histories.{MakeUp}
 use Rattle.run_threads.specs.Runs.{HaveRun, ComesTo}
 
--- what stands beside the element at a place
+-- what is at this place of another list, and is related to the element
 record Beside {A B : Type 0} (R : A → B → Type 0) (x : A) (ys : List B) (i : ℕ) : Type 0 where
   pub other : B
   pub at : slice_get ys i ≡ Some other
@@ -39,7 +39,7 @@ beside R (u ∷ xs) [] i x all at = absurd all
 beside R (u ∷ xs) (v ∷ ys) zero x all at = let same : u ≡ x = cc at in record { other = v; at = refl; related = subst (λ w. R w v) same all.0 }
 beside R (u ∷ xs) (v ∷ ys) (suc i) x all at = let rest = beside R xs ys i x all.1 at in record { other = rest.other; at = rest.at; related = rest.related }
 
--- what stands beside each element of a list stands beside what a function gives of it
+-- where `R` relates what `f` gives for each element of a list to another list, it relates the mapped list to it
 zip_mapped : {A B C : Type 0} (f : A → B) (R : B → C → Type 0) (xs : List A) (ys : List C) → AllZip (λ x y. R (f x) y) xs ys → AllZip R (map f xs) ys
 zip_mapped f R [] [] all = tt
 zip_mapped f R [] (y ∷ ys) all = absurd all
@@ -81,8 +81,8 @@ module _ {L : Type 0} (settings : Settings) (wrote : List GroupCall → L → Ty
             subst (ShowsAccepted (i + 1) kept) own (subst (λ (n : ℕ). ShowsAccepted n kept b.other.mine) is b.related);
       }
 
-  -- the clients' replies tell a legal outcome of the trace, whether its values are at hand or not
-  module _ (script : List (List calls.Command)) (replies : Vec (Vec Reply Global) Global) (told : HaveTold settings script replies.items accounts)
+  -- the clients' replies show a legal outcome of the trace, whether its values are at hand or not
+  module _ (script : List (List calls.Command)) (replies : Vec (Vec Reply Global) Global) (told : HaveReplied settings script replies.items accounts)
       (legal : (transcripts : List (List calls.Call)) (log_len : ℕ) → clients.HaveRun settings script transcripts accounts
       → IsLegalIn settings (faults log) script trace (all_attempts accounts) (outcome_of trace transcripts last log_len (fault log)))
       (writes : WritesLog settings.group_bytes (λ calls. wrote calls log) trace (all_attempts accounts) (fault log)) where

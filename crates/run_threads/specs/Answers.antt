@@ -1,4 +1,4 @@
--- What one command of a client comes to.
+-- What one command of a client results in.
 use Rattle.std.specs.Prelude.{◌≡◌, ◌⊎◌, ◌≤◌, ℕ, List, [], ◌∷◌, ◌++◌, Option, Result, Ok, Err, MatchOption}
 use Rattle.std.specs.List.{AllZip}
 use Rattle.model_base.specs.declared.limits.TheConstants.{MAX_SIZE}
@@ -36,11 +36,11 @@ last_accepted (Accepted kept) = kept ∷ []
 abbrev pub accepted_in : ClientBatches → List (AcceptedBatch Contents)
 accepted_in batches = batches.list ++ last_accepted batches.current
 
--- what a client is told of a call: its reply, or nothing where it has none
+-- what a client gets for a call: the call's reply, or nothing where it has none
 abbrev pub ShowsTold : Option Reply → calls.Call → Type 0
 ShowsTold told c = MatchOption told (c.reply ≡ calls.quiet) (λ (reply : Reply). ShowsReply reply c)
 
--- the client goes on by this command, and was told so
+-- the client goes on with this command, and got its reply
 pub record GoesOn (settings : Settings) (v : Account) (before : List Record) (command : calls.Command)
     (told : Option Reply) (w : Account) (after : List Record) : Type 0 where
   pub reply : calls.Reply
@@ -61,7 +61,7 @@ ShowsEntries shown entries = AllZip ShowsEntry shown entries
 abbrev pub ShowsAccepted : ℕ → List (AcceptedBatch Contents) → List history.Entry → Type 0
 ShowsAccepted client kept entries = ShowsEntries (entries_of client kept) entries
 
--- what the commands add, if they add something, fits into the batch
+-- these records and what the commands add fit into one batch
 abbrev pub HasRoom : List Record → List calls.Command → Type 0
 HasRoom records commands = size_of_batch (records ++ additions_of commands) ≤ MAX_SIZE
 

@@ -8,7 +8,7 @@ use Rattle.run_batches.specs.declared.accepted.AcceptedBatch.{AcceptedBatch}
 use Rattle.run_threads.specs.Answers.{ShowsAccepted}
 
 -- The clients' accepted batches, those of the client numbered 1 first, make up the history above the number `start`:
--- each client's are just its entries there, and there are no others.
+-- each client's batches are exactly its entries there, and there are no other entries.
 pub record MakeUp (start : ℕ) (accepted : List (List (AcceptedBatch Contents)))
     (entries : List history.Entry) : Type 0 where
   pub is_history : history.IsHistory start entries

@@ -1,4 +1,4 @@
--- What the jobs of all clients are before they run, and then.
+-- What holds of all clients' jobs before they run, and after.
 use Rattle.std.specs.Prelude.{◌≡◌, ℕ, ◌+◌, ◌^◌, ◌<◌, ◌≤◌, List, [], length, Some, slice_get, slice_index_or, Vec, vec_len, vec_capacity}
 use Rattle.std.specs.List.{AllByRecursion, AllZip}
 use Rattle.std.specs.declared.alloc.Global.{Global}
@@ -15,9 +15,9 @@ use Rattle.model_accounts.specs.ClientRuns.{HaveRun}
 use Rattle.run_threads.specs.declared.batches.ClientBatches.{ClientBatches}
 use Rattle.run_threads.specs.declared.jobs.Job.{Job}
 use Rattle.run_threads.specs.Answers.{records_in, accepted_in, ShowsAccepted}
-use Rattle.run_threads.specs.Transcripts.{HasTold}
+use Rattle.run_threads.specs.Transcripts.{HasReplied}
 
--- all that a client adds fits one batch of 16 MiB, even if no commit is accepted
+-- all that a client adds fits into one batch of 16 MiB, even if no commit is accepted
 abbrev pub FitBatches : List (List Command) → Type 0
 FitBatches script = AllByRecursion (λ cs. size_of_batch (additions_of cs) ≤ MAX_SIZE) script
 
@@ -27,7 +27,7 @@ pub record AreNew {C : Type 0} (account : C → Account) (start : ℕ) (opening 
   pub each : (i : ℕ) (c : C) → slice_get clients i ≡ Some c → account c ≡ newcomer start opening (i + 1)
 
 -- the clients have run their parts of the script, and their replies show how
-pub record HaveTold (settings : Settings) (script : List (List Command)) (replies : List (Vec Reply Global))
+pub record HaveReplied (settings : Settings) (script : List (List Command)) (replies : List (Vec Reply Global))
     (accounts : List Account) : Type 0 where
   pub transcripts : List (List Call)
   pub show : AllZip (λ v. ShowsReplies v.items) replies transcripts
@@ -63,11 +63,11 @@ module _ {C : Type 0} (belongs : C → Type 0) (account : C → Account) (settin
     pub fits : (d : List Command) → size_of_batch (additions_of (slice_index_or script i d)) ≤ MAX_SIZE
     pub room : (d : List Command) → length (slice_index_or script i d) ≤ vec_capacity job.replies
 
-  -- the same job, run
+  -- the job of client i + 1, which has run
   pub record IsDone (i : ℕ) (job : Job C) : Type 0 where
     pub ours : belongs job.client
     pub number : (account job.client).number ≡ i + 1
-    pub told : (d : List Command) → HasTold settings (i + 1) (slice_index_or script i d) job.replies.items
+    pub told : (d : List Command) → HasReplied settings (i + 1) (slice_index_or script i d) job.replies.items
         (account job.client)
     pub accepted : ShowsAccepted (i + 1) (accepted_in job.batches) (account job.client).mine
 

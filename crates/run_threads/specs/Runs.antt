@@ -1,4 +1,4 @@
--- What a run of all clients over a write path comes to: nothing, or a legal outcome whose values may be at hand.
+-- What a run of all clients over a write path results in: nothing, or a legal outcome whose values may be at hand.
 use Rattle.std.specs.Prelude.{ℕ, List, [], Option, Vec}
 use Rattle.std.specs.declared.alloc.Global.{Global}
 use Rattle.model_base.specs.Trace.{Trace, Settings}
@@ -16,7 +16,7 @@ use Rattle.model_runs.specs.Written.{WritesLog}
 use Rattle.run_threads.specs.declared.run.ClientsEnd.{ClientsEnd}
 use Rattle.run_threads.specs.declared.run.ClientsEnd.TheVariants.{NotRun, Untold, Told}
 
--- the outcome that these values tell, with the log's length and its fault
+-- the outcome of these values, with the log's length and its fault
 abbrev pub outcome_with : Vec (Vec Reply Global) Global → List (HistoryEntry Contents) → ℕ → Pairs → ℕ → Option ℕ
     → Outcome Pairs
 outcome_with transcripts history last state log_len fault = record {
@@ -34,12 +34,12 @@ log_of (NotRun log) = log
 log_of (Untold log last) = log
 log_of (Told log last transcripts history state) = log
 
--- `wrote` says that a log came to be by some calls of the log writer, and `fault` and `faults` are the log's fault and
--- its disk's count.
+-- `wrote` says that a log was written by some calls of the log writer, and `fault` and `faults` give a log's fault and
+-- its disk's count of faults.
 module _ {L : Type 0} (settings : Settings) (script : List (List Command)) (wrote : List GroupCall → L → Type 0)
     (fault : L → Option ℕ) (faults : L → ℕ) where
-  -- All clients have run: one trace, of which what they were told is a legal outcome, whatever the log's length, and
-  -- whose history the log was written by.
+  -- All clients have run: there is one trace, their replies are a legal outcome of it, whatever the log's length, and
+  -- the log was written by the calls for its history.
   pub record HaveRun (log : L) (last : ℕ) : Type 0 where
     pub trace : Trace
     pub attempts : List (List Attempt)

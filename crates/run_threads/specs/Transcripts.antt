@@ -1,4 +1,4 @@
--- What all commands of a client come to.
+-- What all commands of a client result in.
 use Rattle.std.specs.Prelude.{◌≡◌, ℕ, List, [], ◌∷◌, ◌++◌}
 use Rattle.model_base.specs.Batch.{Record}
 use Rattle.model_base.specs.Trace.{Settings}
@@ -10,7 +10,7 @@ use Rattle.run_outcome.specs.Shows.{ShowsReplies}
 use Rattle.model_accounts.specs.Accounts.{Account}
 use Rattle.model_accounts.specs.ClientRuns.{Lacks, Went, HasRun}
 
--- these commands were answered, and the client was told so
+-- these commands were answered, and the client got the replies
 pub record HasGone (settings : Settings) (client : ℕ) (commands : List Command) (told : List Reply) (a : Account)
     (pending : List Record) : Type 0 where
   pub calls : List Call
@@ -30,7 +30,7 @@ pub data HasStopped (settings : Settings) (client : ℕ) (commands : List Comman
       → HasStopped settings client commands told a
 
 -- the client has run its commands, and its replies show how
-pub record HasTold (settings : Settings) (client : ℕ) (commands : List Command) (told : List Reply)
+pub record HasReplied (settings : Settings) (client : ℕ) (commands : List Command) (told : List Reply)
     (a : Account) : Type 0 where
   pub calls : List Call
   pub shows : ShowsReplies told calls

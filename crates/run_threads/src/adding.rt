@@ -18,7 +18,7 @@ use run_outcome::Reply;
 use std::alloc::Global;
 use std::mem;
 
-/// Puts a record behind the others of the batch in the making, for which there is room.
+/// Appends a record to the batch in the making, which has room for it.
 pub fn add(
     alloc: Global,
     batches: &mut ClientBatches,
@@ -56,8 +56,8 @@ pub fn clear(batches: &mut ClientBatches)
     }
 }
 
-/// Takes the batch in the making out, or begins one: with the last accepted batch, whose copy goes into the list, or
-/// with a new one.
+/// Takes out the batch in the making, or begins one: either with the last accepted batch, which is emptied after a
+/// copy of it went into the list, or with a new one.
 fn begin(alloc: Global, batches: &mut ClientBatches) -> Result<Batch, NoMemory>
     ensures records { IfOk result (λ batch. batch.records ≡ records_in batches.old.current) }
     ensures out { OnOk result (batches.new.current ≡ Nothing) }

@@ -18,7 +18,7 @@ use std::alloc::Global;
 use std::rt;
 use std::sync::Wait;
 
-/// What a client is told of one command.
+/// Runs one command of a client, and returns its reply, if it has one.
 pub fn answer<E: Engine, R: Wait + rt::Clock>(
     rt: &R,
     alloc: Global,

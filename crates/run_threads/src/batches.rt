@@ -13,8 +13,8 @@ pub enum CurrentBatch {
 
 /// A client's batches: those that were accepted, and what it has at hand.
 ///
-/// The last accepted batch stays at hand until the next one is begun, which may find no memory; so no batch that was
-/// written is lost for want of it. Then it goes into the list, and is emptied for the next one.
+/// The last accepted batch stays at hand until the next one is begun. Then it goes into the list, and is emptied for
+/// the next one. If there is no memory for that, it stays at hand, so that no batch that was written is lost.
 #[derive(Drop)]
 pub struct ClientBatches {
     pub list: BatchList,

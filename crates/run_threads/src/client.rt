@@ -6,7 +6,7 @@ ghost use Rattle.run_scripts.specs.Scripts.{additions_of};
 ghost use Rattle.model_accounts.specs.Accounts.{newcomer};
 ghost use Rattle.run_threads.specs.Answers.{accepted_in, ShowsAccepted};
 ghost use Rattle.run_threads.specs.Jobs.{AreNone};
-ghost use Rattle.run_threads.specs.Transcripts.{HasTold};
+ghost use Rattle.run_threads.specs.Transcripts.{HasReplied};
 
 use crate::answer::answer;
 use crate::batches::ClientBatches;
@@ -19,8 +19,8 @@ use std::alloc::Global;
 use std::rt;
 use std::sync::Wait;
 
-/// Runs a client's commands, up to the first that finds no memory. Then it gives back what tokens it holds. There is
-/// room for its replies. All that it adds fits one batch, so no addition is too large.
+/// Runs a client's commands, up to the first that finds no memory. Then the client gives back the tokens that it
+/// holds. There is room for its replies. All that it adds fits into one batch, so no addition is too large.
 pub fn run_client<E: Engine, G: Gate, R: Wait + rt::Clock>(
     rt: &R,
     alloc: Global,
@@ -41,7 +41,7 @@ pub fn run_client<E: Engine, G: Gate, R: Wait + rt::Clock>(
     requires room { length commands.now ≤ vec_capacity replies.old }
     requires no_batches { AreNone batches.old }
     ensures belongs { E.belongs engine.now client.new }
-    ensures told { HasTold (E.settings engine.now) number commands.now replies.new.items
+    ensures told { HasReplied (E.settings engine.now) number commands.now replies.new.items
         (E.account client.new) }
     ensures accepted { ShowsAccepted number (accepted_in batches.new) (E.account client.new).mine }
 {
@@ -61,7 +61,7 @@ pub fn run_client<E: Engine, G: Gate, R: Wait + rt::Clock>(
     engine.end(rt, client);
 }
 
-/// Keeps the reply to a call, if it has one, and says that the call was answered.
+/// Keeps the reply to a call, if it has one, and tells the gate that the call was answered.
 fn tell<G: Gate>(gate: &G, number: u32, call: u64, replies: &mut Vec<Reply>, told: Option<Reply>)
     requires { vec_len replies.old < vec_capacity replies.old }
     ensures items { replies.new.items ≡ replies.old.items ++ option_to_list told }

@@ -3,7 +3,7 @@
 ghost use Rattle.std.specs.Prelude.{◌≡◌, ◌+◌, ◌<◌, ◌≤◌, ◌^◌, length, map, IfOk, OnErr};
 ghost use Rattle.std.specs.List.{AllByRecursion};
 ghost use Rattle.model_accounts.specs.Closing.{AreOurs};
-ghost use Rattle.run_threads.specs.Jobs.{FitBatches, AreNew, HaveTold, HaveEntries};
+ghost use Rattle.run_threads.specs.Jobs.{FitBatches, AreNew, HaveReplied, HaveEntries};
 ghost use Rattle.run_threads.specs.Jobs.{AreNone, IsRoom, IsReady, IsDone, AreReady, AreDone};
 
 use crate::batches::{ClientBatches, CurrentBatch};
@@ -20,14 +20,14 @@ use std::thread::Threads;
 use std::{rt, thread};
 
 /// How many bytes of room a client's list has at first for each of its commits: a batch's header and its flag take 13,
-/// and the others are for a short record. A list with longer ones grows.
+/// and the rest is for a short record. A list with longer records grows.
 const BYTES_A_COMMIT: usize = 32;
 
 /// Runs the commands of all clients, each client's in a thread of its own, or in the caller's where none can be made.
-/// What each client was told and its batches are in order of the clients' numbers.
+/// The replies and the batches are in order of the clients' numbers.
 ///
-/// A client that finds no memory stops there. Want of memory for the run itself is answered before any call, with the
-/// clients as they were.
+/// A client that finds no memory stops there. If there is no memory for the run itself, that is returned before any
+/// call, with the clients as they were.
 pub fn run_clients<E: Engine + Sync, G: Gate + Sync, R: Threads + Wait + rt::Clock + Sync>(
     rt: &R,
     alloc: Global,
@@ -44,7 +44,7 @@ where
     requires few { length script.now < 2 ^ 32 }
     requires fits { FitBatches script.now }
     ensures ours { AreOurs (E.belongs engine.now) E.account (E.settings engine.now).clients clients.new.items }
-    ensures run { IfOk result (λ told. HaveTold (E.settings engine.now) script.now told.0.items
+    ensures run { IfOk result (λ told. HaveReplied (E.settings engine.now) script.now told.0.items
         (map E.account clients.new.items)) }
     ensures accepted { IfOk result (λ told. HaveEntries told.1.items (map E.account clients.new.items)) }
     ensures err { OnErr result (clients.new ≡ clients.old) }
@@ -59,7 +59,7 @@ where
     Ok((replies, batches))
 }
 
-/// Room for one reply a command, for each client.
+/// For each client, room for one reply to each of its commands.
 fn room_for(alloc: Global, script: &[CommandList]) -> Result<Vec<Vec<Reply>>, NoMemory>
     ensures { IfOk result (λ room. IsRoom script.now room.items) }
 {
@@ -71,8 +71,8 @@ fn room_for(alloc: Global, script: &[CommandList]) -> Result<Vec<Vec<Reply>>, No
     Ok(all)
 }
 
-/// No batches for each client, with room for those of its commits. A list that grew during the run would lie between
-/// what the calls ask for, and would cut the memory that this leaves into pieces.
+/// For each client an empty list of batches, with room for those of its commits. A list that grew during the run would
+/// lie between the memory that calls ask for, and would cut what is left of the memory into pieces.
 fn batches_for(alloc: Global, script: &[CommandList]) -> Result<Vec<ClientBatches>, NoMemory>
     ensures count { IfOk result (λ all. length all.items ≡ length script.now) }
     ensures none { IfOk result (λ all. AllByRecursion AreNone all.items) }

@@ -35,7 +35,7 @@ pub fn lists_of(alloc: Global, batches: Vec<ClientBatches>) -> Result<Vec<BatchL
     Ok(lists)
 }
 
-/// A client's accepted batches, the last one among them.
+/// A client's accepted batches, with the last one, if it is still at hand.
 fn list_of(batches: ClientBatches) -> Result<BatchList, NoMemory>
     ensures { IfOk result (λ list. list ≡ accepted_in batches) }
 {

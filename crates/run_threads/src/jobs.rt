@@ -6,7 +6,7 @@ ghost use Rattle.run_threads.specs.Parts.{client_of, replies_of, batches_of};
 use crate::batches::ClientBatches;
 use run_outcome::Reply;
 
-/// A client with what it was told and its batches, or with the room for them.
+/// A client with its replies and its batches, or with the room for them.
 pub struct Job<C> {
     pub client: C,
     pub replies: Vec<Reply>,
@@ -33,8 +33,8 @@ pub fn fill<C>(
         × (vec_capacity replies.new ≡ vec_capacity replies.old)
         × (vec_capacity batches.new ≡ vec_capacity batches.old) }
 {
-    // The jobs so far and what is left are all clients, in their order. They are taken from the front, so that the
-    // order stays without a second pass: there are sixty-four at most.
+    // The jobs so far and what is left are all clients, in their order. Clients are taken from the front, which keeps
+    // the order without a second pass: there are at most sixty-four.
     while !clients.is_empty() {
         let client = clients.remove(0);
         jobs.push_reserved(Job {
@@ -45,7 +45,7 @@ pub fn fill<C>(
     }
 }
 
-/// Takes all jobs apart.
+/// Takes all jobs apart into clients, replies and batches.
 pub fn empty<C>(
     jobs: &mut Vec<Job<C>>,
     clients: &mut Vec<C>,

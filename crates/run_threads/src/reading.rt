@@ -1,4 +1,4 @@
-//! A client's reads. Its batch stays out of them.
+//! A client's reads. They don't see its batch in the making.
 
 ghost use Rattle.std.specs.Prelude.{◌≡◌, List};
 ghost use Rattle.model_base.specs.Batch.{Record};

@@ -23,13 +23,14 @@ use std::rt;
 use std::sync::Wait;
 use std::thread::Threads;
 
-/// What a run of clients over a write path leaves: the log, and what they were told.
+/// What a run of clients over a write path leaves: the log, and the values of the outcome.
 pub enum ClientsEnd<L> {
     /// There was no memory for the run. No client has called anything.
     NotRun {
         log: L,
     },
-    /// All clients have run, and there was no memory to put together what they were told. The last published sequence.
+    /// All clients have run, but there was no memory to put together the outcome. `last` is the last published
+    /// sequence.
     Untold {
         log: L,
         last: u64,
@@ -45,8 +46,8 @@ pub enum ClientsEnd<L> {
     },
 }
 
-/// Runs a script's clients over a write path, closes it, and puts together what they were told. The map that stood
-/// before the run is handed in.
+/// Runs a script's clients over a write path, closes it, and puts together the outcome. The map from before the run is
+/// handed in.
 ///
 /// The write path is closed also where there is no memory.
 pub fn run_engine<E: Engine + Sync, G: Gate + Sync, R: Threads + Wait + rt::Clock + Sync>(
@@ -88,7 +89,7 @@ where
     }
 }
 
-/// The history of all clients' batches, and the map that it makes of the one that stood before it.
+/// The history of all clients' batches, and the map that it makes of the map from before it.
 fn history_and_map(
     alloc: Global,
     opening: ByteMap,

@@ -9,7 +9,7 @@ use log_batch::write_records;
 use model_base::NoMemory;
 use run_outcome::History;
 
-/// The map that a history makes of the one that stood before it.
+/// The map that a history makes of the map from before it.
 pub fn state_of(opening: ByteMap, history: &History) -> Result<ByteMap, NoMemory>
     ensures { (entries : List model.Entry) → ShowsEntries history.now entries
         → IfOk result (λ state. state ≡ model.map_over opening entries) }

@@ -26,7 +26,7 @@ pub fn stop<E: Engine, R: Wait + rt::Clock>(rt: &R, engine: &E, client: &mut E::
     }
 }
 
-/// Gives it back.
+/// Gives the stop token back.
 pub fn unstop<E: Engine, R: Wait + rt::Clock>(rt: &R, engine: &E, client: &mut E::Client) -> Reply
     requires { E.belongs engine.now client.old }
     ensures belongs { E.belongs engine.now client.new }
@@ -61,7 +61,7 @@ pub fn slow<E: Engine, R: Wait + rt::Clock>(
     }
 }
 
-/// Gives it back.
+/// Gives the slow token back.
 pub fn unslow<E: Engine, R: Wait + rt::Clock>(rt: &R, engine: &E, client: &mut E::Client) -> Reply
     requires { E.belongs engine.now client.old }
     ensures belongs { E.belongs engine.now client.new }

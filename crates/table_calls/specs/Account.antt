@@ -1,4 +1,4 @@
--- What a client's seat knows of a table and has to do there, as callers see it.
+-- What callers see of a client's seat: what it knows of a table, and what it has to do there.
 use Rattle.std.specs.Prelude.{◌≡◌, ℕ, ◌<◌, ◌≤◌, List, [], ◌∷◌, ◌++◌, length, Option, None, Some}
 use Rattle.table_rule.specs.declared.content.MemberVersions.{MemberVersions}
 use Rattle.table_rule.specs.declared.content.Version.{Version}
@@ -13,7 +13,7 @@ use Rattle.table_calls.specs.declared.finished.Finished.{Finished}
 use Rattle.table_calls.specs.declared.finished.Finished.TheVariants.{Last, Others}
 
 pub record Account : Type 0 where
-  -- the client
+  -- the client's number
   pub number : ℕ
   -- the published groups that it has seen, the oldest first
   pub seen : List (List MemberVersions)
@@ -22,7 +22,7 @@ pub record Account : Type 0 where
   -- the group that it launched and waits for
   pub launched : Option Launched
 
--- It has seen the history up to some moment, with all that it had seen.
+-- It has seen the history up to some moment, and no less than before.
 pub record Learns (start : ℕ) (before after : Account) : Type 0 where
   pub number : after.number ≡ before.number
   pub stage : after.stage ≡ before.stage
@@ -30,14 +30,14 @@ pub record Learns (start : ℕ) (before after : Account) : Type 0 where
   pub seen : Begins before.seen after.seen
   pub is_history : IsHistory start after.seen
 
--- Its part goes on.
+-- Its part moves on.
 pub record Steps (before : Account) (stage : Stage) (after : Account) : Type 0 where
   pub number : after.number ≡ before.number
   pub seen : after.seen ≡ before.seen
   pub stage_is : after.stage ≡ stage
   pub launched : after.launched ≡ before.launched
 
--- It launched a group behind a history. It is to take its own part of it, and without one it has none to wait for.
+-- It launched a group after a history. It must then take its own part of it; without one it has none to wait for.
 pub record Launches (start : ℕ) (before : Account) (history : List (List MemberVersions)) (group : List MemberVersions)
     (after : Account) : Type 0 where
   pub number : after.number ≡ before.number
@@ -46,14 +46,15 @@ pub record Launches (start : ℕ) (before : Account) (history : List (List Membe
   pub no_part : Apart before.number group → after.stage ≡ Idle
   pub launched_is : after.launched ≡ Some (launched_behind start history group)
 
--- It took its own part of a launched group, which is the one that it waited for, if it launched one.
+-- It took its own part of a launched group. If it was waiting for its part of a group that it launched, it is that
+-- group.
 pub record Takes (opening : Opening) (before : Account) (versions : List Version) (after : Account) : Type 0 where
   pub launched : Launched
   pub steps : Steps before (Holding (work launched [] versions)) after
   pub own_part : IsPartOf opening before.number before.seen launched versions
   pub awaited : IsAwaited before.stage launched
 
--- a member is told that it was the last just where it found no other one running
+-- a member hears that it was the last just where it found no other one running
 abbrev pub IsTold : ℕ → Finished → Type 0
 IsTold found Last = found ≡ 1
 IsTold found Others = 1 < found
@@ -63,7 +64,7 @@ abbrev pub after_finish : Launched → Finished → Stage
 after_finish launched Last = Publishing launched
 after_finish launched Others = Idle
 
--- It finished its part.
+-- It has finished its part.
 pub record Counts (before : Account) (launched : Launched) (finished : Finished) (after : Account) : Type 0 where
   -- how many members of the group were running before, itself among them
   pub found : ℕ
@@ -71,7 +72,7 @@ pub record Counts (before : Account) (launched : Launched) (finished : Finished)
   pub told : IsTold found finished
   pub steps : Steps before (after_finish launched finished) after
 
--- It published the group, and has seen it behind the history before.
+-- It published the group, and has seen it, after the history that was there before.
 pub record Publishes (start : ℕ) (before : Account) (launched : Launched) (after : Account) : Type 0 where
   pub number : after.number ≡ before.number
   pub stage_is : after.stage ≡ Idle

@@ -3,7 +3,7 @@
 /// Whether a member was the last of its group to finish.
 #[derive(Clone, Copy, Debug, PartialEq, Eq)]
 pub enum Finished {
-    /// It was, and is to publish the group.
+    /// It was, and must publish the group.
     Last,
     /// Others haven't finished yet, and one of them will publish the group.
     Others,

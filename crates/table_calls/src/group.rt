@@ -1,4 +1,4 @@
-//! The parts of a group that is to be launched.
+//! The parts of a group that will be launched.
 ghost use Rattle.std.specs.Prelude.{◌≡◌, ◌<◌, ◌^◌, [], ◌∷◌, length, MatchOption};
 ghost use Rattle.table_rule.specs.Histories.{versions_in};
 
@@ -11,7 +11,7 @@ pub trait GroupParts<NodeList: Versioned> {
 
     ghost parts: { Self → List MemberVersions };
 
-    /// For how many members there is room.
+    /// The number of members for which there is room.
     ghost room: { Self → ℕ };
 
     /// How many members there are.

@@ -1,5 +1,5 @@
-//! The calls of a published table: what a group's members and readers ask of it, whatever it is made of. A table keeps
-//! versions in trees, publishes groups of them whole, and answers reads at what is published.
+//! The calls of a published table: what the members of a group and the readers ask of it, whatever it is made of. A
+//! table keeps versions in trees, publishes each group of them as a whole, and answers reads as of what is published.
 #![tactic(auto)]
 
 mod finished;

@@ -20,11 +20,11 @@ use std::rt;
 use std::sync::Wait;
 use table_rule::Versioned;
 
-/// A table of versions, which groups are published to. `GroupList` is a list of a group's members with their nodes.
+/// A table of versions, to which groups are published. `GroupList` is a list of a group's members with their nodes.
 ///
 /// Each client has one seat. A group is launched by the client that has the turn. Each member takes its part, inserts
-/// it and finishes. Who finishes last publishes the group. The client that launched it waits for that, and has the turn
-/// again.
+/// it and finishes. The member that finishes last publishes the group. The client that launched it waits for that, and
+/// then has the turn again.
 pub trait Table<NodeList: Versioned, GroupList: GroupParts<NodeList>> {
     /// A client's seat.
     type Seat;
@@ -47,7 +47,7 @@ pub trait Table<NodeList: Versioned, GroupList: GroupParts<NodeList>> {
     /// What a client's seat knows and has to do.
     ghost account: { Self.Seat → Account };
 
-    /// All that is published. Who has the turn knows that no group is launched.
+    /// All that is published. The holder of the turn knows that no group is launched.
     ghost history: { Self.Turn → List (List MemberVersions) };
 
     /// The versions of a part.
@@ -69,7 +69,8 @@ pub trait Table<NodeList: Versioned, GroupList: GroupParts<NodeList>> {
     fn locks(&self) -> u64
         ensures { result ≡ (opening self.now).shards };
 
-    /// The value of a key, with the published sequence that it is of. Want of memory leaves the table as it was.
+    /// The value of a key, with the published sequence as of which it was read. Want of memory leaves the table as it
+    /// was.
     fn read<R: Wait + rt::Clock>(
         &self,
         alloc: Global,
@@ -84,7 +85,7 @@ pub trait Table<NodeList: Versioned, GroupList: GroupParts<NodeList>> {
         ensures value { IfOk result (λ read. found_value read.value
             ≡ value_in (opening self.now).base key.now (account seat.new).seen) };
 
-    /// The values of keys, all of one published sequence.
+    /// The values of keys, all as of one published sequence.
     fn read_many<R: Wait + rt::Clock>(
         &self,
         alloc: Global,
@@ -99,7 +100,7 @@ pub trait Table<NodeList: Versioned, GroupList: GroupParts<NodeList>> {
         ensures values { IfOk result (λ reads. reads.values
             ≡ map (λ key. value_in (opening self.now).base key (account seat.new).seen) keys.now) };
 
-    /// The keys from `lo` on and below `hi` with their values, all of one published sequence, in byte order.
+    /// The keys from `lo` on and below `hi` with their values, all as of one published sequence, in byte order.
     fn scan<R: Wait + rt::Clock>(
         &self,
         alloc: Global,
@@ -115,8 +116,8 @@ pub trait Table<NodeList: Versioned, GroupList: GroupParts<NodeList>> {
         ensures rows { IfOk result (λ rows. rows.rows ≡ rows_within lo.now hi.now
             (map_after (opening self.now).base (account seat.new).seen)) };
 
-    /// Launches a group, and hands each member its nodes: each takes its own part next, by its own seat. The client
-    /// that launches needn't have a part. Its seat keeps the turn until `await_published`.
+    /// Launches a group, and hands each member its nodes: next, each member takes its own part, by its own seat. The
+    /// client that launches needn't have a part. Its seat keeps the turn until `await_published`.
     fn launch(&self, seat: &mut Self::Seat, turn: Self::Turn, parts: &mut GroupList)
         requires ours { ours self.now seat.old × our_turn self.now turn }
         requires ready { IsReady (account seat.old) }
@@ -143,7 +144,7 @@ pub trait Table<NodeList: Versioned, GroupList: GroupParts<NodeList>> {
         ensures stored { (u : Launched) → (account seat.old).stage ≡ Holding (work u [] (versions part))
             → Steps (account seat.old) (Stored u) (account seat.new) };
 
-    /// The client's part is finished. Just who finds no other member running is the last of the group.
+    /// Finishes the client's part. The client is the last of its group just where it finds no other member running.
     fn finish(&self, seat: &mut Self::Seat) -> Finished
         requires ours { ours self.now seat.old }
         requires stored { (u : Launched) × ((account seat.old).stage ≡ Stored u) }
@@ -151,7 +152,7 @@ pub trait Table<NodeList: Versioned, GroupList: GroupParts<NodeList>> {
         ensures counted { (u : Launched) → (account seat.old).stage ≡ Stored u
             → Counts (account seat.old) u result (account seat.new) };
 
-    /// Publishes the group, of which this client finished last. The client has then seen it.
+    /// Publishes the group, in which this client finished last. The client has then seen it.
     fn publish(&self, seat: &mut Self::Seat)
         requires ours { ours self.now seat.old }
         requires last_one { (u : Launched) × ((account seat.old).stage ≡ Publishing u) }

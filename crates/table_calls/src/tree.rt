@@ -39,13 +39,13 @@ pub trait VersionTree<Node: VersionNode>: Versioned {
     fn new() -> Self
         ensures { Self.versions result ≡ [] };
 
-    /// Puts a node in whose sequence no other version of its key has. This takes no memory.
+    /// Puts in a node whose sequence no other version of its key has. This takes no memory.
     fn insert(&mut self, node: Node)
         requires { (v : Version) → In v (Self.versions self.old) → v.key ≡ (Node.version node).key
             → v.sequence ≢ (Node.version node).sequence }
         ensures { Adds (Self.versions self.old) (Node.version node) (Self.versions self.new) };
 
-    /// The key's value as of a sequence: what the map has that the versions make up to it.
+    /// The key's value as of a sequence: what it is in the map that the versions up to that sequence make.
     fn lookup(&self, key: &[u8], at: u64) -> Option<&[u8]>
         ensures { (order : List Version) → IsOrderUpTo at (Self.versions self.now) order
             → option_copied result ≡ value_at (map_of order) key.now };

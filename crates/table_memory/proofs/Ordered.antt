@@ -28,7 +28,7 @@ is_before e f = is_lt (byte_order e.0 f.0)
 abbrev AreApart : Pairs → Type 0
 AreApart rows = IsDistinct (eq_by_cmp byte_order) (keys_of rows)
 
--- what a look-up finds it finds in another order too
+-- a value that a look-up finds, it finds in another order of the entries too
 found_too : (es fs : Pairs) → IsPermutation es fs → AreApart fs → (q v : List ℕ) → value_at es q ≡ Some v → value_at fs q ≡ Some v
 found_too es fs moved apart q v found =
     let place = place_from_lookup (is_at (byte_order q)) es v found in

@@ -35,7 +35,7 @@ module _ {A : Type 0} where
   at_index (x ∷ xs) zero d h = refl
   at_index (x ∷ xs) (suc i) d h = at_index xs i d (omega arith)
 
-  -- what is written back to a vector of as many
+  -- of two lists one after the other, the first elements, as many as the first list has, are that list
   pub written : (xs ys : List A) (n : ℕ) → n ≡ length xs → take n (xs ++ ys) ≡ xs
   written xs ys n e = ap (λ (k : ℕ). take k (xs ++ ys)) e ∙ all xs
     where
@@ -54,7 +54,7 @@ none_put n trees leaves j tree v at =
     let nothing : versions_in tree ≡ [] = ap versions_in (leaves tree (found_in trees j tree at)) in
     ((λ h. absurd (subst (In v) nothing h)), λ h. absurd h.0)
 
--- a key behind others is none of theirs
+-- a key is above those before it, in sorted pairs
 below_next : (front : Pairs) (p : List ℕ × List ℕ) (rest : Pairs) (q : List ℕ × List ℕ) → IsStrictlySortedBy byte_order (keys_of (front ++ p ∷ rest)) → In q front → byte_order q.0 p.0 ≡ Less
 unfolding IsStrictlySortedBy
 below_next [] p rest q s h = absurd h
@@ -80,7 +80,7 @@ module _ (n : ℕ) (front : Pairs) (p : List ℕ × List ℕ) (trees : List Shap
       let key : q.0.0 ≡ p.0 = sym (ap (λ (w : Version). w.key) q.2) ∙ same in
       apart (byte_order q.0.0 p.0) less (ap (λ k. byte_order k p.0) key ∙ tied_itself byte_total p.0))
 
-  -- and with it the tree bears one pair more
+  -- and with it put in, the trees bear one more pair
   pub one_put : (new : Shape) (after : List Shape) → after ≡ set trees j new → Adds (versions_in old) (version_at n p) (versions_in new) → shard_of (length trees) (version_at n p) ≡ j
       → BearBase versions_in (versions_at n (front ++ p ∷ [])) after
   one_put new after is adds here i tree v at =

@@ -11,7 +11,7 @@ use Rattle.table_rule.proofs.Histories.{in_split}
 use Rattle.table_calls.specs.Account.{Account, Steps}
 
 module _ {A : Type 0} where
-  -- the first of those that are left goes before those that are taken, which stand the last one first
+  -- the next node goes to the front of those that are taken, which have the last one first
   pub turned_more : (x : A) (turned after : List A) → after ≡ x ∷ turned → reverse after ≡ reverse turned ++ x ∷ []
   turned_more x turned after is = ap (λ (l : List A). reverse l) is ∙ reverse-append (x ∷ []) turned
 
@@ -20,7 +20,7 @@ module _ {A : Type 0} where
       are ∙ ap (λ (l : List A). reverse turned ++ l) cut ∙ sym (append_assoc (reverse turned) (x ∷ []) rest) ∙ ap (λ (l : List A). l ++ rest) (sym (turned_more x turned after is))
 
 module _ (k shard : ℕ) where
-  -- a list's first version is of the shard where the shard of its first was found to be this one
+  -- the first version of a list is of the shard that was found for it
   pub first_of : (found : Option ℕ) (left rest : List Version) (w : Version)
       → MatchOption found (left ≡ []) (λ s. (s < k) × ((v : Version) × (more : List Version) × (left ≡ v ∷ more) × (shard_of k v ≡ s)))
       → true ≡ option_eq eqb found (Some shard) → left ≡ w ∷ rest → shard_of k w ≡ shard

@@ -1,4 +1,4 @@
--- The versions of a shard make of the map the part that is of the shard's keys.
+-- The versions of a shard make that part of the map that has the shard's keys.
 use Rattle.std.proofs.Common.{◌≡◌, ℕ, Bool, true, false, not, ◌&&◌, ◌==◌, cond, List, [], ◌∷◌, map, filter, None, refl, sym, ap, ◌∙◌, subst, eq-eqb}
 use Rattle.std.proofs.lemmas.Bool.{false≢true}
 use Rattle.std.proofs.lemmas.List.Kept.{IsStrictlySortedBy-filter}
@@ -25,7 +25,7 @@ pub rising_map : (vs : List Version) → AreRising (map_of vs)
 unfolding IsStrictlySortedBy
 rising_map vs = rising_after [] vs tt
 
--- The keys of a filter by keys
+-- The keys of a map that is filtered by its keys
 
 keys_kept : (p : List ℕ → Bool) (m : Pairs) → keys_of (filter (λ e. p e.0) m) ≡ filter p (keys_of m)
 keys_kept p [] = refl

@@ -7,7 +7,7 @@ use Rattle.model_base.specs.Checksum.{crc32c}
 use Rattle.model_base.specs.Map.{Pairs}
 use Rattle.table_rule.specs.Histories.{shard_of_key}
 
--- what a test is of two that exclude each other
+-- the third is true just where one of the first two is, and these exclude each other
 pub data Either : Bool → Bool → Bool → Type 0 where
   by_first : Either true false true
   by_second : Either false true true

@@ -27,7 +27,7 @@ opening_of t = steps.opening_of t.steps
 abbrev pub account_of : Seat → Account
 account_of s = steps.account s
 
--- the seat is of this table, and stands between two calls
+-- the seat is of this table, and is between two calls
 abbrev pub IsOurs : MemoryTable → Seat → Type 0
 IsOurs t s = steps.IsOurs t.steps s
 
@@ -35,7 +35,7 @@ IsOurs t s = steps.IsOurs t.steps s
 abbrev pub MayLaunch : MemoryTable → Turn → Type 0
 MayLaunch t u = steps.MayLaunch t.steps u
 
--- all that is said of it
+-- all that the calls of a table need to have defined of it
 abbrev pub memory_table : Ghosts MemoryTable Nodes Parts Seat Turn Nodes
 memory_table = record {
   opening = opening_of;
@@ -50,7 +50,7 @@ memory_table = record {
 abbrev pub IsTurnAtStart : MemoryTable → Turn → Type 0
 IsTurnAtStart t u = steps.IsTurnAtStart t.steps u
 
--- the seats of clients from 1 on, who have seen nothing yet and have nothing to do
+-- the seats of the clients from 1 to `count`, which have seen nothing yet and have nothing to do
 abbrev pub AreSeatsAtStart : MemoryTable → ℕ → List Seat → Type 0
 AreSeatsAtStart t count seats = steps.AreSeatsAtStart t.steps count seats
 

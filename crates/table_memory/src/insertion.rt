@@ -16,7 +16,7 @@ use table_tree::{Nodes, Tree};
 
 impl MemoryTable {
     /// Puts all nodes of the client's part into the trees. They go in in the order of their sequences, as the table's
-    /// rule has it, so run by run: a run is of one shard, and goes in under one hold of its lock.
+    /// rule asks, and so run by run: the nodes of a run are of one shard, and go in under one hold of its lock.
     pub(crate) fn add_all<R: Wait + rt::Clock>(
         &self,
         rt: &R,
@@ -46,7 +46,7 @@ impl MemoryTable {
         Some(self.shard_of(key))
     }
 
-    // Takes the nodes in front out that are of the first one's shard. Of one shard they are all.
+    // Takes out the nodes at the front that are of the first one's shard. With one shard, those are all nodes.
     fn take_run(&self, nodes: &mut Nodes, shard: u64) -> Nodes
         requires { (v : Version) × (more : List Version) × (nodes.old ≡ v ∷ more)
             × (shard_of (opening_of self.now).shards v ≡ shard) }
@@ -58,7 +58,7 @@ impl MemoryTable {
             return mem::replace(nodes, Nodes::new());
         }
         let mut turned = Nodes::new();
-        // What is taken, the last one first, stands before what is left.
+        // The nodes were those in `turned`, which has the last one first, and then those that are left.
         while self.first_shard(nodes) == Some(shard) {
             let Some(node) = nodes.pop() else {
                 unreachable!()

@@ -43,7 +43,7 @@ fn put_pairs(
 {
     map.in_order();
     let shards = trees.len() as u64;
-    // The trees have the pairs so far, each in its own.
+    // The trees have the pairs so far, each in the tree of its shard.
     for (key, value) in map.iter() {
         let node = Node::of_value(alloc, key, value, sequence)?;
         trees[shard_of(key, shards) as usize].insert(node);
@@ -51,7 +51,7 @@ fn put_pairs(
     Ok(())
 }
 
-/// The versions of a map's pairs at a sequence, for contracts alone.
+/// The versions of a map's pairs at a sequence, only for contracts.
 fn base_of<Plan: VersionPlan>(
     alloc: Global,
     _sequence: u64,
@@ -63,8 +63,8 @@ fn base_of<Plan: VersionPlan>(
 }
 
 impl MemoryTable {
-    /// A table of no versions for so many clients, with the published sequence `last` and so many shards, at least one;
-    /// the turn, and a seat for each client.
+    /// A table of no versions for `clients` clients, with the published sequence `last` and `shards` shards, at least
+    /// one; with the turn, and a seat for each client.
     pub fn open(
         alloc: Global,
         clients: u32,
@@ -88,8 +88,9 @@ impl MemoryTable {
         Ok((MemoryTable { steps }, seats))
     }
 
-    /// The same over a map: the table has its pairs, each as a value at the sequence `base_last`, which is published.
-    /// Each key and value is copied once.
+    /// A table as `open` makes it, but over a map: it has the map's pairs, each as a value at the sequence
+    /// `base_last`, which isn't above the published one, and is 0 only if the map is empty. Each key and value is
+    /// copied once.
     pub fn open_with(
         alloc: Global,
         clients: u32,

@@ -13,7 +13,7 @@ use std::sync::Wait;
 use table_steps::TableSeat;
 use table_tree::{Nodes, Tree};
 
-/// The shard of a key among so many, by the key's checksum. One shard is every key's.
+/// The shard of a key among `shards`, by the key's checksum. If there is only one shard, it is every key's.
 pub(crate) fn shard_of(key: &[u8], shards: u64) -> u64
     requires { 0 < shards }
     ensures shard { result ≡ shard_of_key shards key.now }
@@ -56,7 +56,7 @@ impl MemoryTable {
         seat.find(&self.steps, alloc, rt, shard, key, at)
     }
 
-    /// The same of several keys, in their order, each in its own shard.
+    /// The values of several keys as of `at`, in the order of the keys, each looked up in its own shard.
     pub(crate) fn values<R: Wait + rt::Clock>(
         &self,
         alloc: Global,
@@ -74,7 +74,7 @@ impl MemoryTable {
             ≡ map (λ key. value_in (opening_of self.now).base key (account_of seat.old).seen) keys.now) }
     {
         let mut values = FoundList::new(alloc);
-        // `values` has those of the first `i` keys.
+        // `values` has the values of the first `i` keys.
         for i in 0..keys.len() {
             let found = self.value(alloc, rt, seat, keys[i].as_slice(), at)?;
             values.push(found)?;

@@ -15,7 +15,7 @@ use std::sync::Wait;
 use table_steps::TableSeat;
 use table_tree::{Nodes, Tree};
 
-/// Rows of different keys, in the byte order of these.
+/// Rows of different keys, sorted in the byte order of the keys.
 fn in_byte_order(mut rows: Vec<(Bytes, Bytes)>) -> PairList
     ensures { (rising : Pairs) → AreRising rising → IsPermutation rising rows.items → result ≡ rising }
 {
@@ -25,7 +25,7 @@ fn in_byte_order(mut rows: Vec<(Bytes, Bytes)>) -> PairList
 
 impl MemoryTable {
     /// The keys from `lo` on and below `hi` with their values, as of `at`, the end of what the seat has seen. A tree's
-    /// rows are in byte order, so that those of one shard are as they should be.
+    /// rows are in byte order, so those of a single shard needn't be sorted.
     pub(crate) fn rows<R: Wait + rt::Clock>(
         &self,
         alloc: Global,
@@ -52,7 +52,7 @@ impl MemoryTable {
         Ok(Rows { at, rows })
     }
 
-    // The same rows, shard after shard.
+    // The rows that `rows` sorts, shard after shard.
     fn gather<R: Wait + rt::Clock>(
         &self,
         alloc: Global,
@@ -73,7 +73,7 @@ impl MemoryTable {
     {
         let mut rows = Vec::new(alloc);
         let shards = self.steps.shards();
-        // `rows` has those of the shards below `shard`, in any order.
+        // `rows` has the rows of the shards below `shard`, in any order.
         for shard in 0..shards {
             let found = seat.find_rows(&self.steps, alloc, rt, shard, lo, hi, at)?;
             let mut more = found.rows.into_vec();

@@ -1,4 +1,4 @@
--- What a locked tree answers is the map of what its seat has seen.
+-- A locked tree answers by the map of what its seat has seen.
 use Rattle.std.proofs.Common.{◌≡◌, ℕ, suc, ◌≤◌, eqb, cond, Bool, true, false, List, [], ◌∷◌, ◌++◌, filter, refl, sym, ap, ◌∙◌, inl, inr, ⊎_elim, arith, eq-eqb, eqb-true}
 use Rattle.std.proofs.Math.Nat.{mod-one}
 use Rattle.model_base.specs.Checksum.{crc32c}
@@ -10,7 +10,7 @@ use Rattle.table_rule.specs.declared.view.Opening.{Opening}
 use Rattle.table_rule.proofs.Histories.{in_run, in_split, standing_below}
 
 module _ {A : Type 0} (p : A → Bool) where
-  -- the test's answer at the head decides
+  -- the test's answer for the first element decides
   kept_at : (x : A) (xs : List A) (F : List A → Type 0) → (p x ≡ true → F (x ∷ filter p xs)) → (p x ≡ false → F (filter p xs)) → F (filter p (x ∷ xs))
   kept_at x xs F passes fails = go (p x) refl
     where
@@ -42,7 +42,7 @@ rising_run : (last : ℕ) (vs : List Version) → Runs last vs → AreRising vs
 rising_run last [] r = tt
 rising_run last (v ∷ vs) r = ((λ w h. let k = (in_run (suc last) vs w r.1 h).0 in let e = r.0 in omega arith), rising_run (suc last) vs r.1)
 
--- one list behind another that is below it
+-- two rising lists, one after the other, are one rising list, if no sequence of the first is above one of the second
 pub rising_both : (xs ys : List Version) → AreRising xs → AreRising ys → ((x y : Version) → In x xs → In y ys → x.sequence ≤ y.sequence) → AreRising (xs ++ ys)
 rising_both [] ys a b below = b
 rising_both (x ∷ xs) ys a b below = (
@@ -50,7 +50,8 @@ rising_both (x ∷ xs) ys a b below = (
   rising_both xs ys a.1 b (λ v w i j. below v w (inr i) j),
 )
 
--- What was seen of the shard is an order of the tree's versions up to its end, whatever stands past it.
+-- What was seen of the shard is an order of the tree's versions up to the end of what was seen, whatever else the tree
+-- has past it.
 pub seen_order : (z : Opening) (j : ℕ) (seen : List (List MemberVersions)) (vs : List Version) → Runs z.start (versions_of seen) → Shows z j seen vs → IsOrderUpTo (last_of z.start seen) vs (of_shard z.shards j (standing z.base seen))
 seen_order z j seen vs runs shows =
     let p : Version → Bool = λ v. eqb (shard_of z.shards v) j in let all : List Version = standing z.base seen in record {
@@ -62,6 +63,6 @@ seen_order z j seen vs runs shows =
           (λ x y i j. let low = shows.3.below x i in let high = (in_run z.start (versions_of seen) y runs j).0 in omega arith));
     }
 
--- of one shard that is all
+-- with one shard, those are all versions
 pub one_shard : (vs : List Version) → of_shard 1 0 vs ≡ vs
 one_shard vs = all_kept (λ v. eqb (shard_of 1 v) 0) vs (λ v. eq-eqb (shard_of 1 v) 0 (mod-one (crc32c v.key)))

@@ -14,7 +14,7 @@ use Rattle.table_rule.specs.Histories.{In, AreRising, IsBase, versions_at, recor
 abbrev pub version_at : ℕ → List ℕ × List ℕ → Version
 version_at n p = record { key = p.0; value = Some p.1; sequence = n }
 
--- each is that of a pair
+-- each version is that of a pair
 pub pair_of : (n : ℕ) (pairs : Pairs) (v : Version) → In v (versions_at n pairs) → (p : List ℕ × List ℕ) × In p pairs × (v ≡ version_at n p)
 pair_of n [] v h = absurd h
 pair_of n (p ∷ pairs) v h = ⊎_elim

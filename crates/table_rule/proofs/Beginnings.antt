@@ -13,7 +13,7 @@ group_in : (g : List MemberVersions) (gs : List (List MemberVersions)) (v : Vers
 group_in g [] v h i = absurd h
 group_in g (x ∷ xs) v h i = ⊎_elim (λ (e : x ≡ g). in_left v (versions_in x) (versions_of xs) (subst (λ (y : List MemberVersions). In v (versions_in y)) (sym e) i)) (λ (t : In g xs). in_right v (versions_in x) (versions_of xs) (group_in g xs v t i)) h
 
--- a history whose groups all stand in another is a beginning of it
+-- a history whose groups are all in another is a beginning of it
 pub is_beginning : (start : ℕ) (ls ts : List (List MemberVersions)) → IsHistory start ls → IsHistory start ts → ((g : List MemberVersions) → In g ls → In g ts) → Begins ls ts
 is_beginning start [] ts a b all = (ts, refl)
 is_beginning start (g ∷ ls) [] a b all = absurd (all g (inl refl))
@@ -38,7 +38,7 @@ some_back : (xs ys : List (List MemberVersions)) → AreSome (xs ++ ys) → AreS
 some_back [] ys a = a
 some_back (x ∷ xs) ys a = some_back xs ys a.1
 
--- and where it reaches as far, it is the same
+-- and where it reaches as far as the other, the two are equal
 pub one_history : (start : ℕ) (ls ts : List (List MemberVersions)) → IsHistory start ls → IsHistory start ts → ((g : List MemberVersions) → In g ls → In g ts) → last_of start ts ≤ last_of start ls → ls ≡ ts
 one_history start ls ts a b all far =
     let more = is_beginning start ls ts a b all in

@@ -11,7 +11,7 @@ use Rattle.table_rule.proofs.Teams.{Once, among_head, among_tail, among_others, 
 comes : (a b : Bool) (s : State) → a ≡ true → b ≡ false → when (a && not b) s ≡ Some s
 comes a b s is not_so = (λ i. when (is i && not (not_so i)) s)
 
--- with one more behind them, the others aren't there as before
+-- after c was added to `ins`, the others of the list still aren't in it
 still_none : (c d : ℕ) (cs ins : List ℕ) → Once (c ∷ cs) → ((d : ℕ) → among d (c ∷ cs) ≡ true → among d ins ≡ false) → among d cs ≡ true → among d (ins ++ c ∷ []) ≡ false
 still_none c d cs ins once none is =
     let apart : c ≢ d = λ e. let bad : false ≡ true = sym (once_head c cs once) ∙ (ap (λ n. among n cs) e ∙ is) in absurd (cc) in
@@ -21,7 +21,7 @@ still_none c d cs ins once none is =
     one e = ap (λ b. b || false) e
 
 module _ (o : Options) where
-  -- the group and the published sequence stay
+  -- the group and the published sequence stay as they are
   abbrev pub Stands : State → State → Type 0
   Stands s t = (t.last ≡ s.last) × (table_group o t ≡ table_group o s)
 

@@ -17,7 +17,7 @@ use Rattle.table_rule.proofs.Teams.{Once, among_right, among_others, all_among, 
 use Rattle.table_rule.proofs.CoreComes.{Stands, team_inserts, team_finishes}
 use Rattle.table_rule.proofs.CoreOthers.{Leaves, others_leave}
 
--- who isn't of a team is as far as before, where the team has inserted, and where it has finished
+-- a client that isn't of the team is as far as before, after the team has inserted and after it has finished
 others_inserted : (inserted finished cs : List ℕ) (c : ℕ) (p : Progress) → among c cs ≡ false → IsAsFar inserted finished c p → IsAsFar (inserted ++ cs) finished c p
 others_inserted inserted finished cs c to_insert other far = (among_others c inserted cs other ∙ far.0, far.1)
 others_inserted inserted finished cs c to_finish other far = (among_others c inserted cs other ∙ far.0, far.1)
@@ -39,7 +39,7 @@ member_ended (running g) = 0
 member_ended (ended m g) = m
 
 module _ (start : ℕ) (o : Options) (team : ℕ → List ℕ) where
-  -- a group stands in the core as long as the published sequence and the core's group stay
+  -- a group is the core's as long as the published sequence and the core's group stay as they are
   group_stays : (s t : State) (was now : List (List MemberVersions)) (g : List MemberVersions) → Stands o s t → now ≡ was → IsCoreGroup start o team s was g → IsCoreGroup start o team t now g
   group_stays s t was now g stands same group = record {
     some = subst (λ ws. 0 < length ws) (sym stands.1) group.some;
@@ -122,7 +122,7 @@ module _ (start : ℕ) (o : Options) (team : ℕ → List ℕ) where
             subst (IsAsFar inserted (finished ++ team m) c) (sym (ap b.progress same.1 ∙ only.2)) ((as_far to_finish only.1 c mine).0, among_right c finished (team m) mine)
         by (inr other) = subst (IsAsFar inserted (finished ++ team m) c) (sym (only.3 q.member other.1)) (others_finished inserted finished (team m) c (a.progress q.member) (others q there other.1 c is) (far q c there is))
 
-    -- where all parts are finished, all of the core's group are
+    -- where all parts are finished, so are all members of the core's group
     all_finished : OnlyMember m to_finish is_finished a b → ((p : MemberVersions) → In p g → b.progress p.member ≡ is_finished) → HaveFinished (team m) (table_group o s) (finished ++ team m)
     all_finished only all = (
       all_among (runners (table_group o s)) (finished ++ team m) (λ c is.
@@ -190,7 +190,7 @@ module _ (start : ℕ) (o : Options) (team : ℕ → List ℕ) where
       moved (running g) (group, more) = (group_stays s _ b.published b.published g (refl, refl) refl group, more)
       moved (ended m g) (group, more) = (group_stays s _ b.published b.published g (refl, refl) refl group, more)
 
-  -- the core's other events leave the table alone, and a group that is there for it
+  -- the core's other events leave the table alone, and also a group that the core has for it
   pub others_core : (s t : State) (a : TableNow) (event : CoreEvent) → IsCoreOf start o team a s → moves_table event ≡ false → step o s event ≡ Some t → IsCoreOf start o team a t
   others_core s t a event is none came = let left = others_leave o s t event none came in (left.1 ∙ is.0, by left a.mode is.1)
     where

@@ -1,4 +1,4 @@
--- What the core's other events leave alone: its table, and the group that is for it.
+-- What the core's other events leave alone: its table, and its group for the table.
 use Rattle.std.proofs.Common.{◌≡◌, ℕ, ◌<◌, ◌==◌, Bool, true, false, not, List, [], ◌∷◌, ◌++◌, length, find, filter, Option, Some, None, if◌then◌else◌, refl, ap, sym, ◌∙◌, subst, arith}
 use Rattle.std.specs.List.{list_any}
 use Rattle.std.proofs.lemmas.Bool.{and_parts}
@@ -12,7 +12,7 @@ use Rattle.model_core.specs.Core.{Options, Writer, Client, LogPhase, free, led, 
 use Rattle.model_core.specs.Step.{when, step, link, link_call, link_with, elect, build, log_group, logged_group, fault, refuse, boundary, to_second, next, complete, complete_with, after_completion, read, read_call, read_with}
 use Rattle.model_core.specs.Halves.{moves_table}
 
--- the table stays, and so does a group for it
+-- the table stays as it is, and so does a group for it
 abbrev pub Leaves : Options → State → State → Type 0
 Leaves o s t = (t.table ≡ s.table) × (t.last ≡ s.last) × (0 < length (table_group o s) → table_group o t ≡ table_group o s)
 
@@ -20,11 +20,11 @@ when_some : (b : Bool) (u t : State) → when b u ≡ Some t → (b ≡ true) ×
 when_some true u t e = (refl, cc)
 when_some false u t e = absurd (cc)
 
--- what holds of the state that an event comes to under a condition
+-- an event comes only under a condition: what follows from it for the new state holds of that state
 when_holds : (P : State → Type 0) (b : Bool) (u t : State) → when b u ≡ Some t → (b ≡ true → P u) → P t
 when_holds P b u t came holds = let h = when_some b u t came in subst P h.1 (holds h.0)
 
--- the group is by the second queue, or by the log
+-- the group for the table is that of the second queue, or of the log: where that stays, the group stays
 same_group : (o : Options) (s : State) (second : List (List Writer)) (ws : List Writer) → (o.pipelined ≡ true → first_group second ≡ first_group s.second) → (o.pipelined ≡ false → ws ≡ in_hand s.log)
     → (if o.pipelined then first_group second else ws) ≡ table_group o s
 same_group o s second ws two one = by o.pipelined refl
@@ -37,7 +37,7 @@ same_group o s second ws two one = by o.pipelined refl
 unhanded : (o : Options) (s : State) (phase : LogPhase) → s.log ≡ phase → [] ≡ in_hand phase → (if o.pipelined then first_group s.second else []) ≡ table_group o s
 unhanded o s phase is none = same_group o s s.second [] (λ _. refl) (λ _. none ∙ sym (ap in_hand is))
 
--- a log that has no group in hand isn't that of a group for the table
+-- if commits aren't pipelined, and the log has no group in hand, there is no group for the table
 none_in_hand : (o : Options) (s : State) → o.pipelined ≡ false → in_hand s.log ≡ [] → 0 < length (table_group o s) → ⊥
 none_in_hand o s single none some = let e : length (table_group o s) ≡ 0 = ap (λ b. length (if b then first_group s.second else in_hand s.log)) single ∙ ap length none in omega (arith, e, some)
 

@@ -1,4 +1,4 @@
--- Who counts down, who publishes, and who launches.
+-- The steps of a member that finishes: it counts RUNNING down, and may publish the group.
 use Rattle.std.proofs.Common.{◌≡◌, ◌≢◌, ℕ, zero, suc, ◌+◌, ◌-◌, ◌^◌, ◌%◌, ◌<◌, ◌≤◌, ◌⊎◌, List, [], ◌∷◌, ◌++◌, length, get_or, set, refl, sym, ap, ◌∙◌, subst, inl, inr, ⊎_elim, cond, arith, length-set, get_or-set_other, get_or-set_same, append_assoc}
 use mathlib.Core.Logic.{dite}
 use mathlib.Core.Option.{none, some}
@@ -47,7 +47,7 @@ gone_coming : (p : Place) → IsGone p → IsComing p → ⊥
 gone_coming p gone is = ⊎_elim (λ (t : p ≡ out). absurd (subst IsComing t is)) (λ (t : (l : ℕ) × (vs : List Version) × (p ≡ finished l vs)). absurd (subst IsComing t.2 is)) gone
 
 module _ {ShardTree NodeList : Type 0} (held_by : ShardTree → List Version) (nodes_of : NodeList → List Version) (z : Opening) where
-  -- the last part is finished: what others know
+  -- what the seats know stays true when the last part is finished
   knows_ended : (published : List (List MemberVersions)) (mode : Mode) (place : ℕ → Place) (lock : ℕ → ShardState) (g : List MemberVersions) (c k : ℕ) → mode ≡ running g → ((i : ℕ) → IsGone (place i)) → (seen : List (List MemberVersions)) (st : Stage)
       → Knows z.shards z.start published mode place lock k seen st → Knows z.shards z.start published (ended c g) place lock k seen st
   knows_ended published mode place lock g c k is gone seen Idle ok = ok
@@ -212,7 +212,7 @@ module _ {ShardTree NodeList : Type 0} (held_by : ShardTree → List Version) (n
   pub counts : (slots id : ℕ) (me : SeatNow ShardTree NodeList) (c k : ℕ) (seen : List (List MemberVersions)) (u : Launched) → k ≡ z.shards + 1 → IsAt c z seen Free (Stored u) me → Allows (Rule held_by nodes_of z) slots id me k (λ n. (n + (2 ^ 64 - 1)) % 2 ^ 64) (after_count (step slots k 1 0 none) me)
   counts slots id me c k seen u is mid = allows held_by nodes_of (IsFinish c) z slots id me k (λ n. (n + (2 ^ 64 - 1)) % 2 ^ 64) (after_count (step slots k 1 0 none) me) (counts_is slots id me c k seen u is mid)
 
-  -- all that a published group leaves: each place is out
+  -- a place at which nothing is under way is as one that is `out`
   row_out : (words : List ℕ) (homes : Homes held_by nodes_of) (i : ℕ) (p : Place) → IsGone p → InPlace held_by nodes_of z.shards words homes i p → InPlace held_by nodes_of z.shards words homes i out
   row_out words homes i p gone ok = ⊎_elim
       (λ (t : p ≡ out). subst (InPlace held_by nodes_of z.shards words homes i) t ok)

@@ -1,4 +1,5 @@
--- No version of the part in hand that is still to be inserted stands in a tree, and their sequences are a run.
+-- No version of the part in hand that is still to be inserted is in a tree, and the sequences of these versions are a
+-- run.
 use Rattle.std.proofs.Common.{◌≡◌, ◌≢◌, ℕ, ◌+◌, ◌<◌, List, [], ◌∷◌, ◌++◌, length, sym, ap, ◌∙◌, subst, ⊎_elim, arith}
 use native.Mathlib.Decide.{ℕ_discrete}
 use mathlib.Core.Logic.{dite}

@@ -39,7 +39,7 @@ coming_not (inserted l vs) ok = absurd ok
 coming_not (finished l vs) ok = absurd ok
 
 module _ {ShardTree NodeList : Type 0} (held_by : ShardTree → List Version) (nodes_of : NodeList → List Version) (z : Opening) where
-  -- what clients know stays where the turn moves one part
+  -- what clients know stays true when the turn moves one part
   pub knows_turn : (published : List (List MemberVersions)) (mode : Mode) (place : ℕ → Place) (lock : ℕ → ShardState) (m : ℕ) (new : Place) (k : ℕ) → k ≢ 0 → IsComing (place m) → IsComing new
       → (seen : List (List MemberVersions)) (st : Stage) → Knows z.shards z.start published mode place lock k seen st → Knows z.shards z.start published mode (put place m new) lock k seen st
   knows_turn published mode place lock m new k ne was is seen Idle ok = put_at place m new (λ i p. NotTaken (place i) → NotTaken p) k (λ _ _. coming_not new is) (λ _ o. o) ok
@@ -52,7 +52,7 @@ module _ {ShardTree NodeList : Type 0} (held_by : ShardTree → List Version) (n
   knows_turn published mode place lock m new k ne was is seen (Handing g (p ∷ ps)) ok = absurd (ne ok.0)
   knows_turn published mode place lock m new k ne was is seen (Filling g p ps) ok = absurd (ne ok.0)
 
-  -- a lock is nobody else's business
+  -- what a seat knows of its lock stays true, whatever else changes
   pub keys_stay : (published published' : List (List MemberVersions)) (mode mode' : Mode) (place place' : ℕ → Place) (lock : ℕ → ShardState) (k : ℕ) (x : Lock) → KnowsLock z.shards z.start published mode place lock k x → KnowsLock z.shards z.start published' mode' place' lock k x
   keys_stay published published' mode mode' place place' lock k Free ok = ok
   keys_stay published published' mode mode' place place' lock k (Held j vs) ok = ok
@@ -60,7 +60,7 @@ module _ {ShardTree NodeList : Type 0} (held_by : ShardTree → List Version) (n
   with_stage : Stage → SeatState → SeatState
   with_stage st x = seat_state x.client x.opening x.seen x.lock st
 
-  -- the place of one part moves, from one that is under way to one that is
+  -- the place of one part changes, from one where the part is under way to another such place
   module _ (s : TableState held_by nodes_of) (r : Rule held_by nodes_of z s) (m : ℕ) (old new : Place) (now : r.place m ≡ old) (was_open : IsOpen old) (is_open : IsOpen new) (to : (end : ℕ) (vs : List Version) → InPart end vs old → InPart end vs new)
       (from_old : (v : Version) → In v (stored_in old) → In v (stored_in new)) (to_old : (v : Version) → In v (stored_in new) → In v (stored_in old)) where
     pub row_moves : (id : ℕ) (k x : ℕ) (hs : Homes held_by nodes_of) (h h' : SeatState) → get_elem? s.views id ≡ some (h ∷ []) → h'.client ≡ h.client → h'.opening ≡ h.opening → h.lock ≡ Free → h'.lock ≡ Free → h'.seen ≡ h.seen
@@ -217,14 +217,14 @@ module _ {ShardTree NodeList : Type 0} (held_by : ShardTree → List Version) (n
       → me.1 ≡ (z.shards + p.member, Nodes x l) ∷ more → nodes_of x ≡ p.versions → l ≡ end_of (last_of z.start seen) g → Allows (Rule held_by nodes_of z) slots id me k (λ _. 1) (λ _. after_give (step slots k 1 0 none) me 1)
   gives_nodes slots id me k seen g p ps x l more is lo hi mid slot nodes last = allows held_by nodes_of (λ _. Stays) z slots id me k (λ _. 1) (λ _. after_give (step slots k 1 0 none) me 1) (gives_nodes_is slots id me k seen g p ps x l more is lo hi mid slot nodes last)
 
-  -- who has a part that isn't finished is a member of the launched group
+  -- a client whose part is under way is a member of the launched group
   pub open_member : (s : TableState held_by nodes_of) (r : Rule held_by nodes_of z s) (c : ℕ) (u : Launched) → IsRunning z.shards z.start r.published r.mode r.place r.lock c u → IsOpen (r.place c) → IsMember c u.group
   open_member s r c u runs is =
       let last : ℕ = last_of z.start r.published in
       let ok = subst (InMode z.clients (get_or s.words (z.shards + 1) 0) r.place last) runs.0 r.mode_is in
       ⊎_elim (λ (t : (p : MemberVersions) × In p u.group × (p.member ≡ c)). t) (λ (t : Apart c u.group). absurd (subst IsOpen (ok.3.3 c t) is)) (member_or c u.group)
 
-  -- what a client knows of the group of which its slot has a part
+  -- what a client knows of the group whose part is in its slot
   module _ (s : TableState held_by nodes_of) (r : Rule held_by nodes_of z s) (c : ℕ) (seen : List (List MemberVersions)) where
     own_group : (stage : Stage) → MayTake stage → IsOpen (r.place c) → Knows z.shards z.start r.published r.mode r.place r.lock c seen stage → (u : Launched) × IsRunning z.shards z.start r.published r.mode r.place r.lock c u × IsAwaited stage u
     own_group Idle may is ok =
@@ -238,7 +238,7 @@ module _ {ShardTree NodeList : Type 0} (held_by : ShardTree → List Version) (n
     own_group (Handing g ps) may is ok = absurd may
     own_group (Filling g p ps) may is ok = absurd may
 
-    -- the part in the slot is that of the group
+    -- the part in the slot is of that group
     own_part : (u : Launched) (l : ℕ) (vs : List Version) → IsRunning z.shards z.start r.published r.mode r.place r.lock c u → r.place c ≡ handed l vs → Begins seen r.published → IsPartOf z c seen u vs × (l ≡ u.last)
     own_part u l vs runs now begins =
         let last : ℕ = last_of z.start r.published in
@@ -259,7 +259,7 @@ module _ {ShardTree NodeList : Type 0} (held_by : ShardTree → List Version) (n
           part.0 ∙ sym runs.1.1,
         )
 
-  -- a client's load of its RUN takes the nodes where they are there
+  -- a client's load of its RUN takes the nodes if they are there
   module _ (slots id : ℕ) (me : SeatNow ShardTree NodeList) (c k : ℕ) (seen : List (List MemberVersions)) (stage : Stage) (is : k ≡ z.shards + 1 + c) (lo : 0 < c) (may : MayTake stage) (mid : IsAt c z seen Free stage me)
       (s : TableState held_by nodes_of) (r : Rule held_by nodes_of z s) (at : get_elem? s.views id ≡ some me.0) where
     abbrev tells : ℕ → SeatNow ShardTree NodeList → Type 0

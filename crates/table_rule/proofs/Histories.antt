@@ -50,7 +50,7 @@ pub runs_right : (last : ℕ) (xs ys : List Version) → Runs last (xs ++ ys) �
 runs_right last [] ys r = subst (λ (k : ℕ). Runs k ys) (let e : last ≡ last + 0 = omega arith in e) r
 runs_right last (x ∷ xs) ys r = subst (λ (k : ℕ). Runs k ys) (let e : suc last + length xs ≡ last + suc (length xs) = omega arith in e) (runs_right (suc last) xs ys r.1)
 
--- a version of a run lies in it
+-- the sequence of a version of a run is one of the run's
 pub in_run : (last : ℕ) (vs : List Version) (v : Version) → Runs last vs → In v vs → (last < v.sequence) × (v.sequence ≤ last + length vs)
 in_run last [] v r h = absurd h
 in_run last (x ∷ xs) v r h = ⊎_elim
@@ -58,7 +58,7 @@ in_run last (x ∷ xs) v r h = ⊎_elim
     (λ (t : In v xs). let k = in_run (suc last) xs v r.1 t in let a = k.0 in let b = k.1 in (omega arith, omega arith))
     h
 
--- what a history has up to the end of one of its beginnings
+-- what a history has up to the end of one of its beginnings is in that beginning
 pub up_to : (start : ℕ) (seen all : List (List MemberVersions)) (v : Version) → Runs start (versions_of all) → Begins seen all → In v (versions_of all) → v.sequence ≤ last_of start seen → In v (versions_of seen)
 up_to start seen all v runs begins h low =
     let parts : versions_of all ≡ versions_of seen ++ versions_of begins.0 = ap versions_of begins.1 ∙ versions_append seen begins.0 in
@@ -69,7 +69,7 @@ up_to start seen all v runs begins h low =
 pub begins_in : (seen all : List (List MemberVersions)) (v : Version) → Begins seen all → In v (versions_of seen) → In v (versions_of all)
 begins_in seen all v b h = subst (In v) (sym (ap versions_of b.1 ∙ versions_append seen b.0)) (in_left v (versions_of seen) (versions_of b.0) h)
 
--- the same of all that stands over a base, none of which is past the start
+-- facts like these on all versions after a history over a base, where no version of the base is past the start
 module _ (base : List Version) where
   pub standing_more : (seen all : List (List MemberVersions)) (v : Version) → Begins seen all → In v (standing base seen) → In v (standing base all)
   standing_more seen all v b h = ⊎_elim

@@ -1,4 +1,4 @@
--- Who launches a group, and waits for it.
+-- The steps of a client that launches a group, and waits for it.
 use Rattle.std.proofs.Common.{◌≡◌, ◌≢◌, ℕ, ◌+◌, ◌<◌, ◌⊎◌, List, [], ◌∷◌, ◌++◌, length, get_or, set, refl, sym, ap, ◌∙◌, subst, inl, ⊎_elim, Bool, true, false, ◌||◌, ◌==◌, if◌then◌else◌, arith, append-nil, length-set, get_or-set_other, get_or-set_same}
 use mathlib.Core.Option.{none, some}
 use lib.ListN.{get_elem?}
@@ -25,7 +25,7 @@ use Rattle.table_rule.proofs.Parts.{placed, placed_out, placed_is, placed_coming
 use Rattle.table_rule.proofs.Histories.{member_or}
 use Rattle.table_rule.proofs.Handing.{keys_stay}
 
--- a group has a part of a client's, or not
+-- `has_part` answers whether the client is a member of the group
 has_member : (c : ℕ) (g : List MemberVersions) → IsMember c g → has_part c g ≡ true
 has_member c [] is = absurd is.1
 has_member c (q ∷ qs) is = ⊎_elim
@@ -54,7 +54,7 @@ module _ {ShardTree NodeList : Type 0} (held_by : ShardTree → List Version) (n
   begun g (h ∷ []) = []
   begun g (h ∷ t ∷ ts) = seat_state h.client h.opening h.seen h.lock (stage_after_launch h.client (launched_behind t.opening.start t.seen g)) ∷ seat_state t.client t.opening t.seen t.lock (Handing g g) ∷ []
 
-  -- nothing is launched: what the clients know while the turn launches
+  -- with no group launched before: what the clients know stays true when the turn launches one
   knows_launched : (published : List (List MemberVersions)) (place place' : ℕ → Place) (lock : ℕ → ShardState) (g : List MemberVersions) (mode : Mode) (k : ℕ) → k ≢ 0 → mode ≡ still → ((i : ℕ) → place i ≡ out) → ((i : ℕ) → NotTaken (place' i)) → (seen : List (List MemberVersions)) (st : Stage)
       → Knows z.shards z.start published mode place lock k seen st → Knows z.shards z.start published (running g) place' lock k seen st
   knows_launched published place place' lock g mode k ne is nobody free seen Idle ok = free k
@@ -67,7 +67,7 @@ module _ {ShardTree NodeList : Type 0} (held_by : ShardTree → List Version) (n
   knows_launched published place place' lock g mode k ne is nobody free seen (Handing h (p ∷ ps)) ok = absurd (ne ok.0)
   knows_launched published place place' lock g mode k ne is nobody free seen (Filling h p ps) ok = absurd (ne ok.0)
 
-  -- what the client knows that launches, of its own part or of none
+  -- what the launching client knows, with a part of its own or without
   knows_own : (published : List (List MemberVersions)) (place : ℕ → Place) (lock : ℕ → ShardState) (g : List MemberVersions) (seen : List (List MemberVersions)) (c : ℕ) (u : Launched) → ((p : MemberVersions) → In p g → p.member ≡ c → IsComing (place c)) → NotTaken (place c)
       → u.group ≡ g → IsRunning z.shards z.start published (running g) place lock c u → Knows z.shards z.start published (running g) place lock c seen (stage_after_launch c u)
   knows_own published place lock g seen c u mine free same runs = ⊎_elim

@@ -62,7 +62,7 @@ client_knows k start published mode place lock c seen now (Filling g p ps) is ok
 held_one : (c c' : ℕ) (vs ws : List Version) → held c vs ≡ held c' ws → c ≡ c'
 held_one c c' vs ws e = cc
 
--- true but where the turn has the part's nodes
+-- true except where the turn has the part's nodes
 abbrev pub IsWithMember : Place → Type 0
 IsWithMember out = Unit {0}
 IsWithMember (coming l vs) = ⊥
@@ -241,7 +241,7 @@ module _ {ShardTree NodeList : Type 0} (held_by : ShardTree → List Version) (n
   pub carried_put : (hs : Homes held_by nodes_of) (c : List (ℕ × Content ShardTree NodeList)) (i : ℕ) (y : Content ShardTree NodeList) (more : List (ℕ × Content ShardTree NodeList)) → c ≡ (i, y) ∷ more → put_back hs c ≡ set hs i (some y)
   carried_put hs c i y more e = ap (put_back hs) e
 
-  -- the lock of the shard j, which c has, is opened
+  -- the lock of shard j, which c holds, is opened
   module _ (s : TableState held_by nodes_of) (r : Rule s) (c j : ℕ) (vs ws : List Version) where
     opens_lock : r.lock j ≡ held c vs → (k : ℕ) → k ≢ c → (place : ℕ → Place) (x : Lock) → KnowsLock z.shards z.start r.published r.mode r.place r.lock k x → KnowsLock z.shards z.start r.published r.mode place (put r.lock j (opened ws)) k x
     opens_lock is k ne place Free ok = ok
@@ -302,7 +302,7 @@ module _ {ShardTree NodeList : Type 0} (held_by : ShardTree → List Version) (n
       → Allows Rule slots id me j (λ _. 0) (λ _. after_unlock (step slots j 0 0 none) me 0)
   unlocks slots id me c j seen stage vs t more mid slot same = allows held_by nodes_of (λ _. Stays) z slots id me j (λ _. 0) (λ _. after_unlock (step slots j 0 0 none) me 0) (unlocks_is slots id me c j seen stage vs t more mid slot same)
 
-  -- what others know stays where a member's part goes on
+  -- what others know stays true when a member's part moves on
   pub knows_member : (published : List (List MemberVersions)) (mode : Mode) (place : ℕ → Place) (lock lock' : ℕ → ShardState) (m : ℕ) (new : Place) (k : ℕ) → k ≢ m → ((l : ℕ) (vs : List Version) → place m ≡ coming l vs → ⊥) → ((l : ℕ) (vs : List Version) → place m ≡ filling l vs → ⊥)
       → (seen : List (List MemberVersions)) (st : Stage) → Knows z.shards z.start published mode place lock k seen st → Knows z.shards z.start published mode (put place m new) lock' k seen st
   knows_member published mode place lock lock' m new k ne not_c not_f seen Idle ok = subst NotTaken (sym (put_else place m new k ne)) ok

@@ -1,4 +1,4 @@
--- What stays of the rule when one seat moves.
+-- What of the rule stays true when one seat moves.
 use Rattle.std.proofs.Common.{◌≡◌, ◌≢◌, ℕ, ◌+◌, ◌<◌, ◌≤◌, ◌⊎◌, List, [], ◌∷◌, length, get_or, set, refl, sym, ap, ◌∙◌, subst, ⊎_elim}
 use mathlib.Core.Option.{Option, some}
 use lib.ListN.{get_elem?}
@@ -171,7 +171,7 @@ module _ {ShardTree NodeList : Type 0} (held_by : ShardTree → List Version) (n
   pub allows : (event : ℕ → TableNow → TableNow → Type 0) (z : Opening) (slots id : ℕ) (me : SeatNow ShardTree NodeList) (k : ℕ) (f : ℕ → ℕ) (then : ℕ → SeatNow ShardTree NodeList → Type 0) → StepIs held_by nodes_of event z slots id me k f then → Allows (IsConsistent held_by nodes_of z) slots id me k f then
   allows event z slots id me k f then all s r long at fits = let t = all s r long at fits in (t.0, t.1, t.2, t.3.2.0, t.4)
 
--- the progress where one place moves
+-- the progress of all stays, where one place changes to another of the same progress
 pub progress_stays : (place : ℕ → Place) (m : ℕ) (new : Place) → progress_of new ≡ progress_of (place m) → (i : ℕ) → progress_of (put place m new i) ≡ progress_of (place i)
 progress_stays place m new e i = put_at place m new (λ i p. progress_of p ≡ progress_of (place i)) i (λ is. e ∙ ap (λ j. progress_of (place j)) (sym is)) (λ _. refl)
 

@@ -39,7 +39,7 @@ module _ (place : ℕ → Place) (end : ℕ) where
   finished_parts [] a = tt
   finished_parts (q ∷ qs) a = (subst (InPart end q.versions) (sym a.0) (refl, refl), finished_parts qs a.1)
 
--- what is in a tree beyond what is published is of the launched group
+-- what is in a tree beyond what is published belongs to the launched group
 module _ (n word : ℕ) (place : ℕ → Place) (last : ℕ) where
   pub stored_group : (g : List MemberVersions) → AllParts place (end_of last g) g → IsLaunched n word place last g → (i : ℕ) (v : Version) → In v (stored_in (place i)) → In v (versions_in g)
   stored_group g parts fit i v h = ⊎_elim
@@ -147,7 +147,7 @@ pub in_group : (g : List MemberVersions) (v : Version) → In v (versions_in g) 
 in_group [] v h = absurd h
 in_group (p ∷ ps) v h = ⊎_elim (λ (t : In v p.versions). (p, inl refl, t)) (λ (t : In v (versions_in ps)). let k = in_group ps v t in (k.0, inr k.1, k.2)) (in_split v p.versions (versions_in ps) h)
 
--- each part is still to be handed over
+-- each part is still to be handed over, and the other places are `out`
 pub placed : ℕ → List MemberVersions → ℕ → Place
 placed end [] = λ _. out
 placed end (p ∷ ps) = put (placed end ps) p.member (coming end p.versions)

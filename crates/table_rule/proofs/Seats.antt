@@ -24,7 +24,8 @@ use Rattle.table_rule.specs.Events.{Stays, StepIs}
 use Rattle.table_rule.proofs.Locks.{Rule}
 use Rattle.table_rule.specs.Rule.{newcomers}
 use Rattle.table_rule.specs.Histories.{IsHistory}
-use Rattle.table_rule.specs.Seats.{all_but_first, first_only, Closes, after_close}
+use Rattle.model_base.specs.Halves.{all_but_first, first_only}
+use Rattle.table_rule.specs.Seats.{Closes, after_close}
 
 module _ {A : Type 0} where
   pub at_end : (l : List A) (a b : A) (j : ℕ) → get_elem? (l ++ a ∷ []) j ≡ some b → (get_elem? l j ≡ some b) ⊎ ((j ≡ length l) × (a ≡ b))
@@ -37,7 +38,7 @@ abbrev pick_seat : {A D : Type 0} → Dec D → A → A → A
 pick_seat (yes _) a b = a
 pick_seat (no _) a b = b
 
--- who sits at a sits at b from now on
+-- a client that sat at a sits at b from now on
 reseat : (ℕ → ℕ) → ℕ → ℕ → ℕ → ℕ
 reseat f a b c = pick_seat (ℕ_discrete (f c) a) b (f c)
 
@@ -154,7 +155,7 @@ module _ {ShardTree NodeList : Type 0} (held_by : ShardTree → List Version) (n
   new_fit lock c zero h = ((refl, omega arith, refl, ([], refl), tt, (refl, refl, refl)), tt)
   new_fit lock c (suc m) h = ((refl, omega arith, refl, ([], refl), tt, tt), new_fit lock (suc c) m (omega arith))
 
-  -- shard j has the versions `vs j`, which are those of the base that are of it
+  -- shard j has the versions `vs j`: those versions of the base that are of shard j
   abbrev pub Bears : (ℕ → List Version) → Type 0
   Bears vs = ((j : ℕ) (v : Version) → j < z.shards → In v (vs j) → (shard_of z.shards v ≡ j) × In v z.base)
       × ((v : Version) → In v z.base → In v (vs (shard_of z.shards v)))
@@ -196,7 +197,7 @@ module _ {ShardTree NodeList : Type 0} (held_by : ShardTree → List Version) (n
   fit_in s r id h [] has ok = absurd has
   fit_in s r id h (x ∷ xs) has ok = ⊎_elim (λ (e : x ≡ h). subst (Fits z r.published r.mode r.place r.lock r.seat id) e ok.0) (λ (t : In h xs). fit_in s r id h xs t ok.1) has
 
-  -- with the turn's seat among those joined, its history is the table's, and all seen are beginnings of it
+  -- with the turn's seat among those joined, its history is the table's, and what each has seen is a beginning of it
   pub closes : (s : TableState held_by nodes_of) (id : ℕ) (v : List SeatState) (seen : List (List MemberVersions)) → Rule held_by nodes_of z s → get_elem? s.views id ≡ some v → In (seat_state 0 z seen Free Resting) v → Closes z v seen × (get_or s.words z.shards 0 ≡ last_of z.start seen)
   closes s id v seen r at has =
       let ok = r.seats id v at in

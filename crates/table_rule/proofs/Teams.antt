@@ -1,4 +1,4 @@
--- Which of the core's clients the parts of a group stand for.
+-- Which of the core's clients the parts of a group cover.
 use Rattle.std.proofs.Common.{◌≡◌, ◌≢◌, ◌⊎◌, inl, inr, ⊎_elim, ℕ, ◌+◌, ◌≤◌, Bool, true, false, ◌||◌, cond, List, [], ◌∷◌, ◌++◌, ◌==◌, map, filter, count_by, refl, sym, ap, ◌∙◌, arith}
 use Rattle.std.specs.List.{list_all}
 use Rattle.std.proofs.Math.Bool.{or-true}
@@ -13,7 +13,7 @@ use Rattle.table_rule.specs.declared.content.MemberVersions.{MemberVersions}
 use Rattle.table_rule.specs.Histories.{In}
 use Rattle.table_rule.specs.CoreEvents.{StandFor}
 
--- Who is among them
+-- Clients in a list
 
 or_cases : (a b : Bool) → (a || b) ≡ true → (a ≡ true) ⊎ (b ≡ true)
 or_cases true b e = inl refl
@@ -35,7 +35,7 @@ among_left c xs ys is = list_any-append (λ n. n == c) xs ys ∙ or_left (among 
 pub among_right : (c : ℕ) (xs ys : List ℕ) → among c ys ≡ true → among c (xs ++ ys) ≡ true
 among_right c xs ys is = list_any-append (λ n. n == c) xs ys ∙ or_right (among c xs) (among c ys) is
 
--- of a list with others behind it, who isn't among these is among it or not as before
+-- a client that isn't in the second of two lists is in both together just where it is in the first
 pub among_others : (c : ℕ) (xs ys : List ℕ) → among c ys ≡ false → among c (xs ++ ys) ≡ among c xs
 among_others c xs ys not = list_any-append (λ n. n == c) xs ys ∙ (ap (λ b. among c xs || b) not ∙ or_false (among c xs))
   where
@@ -62,7 +62,7 @@ last_behind c (x ∷ []) [] is = absurd (cc)
 last_behind c (x ∷ []) (y ∷ ys) is = is
 last_behind c (x ∷ x' ∷ xs) ys is = last_behind c (x' ∷ xs) ys is
 
--- Who is there once
+-- Lists that have each client once at most
 
 abbrev pub Once : List ℕ → Type 0
 Once cs = (c : ℕ) → count_by (λ n. n == c) cs ≤ 1
@@ -80,7 +80,7 @@ among_counts c (x ∷ xs) is = let e = count_cons c x xs in ⊎_elim
     (λ (t : among c xs ≡ true). let more = among_counts c xs t in omega (arith, e, more))
     (or_cases (x == c) (among c xs) is)
 
--- who is among the one part isn't among the other
+-- a client in the one part isn't in the other
 once_apart : (c : ℕ) (xs ys : List ℕ) → count_by (λ n. n == c) xs + count_by (λ n. n == c) ys ≤ 1 → among c xs ≡ true → among c ys ≡ false
 once_apart c xs ys once is = not_true (among c ys) (λ too. absurd (let a = among_counts c xs is in let b = among_counts c ys too in omega (arith, a, b, once)))
 
@@ -108,7 +108,7 @@ module _ (team : ℕ → List ℕ) where
       (λ (t : In p qs). let more = team_count qs f.1 p f.5 t c in omega (arith, e, more))
       here
 
-  -- who is of a team runs in the group
+  -- a client of a team runs in the group
   pub team_runs : (g : List MemberVersions) (ws : List Writer) (p : MemberVersions) → StandFor team g ws → In p g → (c : ℕ) → among c (team p.member) ≡ true → among c (runners ws) ≡ true
   team_runs [] ws p f here c is = absurd here
   team_runs (q ∷ qs) ws p f here c is = ap (among c) (cut q qs ws f) ∙ ⊎_elim
@@ -116,7 +116,7 @@ module _ (team : ℕ → List ℕ) where
       (λ (t : In p qs). among_right c (team q.member) (runners f.1) (team_runs qs f.1 p f.5 t c is))
       here
 
-  -- and the other way round
+  -- a client that runs in the group is of a team
   pub team_of : (g : List MemberVersions) (ws : List Writer) → StandFor team g ws → (c : ℕ) → among c (runners ws) ≡ true → (p : MemberVersions) × In p g × (among c (team p.member) ≡ true)
   team_of [] ws f c is = absurd (let bad : false ≡ true = sym (ap (λ l. among c (runners l)) f) ∙ is in cc)
   team_of (q ∷ qs) ws f c is = ⊎_elim

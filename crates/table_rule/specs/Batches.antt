@@ -11,7 +11,7 @@ new_versions (deletion key ∷ records) = record { key = key; value = None; sequ
 new_versions (single_deletion key ∷ records) = record { key = key; value = None; sequence = 0 } ∷ new_versions records
 new_versions (log_data blob ∷ records) = new_versions records
 
--- the same versions, with sequences from one on
+-- these versions, with sequences that count up from `first`
 abbrev pub number_from : ℕ → List Version → List Version
 number_from first [] = []
 number_from first (v ∷ versions) = record v { sequence = first } ∷ number_from (first + 1) versions

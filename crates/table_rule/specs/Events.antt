@@ -1,4 +1,4 @@
--- What the table is as the write path's core sees it, and what an event makes of it: a group is launched, the part of a
+-- The table as the write path's core sees it, and what each event changes in it: a group is launched, the part of a
 -- member is inserted, a member finishes, a group is published, a client reads.
 use Rattle.std.specs.Prelude.{◌≡◌, ◌≢◌, ℕ, ◌<◌, Bool, true, false, List, [], ◌∷◌, ◌++◌, slice_index, length, count_by}
 use mathlib.Core.Option.{none, some}
@@ -73,7 +73,7 @@ is_running is_finished = false
 abbrev pub count_running : (ℕ → Progress) → List MemberVersions → ℕ
 count_running progress g = count_by (λ (p : MemberVersions). is_running (progress p.member)) g
 
--- m finishes, and finds how many members hadn't: 1 where it is the last of the group, and more where others are to
+-- m finishes, and finds how many members hadn't finished: 1 if it is the last of the group, more if others must still
 -- finish
 abbrev pub IsFinish : ℕ → ℕ → TableNow → TableNow → Type 0
 IsFinish m found a b = (g : List MemberVersions) × (a.mode ≡ running g) × IsMember m g
@@ -81,7 +81,7 @@ IsFinish m found a b = (g : List MemberVersions) × (a.mode ≡ running g) × Is
     × (found ≡ 1 → (b.mode ≡ ended m g) × ((p : MemberVersions) → In p g → b.progress p.member ≡ is_finished))
     × (found ≢ 1 → b.mode ≡ a.mode)
 
--- the group that m finished last is published behind the others
+-- the group in which m finished last is published after the others
 abbrev pub IsPublish : ℕ → TableNow → TableNow → Type 0
 IsPublish m a b = (g : List MemberVersions) × (a.mode ≡ ended m g) × (b.mode ≡ still)
     × (b.published ≡ a.published ++ g ∷ []) × ((i : ℕ) → b.progress i ≡ to_insert)
@@ -93,17 +93,17 @@ module _ {ShardTree NodeList : Type 0} (held_by : ShardTree → List Version)
       → TableNow
   now_of z s r = table_now r.published r.mode r.place
 
-  -- the table keeps the rule, and is this now
+  -- the table keeps the rule, and the core sees it as `now`
   abbrev pub IsNow : Opening → TableNow → State (Content ShardTree NodeList) (List SeatState) → Type 0
   IsNow z now s = (r : IsConsistent held_by nodes_of z s) × (now_of z s r ≡ now)
 
-  -- the table keeps the rule, and the event was
+  -- the table keeps the rule, and the event led to what the core sees of it
   abbrev pub Comes : (TableNow → TableNow → Type 0) → Opening → TableNow
       → State (Content ShardTree NodeList) (List SeatState) → Type 0
   Comes event z before s = (now : TableNow) × event before now × IsNow z now s
 
-  -- Whatever the table is as the seat makes its step on the word i, which becomes f of what it was: the rule is kept,
-  -- the step is the event, and `then` holds of the number found and of the seat after.
+  -- The seat makes its step on the word i, which becomes f of what it was. Whatever state the table is in, the rule is
+  -- kept, the step is the event, and `then` holds of the number that was found and of the seat afterwards.
   abbrev pub StepIs : (ℕ → TableNow → TableNow → Type 0) → Opening → ℕ → ℕ → SeatNow ShardTree NodeList → ℕ → (ℕ → ℕ)
       → (ℕ → SeatNow ShardTree NodeList → Type 0) → Type 0
   StepIs event z slots id me i f then =
@@ -113,12 +113,12 @@ module _ {ShardTree NodeList : Type 0} (held_by : ShardTree → List Version)
       × Comes (event (slice_index s.words i)) z (now_of z s r) (stepped s i (f (slice_index s.words i)) id me.1 w a)
       × then (slice_index s.words i) (w, carried_after me.1 a)
 
-  -- the same of a load of the word i
+  -- the step is a load of the word i
   abbrev pub LoadIs : (ℕ → TableNow → TableNow → Type 0) → Opening → ℕ → ℕ → SeatNow ShardTree NodeList → ℕ
       → Telling ShardTree NodeList → Type 0
   LoadIs event z slots id me i tells = StepIs event z slots id me i (λ x. x) (tells (step slots i 0 0 none) me)
 
-  -- of a store of this value
+  -- the step is a store of this value
   abbrev pub StoreIs : (TableNow → TableNow → Type 0) → Opening → ℕ → ℕ → SeatNow ShardTree NodeList → ℕ → ℕ
       → Telling ShardTree NodeList → Type 0
   StoreIs event z slots id me i value tells = StepIs (λ _. event) z slots id me i (λ _. value)

@@ -17,7 +17,7 @@ In a (x ∷ xs) = (x ≡ a) ⊎ In a xs
 abbrev pub Begins : {A : Type 0} → List A → List A → Type 0
 Begins {A = A} xs ys = (more : List A) × (ys ≡ xs ++ more)
 
--- the versions of a group, and of groups
+-- the versions of a group, and of a list of groups
 abbrev pub versions_in : List MemberVersions → List Version
 versions_in [] = []
 versions_in (p ∷ ps) = p.versions ++ versions_in ps
@@ -26,7 +26,7 @@ abbrev pub versions_of : List (List MemberVersions) → List Version
 versions_of [] = []
 versions_of (g ∷ gs) = versions_in g ++ versions_of gs
 
--- their sequences are one run without a hole, behind `last`
+-- their sequences are one run without a hole, which begins right after `last`
 abbrev pub Runs : ℕ → List Version → Type 0
 Runs last [] = Unit {0}
 Runs last (v ∷ vs) = (v.sequence ≡ suc last) × Runs (suc last) vs
@@ -45,7 +45,7 @@ abbrev pub Members : ℕ → List MemberVersions → Type 0
 Members n [] = Unit {0}
 Members n (p ∷ ps) = (0 < p.member) × (p.member ≤ n) × Apart p.member ps × Members n ps
 
--- no group is empty
+-- each of the groups has a version
 abbrev pub AreSome : List (List MemberVersions) → Type 0
 AreSome [] = Unit {0}
 AreSome (g ∷ gs) = (0 < length (versions_in g)) × AreSome gs
@@ -65,7 +65,7 @@ shard_of shards v = shard_of_key shards v.key
 abbrev pub of_shard : ℕ → ℕ → List Version → List Version
 of_shard shards j vs = filter (λ v. shard_of shards v == j) vs
 
--- what a version does to the map
+-- the record that does to a map what the version does
 abbrev pub record_writing : List ℕ → Option (List ℕ) → Record
 record_writing key (Some v) = model.value key v
 record_writing key None = model.deletion key
@@ -80,7 +80,7 @@ map_of vs = after_records [] (map record_of vs)
 abbrev pub versions_at : ℕ → Pairs → List Version
 versions_at n pairs = map (λ p. record { key = p.0; value = Some p.1; sequence = n }) pairs
 
--- all that stands after a history over a base
+-- all versions that there are after a history over a base
 abbrev pub standing : List Version → List (List MemberVersions) → List Version
 standing base gs = base ++ versions_of gs
 
@@ -91,22 +91,23 @@ map_after base gs = map_of (standing base gs)
 abbrev pub value_in : List Version → List ℕ → List (List MemberVersions) → Option (List ℕ)
 value_in base key gs = value_at (map_after base gs) key
 
--- no sequence is below one before it
+-- no sequence is below one that comes before it
 abbrev pub AreRising : List Version → Type 0
 AreRising [] = Unit {0}
 AreRising (v ∷ vs) = ((w : Version) → In w vs → v.sequence ≤ w.sequence) × AreRising vs
 
--- A table that is opened at the sequence `start` may have these in it.
+-- A table that is opened at the sequence `start` may have these versions in its trees.
 pub record IsBase (start : ℕ) (base : List Version) : Type 0 where
   pub rising : AreRising base
   pub below : (v : Version) → In v base → v.sequence ≤ start
 
--- The order is one in which those of the versions may have come whose sequences are at most `at`.
+-- `order` has those of the versions whose sequences are at most `at`, in an order in which they may have come.
 pub record IsOrderUpTo (at : ℕ) (vs order : List Version) : Type 0 where
   pub same : (v : Version) → In v order ↔ (In v vs × (v.sequence ≤ at))
   pub rising : AreRising order
 
--- The published history is cut from what was handled, each of which made some versions, or none where it was refused.
+-- The published history is the list of all that was handled, cut into groups. Each thing handled made some versions,
+-- or none where it was refused.
 module _ {H : Type 0} (made : H → List Version) where
   abbrev pub made_by : List H → List Version
   made_by [] = []

@@ -71,7 +71,7 @@ InPart end vs (busy l done more) = (l ≡ end) × (done ++ more ≡ vs)
 InPart end vs (inserted l ws) = (l ≡ end) × (ws ≡ vs)
 InPart end vs (finished l ws) = (l ≡ end) × (ws ≡ vs)
 
--- the client has not taken its part
+-- the client has no part in hand: it hasn't taken one, or has finished it
 abbrev pub NotTaken : Place → Type 0
 NotTaken out = Unit {0}
 NotTaken (coming l vs) = Unit {0}
@@ -108,12 +108,12 @@ module _ (place : ℕ → Place) where
   AllComing end [] = Unit {0}
   AllComing end (p ∷ ps) = (place p.member ≡ coming end p.versions) × Apart p.member ps × AllComing end ps
 
--- the last sequence of a group behind `last`
+-- the last sequence of a group that comes after `last`
 abbrev pub end_of : ℕ → List MemberVersions → ℕ
 end_of last g = last + length (versions_in g)
 
 module _ (n : ℕ) (word : ℕ) (place : ℕ → Place) (last : ℕ) where
-  -- a group that may be published behind `last`
+  -- a group that may be published after `last`
   abbrev pub IsLaunched : List MemberVersions → Type 0
   IsLaunched g = Runs last (versions_in g) × (0 < length (versions_in g)) × Members n g
       × ((i : ℕ) → Apart i g → place i ≡ out)
@@ -129,7 +129,7 @@ module _ (k start : ℕ) (published : List (List MemberVersions)) (mode : Mode) 
   KnowsLock Free = Unit {0}
   KnowsLock (Held j vs) = (j < k) × (lock j ≡ held c vs)
 
-  -- it is the group that goes behind what is published
+  -- it is the group that comes next after what is published
   abbrev pub IsBehind : Launched → Type 0
   IsBehind u = (published ≡ u.before) × (u.last ≡ end_of (last_of start published) u.group)
 
@@ -167,7 +167,7 @@ module _ (z : Opening) (published : List (List MemberVersions)) (mode : Mode) (p
 abbrev pub seat_state : ℕ → Opening → List (List MemberVersions) → Lock → Stage → SeatState
 seat_state c z seen lock stage = record { client = c; opening = z; seen = seen; lock = lock; stage = stage }
 
--- m clients from c on, and then the turn
+-- the first states of m clients, from number c on, and then of the turn
 abbrev pub newcomers : Opening → ℕ → ℕ → List SeatState
 newcomers z c zero = seat_state 0 z [] Free Resting ∷ []
 newcomers z c (suc m) = seat_state c z [] Free Idle ∷ newcomers z (suc c) m
@@ -206,7 +206,7 @@ module _ {ShardTree NodeList : Type 0} (held_by : ShardTree → List Version)
     pub shards_are : (j : ℕ) → j < z.shards → InShard z.shards s.words s.homes j (lock j)
     pub rows : (i : ℕ) → 0 < i → i ≤ z.clients → InPlace z.shards s.words s.homes i (place i)
     pub mode_is : InMode z.clients (slice_index s.words (z.shards + 1)) place (last_of z.start published) mode
-    -- each version in a tree is of the base, or published, or one of a part's that are in
+    -- each version in a tree is of the tree's shard, and is of the base, or published, or one that a member has put in
     pub sound : (j : ℕ) (v : Version) → j < z.shards → In v (contents (lock j))
         → (shard_of z.shards v ≡ j) × (In v (standing z.base published) ⊎ ((i : ℕ) × In v (stored_in (place i))))
     pub complete : (v : Version) → In v (standing z.base published) → In v (contents (lock (shard_of z.shards v)))

@@ -11,20 +11,12 @@ use Rattle.table_rule.specs.declared.view.Opening.{Opening}
 use Rattle.table_rule.specs.declared.view.SeatState.{SeatState}
 use Rattle.table_rule.specs.Histories.{In, Begins, IsHistory, last_of}
 
-abbrev pub all_but_first : {A : Type 0} → List A → List A
-all_but_first [] = []
-all_but_first (x ∷ xs) = xs
-
-abbrev pub first_only : {A : Type 0} → List A → List A
-first_only [] = []
-first_only (x ∷ xs) = x ∷ []
-
--- the history is one, and what each seat has seen is a beginning of it
+-- it is a history, and what each state of the seat has seen is a beginning of it
 abbrev pub Closes : Opening → List SeatState → List (List MemberVersions) → Type 0
 Closes z v history = IsHistory z.start history × ((h : SeatState) → In h v → Begins h.seen history)
 
--- a load of LAST by a seat that has the turn's state, which is free: all that it holds has seen beginnings of the
--- turn's history
+-- a load of LAST by a seat that has the turn's state, without a lock and with no group launched: it finds the end of
+-- the turn's history, and each of the seat's states has seen a beginning of that history
 abbrev pub after_close : {ShardTree NodeList : Type 0} → Step (Content ShardTree NodeList)
     → SeatNow ShardTree NodeList → ℕ → SeatNow ShardTree NodeList → Type 0
 after_close st m r m' = (z : Opening) (history : List (List MemberVersions))

@@ -1,4 +1,4 @@
--- What each step tells.
+-- What each step tells its caller.
 use Rattle.std.specs.Prelude.{◌≡◌, ◌≢◌, ℕ, ◌<◌, ◌≤◌, ◌+◌, ◌⊎◌, zero, suc, Bool, ◌==◌, if◌then◌else◌, List, [], ◌∷◌, ◌++◌, length}
 use Rattle.std.specs.List.{list_any}
 use Rattle.atomic_table.specs.Table.{Me, Step, rest}
@@ -20,23 +20,23 @@ use Rattle.table_rule.specs.Rule.{seat_state, end_of}
 abbrev pub SeatNow : Type 0 → Type 0 → Type 0
 SeatNow ShardTree NodeList = Me (Content ShardTree NodeList) (List SeatState)
 
--- what a step tells of the seat before it, the number found or stored, and the seat after it
+-- what a step tells about the seat before it, the number found or stored, and the seat after it
 abbrev pub Telling : Type 0 → Type 0 → Type 1
 Telling ShardTree NodeList =
     Step (Content ShardTree NodeList) → SeatNow ShardTree NodeList → ℕ → SeatNow ShardTree NodeList → Type 0
 
--- the slots that a seat has out, with what they hold
+-- the slots that a seat has taken out, with what they hold
 abbrev pub Carried : Type 0 → Type 0 → Type 0
 Carried ShardTree NodeList = List (ℕ × Content ShardTree NodeList)
 
 abbrev pub work : Launched → List Version → List Version → Work
 work u done more = record { launched = u; done = done; rest = more }
 
--- the group, launched behind a history above `start`
+-- the group g, launched after a history above `start`
 abbrev pub launched_behind : ℕ → List (List MemberVersions) → List MemberVersions → Launched
 launched_behind start before g = record { before = before; group = g; last = end_of (last_of start before) g }
 
--- the word is the one by which a leader and the part's member hand the part on
+-- the word is RUN of the part's member, by which the part is handed over; the member is one of the table's clients
 abbrev pub IsWordOf : Opening → MemberVersions → ℕ → Type 0
 IsWordOf z p word = (word ≡ z.shards + 1 + p.member) × (0 < p.member) × (p.member ≤ z.clients)
 
@@ -49,7 +49,7 @@ AreOfPart nodes_of z seen g p nodes last = (nodes_of nodes ≡ p.versions) × (l
 abbrev pub has_part : ℕ → List MemberVersions → Bool
 has_part c g = list_any (λ (p : MemberVersions). p.member == c) g
 
--- where the client stands that has launched the group: it is to take its own part of it, if it has one
+-- the stage of the client that has launched the group: it must take its own part of it, if it has one
 abbrev pub stage_after_launch : ℕ → Launched → Stage
 stage_after_launch c u = if has_part c u.group then Waiting u else Idle
 
@@ -57,18 +57,18 @@ stage_after_launch c u = if has_part c u.group then Waiting u else Idle
 abbrev pub part_of : ℕ → List Version → MemberVersions
 part_of m vs = record { member = m; versions = vs }
 
--- what a tree shows of a history over the table's base: all versions of that shard, and nothing else up to its end
+-- what a tree shows of a history over the table's base: all its versions of that shard, and up to its end nothing else
 abbrev pub Shows : Opening → ℕ → List (List MemberVersions) → List Version → Type 0
 Shows z j seen vs = ((v : Version) → In v vs → shard_of z.shards v ≡ j)
     × ((v : Version) → In v (standing z.base seen) → shard_of z.shards v ≡ j → In v vs)
     × ((v : Version) → In v vs → v.sequence ≤ last_of z.start seen → In v (standing z.base seen))
     × IsBase z.start z.base
 
--- the tree ws is the tree vs with v
+-- the tree ws is the tree vs with v added
 abbrev pub Adds : List Version → Version → List Version → Type 0
 Adds vs v ws = In v ws × ((x : Version) → In x vs → In x ws) × ((x : Version) → In x ws → (x ≡ v) ⊎ In x vs)
 
--- the tree ws is the tree vs with all of `new`
+-- the tree ws is the tree vs with all of `new` added
 abbrev pub AddsAll : List Version → List Version → List Version → Type 0
 AddsAll vs new ws = ((x : Version) → In x new → In x ws) × ((x : Version) → In x vs → In x ws)
     × ((x : Version) → In x ws → In x new ⊎ In x vs)
@@ -77,13 +77,13 @@ AddsAll vs new ws = ((x : Version) → In x new → In x ws) × ((x : Version) �
 abbrev pub AreOfShard : ℕ → ℕ → List Version → Type 0
 AreOfShard k j vs = (v : Version) → In v vs → shard_of k v ≡ j
 
--- the fetch-sub of RUNNING: the one that found 1 may publish
+-- the stage after the fetch-sub of RUNNING: the member that found 1 may publish
 abbrev pub stage_after_finish : Launched → ℕ → Stage
 stage_after_finish u zero = Idle
 stage_after_finish u (suc zero) = Publishing u
 stage_after_finish u (suc (suc r)) = Idle
 
--- what is still to be inserted is not in the tree, and its sequences are a run
+-- no version of the tree has the sequence of one that is still to be inserted, and those sequences are a run
 abbrev pub IsFresh : Stage → List Version → Type 0
 IsFresh Idle vs = Unit {0}
 IsFresh (Waiting u) vs = Unit {0}
@@ -117,7 +117,7 @@ MayTake Resting = ⊥
 MayTake (Handing g ps) = ⊥
 MayTake (Filling g p ps) = ⊥
 
--- a client that waits for its part of the group v is given no part of another
+-- a client that waits for its part of the group v gets no part of another group
 abbrev pub IsAwaited : Stage → Launched → Type 0
 IsAwaited Idle u = Unit {0}
 IsAwaited (Waiting v) u = u ≡ v
@@ -128,11 +128,11 @@ IsAwaited Resting u = Unit {0}
 IsAwaited (Handing g ps) u = Unit {0}
 IsAwaited (Filling g p ps) u = Unit {0}
 
--- the group may be launched behind what is published
+-- the group may be launched after what is published
 abbrev pub IsNext : Opening → List (List MemberVersions) → List MemberVersions → Type 0
 IsNext z seen g = Runs (last_of z.start seen) (versions_in g) × (0 < length (versions_in g)) × Members z.clients g
 
--- The versions are client c's part of a launched group, which goes behind all that c has seen.
+-- The versions are client c's part of a launched group, which comes after all that c has seen.
 pub record IsPartOf (z : Opening) (c : ℕ) (seen : List (List MemberVersions)) (u : Launched) (vs : List Version) :
     Type 0 where
   pub part : In (part_of c vs) u.group
@@ -142,7 +142,7 @@ pub record IsPartOf (z : Opening) (c : ℕ) (seen : List (List MemberVersions)) 
   pub is_history : IsHistory z.start u.before
 
 module _ {ShardTree NodeList : Type 0} where
-  -- the seat has the view of one client or of the turn, here c
+  -- the seat has the view of one client or of the turn; its number is c
   abbrev pub IsAt : ℕ → Opening → List (List MemberVersions) → Lock → Stage → SeatNow ShardTree NodeList → Type 0
   IsAt c z seen lock stage m = m.0 ≡ seat_state c z seen lock stage ∷ []
 
@@ -164,7 +164,7 @@ module _ {ShardTree NodeList : Type 0} where
         × Shows z st.word seen (held_by t) × IsFresh stage (held_by t))
         × (r ≢ 0 → m' ≡ m)
 
-  -- the unlocking store: the tree is as it was, or it has more, `new` of the member's part
+  -- the store that unlocks: the tree is as it was, or `new`, versions of the member's part, were added to it
   abbrev pub after_unlock : Step (Content ShardTree NodeList) → SeatNow ShardTree NodeList → ℕ
       → SeatNow ShardTree NodeList → Type 0
   after_unlock st m r m' = (c : ℕ) (z : Opening) (seen : List (List MemberVersions)) (stage : Stage) (vs : List Version)
@@ -177,7 +177,7 @@ module _ {ShardTree NodeList : Type 0} where
       → IsAt c z seen (Held st.word vs) (Holding (work u done (new ++ more))) m
       → IsAt c z seen Free (Holding (work u (done ++ new) more)) m' × (m'.1 ≡ rest m.1)
 
-  -- the seat has the views of client c, who has seen `own`, and of the turn
+  -- the seat has the views of client c, which has seen `own`, and of the turn
   abbrev pub IsWithTurn : ℕ → Opening → List (List MemberVersions) → Stage → List (List MemberVersions) → Stage
       → SeatNow ShardTree NodeList → Type 0
   IsWithTurn c z own stage seen turn m = m.0 ≡ seat_state c z own Free stage ∷ seat_state 0 z seen Free turn ∷ []
@@ -223,14 +223,14 @@ module _ {ShardTree NodeList : Type 0} where
       (done : List Version)
       → IsAt c z seen Free (Holding (work u done [])) m → IsAt c z seen Free (Stored u) m' × (m'.1 ≡ rest m.1)
 
-  -- the fetch-sub of RUNNING: as many parts aren't finished as are found, the member's own among them
+  -- the fetch-sub of RUNNING: it finds how many parts aren't finished, the member's own among them
   abbrev pub after_count : Step (Content ShardTree NodeList) → SeatNow ShardTree NodeList → ℕ
       → SeatNow ShardTree NodeList → Type 0
   after_count st m r m' = (c : ℕ) (z : Opening) (seen : List (List MemberVersions)) (u : Launched)
       → IsAt c z seen Free (Stored u) m → IsAt c z seen Free (stage_after_finish u r) m' × (m'.1 ≡ m.1)
       × (0 < r) × (r ≤ length u.group)
 
-  -- the store of LAST: it has seen the history with the group
+  -- the store of LAST: the seat has then seen the history with the group
   abbrev pub after_publish : Step (Content ShardTree NodeList) → SeatNow ShardTree NodeList → ℕ
       → SeatNow ShardTree NodeList → Type 0
   after_publish st m r m' = (c : ℕ) (z : Opening) (seen : List (List MemberVersions)) (u : Launched)

@@ -1,4 +1,4 @@
-//! What a table is opened over.
+//! The versions that a table has when it is opened.
 ghost use Rattle.std.specs.Prelude.{◌≡◌, [], IfOk};
 
 use crate::content::Version;
@@ -9,7 +9,7 @@ use std::alloc::Global;
 use std::collections::LinkedList;
 use std::marker::{Model, PhantomData};
 
-/// The versions that stand in a table's trees when it is opened. Contracts see them, and at run time it has no bytes.
+/// The versions that are in a table's trees when it is opened. Contracts see them; at run time it has no bytes.
 ///
 /// It is the view of a seat of a table without words, which nobody else knows.
 #[derive(Drop)]
@@ -27,7 +27,7 @@ impl Model for Base {
     ghost view = { λ b. first_view b.badge.views };
 }
 
-/// The rule of a table that is made for its first seat alone, whose view the plan says.
+/// The rule of a table that is made only for its first seat. The plan says what that seat's view is.
 struct NamingLaw<Plan> {
     marker: PhantomData<Plan>,
 }
@@ -48,7 +48,7 @@ impl Base {
         }
     }
 
-    /// These versions.
+    /// The plan's versions.
     pub fn of<Plan: VersionPlan>(alloc: Global) -> Result<Base, NoMemory>
         ensures { IfOk result (λ base. base ≡ Plan.versions) }
     {

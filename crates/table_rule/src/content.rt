@@ -13,7 +13,7 @@ pub enum Content<ShardTree, NodeList> {
     Nodes(NodeList, u64),
 }
 
-/// What a key says from a sequence on: a value, or none where it is deleted. Contracts speak of versions, and no value
+/// The value that a key has from a sequence on, or none where it is deleted. Contracts speak of versions, and no value
 /// of this type is made.
 pub struct Version {
     pub key: LinkedList<u8>,

@@ -10,14 +10,16 @@ ghost use Rattle.table_rule.specs.Rule.{still, ended};
 ghost use Rattle.table_rule.specs.Events.{TableNow, Stays, IsRead, IsLaunch, IsInsert, IsFinish, IsPublish};
 ghost use Rattle.table_rule.specs.CoreEvents.{IsCoreGroup, IsCoreOf, AreTaken, IsReading};
 
-/// Where the core stands as the table does, each event of the table may come in the core, and it stands as the table
-/// does after it. A part of the table stands for one or more of the core's writers, one after another: it has their
-/// versions. So the insertion of a part is that of each client of its team, in the team's order, and so is its finish.
+/// Where the core's state fits the table (`IsCoreOf`), each event of the table may come in the core, and afterwards
+/// the two still fit. A part of the table covers one or more of the core's writers, one after another: it has their
+/// versions. So the insertion of a part is the insertion of each client of its team, in the team's order, and so is
+/// its finish.
 ///
-/// A group is launched that stands in the core, by the one that leads it there. Who publishes it finds all the core's
-/// members of the group finished, the last of its team last. A read finds the core's published sequence, and a step
-/// that moves nothing leaves the core where it is. The exit of a group moves the core alone, and the core's other
-/// events leave it standing as the table does.
+/// A group is launched while the core's table is at rest. It must be the core's group for the table, and it is
+/// launched by the client that leads it there. When it is published, all the core's members of the group have
+/// finished, and the last client of the publisher's team finished last. A read finds the core's published sequence,
+/// and a step that moves nothing leaves the core where it is. The exit of a group moves the core alone. After each of
+/// the core's other events, its state still fits the table.
 pub fn table_and_core()
     ensures launch { (start : ℕ) (o : Options) (team : ℕ → List ℕ) (s : State) (a b : TableNow)
         (g : List MemberVersions) (c : ℕ)

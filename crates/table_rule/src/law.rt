@@ -18,8 +18,8 @@ ghost use Rattle.table_rule.specs.Events.{Stays, IsRead, IsLaunch, IsInsert, IsF
 
 use crate::rule::Versioned;
 
-/// What each step is, of whatever table that keeps the rule, where its caller may make it. Of a member's part the
-/// store of 0 to its RUN is the insertion: before it some of the part's nodes may not be in their trees.
+/// What each step is, for any table that keeps the rule, where the caller may make the step. A member's part counts as
+/// inserted with the store of 0 to its RUN: before it some of the part's nodes may not be in their trees.
 pub fn steps_and_events<ShardTree: Versioned, NodeList: Versioned>()
     ensures learn { (z : Opening) (slots id word c : ℕ) (me : SeatNow ShardTree NodeList)
         (seen : List (List MemberVersions)) (stage : Stage)

@@ -17,32 +17,34 @@
 //! | Slot | What it holds |
 //! |---|---|
 //! | `j`, below `k` | shard `j`'s tree |
-//! | `k` | nothing: it is spared, so that a client's slot is `k` and its number |
+//! | `k` | nothing: it stays unused, so that client `i`'s slot is `k + i` |
 //! | `k + i` | client `i`'s part of the launched group, from when it is handed out until it is taken |
 //!
 //! # Steps
 //!
-//! The turn is a seat of its own, of which a table has one. A client that keeps it may launch a group, with a part of
-//! its own or without. A reader's seat is a client's. What each step is of the write path says [`steps_and_events`].
+//! The turn is a seat of its own; a table has one. A client that holds it may launch a group, with or without a part
+//! of its own. A reader's seat is a client's seat. [`steps_and_events`] says which event of the write path each step
+//! is.
 //!
 //! | Step | Who makes it | What it does | Event of the write path |
 //! |---|---|---|---|
 //! | load of LAST ([`Learn`]) | a client | sees the published history | read |
 //! | compare-exchange of a lock from 0 to 1 ([`LockShard`]) | a client | takes the tree out of its slot | |
 //! | store of 0 to a lock ([`UnlockShard`]) | who locked it | gives the tree back as it was | |
-//! | store of 0 to a lock ([`AddVersions`]) | a member | gives the tree back with versions of its part more | |
+//! | store of 0 to a lock ([`AddVersions`]) | a member | gives the tree back, with versions of its part added | |
 //! | store of RUNNING ([`Launch`]) | a client that has the turn, with both seats as one | begins a group, with the number of its parts | launch |
 //! | load of RUN `i` ([`Empty`]) | the turn | takes the empty slot of a member | |
 //! | store of 1 to RUN `i` ([`Give`]) | the turn | gives that slot back with the member's nodes | |
 //! | load of RUN `i` ([`Take`]) | member `i` | takes its nodes out of its slot, where it finds 1 | |
-//! | store of 0 to RUN `i` ([`Settle`]) | member `i` | gives the empty slot back, all its nodes being in their trees | insert |
-//! | fetch-sub of RUNNING ([`Count`]) | a member | its part is finished; who finds 1 may publish | finish |
+//! | store of 0 to RUN `i` ([`Settle`]) | member `i` | gives the empty slot back; all its nodes are in their trees | insert |
+//! | fetch-sub of RUNNING ([`Count`]) | a member | its part is finished; if it finds 1, it may publish | finish |
 //! | store of LAST ([`Publish`]) | the member that took RUNNING to 0 | publishes the group | publish |
-//! | load of LAST ([`Await`]) | the turn | the group is published, where it finds the group's last sequence | |
-//! | load of LAST ([`Close`]) | the turn's seat, joined with the clients' | the one history of the table is known | |
+//! | load of LAST ([`Await`]) | the turn | where it finds the group's last sequence, the group is published | |
+//! | load of LAST ([`Close`]) | the turn's seat, joined with the clients' seats | the table's one history is known | |
 //!
-//! A compare-exchange that fails is a load that tells nothing. Seats are made at opening and joined at closing; for the
-//! store of RUNNING the turn is joined to the seat of the client that launches, and split off again.
+//! A compare-exchange that fails is a load from which the caller learns nothing. Seats are made at opening and joined
+//! at closing. For the store of RUNNING the turn is joined to the seat of the client that launches, and split off
+//! again.
 #![tactic(auto)]
 
 mod base;

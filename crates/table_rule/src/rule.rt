@@ -1,13 +1,13 @@
 //! The rule, and how seats are cut and joined.
 ghost use Rattle.std.specs.Prelude.{[], ◌++◌};
 ghost use Rattle.table_rule.specs.Rule.{IsConsistent, newcomers};
-ghost use Rattle.table_rule.specs.Seats.{all_but_first, first_only};
+ghost use Rattle.model_base.specs.Halves.{all_but_first, first_only};
 
 use crate::content::Content;
 use crate::view::{Opening, TableView};
 use atomic_table::{Join, Split, TableRule};
 
-/// What holds versions, as a tree or a member's nodes do.
+/// What holds versions, such as a tree or a member's nodes.
 pub trait Versioned {
     ghost use Rattle.std.specs.Prelude.{List};
     ghost use Rattle.table_rule.specs.declared.content.Version.{Version};
@@ -46,7 +46,7 @@ impl Split<TableView> for AllButFirst {
     ghost right = { λ v. all_but_first v };
 }
 
-/// Takes another seat's states in.
+/// Adds another seat's states.
 pub struct Both;
 
 impl Join<TableView> for Both {

@@ -1,4 +1,4 @@
-//! The steps by name, and what each tells its caller. The table of them stands at the head of the crate.
+//! The named steps, and what each tells its caller. The head of the crate has a table of them.
 ghost use Rattle.std.specs.Prelude.{[]};
 ghost use Rattle.table_rule.specs.Seats.{after_close};
 ghost use Rattle.table_rule.specs.Steps.{after_learn, after_lock, after_unlock, after_add, after_launch, after_empty, after_give, after_take, after_settle, after_count, after_publish, after_await};
@@ -42,7 +42,7 @@ impl VersionPlan for Brand {
     ghost versions = { [] };
 }
 
-/// The store that unlocks a shard whose tree has versions of a member's part more.
+/// The store that unlocks a shard to whose tree versions of a member's part were added.
 pub struct AddVersions<Plan> {
     marker: PhantomData<Plan>,
 }

@@ -1,11 +1,12 @@
-//! What a seat knows of the table. Of the types here a program makes only `Opening`: the others are what contracts
-//! speak of.
+//! What a seat knows of the table. Of the types here a program makes values of `Opening` only; contracts speak of the
+//! others.
 
 use crate::base::Base;
 use crate::content::{MemberVersions, Version};
 use std::collections::LinkedList;
 
-/// How many clients and shards a table was opened for, the sequence that was published then, and what its trees had.
+/// How many clients and shards a table was opened for, the sequence that was published then, and the versions that its
+/// trees had.
 #[derive(Drop)]
 pub struct Opening {
     pub clients: u64,
@@ -14,15 +15,15 @@ pub struct Opening {
     pub base: Base,
 }
 
-/// A group that was launched: what was published before, oldest first, its members with their versions, and its last
-/// sequence.
+/// A group that was launched: the groups that were published before it, the oldest first; its members with their
+/// versions; and its last sequence.
 pub struct Launched {
     pub before: LinkedList<LinkedList<MemberVersions>>,
     pub group: LinkedList<MemberVersions>,
     pub last: u64,
 }
 
-/// The part of a group that a member has taken: its versions that are in their trees, and those that aren't.
+/// The part of a group that a member has taken: those of its versions that are in their trees, and those that aren't.
 pub struct Work {
     pub launched: Launched,
     pub done: LinkedList<Version>,
@@ -35,7 +36,7 @@ pub enum Lock {
     Held(u64, LinkedList<Version>),
 }
 
-/// Where a seat stands with the launched group. The last three are the turn's.
+/// How far a seat is with the launched group. The last three are stages of the turn.
 pub enum Stage {
     /// It has no part in hand.
     Idle,
@@ -45,13 +46,13 @@ pub enum Stage {
     Holding(Work),
     /// Its part of this group is in the trees.
     Stored(Launched),
-    /// It finished last, and is to publish this group.
+    /// It finished last, and must publish this group.
     Publishing(Launched),
     /// No group is launched.
     Resting,
     /// A group is launched, and these parts of it are still to be handed out.
     Handing(LinkedList<MemberVersions>, LinkedList<MemberVersions>),
-    /// The same, while one part is put into its slot.
+    /// One part of this group is being put into its slot, and the parts that follow are still to be handed out.
     Filling(LinkedList<MemberVersions>, MemberVersions, LinkedList<MemberVersions>),
 }
 
@@ -65,5 +66,5 @@ pub struct SeatState {
     pub stage: Stage,
 }
 
-/// What a seat knows. A seat has one state, but at opening and closing.
+/// What a seat knows. A seat has one state, except at opening, at closing and while a client launches a group.
 pub type TableView = LinkedList<SeatState>;

@@ -28,7 +28,7 @@ module _ {ShardTree NodeList : Type 0} where
   pub account_at : (c : ℕ) (z : Opening) (seen : List (List MemberVersions)) (stage : Stage) (m : SeatNow ShardTree NodeList) (t : Option (Turn ShardTree NodeList)) → IsAt c z seen Free stage m → account_of c m t ≡ record { number = c; seen = seen; stage = stage; launched = launch_of t }
   account_at c z seen stage m t at = ap (λ l. record { number = c; seen = (first_state l).seen; stage = (first_state l).stage; launched = launch_of t }) at
 
-  -- the stage of a seat that stands between two calls is a client's
+  -- the stage of a seat that is between two calls is a client's
   pub client_stage : (k last : ℕ) (l : List (ℕ × Content ShardTree NodeList)) (stage : Stage) → Carries k last stage l → IsClient stage
   client_stage k last l Idle ok = tt
   client_stage k last l (Waiting u) ok = tt
@@ -39,7 +39,7 @@ module _ {ShardTree NodeList : Type 0} where
   client_stage k last l (Handing g ps) ok = absurd ok
   client_stage k last l (Filling g p ps) ok = absurd ok
 
-  -- who launched carries nothing, with a part of its own or without
+  -- a client that launched carries no slot, with a part of its own or without
   pub launched_sits : (c k last : ℕ) (u : Launched) (l : List (ℕ × Content ShardTree NodeList)) → l ≡ [] → Carries {ShardTree = ShardTree} {NodeList = NodeList} k last (stage_after_launch c u) l
   launched_sits c k last u l nil = by (has_part c u.group)
     where
@@ -47,7 +47,7 @@ module _ {ShardTree NodeList : Type 0} where
       by true = nil
       by false = nil
 
-  -- a seat that stands where it stood has the same account
+  -- a seat whose view is as it was has the same account
   pub same_account : (c d : ℕ) (z : Opening) (seen : List (List MemberVersions)) (stage : Stage) (m m' : SeatNow ShardTree NodeList) (t : Option (Turn ShardTree NodeList)) → d ≡ c → IsAt c z seen Free stage m → IsAt c z seen Free stage m' → account_of d m' t ≡ account_of c m t
   same_account c d z seen stage m m' t same a b = ap (λ (j : ℕ). account_of j m' t) same ∙ account_at c z seen stage m' t b ∙ sym (account_at c z seen stage m t a)
 

@@ -28,7 +28,7 @@ abbrev slot_or : {A : Type 0} → A → List (ℕ × A) → A
 slot_or d [] = d
 slot_or d (x ∷ xs) = x.1
 
--- what was taken out of a slot is what lay there
+-- what was taken out of a slot is what was in it
 pub same_slot : {A : Type 0} (x y : A) (i j : ℕ) (l m m' : List (ℕ × A)) → l ≡ (i, x) ∷ m → l ≡ (j, y) ∷ m' → x ≡ y
 same_slot x y i j l m m' a b = ap (slot_or x) (sym a ∙ b)
 

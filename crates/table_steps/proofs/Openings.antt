@@ -37,7 +37,7 @@ zero_at zero i = refl
 zero_at (suc n) zero = refl
 zero_at (suc n) (suc i) = zero_at n i
 
--- the words
+-- the words of a table where nothing is launched
 module _ (k start n : ℕ) where
   abbrev words : List ℕ
   words = zeros k ++ start ∷ zeros (n + 1)
@@ -117,7 +117,7 @@ range_snoc a zero = ap (λ (k : ℕ). k ∷ []) (let e : a ≡ a + 0 = omega ari
 range_snoc a (suc n) = ap (λ (l : List ℕ). a ∷ l) (range_snoc (a + 1) n ∙ ap (λ (k : ℕ). range_with_len (a + 1) n ++ k ∷ []) (let e : a + 1 + n ≡ a + suc n = omega arith in e))
 
 module _ {ShardTree NodeList : Type 0} where
-  -- one client's seat more
+  -- one more client's seat
   pub numbers_more : (clients : List (TableSeat ShardTree NodeList)) (client : TableSeat ShardTree NodeList) (more : List (TableSeat ShardTree NodeList)) (n : ℕ) → more ≡ clients ++ client ∷ [] → map (λ (c : TableSeat ShardTree NodeList). c.client.number) clients ≡ range_with_len 1 n → client.client.number ≡ n + 1 → map (λ (c : TableSeat ShardTree NodeList). c.client.number) more ≡ range_with_len 1 (n + 1)
   numbers_more clients client more n is before number =
       ap (map (λ (c : TableSeat ShardTree NodeList). c.client.number)) is

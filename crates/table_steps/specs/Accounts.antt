@@ -65,8 +65,8 @@ module _ {ShardTree NodeList : Type 0} where
   abbrev pub history_of : Turn ShardTree NodeList → List (List MemberVersions)
   history_of u = (first_state u.seat.me.0).seen
 
-  -- the slots that a seat holds between calls: a part that was taken leaves its empty slot. `last` is that of the group
-  -- whose part was taken last.
+  -- the slots that a seat holds between calls: a part that was taken leaves its empty slot. `last` is the last
+  -- sequence of the group whose part was taken last.
   abbrev pub Carries : ℕ → ℕ → Stage → List (ℕ × Content ShardTree NodeList) → Type 0
   Carries slot last Idle l = l ≡ []
   Carries slot last (Waiting u) l = l ≡ []
@@ -77,19 +77,19 @@ module _ {ShardTree NodeList : Type 0} where
   Carries slot last (Handing g ps) l = ⊥
   Carries slot last (Filling g p ps) l = ⊥
 
-  -- the turn is kept where a group is launched
+  -- where a seat keeps the turn, a group is launched, and all its parts are handed out
   abbrev pub Keeps : TableId → Opening → Option (Turn ShardTree NodeList) → Type 0
   Keeps id z None = Unit {0}
   Keeps id z (Some u) = (u.seat.table_id ≡ id) × (u.seat.me.1 ≡ [])
       × ((seen : List (List MemberVersions)) × (g : List MemberVersions) × IsAt 0 z seen Free (Handing g []) u.seat.me)
 
-  -- client c's seat is of this table, and stands between two calls
+  -- client c's seat is of this table, and is between two calls
   abbrev pub Sits : TableId → Opening → ℕ → TableId → ℕ → SeatNow ShardTree NodeList → Type 0
   Sits id z c table last m = (table ≡ id) × (0 < c) × (c ≤ z.clients)
       × ((seen : List (List MemberVersions)) × (stage : Stage) × IsAt c z seen Free stage m
       × Carries (z.shards + c) last stage m.1)
 
-  -- the seat is of this table, and stands between two calls
+  -- the seat is of this table, and is between two calls
   abbrev pub IsOurs : SharedTable ShardTree NodeList → TableSeat ShardTree NodeList → Type 0
   IsOurs t s = Sits (id_of t) (opening_of t) s.client.number s.client.seat.table_id s.last s.client.seat.me
       × Keeps (id_of t) (opening_of t) s.turn
@@ -102,7 +102,7 @@ module _ {ShardTree NodeList : Type 0} where
   abbrev pub IsTurnAtStart : SharedTable ShardTree NodeList → Turn ShardTree NodeList → Type 0
   IsTurnAtStart t turn = MayLaunch t turn × (history_of turn ≡ [])
 
-  -- the seats of clients from 1 on, who have seen nothing yet and have nothing to do
+  -- the seats of the clients from 1 to `count`, which have seen nothing yet and have nothing to do
   abbrev pub AreSeatsAtStart : SharedTable ShardTree NodeList → ℕ → List (TableSeat ShardTree NodeList) → Type 0
   AreSeatsAtStart t count seats = (map (λ (s : TableSeat ShardTree NodeList). (account s).number) seats
       ≡ range_with_len 1 count)

@@ -23,17 +23,17 @@ BearBase versions_of base trees = (j : ℕ) (tree : _) (v : Version) → get_ele
     → In v (versions_of tree) ↔ (In v base × (shard_of (length trees) v ≡ j))
 
 module _ {ShardTree NodeList : Type 0} where
-  -- the turn of this table, with no group launched, and all that is published
+  -- the turn is of this table, no group is launched, and `history` is all that is published
   abbrev pub IsTurnOf : TableId → Opening → List (List MemberVersions) → Turn ShardTree NodeList → Type 0
   IsTurnOf id z history turn = (turn.seat.table_id ≡ id) × (turn.seat.me.1 ≡ [])
       × IsAt 0 z history Free Resting turn.seat.me × (turn.last ≡ last_of z.start history)
 
-  -- a client's seat of this table, with nothing to do, and what it has seen
+  -- the client's seat is of this table and has nothing to do, and `seen` is what it has seen
   abbrev pub IsSeatOf : TableId → Opening → List (List MemberVersions) → Client ShardTree NodeList → Type 0
   IsSeatOf id z seen client = (client.seat.table_id ≡ id) × (client.seat.me.1 ≡ [])
       × IsAt client.number z seen Free Idle client.seat.me
 
-  -- the seats of clients from 1 on
+  -- the seats of the clients from 1 to `count`, which have seen nothing yet and have nothing to do
   abbrev pub AreSeatsOf : TableId → Opening → ℕ → List (TableSeat ShardTree NodeList) → Type 0
   AreSeatsOf id z count seats = (map (λ (s : TableSeat ShardTree NodeList). s.client.number) seats
       ≡ range_with_len 1 count)
@@ -51,7 +51,7 @@ module _ {ShardTree NodeList : Type 0} where
       → In seat seats
       → IsAt seat.client.number z seen Free Idle seat.client.seat.me → Begins seen history
 
-  -- these seats' states are among those joined
+  -- the states of these seats are among those that were joined
   abbrev pub AreJoined : Opening → List (TableSeat ShardTree NodeList) → List SeatState → Type 0
   AreJoined z seats v = (seat : TableSeat ShardTree NodeList) (seen : List (List MemberVersions)) → In seat seats
       → IsAt seat.client.number z seen Free Idle seat.client.seat.me

@@ -9,7 +9,7 @@ use Rattle.table_rule.specs.declared.view.Stage.{Stage}
 use Rattle.table_rule.specs.Steps.{SeatNow, IsAt, Shows, IsFresh}
 
 module _ {ShardTree NodeList : Type 0} where
-  -- the seat has the shard's tree, which shows what it has seen
+  -- the seat has the shard's tree, which shows what the seat has seen
   abbrev pub Locked : ℕ → Opening → ℕ → List (List MemberVersions) → Stage → List Version
       → SeatNow ShardTree NodeList → SeatNow ShardTree NodeList
       → Type 0

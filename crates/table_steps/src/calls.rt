@@ -1,5 +1,5 @@
-//! The calls of a client's seat that are made of several steps: a group is launched, nodes are put into the trees, and
-//! the launcher waits for its group.
+//! The calls of a client's seat that are made of several steps: launching a group, putting nodes into the trees, and
+//! waiting for the group that the client launched.
 ghost use Rattle.std.specs.Prelude.{◌≡◌, ◌<◌, ◌≤◌, ◌^◌, List, [], ◌∷◌, ◌++◌, None, Some};
 ghost use Rattle.table_rule.specs.declared.content.Version.{Version};
 ghost use Rattle.table_rule.specs.declared.view.Launched.{Launched};
@@ -52,7 +52,7 @@ impl<ShardTree: VersionTree<NodeList::Node> + Drop, NodeList: VersionNodes + Dro
         self.turn = Some(turn);
     }
 
-    /// Puts nodes, the next of the client's part, into the tree of their shard, under one hold of its lock. A part of
+    /// Puts the next nodes of the client's part into the tree of their shard, under one hold of its lock. A part of
     /// several shards goes in run by run, where each run is of one shard.
     pub fn add<R: Wait + rt::Clock>(
         &mut self,

@@ -28,8 +28,8 @@ impl<ShardTree: VersionTree<NodeList::Node>, NodeList: VersionNodes> SharedTable
     ShardTree,
     NodeList,
 > {
-    // Sets the running count to the number of members. The client's seat and the turn's are one meanwhile, so that the
-    // client knows of the group.
+    // Sets the running count to the number of members. The client's seat and the turn's are joined meanwhile, so that
+    // the client knows of the group.
     fn set_running<Group: GroupPlan, GroupList: GroupParts<NodeList>>(
         &self,
         who: &mut Client<ShardTree, NodeList>,
@@ -130,14 +130,14 @@ impl<ShardTree: VersionTree<NodeList::Node>, NodeList: VersionNodes> SharedTable
         ensures room { GroupList.room parts.new ≡ GroupList.room parts.old }
     {
         let mut turn = self.set_running::<Brand, GroupList>(who, turn, parts);
-        // The members of the parts that are gone were handed their nodes, in order.
+        // The members of the parts popped so far were handed their nodes, in order.
         while let Some((member, nodes)) = parts.pop() {
             self.offer(&mut turn, member, nodes, last);
         }
         turn
     }
 
-    /// Waits until the launched group, whose last sequence is `last`, is published. The turn is free again.
+    /// Waits until the launched group, whose last sequence is `last`, is published. Then the turn is free again.
     pub(crate) fn await_published<R: Wait + rt::Clock>(
         &self,
         rt: &R,

@@ -25,7 +25,7 @@ impl<ShardTree: VersionTree<NodeList::Node> + Drop, NodeList: VersionNodes + Dro
     ShardTree,
     NodeList,
 > {
-    /// Puts nodes, the next of the member's part, into the tree of their shard, under one hold of its lock.
+    /// Puts the next nodes of the member's part into the tree of their shard, under one hold of its lock.
     pub(crate) fn add<Plan: VersionPlan, R: Wait + rt::Clock>(
         &self,
         rt: &R,
@@ -56,7 +56,7 @@ impl<ShardTree: VersionTree<NodeList::Node> + Drop, NodeList: VersionNodes + Dro
         self.give_back::<Plan>(who, shard, tree);
     }
 
-    // Gives a shard's tree back with versions of the member's part more.
+    // Gives a shard's tree back, with versions of the member's part added.
     fn give_back<Plan: VersionPlan>(
         &self,
         who: &mut Client<ShardTree, NodeList>,
@@ -125,7 +125,7 @@ impl<ShardTree: VersionTree<NodeList::Node> + Drop, NodeList: VersionNodes + Dro
         unreachable!()
     }
 
-    /// All nodes of the client's part are in their trees.
+    /// Marks the client's part as inserted: all its nodes are in their trees.
     pub fn settle(&mut self, table: &SharedTable<ShardTree, NodeList>)
         requires ours { IsOurs table.now self.old }
         requires added { (u : Launched) × (done : List Version)
@@ -140,7 +140,7 @@ impl<ShardTree: VersionTree<NodeList::Node> + Drop, NodeList: VersionNodes + Dro
             .shared
             .store::<Settle>(&mut self.client.seat, word, 0);
     }
-    /// The client's part is finished. Just who finds no other member running is the last of the group.
+    /// Finishes the client's part. The client is the last of its group just where it finds no other member running.
     pub fn finish(&mut self, table: &SharedTable<ShardTree, NodeList>) -> Finished
         requires ours { IsOurs table.now self.old }
         requires stored { (u : Launched) × ((account self.old).stage ≡ Stored u) }
@@ -159,7 +159,7 @@ impl<ShardTree: VersionTree<NodeList::Node> + Drop, NodeList: VersionNodes + Dro
             Finished::Others
         }
     }
-    /// Publishes the group, of which this client finished last. The client has then seen it.
+    /// Publishes the group, in which this client finished last. The client has then seen it.
     pub fn publish(&mut self, table: &SharedTable<ShardTree, NodeList>)
         requires ours { IsOurs table.now self.old }
         requires last_one { (u : Launched) × ((account self.old).stage ≡ Publishing u) }

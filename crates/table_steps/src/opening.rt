@@ -1,4 +1,4 @@
-//! How a table is made, and a seat for the turn and for each client.
+//! How a table is made, with a seat for the turn and one for each client.
 ghost use Rattle.std.specs.Prelude.{◌≡◌, ◌<◌, ◌+◌, ◌^◌, [], ◌++◌, ◌∷◌, map, length, replicate, IfOk, OnOk};
 ghost use Rattle.std.specs.List.{range_with_len};
 ghost use Rattle.table_rule.specs.declared.content.Content.TheVariants.{Blank, Tree};
@@ -18,7 +18,7 @@ use std::alloc::Global;
 use table_calls::{Seats, VersionNodes, VersionTree};
 use table_rule::{Base, Content, First, Opening, TableView};
 
-/// The words where no lock is taken and no group is launched.
+/// The words of a table where no lock is taken and no group is launched.
 fn first_words(alloc: Global, sizes: Sizes) -> Result<Vec<u64>, NoMemory>
     requires { (sizes.shards < 2 ^ 32) × (sizes.clients < 2 ^ 32) }
     ensures { IfOk result (λ words. words.items ≡ replicate sizes.shards 0 ++ sizes.start
@@ -31,7 +31,7 @@ fn first_words(alloc: Global, sizes: Sizes) -> Result<Vec<u64>, NoMemory>
     Ok(words)
 }
 
-/// Trees, each in a slot.
+/// Puts each tree into a slot of its own.
 fn tree_slots<ShardTree: Drop, NodeList: Drop>(
     alloc: Global,
     trees: Vec<ShardTree>,
@@ -46,7 +46,7 @@ fn tree_slots<ShardTree: Drop, NodeList: Drop>(
     Ok(slots)
 }
 
-/// Puts empty slots behind others.
+/// Appends empty slots to others.
 fn add_blanks<ShardTree: Drop, NodeList: Drop>(
     slots: &mut Vec<Content<ShardTree, NodeList>>,
     count: u64,
@@ -64,7 +64,7 @@ impl<ShardTree: VersionTree<NodeList::Node> + Drop, NodeList: VersionNodes + Dro
     ShardTree,
     NodeList,
 > {
-    // Cuts the first seat into the clients' and the turn's.
+    // Splits the first seat into the clients' seats and the turn's.
     fn seat_all(
         &self,
         alloc: Global,
@@ -78,7 +78,7 @@ impl<ShardTree: VersionTree<NodeList::Node> + Drop, NodeList: VersionNodes + Dro
             self.now.table.shared.key.clients seats.clients.items) }
     {
         let mut clients = Vec::new(alloc);
-        // The clients 1 to `seated` have their seats, and `seat` is all others' and the turn's.
+        // The clients 1 to `seated` have their seats, and `seat` is that of all others and of the turn.
         for seated in 0..self.sizes.clients {
             let own = self.table.shared.split_seat::<First>(&mut seat);
             clients.push(TableSeat {
@@ -104,8 +104,8 @@ impl<ShardTree: VersionTree<NodeList::Node> + Drop, NodeList: VersionNodes + Dro
         self.sizes.shards
     }
 
-    /// Makes a table of trees, one for each shard, with the published sequence `last`, and its seats. The trees have
-    /// the base.
+    /// Makes a table of trees, one for each shard, with the published sequence `last`, and makes its seats. The trees
+    /// have the versions of `base`.
     pub fn open(
         alloc: Global,
         clients: u32,

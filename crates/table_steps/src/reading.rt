@@ -18,7 +18,7 @@ use std::sync::Wait;
 use table_calls::{VersionNode, VersionNodes, VersionTree};
 use table_rule::Learn;
 
-/// What a tree has of a key as of a sequence.
+/// A copy of the value that a tree has for a key as of a sequence.
 fn copied<Node: VersionNode, ShardTree: VersionTree<Node>>(
     alloc: Global,
     tree: &ShardTree,
@@ -63,7 +63,7 @@ impl<ShardTree: VersionTree<NodeList::Node> + Drop, NodeList: VersionNodes + Dro
         ensures reached { at_least ≤ last_of (opening_of table.now).start (account self.new).seen }
     {
         let pauses = Pauses::new();
-        // The client has seen more of what is published, if anything has changed.
+        // If anything has changed, the client has seen more of what is published.
         for _ in rt.forever() {
             let found = self.last(table);
             if at_least <= found {

@@ -8,6 +8,6 @@ use crate::shared::Client;
 pub struct TableSeat<ShardTree, NodeList> {
     pub(crate) client: Client<ShardTree, NodeList>,
     pub(crate) turn: Option<Turn<ShardTree, NodeList>>,
-    /// The last sequence of the group whose part the client has taken last.
+    /// The last sequence of the group of which the client last took a part.
     pub(crate) last: u64,
 }

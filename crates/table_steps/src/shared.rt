@@ -20,14 +20,14 @@ use std::sync::Wait;
 use table_calls::{VersionNodes, VersionTree};
 use table_rule::{Content, LockShard, Opening, TableLaw, TableView, UnlockShard, Versioned};
 
-/// The words and slots of a table. `ShardTree` are its trees, and `NodeList` a member's nodes.
+/// The words and slots of a table. `ShardTree` is the type of its trees, and `NodeList` that of a member's nodes.
 #[derive(Drop)]
 pub struct SharedTable<ShardTree: Versioned, NodeList: Versioned> {
     pub(crate) table: Table<Content<ShardTree, NodeList>, TableView, Opening, TableLaw, Global>,
     pub(crate) sizes: Sizes,
-    /// On which a member sleeps until its nodes are handed out.
+    /// The bells on which members sleep until their nodes are handed out.
     pub(crate) handed: Bells,
-    /// On which clients sleep until a group is published.
+    /// The bell on which clients sleep until a group is published.
     pub(crate) published: Bell,
     ghost sized: { (table.shared.table_id.words ≡ sizes.shards + 2 + sizes.clients)
         × (table.shared.table_id.slots ≡ sizes.shards + 1 + sizes.clients) × (sizes_of table.shared.key ≡ sizes)

@@ -1,4 +1,4 @@
--- A tree with one version more has it, and those that it had.
+-- A tree into which a version is inserted has it, and those that it had before.
 use Rattle.std.proofs.Common.{◌≡◌, ◌≢◌, List, [], ◌∷◌, refl, sym, inl, inr}
 use Rattle.std.specs.Ordering.{nat_cmp, match_ordering, ordering_then}
 use Rattle.std.specs.declared.cmp.Ordering.{Ordering}

@@ -1,4 +1,4 @@
--- The newest version of a key says what the map has that the versions make in the order of their sequences.
+-- The newest version of a key says what the key has in the map that the versions make in the order of their sequences.
 use Rattle.std.proofs.Common.{◌≡◌, ◌⊎◌, ℕ, ◌<◌, ◌≤◌, Bool, true, false, cond, List, [], ◌∷◌, map, Option, Some, None, refl, sym, ap, ◌∙◌, subst, inl, inr, arith}
 use Rattle.std.proofs.lemmas.Bool.{and_parts, and_from, le-leb, leb-true, false≢true}
 use Rattle.std.specs.List.{AllByRecursion}
@@ -71,7 +71,7 @@ module _ (key : List ℕ) where
       says : newest key at l ≡ Some w.value
       top : (u : Version) → In u l → is_seen key at u ≡ true → (u.sequence ≤ w.sequence) × (u.sequence ≡ w.sequence → u.value ≡ w.value)
 
-    -- none is of the key and up to the sequence
+    -- no version is of the key and up to the sequence
     record HasNone (l : List Version) : Type 0 where
       says : newest key at l ≡ None
       none : (u : Version) → In u l → is_seen key at u ≡ false
@@ -81,7 +81,7 @@ module _ (key : List ℕ) where
     eq_from Equal e = refl
     eq_from Greater e = absurd (cc)
 
-    -- of two versions of the key, the one that stands first is newer
+    -- of two versions of the key, the one that comes first is newer
     newer : (v u : Version) → is_seen key at v ≡ true → is_seen key at u ≡ true → version_order v u ≡ Less → u.sequence < v.sequence
     newer v u sv su p =
         let kv = eq_from (byte_order key v.key) (and_parts _ _ sv).0 in
@@ -126,7 +126,7 @@ module _ (key : List ℕ) where
           ];
         })
 
--- what a version says of the key, where none is like a deletion
+-- the key's value, by what a version says: no version is like a deletion
 abbrev pub said : Option (Option (List ℕ)) → Option (List ℕ)
 said None = None
 said (Some o) = o
@@ -152,7 +152,7 @@ value_is_newest key at versions history s h =
         go true y = absurd (false≢true (sym n ∙ and_from _ _ y (le-leb u.sequence at le)))
         go false y = refl
 
--- the same of a tree, by its shape
+-- the newest version of a key in a tree says what the key has in the map
 pub tree_value : (key : List ℕ) (at : ℕ) (s t : Shape) (history : List Version) → t ≡ s → AreOrdered (versions_in t) → IsOrderUpTo at (versions_in s) history
     → (o : Option (Option (List ℕ))) → o ≡ newest key at (versions_in t) → said o ≡ value_at (map_of history) key
 tree_value key at s t history is ordered h o found =

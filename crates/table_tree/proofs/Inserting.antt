@@ -34,7 +34,7 @@ both_equal Less d e = absurd (cc)
 both_equal Equal d e = e
 both_equal Greater d e = absurd (cc)
 
--- a version of a sequence above all is new
+-- a version whose sequence is above all others is new
 pub new_above : (v : Version) (l : List Version) → AreBelow v.sequence l → IsNew v l
 new_above v [] below = tt
 new_above v (w ∷ l) below = (apart, new_above v l below.1)
@@ -46,7 +46,7 @@ new_above v (w ∷ l) below = (apart, new_above v l below.1)
         let less = below.0 in
         omega arith
 
--- and with it all are below the next
+-- and with it inserted, all are below the next sequence
 pub below_next : (v : Version) (l : List Version) → AreBelow v.sequence l → AreBelow (v.sequence + 1) (insert_version l v)
 below_next v l below =
     all_inserted version_order (λ (w : Version). w.sequence < v.sequence + 1) v l (omega arith)

@@ -1,4 +1,5 @@
--- Chains of distinct keys with a version more: they stay so, and their versions are those with it at its place.
+-- Chains of distinct keys with one more version: the keys stay distinct, and the versions are those that there were,
+-- with the new one at its place.
 use Rattle.std.proofs.Common.{◌≡◌, ◌≢◌, ℕ, ◌≤◌, true, false, cond, leb, List, [], ◌∷◌, ◌++◌, refl, sym, ap, ◌∙◌, subst, arith}
 use Rattle.std.proofs.lemmas.Bool.{le-leb}
 use Rattle.std.proofs.lemmas.Cmp.{ranked, tied_itself}
@@ -14,7 +15,7 @@ use Rattle.table_tree.specs.Chains.{Chain, key_of, chain_versions, versions_of, 
 use Rattle.table_tree.proofs.Order.{all_mapped, all_both, all_front, all_back, insert_first, insert_behind, flip_greater}
 use Rattle.table_tree.proofs.VersionOrder.{byte_total, version_total, equal_keys, leb_above}
 
--- the head of keyed chains, and the others
+-- in sorted chains the first is below the others, and the others are sorted
 pub first_sorted : (c : Chain) (cs : List Chain) → AreSorted (c ∷ cs) → AllByRecursion (λ d. chain_order c d ≡ Less) cs × AreSorted cs
 unfolding IsStrictlySortedBy
 first_sorted c cs s = s
@@ -92,7 +93,7 @@ module _ (v : Version) where
             ap (λ (l : List Version). c.newest ∷ l) behind
             ∙ ap (λ b. chain_versions (cond b (as_older v c) (as_newest v c)) ++ rest) (sym (le-leb v.sequence c.newest.sequence le))
 
-  -- versions of chains of greater keys
+  -- v comes before the versions of chains with keys greater than its own
   greater_past : (k : List ℕ) (cs : List Chain) → byte_order v.key k ≡ Equal → AllByRecursion (λ d. byte_order k (key_of d) ≡ Less) cs → AllByRecursion HasOneKey cs → AllByRecursion (λ x. version_order v x ≡ Less) (versions_of cs)
   greater_past k cs e a each =
       all_mapped (λ (x : Version). byte_order k x.key ≡ Less) (λ x. version_order v x ≡ Less) (λ x p. less_order x (byte_total.congr v.key k x.key e ∙ p)) (versions_of cs)

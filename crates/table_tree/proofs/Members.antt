@@ -1,4 +1,4 @@
--- A part more keeps each member once, and there is room for it.
+-- With one more part each member is still there once, and there is room for it.
 use Rattle.std.proofs.Common.{◌≡◌, ℕ, suc, ◌+◌, ◌<◌, ◌≤◌, Bool, true, false, cond, ◌||◌, eqb, List, [], ◌∷◌, ◌++◌, length, get_or, set, remove, Some, None, Vec, vec_capacity, nat_eq, refl, sym, ap, ◌∙◌, subst, arith}
 use Rattle.std.proofs.lemmas.Bool.{ne_eqb, eqb-true}
 use Rattle.std.proofs.lemmas.Bool.Decides.{nat_tests}
@@ -94,7 +94,7 @@ length_members [] = refl
 length_members (p ∷ ps) = ap suc (length_members ps)
 
 module _ (clients m : ℕ) (vs : List Version) (v : Vec MemberNodes Global) (h : HasRoom clients v) (low : 1 ≤ m) (high : m ≤ clients) where
-  -- a member that isn't there has room
+  -- there is room for a member that isn't there
   pub room_left : IsAbsent m vs v.items → length v.items < vec_capacity v
   unfolding IsDistinct
   room_left absent =
@@ -119,7 +119,7 @@ pub first_and_rest : (ps qs : List MemberNodes) (p : MemberNodes) → 0 < length
 first_and_rest [] qs p some is rest = absurd (omega (arith, some))
 first_and_rest (x ∷ ps) qs p some is rest = λ i. sym is i ∷ sym rest i
 
--- without the first part
+-- without the first part each member is still there once, with the same room
 pub room_without : (clients : ℕ) (v w : Vec MemberNodes Global) (p : MemberNodes) → HasRoom clients v → v.items ≡ p ∷ w.items → vec_capacity w ≡ vec_capacity v → HasRoom clients w
 unfolding IsDistinct
 room_without clients v w p h is same =

@@ -1,4 +1,4 @@
--- Lists in a strict order, an insertion into them, and what stands on each side of an element.
+-- Lists in a strict order, an insertion into them, and what is on each side of an element.
 use Rattle.std.proofs.Common.{◌≡◌, ◌≢◌, List, [], ◌∷◌, ◌++◌, refl, sym, ap, ◌∙◌}
 use Rattle.std.specs.List.{AllByRecursion}
 use Rattle.std.specs.List.Sorted.{IsStrictlySortedBy}
@@ -70,7 +70,7 @@ module _ {X : Type 0} (R : X → X → Ordering) where
     insert_past : (k x : X) (l : List X) → R x k ≡ Less → insert_key R (x ∷ l) k ≡ x ∷ insert_key R l k
     insert_past k x l p = ap (λ c. match_ordering c (k ∷ x ∷ l) (x ∷ l) (x ∷ insert_key R l k)) (flip_less x k p)
 
-    -- what is above those in front is inserted behind them
+    -- what is above those in front is inserted after them
     pub insert_behind : (k : X) (l r : List X) → AllByRecursion (λ y. R y k ≡ Less) l → insert_key R (l ++ r) k ≡ l ++ insert_key R r k
     insert_behind k [] r a = refl
     insert_behind k (x ∷ l) r a = insert_past k x (l ++ r) a.0 ∙ ap (λ (t : List X). x ∷ t) (insert_behind k l r a.1)

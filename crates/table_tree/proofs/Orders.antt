@@ -4,7 +4,7 @@ use Rattle.std.proofs.lemmas.Bool.{cases_lt}
 use Rattle.table_rule.specs.declared.content.Version.{Version}
 use Rattle.table_rule.specs.Histories.{In, AreRising, IsOrderUpTo}
 
--- v at a place where none before it is above, and none behind it below
+-- m is l with v at a place where none before it is above it, and none after it is below it
 record IsPut (v : Version) (l m : List Version) : Type 0 where
   same : (x : Version) → In x m ↔ ((v ≡ x) ⊎ In x l)
   rising : AreRising m

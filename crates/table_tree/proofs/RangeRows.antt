@@ -19,7 +19,7 @@ use Rattle.table_tree.proofs.Maps.{AreAscending, ascending_after, same_key, eq_f
 use Rattle.table_tree.proofs.Folding.{said, value_is_newest}
 use Rattle.table_tree.proofs.SamePairs.{none_above, same_pairs}
 
--- keys of rows before others
+-- what holds of a row's key, and of the keys of the rows after it, holds of all
 all_row : (P : List ℕ → Type 0) (k : List ℕ) (o : Option (Option (List ℕ))) (rest : Pairs) → P k → AllByRecursion P (keys_of rest) → AllByRecursion P (keys_of (row_of k o ++ rest))
 all_row P k None rest p a = a
 all_row P k (Some None) rest p a = a

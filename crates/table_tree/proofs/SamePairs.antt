@@ -1,4 +1,4 @@
--- Two maps with the same value at each key are one.
+-- Two maps with the same value at each key are equal.
 use Rattle.std.proofs.Common.{◌≡◌, Bool, true, false, cond, List, ℕ, [], ◌∷◌, Option, Some, None, refl, sym, ap, ◌∙◌}
 use Rattle.std.proofs.lemmas.Cmp.{alike_right, tied_itself}
 use Rattle.std.proofs.lemmas.Map.Lookups.{exact_bytes}
@@ -27,7 +27,7 @@ pub ascending_past : (e : List ℕ × List ℕ) (m : Pairs) → AreAscending (e 
 unfolding IsStrictlySortedBy
 ascending_past e m s = s
 
--- a key before the first, or the first itself, is none of those behind it
+-- a key below the first is none of the map's keys, and the first is none of those after it
 none_before : (q : List ℕ) (e : List ℕ × List ℕ) (m : Pairs) → AreAscending (e ∷ m) → byte_order q e.0 ≡ Less → value_at (e ∷ m) q ≡ None
 none_before q e m s less =
     none_above q (e ∷ m) (less, all_mapped (λ y. byte_order e.0 y ≡ Less) (λ y. byte_order q y ≡ Less) (λ y p. byte_total.trans q e.0 y less p) (keys_of m) (ascending_past e m s).0)

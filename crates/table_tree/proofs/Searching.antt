@@ -15,7 +15,7 @@ use Rattle.table_tree.proofs.Order.{all_mapped, sorted_front, sorted_back, befor
 use Rattle.table_tree.proofs.Keyed.{first_sorted}
 use Rattle.table_tree.proofs.VersionOrder.{byte_total}
 
--- a key that is not below that of a chain is above those in front
+-- a key that isn't below that of a chain is above those of the chains before it
 front_above : (key : List ℕ) (l r : List Chain) (c : Chain) → AreSorted (l ++ c ∷ r) → byte_order (key_of c) key ≢ Greater → AllByRecursion (λ d. byte_order key (key_of d) ≡ Greater) l
 front_above key l r c sorted le =
     all_mapped (λ d. chain_order d c ≡ Less) (λ d. byte_order key (key_of d) ≡ Greater)

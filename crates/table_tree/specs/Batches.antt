@@ -1,2 +1,2 @@
--- The versions that a batch makes are those of the table.
+-- The versions that a batch makes, as the table defines them.
 pub use Rattle.table_rule.specs.Batches.{new_versions, number_from}

@@ -1,4 +1,5 @@
--- The versions of keys in chains, one chain a key: its newest version, and behind it the older ones, the newer first.
+-- The versions of keys in chains, one chain for each key: first its newest version, then the older ones, the newer
+-- first.
 use Rattle.std.specs.Prelude.{◌≡◌, ℕ, nat_le, List, [], ◌∷◌, ◌++◌, if◌then◌else◌}
 use Rattle.std.specs.List.{AllByRecursion}
 use Rattle.std.specs.List.Sorted.{IsStrictlySortedBy}
@@ -37,12 +38,12 @@ pub record AreKeyed (chains : List Chain) : Type 0 where
   pub sorted : AreSorted chains
   pub each : AllByRecursion HasOneKey chains
 
--- a version behind those that are newer
+-- a version, inserted after those that are newer
 abbrev pub insert_older : List Version → Version → List Version
 insert_older [] v = v ∷ []
 insert_older (w ∷ older) v = if nat_le w.sequence v.sequence then v ∷ w ∷ older else w ∷ insert_older older v
 
--- the chain with a version more
+-- the chain with one more version
 abbrev pub with_version : Chain → Version → Chain
 with_version chain v =
     if nat_le v.sequence chain.newest.sequence then record chain { older = insert_older chain.older v }
@@ -51,7 +52,7 @@ with_version chain v =
 abbrev pub alone : Version → Chain
 alone v = record { newest = v; older = [] }
 
--- a version more: in the chain of its key, or as a chain of its own at its place
+-- one more version: in the chain of its key, or at its place as a chain of its own
 abbrev pub insert_in_chains : List Chain → Version → List Chain
 insert_in_chains [] v = alone v ∷ []
 insert_in_chains (chain ∷ chains) v =

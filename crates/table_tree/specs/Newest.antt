@@ -9,12 +9,12 @@ use Rattle.table_tree.specs.Chains.{Chain, key_of, chain_versions}
 abbrev pub is_seen : List ℕ → ℕ → Version → Bool
 is_seen key at v = is_at (byte_order key) v.key && nat_le v.sequence at
 
--- what the first of these says; of versions in order that is the newest one
+-- what the first version says that `is_seen` takes; where of each key the newer come first, that is the newest
 abbrev pub newest : List ℕ → ℕ → List Version → Option (Option (List ℕ))
 newest key at [] = None
 newest key at (v ∷ versions) = if is_seen key at v then Some v.value else newest key at versions
 
--- the same of versions of one key
+-- what the first version says that isn't above the sequence, where all versions are of one key
 abbrev pub first_up_to : ℕ → List Version → Option (Option (List ℕ))
 first_up_to at [] = None
 first_up_to at (v ∷ versions) = if nat_le v.sequence at then Some v.value else first_up_to at versions
@@ -24,7 +24,7 @@ abbrev pub chain_at : List ℕ → List Chain → Option Chain
 chain_at key [] = None
 chain_at key (chain ∷ chains) = if is_at (byte_order key) (key_of chain) then Some chain else chain_at key chains
 
--- and what it says at a sequence
+-- what a key's chain says at a sequence
 abbrev pub says_at : ℕ → Option Chain → Option (Option (List ℕ))
 says_at at None = None
 says_at at (Some chain) = first_up_to at (chain_versions chain)

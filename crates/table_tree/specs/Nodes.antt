@@ -1,4 +1,4 @@
--- What the nodes of the tree are seen as.
+-- What contracts see of the tree's nodes.
 use Rattle.std.specs.Prelude.{◌≡◌, ℕ, ◌+◌, ◌-◌, ◌≤◌, max, List, [], ◌∷◌, Option, Some, None, Box}
 use Rattle.std.specs.declared.alloc.Global.{Global}
 use Rattle.table_rule.specs.declared.content.Version.{Version}
@@ -12,7 +12,7 @@ use Rattle.table_tree.specs.declared.node.Node.{Node}
 abbrev pub version_of : Node → Version
 version_of n = record { key = n.key; value = n.value; sequence = n.sequence }
 
--- its versions, while it stands in a tree: its own is the newest, and behind it are the older ones
+-- its versions, while it is in a tree: its own is the newest, and its list has the older ones
 abbrev pub chain_of : Node → Chain
 chain_of n = record { newest = version_of n; older = n.next }
 
@@ -33,19 +33,19 @@ IsKept None = Unit {0}
 IsKept (Some n) = IsBalanced n.value.left × IsBalanced n.value.right
     × HasBalance n.value.balance (height n.value.left) (height n.value.right)
 
--- the same of a root whose left side grew by one since its balance was told
+-- both sides are balanced, and the left one grew by one since the root's balance was set
 abbrev pub HasLeftGrown : Option (Box Node Global) → Type 0
 HasLeftGrown None = ⊥
 HasLeftGrown (Some n) = IsBalanced n.value.left × IsBalanced n.value.right
     × HasBalance n.value.balance (height n.value.left - 1) (height n.value.right) × (1 ≤ height n.value.left)
 
--- or the right one
+-- both sides are balanced, and the right one grew by one since the root's balance was set
 abbrev pub HasRightGrown : Option (Box Node Global) → Type 0
 HasRightGrown None = ⊥
 HasRightGrown (Some n) = IsBalanced n.value.left × IsBalanced n.value.right
     × HasBalance n.value.balance (height n.value.left) (height n.value.right - 1) × (1 ≤ height n.value.right)
 
--- how high it was before
+-- how high the tree was before one side grew
 abbrev pub height_before_left : Option (Box Node Global) → ℕ
 height_before_left None = 0
 height_before_left (Some n) = max (height n.value.left - 1) (height n.value.right) + 1

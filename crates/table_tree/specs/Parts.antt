@@ -11,7 +11,7 @@ pub record Members : Type 0 where
   pub clients : ℕ
   pub parts : List MemberNodes
 
--- versions behind those of a member, or as a part of its own behind the others
+-- the parts, with versions appended to those of a member, or as a part of its own after the others
 abbrev pub with_part : List MemberNodes → ℕ → List Version → List MemberNodes
 with_part [] member versions = record { member = member; nodes = versions } ∷ []
 with_part (part ∷ parts) member versions =
@@ -25,7 +25,7 @@ members_of parts = map (λ (part : MemberNodes). part.member) parts
 abbrev pub group_of : List MemberNodes → List MemberVersions
 group_of parts = map (λ (part : MemberNodes). record { member = part.member; versions = part.nodes }) parts
 
--- Each member is there once, by a number from 1 to that of the clients, for all of which there is room.
+-- Each member is there once, with a number from 1 to the number of clients, and there is room for all clients.
 pub record HasRoom (clients : ℕ) (parts : Vec MemberNodes Global) : Type 0 where
   pub once : IsDistinct nat_eq (members_of parts.items)
   pub numbers : AllByRecursion (λ member. (1 ≤ member) × (member ≤ clients)) (members_of parts.items)

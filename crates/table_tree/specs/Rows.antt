@@ -13,7 +13,7 @@ is_between lo hi key = not (is_lt (byte_order key lo)) && is_lt (byte_order key 
 abbrev pub between : List ℕ → List ℕ → List Chain → List Chain
 between lo hi chains = filter (λ (chain : Chain). is_between lo hi (key_of chain)) chains
 
--- the row of a key by what its versions say, which is none where they say nothing or that it is deleted
+-- the row of a key, by what its versions say: none where they say nothing, or that the key is deleted
 abbrev pub row_of : List ℕ → Option (Option (List ℕ)) → Pairs
 row_of key None = []
 row_of key (Some None) = []

@@ -1,4 +1,4 @@
--- A shape is told by its chains and leaves, each behind what stands below it.
+-- A shape as a list of its chains and leaves, each after what is below it. The list determines the shape.
 use Rattle.std.specs.Prelude.{◌≡◌, ℕ, List, [], ◌∷◌, ◌++◌, Option, Some, None, refl}
 use Rattle.std.specs.Coded.{Coded, code_by, coded×, coded_ℕ, coded_list, coded_option}
 use Rattle.std.proofs.Common.{ap, sym, ◌∙◌, append_assoc}
@@ -25,12 +25,12 @@ chain_code =
     code_by (Version × List Version) (coded× version_code versions_code) (λ (c : Chain). (c.newest, c.older))
     (λ p. record { newest = p.0; older = p.1 }) (λ _. refl)
 
--- a shape as a list: `None` for a leaf, and a fork's chain behind its two sides
+-- a shape as a list: `None` for a leaf, and a fork's chain after its two sides
 abbrev pub code_of_shape : Shape → List (Option Chain)
 code_of_shape leaf = None ∷ []
 code_of_shape (fork left c right) = code_of_shape left ++ (code_of_shape right ++ Some c ∷ [])
 
--- the shapes that are open, the last first, after this code
+-- the shapes that are open after this code was read, the last one first
 abbrev pub shapes_after : List (Option Chain) → List Shape → List Shape
 shapes_after [] open_shapes = open_shapes
 shapes_after (None ∷ rest) open_shapes = shapes_after rest (leaf ∷ open_shapes)

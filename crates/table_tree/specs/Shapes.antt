@@ -12,7 +12,7 @@ abbrev pub chains_in : Shape → List Chain
 chains_in leaf = []
 chains_in (fork left chain right) = chains_in left ++ chain ∷ chains_in right
 
--- and their versions
+-- the versions of these chains
 abbrev pub versions_in : Shape → List Version
 versions_in shape = versions_of (chains_in shape)
 

@@ -7,7 +7,7 @@ abbrev pub bytes_in : Place → List ℕ
 bytes_in (Short len bytes) = take len bytes
 bytes_in (Long bytes) = bytes
 
--- those that stand in place are at most as many as have room there
+-- the bytes in place are at most as many as fit there
 abbrev pub HasBytes : Place → Type 0
 HasBytes (Short len bytes) = len ≤ 23
 HasBytes (Long bytes) = Unit {0}

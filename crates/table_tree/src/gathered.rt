@@ -1,4 +1,4 @@
-//! The nodes of several batches, one batch behind another.
+//! The nodes of several batches, one batch after another.
 
 ghost use Rattle.std.specs.Prelude.{◌≡◌, ◌++◌, ◌<◌, ◌^◌, length};
 
@@ -6,10 +6,10 @@ use crate::Nodes;
 use std::marker::Model;
 use std::mem;
 
-/// The nodes of a group's batches, while the batches come one behind another. Contracts see their versions in order.
+/// The nodes of a group's batches, which come one after another. Contracts see their versions in order.
 ///
-/// A batch's nodes are turned round as the next one's come, and once more as all are taken out, so each node is moved
-/// twice at most, however many batches come behind. A batch alone is never turned.
+/// A batch's nodes are reversed when the next batch comes, and once more when all are taken out, so each node is moved
+/// twice at most, however many batches follow. The nodes of a batch alone are never reversed.
 #[derive(Drop)]
 pub struct GatheredNodes {
     /// Those of the batches before the last one, with the last node first.
@@ -38,7 +38,7 @@ impl GatheredNodes {
         }
     }
 
-    /// Puts others behind them. This takes no memory.
+    /// Appends other nodes. This takes no memory.
     pub fn append(&mut self, other: Nodes)
         ensures { self.new ≡ self.old ++ other }
     {

@@ -10,8 +10,8 @@ use std::cmp::Ordering;
 use std::mem;
 
 impl Node {
-    /// Puts another version of its key into its chain. A newer one changes places with the newest, so that the tree
-    /// isn't touched.
+    /// Puts another version of its key into its chain. One that is newer than the newest changes places with it, so
+    /// that the tree isn't touched.
     fn add_version(&mut self, mut other: Box<Node>)
         requires { other.value.key ≡ self.old.key }
         ensures chain { chain_of self.new ≡ with_version (chain_of self.old) (version_of other.value) }
@@ -42,7 +42,7 @@ impl Node {
         self.left.insert(node)
     }
 
-    /// The same on its right side.
+    /// Inserts a node on its right side, and says whether that is higher now.
     #[cycle(insertion)]
     fn insert_right(&mut self, node: Box<Node>) -> bool
         requires { AreSorted (chains_in self.old.right) }
@@ -67,7 +67,7 @@ impl Subtree {
         Subtree::insert_below(&mut self.root, node)
     }
 
-    /// The same below a root.
+    /// Inserts a node below a root, and says whether the tree is higher now.
     #[cycle(insertion)]
     fn insert_below(root: &mut Option<Box<Node>>, node: Box<Node>) -> bool
         requires kept { IsKept root.old }

@@ -28,7 +28,7 @@ impl Subtree {
     {
         let front = Front::of(key);
         let mut below = self;
-        // If the key has a node, it stands in `below`.
+        // If the key has a node, it is in `below`.
         while let Some(node) = &below.root {
             match node.key.order_of(key, front) {
                 Ordering::Less => below = &node.left,
@@ -53,7 +53,7 @@ impl Node {
 }
 
 impl Nodes {
-    /// The same of the first of these that isn't above the sequence.
+    /// What the first node of the list that isn't above the sequence says, if there is one.
     fn said_at(&self, at: u64) -> Option<&Option<Value>>
         ensures { option_copied result ≡ first_up_to at self.now }
     {

@@ -20,9 +20,9 @@ pub(crate) enum Balance {
 
 /// A version of a key: the value that it gets, or none where it is deleted, and the sequence.
 ///
-/// It has the links of the tree and of a list in it, so that it is inserted and put behind others without memory. What
-/// a search reads comes first, so that it lies together. A key of at most 16 bytes and a value of at most 23 stand in
-/// it, so that the version is one allocation.
+/// It has in it the links of the tree and of a list, so that it takes no memory to insert it or to put it into a list.
+/// The fields that a search reads come first, so that they lie together. A key of at most 16 bytes and a value of at
+/// most 23 are in the node itself, so that such a version is one allocation.
 #[cycle(tree)]
 #[derive(Drop)]
 pub struct Node {
@@ -32,15 +32,15 @@ pub struct Node {
     pub(crate) balance: Balance,
     pub(crate) sequence: u64,
     pub(crate) value: Option<Value>,
-    /// Those behind it: the older versions of its key in a tree, or what comes after it in a list.
+    /// The nodes after it: in a tree the older versions of its key, in a list the nodes that follow.
     pub(crate) next: Nodes,
 }
 
-// One more would cost 16 bytes in an allocator that gives out multiples of 16, eight of them its own.
+// One byte more would cost 16 in an allocator that gives out multiples of 16 and takes eight bytes for itself.
 const _: () = prove!(size_of::<Node>() <= 152);
 
-/// A balanced tree of keys: a node has the newest version of its key, and the older ones behind it. Contracts see its
-/// shape.
+/// A balanced tree of keys: a node has the newest version of its key, and the older ones in its list. Contracts see
+/// the tree's shape.
 #[cycle(tree)]
 #[derive(Drop)]
 pub(crate) struct Subtree {
@@ -69,8 +69,7 @@ impl Model for Subtree {
     ghost size_decreases = { λ t h. Prim.grind arith };
 }
 
-/// Nodes in a list, as a batch makes them, or of the older versions of a key. Contracts see their versions in
-/// order.
+/// A list of nodes: those that a batch makes, or the older versions of a key. Contracts see their versions in order.
 #[cycle(tree)]
 pub struct Nodes {
     pub(crate) first: Option<Box<Node>>,
@@ -99,7 +98,7 @@ impl Model for Nodes {
 }
 
 impl Drop for Nodes {
-    // One after another, since a list may be long.
+    // The nodes are dropped one after another, since a list may be long.
     #[cycle(drop)]
     fn drop(mut self) {
         // What is left of the list is `self`.
@@ -127,7 +126,7 @@ impl Subtree {
         mem::replace(self, Subtree::new())
     }
 
-    /// The tree of a node alone, as the only version of its key.
+    /// The tree of one node, which is the only version of its key.
     pub(crate) fn single(mut node: Box<Node>) -> Subtree
         ensures { result ≡ fork leaf (alone (version_of node.value)) leaf }
     {
@@ -138,7 +137,7 @@ impl Subtree {
         Subtree { root: Some(node) }
     }
 
-    /// The tree of a node with its chain over two others, whose balance is told.
+    /// The tree of a node with its chain over two other trees, with the balance that is given.
     pub(crate) fn join(
         left: Subtree,
         mut node: Box<Node>,

@@ -17,8 +17,8 @@ use std::alloc::Global;
 use std::mem;
 
 impl Nodes {
-    /// A node for each record of the batch that counts, the last record's first, as `number` takes them. Their
-    /// sequences aren't given yet.
+    /// A node for each record of the batch that counts, the last record's node first, as `number` takes them. They
+    /// don't have their sequences yet.
     pub fn make(alloc: Global, batch: &Batch) -> Result<Nodes, NoMemory>
         ensures { IfOk result (λ nodes. nodes ≡ reverse (new_versions batch.now.records)) }
     {
@@ -32,8 +32,8 @@ impl Nodes {
         Ok(nodes)
     }
 
-    /// Turns them round and gives them sequences: `first` to the one that is then the first, and to each other the one
-    /// after its predecessor's. `count` is how many there are.
+    /// Reverses the nodes and gives them sequences: `first` to the node that is then the first, and to each other node
+    /// the sequence after its predecessor's. `count` is how many nodes there are.
     pub fn number(&mut self, first: u64, count: u64)
         requires count { count ≡ length self.old }
         requires fits { first + count ≤ 2 ^ 56 }
@@ -50,7 +50,7 @@ impl Nodes {
         *self = numbered;
     }
 
-    /// Takes the first one out.
+    /// Takes the first node out.
     pub fn pop(&mut self) -> Option<Box<Node>>
         ensures { MatchOption result ((self.old ≡ []) × (self.new ≡ []))
             (λ node. self.old ≡ version_of node.value ∷ self.new) }
@@ -60,7 +60,7 @@ impl Nodes {
         Some(node)
     }
 
-    /// The key of the first one.
+    /// The key of the first node.
     pub fn first_key(&self) -> Option<&[u8]>
         ensures { MatchOption result (self.now ≡ []) (λ key. (v : Version) × (more : List Version)
             × (self.now ≡ v ∷ more) × (v.key ≡ key.now)) }
@@ -71,14 +71,14 @@ impl Nodes {
         }
     }
 
-    /// How many there are.
+    /// How many nodes there are.
     pub fn len(&self) -> u64
         requires { length self.now < 2 ^ 64 }
         ensures { result ≡ length self.now }
     {
         let mut count = 0;
         let mut rest = self;
-        // `count` is how many stand before `rest`.
+        // `count` is how many nodes come before `rest`.
         while let Some(node) = &rest.first {
             count += 1;
             rest = &node.next;
@@ -86,11 +86,11 @@ impl Nodes {
         count
     }
 
-    /// Puts nodes before them, whose last one comes first: they are turned round. This takes no memory.
+    /// Puts other nodes before these, in reverse order. This takes no memory.
     pub(crate) fn push_all_front(&mut self, mut turned: Nodes)
         ensures { self.new ≡ reverse turned ++ self.old }
     {
-        // Those of `turned` that are gone stand in front, the last one popped first.
+        // The nodes popped from `turned` are in front, the last one popped first.
         while let Some(node) = turned.pop() {
             self.push_front(node);
         }
@@ -103,7 +103,7 @@ impl Nodes {
         Nodes { first: None }
     }
 
-    /// Puts a node behind those that are newer.
+    /// Inserts a node after those that are newer.
     pub(crate) fn insert_older(&mut self, node: Box<Node>)
         ensures { self.new ≡ insert_older self.old (version_of node.value) }
     {
@@ -112,7 +112,7 @@ impl Nodes {
         self.push_all_front(newer);
     }
 
-    /// Takes out those in front that are newer than a sequence, and answers them with the last first.
+    /// Takes out the nodes at the front that are newer than a sequence, and returns them with the last one first.
     fn take_newer(&mut self, sequence: u64) -> Nodes
         ensures { (v : Version) → v.sequence ≡ sequence
             → reverse result ++ v ∷ self.new ≡ insert_older self.old v }
@@ -129,7 +129,7 @@ impl Nodes {
         newer
     }
 
-    /// Puts a node before them.
+    /// Puts a node in front.
     pub fn push_front(&mut self, mut node: Box<Node>)
         ensures { self.new ≡ version_of node.value ∷ self.old }
     {
@@ -139,7 +139,7 @@ impl Nodes {
         self.first = Some(node);
     }
 
-    /// The last one first.
+    /// The nodes in reverse order.
     pub fn reversed(self) -> Nodes
         ensures { result ≡ reverse self }
     {
@@ -150,7 +150,7 @@ impl Nodes {
 }
 
 impl Node {
-    /// A node of a key with what it gets, with the sequence 0.
+    /// A node of a key, with its value, or none where it is deleted, and with the sequence 0.
     pub(crate) fn new(
         alloc: Global,
         key: &[u8],
@@ -192,7 +192,7 @@ impl Node {
         Ok(node)
     }
 
-    /// The node of a record, if it counts. A single deletion is one like a deletion.
+    /// The node of a record, if the record counts. A single deletion makes one like a deletion.
     fn of_record(alloc: Global, view: RecordView<'_>) -> Result<Option<Box<Node>>, NoMemory>
         ensures { IfOk result (λ node. option_to_list (option_map (λ n. version_of n.value) node)
             ≡ new_versions (record_of view.entry ∷ [])) }

@@ -36,7 +36,7 @@ impl Model for Parts {
 }
 
 impl Parts {
-    /// No parts, and room for one of each of the clients, which have the numbers from 1 on.
+    /// No parts, and room for one part of each client. The clients have the numbers from 1 on.
     pub fn new(alloc: Global, clients: u32) -> Result<Parts, NoMemory>
         ensures { IfOk result (λ parts. parts ≡ record { clients = clients; parts = [] }) }
     {
@@ -46,7 +46,7 @@ impl Parts {
         })
     }
 
-    /// Puts a member's nodes behind those that it has, or its part behind the others. This takes no memory.
+    /// Appends nodes to those that a member has, or a part for it to the other parts. This takes no memory.
     pub fn add(&mut self, member: u32, nodes: Nodes)
         requires low { 1 ≤ member }
         requires high { member ≤ self.old.clients }

@@ -22,7 +22,7 @@ pub(crate) struct Range<'r> {
     pub(crate) at: u64,
 }
 
-/// Whether a key stands before another in byte order.
+/// Whether a key comes before another in byte order.
 fn is_below(key: &[u8], other: &[u8]) -> bool
     ensures { result ≡ is_lt (byte_order key.now other.now) }
 {
@@ -30,7 +30,7 @@ fn is_below(key: &[u8], other: &[u8]) -> bool
 }
 
 impl Node {
-    /// Puts the row of its key behind others, if the key has a value at the sequence.
+    /// Appends the row of its key to others, if the key has a value at the sequence.
     fn gather(&self, alloc: Global, at: u64, rows: &mut PairList) -> Result<(), NoMemory>
         ensures { IfOk result (λ _. rows.new ≡ rows.old
             ++ row_of self.now.key (first_up_to at (chain_versions (chain_of self.now)))) }
@@ -66,7 +66,7 @@ impl Subtree {
         left.saturating_add(1).saturating_add(right)
     }
 
-    /// Puts the rows of a range behind others.
+    /// Appends the rows of a range to others.
     pub(crate) fn gather(
         &self,
         alloc: Global,

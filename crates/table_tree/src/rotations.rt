@@ -15,8 +15,8 @@ ghost use Rattle.table_tree.specs.Nodes.{
 use crate::node::{Balance, Node, Subtree};
 
 impl Subtree {
-    /// Tells a root's balance anew, or turns the tree, after its left side grew by one. The answer is whether the whole
-    /// is higher than before.
+    /// Updates a root's balance, or rotates the tree, after its left side grew by one. Returns whether the whole is
+    /// higher than before.
     pub(crate) fn left_grown(root: &mut Option<Box<Node>>) -> bool
         requires { HasLeftGrown root.old }
         ensures kept { IsKept root.new }
@@ -46,7 +46,7 @@ impl Subtree {
         }
     }
 
-    /// The same after its right side grew.
+    /// Like `left_grown`, but after the root's right side grew by one.
     pub(crate) fn right_grown(root: &mut Option<Box<Node>>) -> bool
         requires { HasRightGrown root.old }
         ensures kept { IsKept root.new }
@@ -76,8 +76,8 @@ impl Subtree {
         }
     }
 
-    /// A node over two trees, of which the left one is two higher, and whether the whole is higher than
-    /// that one.
+    /// The tree of a node over two trees, of which the left one is two higher, and whether the whole is higher than
+    /// the left one.
     fn turn_right(left: Subtree, node: Box<Node>, right: Subtree) -> (Subtree, bool)
         requires { height left ≡ height right + 2 }
         ensures chains { chains_in result.0 ≡ chains_in left ++ chain_of node.value ∷ chains_in right }
@@ -101,7 +101,7 @@ impl Subtree {
         }
     }
 
-    /// The same where the right one is two higher.
+    /// Like `turn_right`, but here the right tree is two higher, and the whole is compared with that one.
     fn turn_left(left: Subtree, node: Box<Node>, right: Subtree) -> (Subtree, bool)
         requires { height right ≡ height left + 2 }
         ensures chains { chains_in result.0 ≡ chains_in left ++ chain_of node.value ∷ chains_in right }
@@ -125,8 +125,8 @@ impl Subtree {
         }
     }
 
-    /// Two nodes among three trees, of which the middle one is one higher than the others: its root goes
-    /// to the top.
+    /// The tree of two nodes and three trees, of which the middle one is one higher than the others: its root goes to
+    /// the top.
     fn raise(
         left: Subtree,
         lower: Box<Node>,

@@ -17,8 +17,8 @@ use model_base::NoMemory;
 use std::alloc::Global;
 use std::marker::Model;
 
-/// Versions of keys, by key and then the newer first, in a balanced tree with one node for each key. Contracts see its
-/// shape.
+/// Versions of keys, in the order of the keys, and of one key the newer first. They are in a balanced tree with one
+/// node for each key. Contracts see the tree's shape.
 #[derive(Drop)]
 pub struct Tree {
     pub(crate) root: Subtree,
@@ -49,7 +49,7 @@ impl Tree {
         }
     }
 
-    /// Inserts a version, whose key has none of the same sequence. This takes no memory.
+    /// Inserts a version. Its key must have no other version of this sequence. This takes no memory.
     pub fn insert(&mut self, node: Box<Node>)
         requires { IsNew (version_of node.value) (versions_in self.old) }
         ensures versions { versions_in self.new ≡ insert_version (versions_in self.old) (version_of node.value) }
@@ -73,8 +73,8 @@ impl Tree {
         }
     }
 
-    /// The keys from `lo` on and below `hi` that have a value at a sequence, with it, in the byte order of
-    /// the keys.
+    /// The keys from `lo` on and below `hi` that have a value at a sequence, with that value, in the byte order of the
+    /// keys.
     pub fn range(&self, alloc: Global, lo: &[u8], hi: &[u8], at: u64) -> Result<Rows, NoMemory>
         ensures at { IfOk result (λ rows. rows.at ≡ at) }
         ensures rows { IfOk result (λ rows. (history : List Version) → IsOrderUpTo at (versions_in self.now) history
@@ -89,8 +89,8 @@ impl Tree {
     }
 }
 
-/// The versions of any tree up to a sequence have an order in which they may have come, so that `lookup` and `range`
-/// say what they answer for each tree.
+/// The versions of any tree up to a sequence have an order in which they may have come. So the contracts of `lookup`
+/// and `range` say what they answer for each tree.
 pub fn orders_of_versions()
     ensures { (versions : List Version) (at : ℕ) → (order : List Version) × IsOrderUpTo at versions order }
 {}

@@ -1,4 +1,4 @@
-//! The value of a version, as its node holds it: the bytes of a short one stand in the node, those of a longer one on
+//! The value of a version, as its node holds it: the bytes of a short one are in the node, those of a longer one on
 //! the heap.
 //!
 //! So a version with a short key and a short value is one allocation.
@@ -11,10 +11,10 @@ use std::alloc::Global;
 use std::marker::Model;
 use std::mem::size_of;
 
-/// How many bytes a value may have that stands in place.
+/// The most bytes of a value that is in place.
 const SHORT_LEN: usize = 23;
 
-// No more than a tag and what a list on the heap has in place.
+// No more than a tag, and the part of a list on the heap that is in place.
 const _: () = prove!(size_of::<Value>() <= 32);
 
 /// A value. Contracts see its bytes.
@@ -23,10 +23,10 @@ pub(crate) struct Value {
     place: Place,
 }
 
-/// Where the bytes of a value stand.
+/// Where the bytes of a value are.
 #[derive(Drop)]
 enum Place {
-    /// In place: the first `len` of these, and zeros behind.
+    /// In place: the value is the first `len` of these bytes, and zeros follow.
     Short { len: u8, bytes: [u8; SHORT_LEN] },
     /// On the heap, since they are too many.
     Long(Bytes),
@@ -56,7 +56,7 @@ impl Value {
         })
     }
 
-    /// The value of bytes that stand in place.
+    /// The value of bytes that fit in place.
     fn short(bytes: &[u8]) -> Value
         requires { length bytes.now ≤ SHORT_LEN }
         ensures { result ≡ bytes.now }

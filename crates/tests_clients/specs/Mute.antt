@@ -1,8 +1,8 @@
--- What a mute write path was opened for.
+-- The settings that a mute write path was opened with.
 use Rattle.std.specs.Prelude.{ℕ, []}
 use Rattle.model_base.specs.Trace.{Settings}
 
--- by so many clients, with batches up to this size
+-- for `clients` clients, with batches of up to `batch_bytes` bytes
 abbrev pub settings_for : ℕ → ℕ → Settings
 settings_for clients batch_bytes = record {
   start = 0;

@@ -1,4 +1,4 @@
-//! The checks of a commit row by row, the runs that follow a sequence, and an outcome that lacks memory.
+//! The checks of a commit one by one, the runs that follow a sequence, and an outcome in which a client had no memory.
 
 use base_maps::ByteMap;
 use log_batch::{Batch, MAX_SEQUENCE, Measure, Run, flag_of, next_run, refusal_at_once};

@@ -1,4 +1,4 @@
-//! Small scripts of seeds, whose commands are made by hand, and sums of values.
+//! Small scripts that seeds make, whose commands were worked out by hand, and sums of values.
 
 ghost use Rattle.std.specs.Prelude.{◌≤◌};
 
@@ -10,7 +10,7 @@ use std::alloc::Global;
 use std::process::Abort;
 use std::test::Fail;
 
-/// A seed makes the script that such a text says.
+/// The seed makes the script that this text says.
 fn check_script(
     rt: &impl Abort,
     alloc: Global,
@@ -32,8 +32,8 @@ fn check_script(
     Ok(())
 }
 
-// Of seed 1, client 1 draws 908, so one record; 22817 and 10239, so a value of key 17; and 12914. Then 25837, so two
-// records; 27095 and 29976, so a deletion of key 95; 27865 and 20302, so a value of key 65; and 32531. Client 2 draws
+// With seed 1, client 1 draws 908, so one record; 22817 and 10239, so a value at key 17; and 12914. Then 25837, so two
+// records; 27095 and 29976, so a deletion of key 95; 27865 and 20302, so a value at key 65; and 32531. Client 2 draws
 // 17747, 7107, 10365, 8312, 20622, 15796, 4173, 15543, 24392, 28207, 16493, 16966; then 15933, 16665, 21733, 880,
 // 10532 and 11084.
 #[test]
@@ -44,9 +44,9 @@ fn a_script_of_two_clients(rt: HostRuntime) -> Result<(), Fail> {
     check_script(&rt, rt.alloc(), 1, 2, 2, text)
 }
 
-// The largest seed has client 1 begin at the state 0 and draw 0, so one record; 21468 and 9988, so a deletion of key
-// 68. Client 2 begins at the state 1, as client 1 of seed 0 does, and draws 16838, so three records; 5758, 10113 and
-// 17515, so the value 515 of key 58; 31051, 5627 and 23010, so the value 10 of key 51; and 7419 and 16212, so a
+// With the largest seed, client 1 begins at the state 0 and draws 0, so one record; 21468 and 9988, so a deletion of
+// key 68. Client 2 begins at the state 1, as client 1 does with seed 0, and draws 16838, so three records; 5758, 10113
+// and 17515, so the value 515 at key 58; 31051, 5627 and 23010, so the value 10 at key 51; and 7419 and 16212, so a
 // deletion of key 19.
 #[test]
 fn the_largest_seed(rt: HostRuntime) -> Result<(), Fail> {
@@ -68,7 +68,7 @@ fn each_batch_is_committed(rt: HostRuntime) -> Result<(), Fail> {
     Ok(())
 }
 
-/// Values of a map, the last but one the largest number that one may be.
+/// Values of a map. The last but one is the largest number that a value may be.
 const VALUES: [&[u8]; 5] = [
     b"0",
     b"7",
@@ -77,14 +77,14 @@ const VALUES: [&[u8]; 5] = [
     b"18446744073709551616",
 ];
 
-/// The sums of so many of these values.
+/// How many of these values are summed up, and their sum.
 const SUMS: [(usize, Option<u128>); 3] = [
     (0, Some(0)),
     (4, Some(18_446_744_073_709_551_631)),
     (5, None),
 ];
 
-// The first so many of the values, each at itself as its key.
+// The first `count` values, each at a key that is equal to it.
 fn first_values(alloc: Global, count: usize) -> Result<ByteMap, NoMemory> {
     let mut map = ByteMap::new(alloc);
     for value in VALUES.iter().take(count) {

@@ -9,14 +9,14 @@ use run_threads::{history_of, state_of};
 use std::alloc::Global;
 use std::test::Fail;
 
-/// A record: a value, or none where the key is deleted.
+/// A record: a key and its value, or none where the key is deleted.
 type Row = (&'static [u8], Option<&'static [u8]>);
 
-/// An accepted batch: whose, the how many-th of that client, its run from the first sequence to the last, and its
-/// records.
+/// An accepted batch: its client and its number among that client's batches, its run from the first sequence to the
+/// last, and its records.
 type Commit = ((u32, u64), (u64, u64), &'static [Row]);
 
-/// The runs of two clients take turns. The key `a` is set by both and deleted by the first.
+/// The runs of two clients alternate. The key `a` is set by both clients and deleted by the first.
 const COMMITS: [Commit; 4] = [
     ((1, 1), (1, 2), &[(b"c", Some(b"1")), (b"a", Some(b"2"))]),
     ((2, 1), (3, 3), &[(b"a", Some(b"3"))]),
@@ -24,7 +24,7 @@ const COMMITS: [Commit; 4] = [
     ((2, 2), (5, 6), &[(b"b", Some(b"4")), (b"c", Some(b"5"))]),
 ];
 
-/// The keys that the history leaves of its own and of what stood before, each before its value.
+/// The keys and values that are left, of the history and of the map before it: each key is followed by its value.
 const LEFT: [&[u8]; 6] = [b"b", b"4", b"c", b"5", b"d", b"6"];
 
 fn batch_of(alloc: Global, sequence: u64, rows: &[Row]) -> Result<Batch, Fail> {
@@ -74,7 +74,7 @@ fn history_is_in_order_of_sequences(rt: HostRuntime) -> Result<(), Fail> {
     Ok(())
 }
 
-/// What stood before the history, which deletes `a`.
+/// The map before the history, which deletes its `a`.
 fn before(alloc: Global) -> Result<ByteMap, Fail> {
     let mut map = ByteMap::new(alloc);
     map.insert(b"a".as_slice(), b"0".as_slice())?;

@@ -1,7 +1,6 @@
 //! Tests of the clients: the checks of their commits, their commands over a write path that finds no memory, the
-//! history and the map of all of them, and the script of a seed. They stand in a crate of their own, so that
-//! `run_outcome`, `run_threads` and `run_generator` are proved once and not with
-//! their tests again.
+//! history and the map of all clients, and the script of a seed. They are a crate of their own, so that `run_outcome`,
+//! `run_threads` and `run_generator` are proved once, and not again with their tests.
 #![tactic(auto)]
 
 #[cfg(test)]

@@ -1,4 +1,4 @@
-//! A write path that finds no memory for anything past the checks of a commit.
+//! A write path that finds no memory for anything after the checks of a commit.
 
 use base_bytes::{Bytes, Read, Reads, Rows};
 use engine_calls::{Clients, Closed, Engine, Held, NotHeld, Receipt, Refused};
@@ -9,7 +9,8 @@ use std::rt;
 use std::sync::Wait;
 use std::sync::atomic::{AtomicU64, Ordering};
 
-/// It counts how many clients were ended. Nobody gets a token: who asks for one waits, as does who closes it.
+/// It counts how many clients were ended. No client gets a token: a call that asks for one waits forever, and so does
+/// the one that closes the write path.
 #[derive(Drop)]
 pub struct Mute {
     pub clients: u64,
@@ -22,7 +23,7 @@ pub struct MuteClient {
     pub number: u32,
 }
 
-/// It has no log.
+/// The log of a write path that has none.
 pub struct NoLog;
 
 impl Engine for Mute {

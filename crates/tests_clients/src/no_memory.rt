@@ -1,4 +1,4 @@
-//! Clients of a write path that finds no memory: what they are told, and that each is ended once.
+//! Clients of a write path that finds no memory: the replies that they get, and that each client is ended once.
 
 ghost use Rattle.std.specs.Prelude.{◌≡◌, ◌≤◌, ⊤, [], length, IfOk};
 ghost use Rattle.model_base.specs.Batch.{size_of_batch};
@@ -19,7 +19,7 @@ use std::sync::atomic::AtomicU64;
 use std::sync::atomic::Ordering::SeqCst;
 use std::test::Fail;
 
-/// A gate that counts.
+/// A gate that counts how many clients were started, and how many calls were answered.
 #[derive(Drop)]
 struct Counts {
     started: AtomicU64,
@@ -88,7 +88,7 @@ fn script(alloc: Global) -> Result<Vec<CommandList>, NoMemory>
     Ok(both)
 }
 
-/// Each stopped at the first call past the checks. What adds to a batch or empties it has no reply.
+/// Each client stopped at its first call that needs memory. What adds to a batch or empties it has no reply.
 fn check_replies(rt: &impl Abort, replies: &[Vec<Reply>]) -> Result<(), Fail> {
     let [first, second] = replies else {
         return Err(Fail::new("not two clients"));
@@ -103,7 +103,7 @@ fn check_replies(rt: &impl Abort, replies: &[Vec<Reply>]) -> Result<(), Fail> {
     Ok(())
 }
 
-/// No batch was accepted, and the first client's is still in the making.
+/// No batch was accepted, and the first client still has a batch that it hasn't committed.
 fn check_batches(rt: &impl Abort, batches: &[ClientBatches]) -> Result<(), Fail> {
     let [first, second] = batches else {
         return Err(Fail::new("not two clients"));

@@ -65,7 +65,7 @@ fn published_checksums(rt: HostRuntime) {
     }
 }
 
-// Bytes, those behind them, and the checksum of both.
+// Bytes, those that come after them, and the checksum of both together.
 const EXTENDED: [(&[u8], &[u8], u32); 2] = [
     (b"12345", b"6789", 0xe3069283),
     (
@@ -124,7 +124,7 @@ fn measures_varints(rt: HostRuntime) {
     check(&rt, 0, &varint32_len(u64::MAX), &5);
 }
 
-// Bytes, and what is read from the second one on.
+// Bytes, and the number that is read at the second one.
 const READ_VARINTS: [(&[u8], Result<(u32, usize), CodeError>); 13] = [
     (&[0xee, 0x00], Ok((0, 2))),
     (&[0xee, 0x7f, 0x80], Ok((127, 2))),
@@ -179,7 +179,7 @@ fn reads_fixed_numbers(rt: HostRuntime) {
     check(&rt, 0, &read, &(0x0506_0708, 0x0102_0304_0506_0708));
 }
 
-// What was found of two keys, of which the second has the value "1".
+// What was found for two keys. The second has the value "1".
 fn two_found(alloc: Global) -> Result<FoundList, NoMemory> {
     let value = Bytes::copy(alloc, b"1")?;
     let mut values = FoundList::new(alloc);
@@ -212,7 +212,7 @@ fn keeps_what_was_found_in_order(rt: HostRuntime) -> Result<(), Fail> {
     Ok(())
 }
 
-// A row of the key "a" with the value "1".
+// One row: the key "a" with the value "1".
 fn one_row(alloc: Global) -> Result<PairList, NoMemory> {
     let mut rows = PairList::new(alloc);
     rows.push(Bytes::copy(alloc, b"a")?, Bytes::copy(alloc, b"1")?)?;
@@ -233,7 +233,7 @@ fn keeps_pairs_in_order(rt: HostRuntime) -> Result<(), Fail> {
     Ok(())
 }
 
-// Keys that are shorter than the front by which keys are compared first, as long as it, and longer with the same one.
+// Keys that are shorter than the front that is compared first, as long as it, and longer ones that share a front.
 const INSERTED: [(&[u8], &[u8]); 16] = [
     (b"b", b"1"),
     (b"", b"2"),
@@ -265,7 +265,7 @@ const LEFT: [(&[u8], &[u8]); 9] = [
     (b"sixteen bytes of all", b"4"),
 ];
 
-// The map of all pairs, without six keys, of which three aren't there.
+// The map of all pairs, after six keys were removed, of which three weren't there.
 fn map_of_nine(alloc: Global) -> Result<ByteMap, NoMemory> {
     let mut map = ByteMap::new(alloc);
     for (key, value) in &INSERTED {

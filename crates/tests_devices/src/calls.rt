@@ -11,15 +11,15 @@ pub(crate) enum Call {
     Read(u64),
     Append(&'static [u8]),
     Rewind,
-    /// This asks for the length first, and fails where it is below that.
+    /// Asks for the length first, and fails where it is below this place.
     Cut(u64),
     Sync,
 }
 
-/// A call, and what it is to answer.
+/// A call, and what it should answer.
 pub(crate) type Row = (Call, Result<u64, Failed>);
 
-/// Makes a call, and answers its number. One that has none to answer answers 0. What is read comes to `buf`.
+/// Makes a call, and answers its number, or 0 where it has none. What is read goes into `buf`.
 pub(crate) fn made<D: Disk>(disk: &mut D, call: Call, buf: &mut [u8]) -> Result<u64, Failed> {
     match call {
         Call::Len => disk.len(),

@@ -27,8 +27,8 @@ fn source_gives_its_bytes(rt: HostRuntime) -> Result<(), Fail> {
     Ok(())
 }
 
-// What a sink is to take, after its first call took 3 bytes. The second call fails as listed, and the fifth for lack of
-// room.
+// What a sink should take, after its first call took 3 bytes. The second call fails as listed, and the fifth because
+// there is no room.
 const TAKEN: [(&[u8], Result<(), Failed>); 3] = [
     (b"defg", Err(Failed)),
     (b"defg", Ok(())),
@@ -51,8 +51,8 @@ fn sink_takes_what_fits(rt: HostRuntime) -> Result<(), Fail> {
     Ok(())
 }
 
-// Calls of a disk over the bytes `abcde`, what each is to answer, and how many faults it counts then. No call that would
-// change the bytes works, and with the first of these it counts as many faults as it can.
+// Calls of a disk over the bytes `abcde`, what each should answer, and how many faults the disk counts then. No call
+// that would change the bytes succeeds, and after the first of these the disk counts as many faults as it can.
 const OF_SLICE: [(Call, Result<u64, Failed>, u64); 14] = [
     (Call::Len, Ok(5), 0),
     (Call::Read(1), Ok(3), 0),
@@ -81,8 +81,8 @@ fn slice_is_read_and_never_written(rt: HostRuntime) {
     check(&rt, 0, &buf, b"ecd");
 }
 
-// Calls of a disk, what each is to answer, and how many bytes are safe then. The third call fails as listed, and the
-// fourth for lack of room.
+// Calls of a disk, what each should answer, and how many bytes are safe then. The third call fails as listed, and the
+// fourth because there is no room.
 const CALLS: [(Call, Result<u64, Failed>, u64); 8] = [
     (Call::Len, Ok(2), 2),
     (Call::Append(b"cd"), Ok(0), 2),
@@ -111,12 +111,12 @@ fn disk_keeps_what_is_safe(rt: HostRuntime) -> Result<(), Fail> {
     Ok(())
 }
 
-// A call, what it is to answer, and then how many bytes are safe, where the next append writes, how many calls have
+// A call, what it should answer, and then how many bytes are safe, where the next append writes, how many calls have
 // failed, and the content.
 type Again = (Call, Result<u64, Failed>, u64, u64, u64, &'static [u8]);
 
-// Calls of a disk with the six safe bytes "abcdef" and room for eight. A cut is two calls, of which the first asks for
-// the length. The first call and the thirteenth fail as listed, and the seventh for lack of room.
+// Calls of a disk with the six safe bytes "abcdef" and room for eight. A cut makes two calls: the first asks for the
+// length. The first call and the thirteenth fail as listed, and the seventh because there is no room.
 const AGAIN: [Again; 19] = [
     (Call::Rewind, Err(Failed), 6, 6, 1, b"abcdef"),
     (Call::Rewind, Ok(0), 6, 0, 1, b"abcdef"),
@@ -167,8 +167,8 @@ const KINDS: [Call; 6] = [
     Call::Sync,
 ];
 
-// Which call fails, at which of the kinds, and then the content, how much of it is safe, and where the next append
-// writes.
+// The number of the call that fails, its kind (as an index into `KINDS`), and then the content, how much of it is
+// safe, and where the next append writes.
 const FAILED: [(u64, usize, &[u8], u64, u64); 7] = [
     (1, 0, b"abc", 3, 3),
     (2, 1, b"abc", 3, 3),
@@ -179,9 +179,9 @@ const FAILED: [(u64, usize, &[u8], u64, u64); 7] = [
     (7, 5, b"xyc", 0, 3),
 ];
 
-// Only that kind fails.
+// Just the call of this kind fails.
 fn check_kinds(rt: &impl Abort, disk: &mut MemDisk, failing: usize) {
-    // Of the kinds so far just the one that is to fail has failed.
+    // Of the calls so far just the one that should fail has failed.
     for (row, call) in KINDS.iter().enumerate() {
         let failed = made(disk, *call, &mut [0; 2]).is_err();
         check(rt, row, &failed, &(row == failing));
@@ -219,8 +219,9 @@ const CUT_AND_SYNCED: [Row; 3] = [
 
 const CUT_AND_ADDED: [Row; 2] = [(Call::Cut(2), Ok(0)), (Call::Append(b"z"), Ok(0))];
 
-// Calls of a disk whose bytes "abcd" are safe, and what a crash of each length leaves behind them: of the content, and
-// where it tears what wasn't safe. The first two bytes that the seed 2 draws are 0x8c and 0x21.
+// Calls of a disk whose bytes "abcd" are safe, the length that a crash after them leaves, and what bytes it leaves:
+// those of the content, or torn ones where they weren't safe. The first two bytes that the seed 2 draws are 0x8c and
+// 0x21.
 const LEFT: [(&[Row], u64, &[u8], &[u8]); 10] = [
     (&OVER, 0, b"", b""),
     (&OVER, 1, b"x", b"\x8c"),
@@ -255,7 +256,7 @@ fn left(
 fn crash_leaves_what_was_written_again_and_cut(rt: HostRuntime) -> Result<(), Fail> {
     // All rows so far were as wanted.
     for (row, (calls, len, crashed, torn)) in LEFT.iter().enumerate() {
-        // What the crashes so far have left is as wanted.
+        // All crashes so far left what was wanted.
         for (tears, wanted) in [(false, *crashed), (true, *torn)] {
             let left = left(&rt, rt.alloc(), calls, *len, tears)?;
             check(&rt, row, &left.content(), &wanted);
@@ -265,7 +266,7 @@ fn crash_leaves_what_was_written_again_and_cut(rt: HostRuntime) -> Result<(), Fa
     Ok(())
 }
 
-// What a crash leaves of four safe bytes and two others, of which the first was changed.
+// What a crash leaves of a disk with four safe bytes and two others. The first of the two was changed.
 fn crashed(rt: &impl Abort, alloc: Global) -> Result<MemDisk, NoMemory> {
     let mut disk = MemDisk::new(alloc, 6, b"abcd", &[])?;
     check(rt, 0, &disk.append(b"ef"), &Ok(()));
@@ -288,7 +289,7 @@ fn partly_safe(rt: &impl Abort, alloc: Global) -> Result<MemDisk, NoMemory> {
     Ok(disk)
 }
 
-// How many bytes are left, and the seed. Seeds that differ by 2^31 draw alike.
+// How many bytes are left, and the seed. Seeds that differ by 2^31 draw the same bytes.
 const TORN: [(u64, u64); 4] = [(72, 2), (54, 2), (48, 2), (72, 2_147_483_650)];
 
 // What seed 2 draws. The bytes were computed by another program.
@@ -297,7 +298,7 @@ const DRAWN: [u8; 24] = [
     0x93, 0x06, 0xf6, 0xbf, 0x9c, 0xe5, 0x06, 0xe0,
 ];
 
-// All that is left is safe. It begins with what was safe before, and goes on with what was drawn.
+// All that is left is safe: first the bytes that were safe before, then those that were drawn.
 fn check_torn(rt: &impl Abort, row: usize, left: &MemDisk, len: u64) {
     check(rt, row, &left.synced(), &len);
     let content = left.content();

@@ -1,5 +1,5 @@
-//! A file as a disk, in what the program doesn't do with one: a sync before there is a file, an append of nothing, a
-//! length and reads at other places after appends, a call again after one that failed, and a file that was changed.
+//! A file as a disk, in cases that the program doesn't have: a sync before there is a file, an append of nothing, a
+//! length and reads at other places after appends, a call after one that failed, and a file that was changed.
 
 use crate::calls::{Call, Row, check_calls};
 use crate::checks::check;
@@ -14,14 +14,14 @@ fn own_name(rt: &HostRuntime, name: &str) -> io::Result<String> {
     Ok(format!(in rt.alloc(); "tests_devices-{id}-{name}")?)
 }
 
-// A path in the system's folder for such things, which no other process has.
+// A path in the system's folder for temporary files, which no other process has.
 fn path_of(rt: &HostRuntime, name: &str) -> io::Result<String> {
     let name = own_name(rt, name)?;
     let path = env::temp_dir(rt)?.join(rt.alloc(), name.as_str())?;
     Ok(String::from_str(rt.alloc(), path.as_str())?)
 }
 
-// What a file holds, which isn't there any more then.
+// What a file holds. The file is removed.
 fn taken(rt: &HostRuntime, name: &str) -> io::Result<Vec<u8>> {
     let path = path_of(rt, name)?;
     let left = fs::read(rt, path.as_str())?;
@@ -29,14 +29,14 @@ fn taken(rt: &HostRuntime, name: &str) -> io::Result<Vec<u8>> {
     Ok(left)
 }
 
-// Compares what a file holds, and takes it away.
+// Compares what a file holds, and removes the file.
 fn check_taken(rt: &HostRuntime, abort: &impl Abort, name: &str, wanted: &[u8]) -> io::Result<()> {
     let left = taken(rt, name)?;
     check(abort, 0, &left.as_slice(), &wanted);
     Ok(())
 }
 
-// The calls of a disk whose file isn't there at first.
+// Calls of a disk whose file doesn't exist at first.
 const FIRST: [Row; 7] = [
     (Call::Len, Ok(0)),
     (Call::Sync, Ok(0)),
@@ -47,14 +47,14 @@ const FIRST: [Row; 7] = [
     (Call::Sync, Ok(0)),
 ];
 
-// Those of a second one, while the first one has the file open for writing.
+// Calls of a second disk, while the first one has the file open for writing.
 const LOCKED: [Row; 3] = [
     (Call::Len, Ok(5)),
     (Call::Append(b"f"), Err(Failed)),
     (Call::Cut(0), Err(Failed)),
 ];
 
-// Those of the second one behind that.
+// Calls of the second disk after that.
 const SECOND: [Row; 6] = [
     (Call::Append(b"f"), Ok(0)),
     (Call::Len, Ok(6)),
@@ -64,7 +64,7 @@ const SECOND: [Row; 6] = [
     (Call::Read(u64::MAX), Ok(0)),
 ];
 
-// The calls of two disks, of which the second one goes on where the first one is dropped.
+// The calls of two disks on one file. The second one goes on once the first one is dropped.
 fn check_disks<D: Disk + Drop>(rt: &impl Abort, mut disk: D, mut again: D) {
     let mut buf = [0; 4];
     check_calls(rt, &mut disk, &FIRST, &mut buf);
@@ -83,7 +83,7 @@ fn file_is_a_disk(rt: HostRuntime) -> Result<(), Fail> {
     Ok(())
 }
 
-// The calls of a disk whose file isn't there, and isn't made by them.
+// Calls of a disk whose file doesn't exist. None of them makes it.
 const NO_FILE: [Row; 4] = [
     (Call::Rewind, Ok(0)),
     (Call::Cut(0), Ok(0)),
@@ -91,8 +91,8 @@ const NO_FILE: [Row; 4] = [
     (Call::Sync, Ok(0)),
 ];
 
-// Those behind that: the file is written again from the start, in part, whole and farther, and cut to a part, to its
-// length and to nothing.
+// The calls after that: the file is written again from its start, in part, whole and past its end, and cut to a part,
+// to its length and to nothing.
 const AGAIN: [Row; 22] = [
     (Call::Append(b"abcdef"), Ok(0)),
     (Call::Rewind, Ok(0)),
@@ -118,7 +118,7 @@ const AGAIN: [Row; 22] = [
     (Call::Sync, Ok(0)),
 ];
 
-// Those of another disk of that file, which is opened at the end.
+// Calls of another disk on that file. Its place is the file's end at first.
 const LATER: [Row; 5] = [
     (Call::Len, Ok(5)),
     (Call::Append(b"!"), Ok(0)),
@@ -135,7 +135,7 @@ fn file_is_written_again_and_cut(rt: HostRuntime) -> Result<(), Fail> {
     check_calls(&rt, &mut disk, &NO_FILE, &mut buf);
     assert!(&rt; taken(&rt, "again").is_err());
     check_calls(&rt, &mut disk, &AGAIN, &mut buf);
-    // No file is made longer by a cut.
+    // A cut makes no file longer.
     check(&rt, 0, &(disk.cut(6), disk.faults()), &(Err(Failed), 1));
     check(&rt, 1, &buf, b"xycd");
     drop(disk);
@@ -145,7 +145,7 @@ fn file_is_written_again_and_cut(rt: HostRuntime) -> Result<(), Fail> {
     Ok(())
 }
 
-// The calls of a disk in a folder that isn't there. A sync has nothing to do.
+// Calls of a disk in a folder that doesn't exist. A sync has nothing to do.
 const NOWHERE: [Row; 4] = [
     (Call::Len, Err(Failed)),
     (Call::Rewind, Err(Failed)),
@@ -161,7 +161,7 @@ fn file_without_a_folder(rt: HostRuntime) -> Result<(), Fail> {
     Ok(())
 }
 
-// The calls before another one writes to the file, and behind that.
+// The calls before another program writes to the file, and after that.
 const BEFORE: [Row; 1] = [(Call::Len, Ok(0))];
 
 const BEHIND: [Row; 1] = [(Call::Append(b"b"), Err(Failed))];

@@ -10,7 +10,7 @@ use std::test::Fail;
 use std::thread::{self, Threads};
 use tests_held_disk::{AppendHold, HeldDisk};
 
-/// Appends through the trait, as the code above does.
+/// Appends through the trait, as the code above the disk does.
 fn append_all<D: Disk>(disk: &mut D, pieces: &[&[u8]]) -> Result<(), Failed> {
     for piece in pieces {
         disk.append(piece)?;
@@ -31,8 +31,8 @@ fn arrive_after<R: Wait + rt::Clock>(rt: &R, hold: &AppendHold) -> bool {
     was_open
 }
 
-/// Appends twice, while another thread arrives. Answers what the appends came to, whether the hold was open before it
-/// arrived, and whether it is open behind that.
+/// Appends twice, while another thread arrives. Answers what the appends answered, whether the hold was open before
+/// the other thread arrived, and whether it is open after that.
 fn append_held<R: Threads + Wait + rt::Clock + Sync>(
     rt: &R,
     disk: &mut HeldDisk<'_>,
@@ -46,7 +46,7 @@ fn append_held<R: Threads + Wait + rt::Clock + Sync>(
     (done, was_open, hold.is_open())
 }
 
-/// Appends pieces, and answers what that came to, how long the content is then, and whether it was synced.
+/// Appends pieces, and answers what the appends answered, how long the content is then, and what its sync answered.
 fn append_ahead<D: Disk>(
     disk: &mut D,
     pieces: &[&[u8]],
@@ -54,14 +54,15 @@ fn append_ahead<D: Disk>(
     (append_all(disk, pieces), disk.len(), disk.sync())
 }
 
-/// What is read at a place of a disk, how many bytes that are, and how many calls have failed.
+/// What is read at a place of a disk, how many bytes that is, and how many calls have failed.
 fn read_at<D: Disk>(disk: &mut D, at: u64) -> ([u8; 8], Result<usize, Failed>, u64) {
     let mut buf = [0; 8];
     let read = disk.read(at, &mut buf);
     (buf, read, disk.faults())
 }
 
-/// Holds an append to a disk of which so many bytes are safe before that, as of this one all are. Two more bytes come.
+/// Appends the pieces `before` to the disk and syncs it, so that all its `safe` bytes are safe. Then two more bytes
+/// are appended, and the first of these appends is held.
 fn check_held<R: Threads + Wait + rt::Clock + Abort + Sync>(
     rt: &R,
     inner: MemDisk,
@@ -106,8 +107,8 @@ const NOT_HELD: [(u64, u64, bool); 5] = [
     (1, 3, false),
 ];
 
-/// What two appends come to of which the second finds no room, whether the held one was begun, the faults, and the
-/// disk.
+/// What two appends answer, where the second one finds no room, whether the held one was begun, how many faults the
+/// disk counts, and the disk.
 fn append_two(
     inner: MemDisk,
     hold: &AppendHold,
@@ -144,7 +145,7 @@ fn an_append_over_old_bytes_waits_too(rt: HostRuntime) -> Result<(), Fail> {
     Ok(())
 }
 
-/// Calls of a disk that holds "abcd" at first. The seventh and the ninth fail, and each cut is two of them.
+/// Calls of a disk that holds "abcd" at first. The seventh and the ninth call fail. A cut makes two calls.
 const HANDED_ON: [Row; 9] = [
     (Call::Rewind, Ok(0)),
     (Call::Append(b"x"), Ok(0)),

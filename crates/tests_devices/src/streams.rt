@@ -1,4 +1,4 @@
-//! The standard streams as devices, where signals interrupt their calls. What else they do shows in `tests/real_file`.
+//! The standard streams as devices, where signals interrupt their calls. `tests/real_file` tests the rest of them.
 
 ghost use Rattle.std.specs.Prelude.{◌≤◌, IfOk};
 
@@ -9,8 +9,8 @@ use std::cell::Cell;
 use std::fmt::Display;
 use std::io::{self, BufRead, Lines, Print, Read};
 
-/// A stream whose first call is interrupted. Later ones take or give two bytes at most. As a runtime it is its own
-/// output, and its input is another one.
+/// A stream whose first call is interrupted. Later calls take or give at most two bytes. As a runtime it is its own
+/// output, and its input is another such stream.
 #[derive(Drop)]
 struct Slow {
     interrupted: Cell<bool>,
@@ -58,7 +58,7 @@ impl Read for Slow {
     }
 }
 
-// Nobody reads by lines.
+// No test reads lines.
 impl BufRead for Slow {
     fn fill_buf(&mut self) -> io::Result<&[u8]> {
         Ok(b"")
@@ -83,7 +83,7 @@ impl Input for Slow {
     }
 }
 
-// Each takes or gives a part, and the interruption is no fault.
+// Each call takes or gives a part of the bytes, and the interruption is no fault.
 #[test]
 fn interrupted_calls_are_made_again(rt: HostRuntime) {
     let mut sink = StdSink::new(Slow::new());

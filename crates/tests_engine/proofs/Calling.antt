@@ -1,4 +1,4 @@
--- What the calls of the engine say of its clients, as `Callers` says it.
+-- What the engine's calls promise of its clients, in the words of `Callers`.
 use Rattle.std.proofs.Common.{◌≡◌, ℕ, ◌+◌, inl, inr, List, ◌++◌, length, take, drop, Option, Some, None, MatchOption, subst, sym, ap, ◌∙◌}
 use Rattle.std.proofs.Math.Seq.{take-append_seam}
 use Rattle.std.specs.Vec.{with_items}
@@ -24,12 +24,12 @@ refused_number s v rs how why w = by_early (early_refusal s.batch_bytes (holds_s
     by_early None late = elim late [ inl kept ↦ kept.1.number | inr refused ↦ refused.number ]
     by_early (Some e) early = early.1.number
 
--- what a `Vec` has after a write to its whole slice
+-- a `Vec` has just the new items after a write to its whole slice
 whole_slice : {X : Type 0} (n : ℕ) (new old : List X) → length new ≡ n → take n (new ++ drop (length new) old) ≡ new
 whole_slice n new old count = subst (λ k. take k (new ++ drop (length new) old) ≡ new) count (take-append_seam new (drop (length new) old))
 
 module _ {D : Type 0} {ghosts : Ghosts D} (e : Path D ghosts) where
-  -- all clients of the engine may call
+  -- clients that are all the engine's may all call it, and the other way round
   pub from_ours : (n : ℕ) (cs : List (Member D ghosts)) → AreOurs (MayCall e) (account_in memory_table) n cs → AllMayCall e cs
   from_ours n cs ours = record { each = λ i d lt. let h = ours.each i _ (slice_get-get_or cs i d lt) in record { belongs = h.0; number = h.1 } }
 
@@ -39,7 +39,7 @@ module _ {D : Type 0} {ghosts : Ghosts D} (e : Path D ghosts) where
     each = λ i c at. let h = subst (IsCaller e (i + 1)) (get_or_from_slice_get cs i c c at) (all.each i c (slice_get_within cs i c at)) in (h.belongs, h.number);
   }
 
-  -- after calls of theirs they are still all clients
+  -- after calls they are still all its clients
   pub all_after : (all : Members D ghosts) (new : List (Member D ghosts)) → AreAll e all → AllMayCall e new → length new ≡ length all.clients.items → AreAll e (record { clients = with_items all.clients new; room = all.room })
   all_after all new a may same =
       let whole = whole_slice all.clients.len new all.clients.items (same ∙ sym all.clients.ok.0) in

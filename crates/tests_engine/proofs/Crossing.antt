@@ -1,4 +1,4 @@
--- Threads may share a closure of five captures where they may share those.
+-- Threads may share a closure with five captures where they may share each of the five.
 use mathlib.Core.List.{[], ◌∷◌}
 use denote.RattleType.{RattleType}
 use denote.Struct.Declared.{shape, fields}

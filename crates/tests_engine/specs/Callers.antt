@@ -1,4 +1,4 @@
--- Who may call an engine whose table is in memory.
+-- Which clients may call an engine whose table is in memory.
 use Rattle.std.specs.Prelude.{◌≡◌, ℕ, ◌+◌, ◌<◌, List, length, slice_index_or}
 use Rattle.base_devices.specs.declared.disk.Disk.{Ghosts}
 use Rattle.base_devices.specs.declared.stepped_clock.SteppedClock.{SteppedClock}
@@ -28,20 +28,20 @@ module _ {D : Type 0} {ghosts : Ghosts D} where
   abbrev pub number_of : Member D ghosts → ℕ
   number_of c = (account_in memory_table c).number
 
-  -- it is one of the engine's clients, between two of its calls
+  -- the client is one of the engine's, and is between two calls
   abbrev pub MayCall : Path D ghosts → Member D ghosts → Type 0
   MayCall e c = IsClientOf memory_table e c
 
-  -- it is the engine's client of this number, between two of its calls
+  -- the client is the engine's client with this number, and is between two calls
   pub record IsCaller (e : Path D ghosts) (n : ℕ) (c : Member D ghosts) : Type 0 where
     pub belongs : MayCall e c
     pub number : number_of c ≡ n
 
-  -- the clients from 1 on may call
+  -- all of these clients, who are numbered from 1 on, may call
   pub record AllMayCall (e : Path D ghosts) (cs : List (Member D ghosts)) : Type 0 where
     pub each : (i : ℕ) (d : Member D ghosts) → i < length cs → IsCaller e (i + 1) (slice_index_or cs i d)
 
-  -- these are all its clients, and they may call and close it
+  -- these are all clients of the engine, they may call it, and they may close it
   pub record AreAll (e : Path D ghosts) (all : Members D ghosts) : Type 0 where
     pub may : AllMayCall e all.clients.items
     pub len : length all.clients.items ≡ clients_of e.list

@@ -1,4 +1,4 @@
-//! The write controller on one thread: waits worked by hand, and each call once.
+//! The write controller on one thread: waits that were worked out by hand, and each call once.
 
 ghost use Rattle.std.specs.Prelude.{IfSome};
 ghost use Rattle.engine_controller.specs.Passes.{IsPassOf, AreNew};
@@ -13,7 +13,7 @@ use std::test::Fail;
 
 type Stepped = Controller<SteppedClock>;
 
-/// At a moment a client slows writes to a rate, and asks for bytes three times, then with no slow token any more.
+/// At a moment a client slows writes down to a rate, asks for bytes three times, and once more without its slow token.
 #[derive(Clone, Copy)]
 struct Row {
     moment: u64,
@@ -24,37 +24,37 @@ struct Row {
 
 const ROWS: [Row; 5] = [
     // A rate of a byte a microsecond. The first delay refills a millisecond's bytes and spends 500 of these 1000. The
-    // next one has 500 and lacks 1000, which are owed: the refill at 2000 moves on by a millisecond. One byte more is
-    // owed at once, so that no credit was left, and moves it on by a microsecond.
+    // second one has the other 500 and needs 1000 more, which are owed: so the refill at 2000 moves on by a
+    // millisecond. One byte more is owed at once, since no credit is left, and moves the refill on by a microsecond.
     Row {
         moment: 1000,
         rate: 1_000_000,
         asked: [500, 1500, 1],
         waits: [0, 2000, 2001, 0],
     },
-    // The other 500 of the 1000 are there, and no more.
+    // The second delay has the other 500 of the 1000 bytes. Then no credit is left.
     Row {
         moment: 1000,
         rate: 1_000_000,
         asked: [500, 500, 1],
         waits: [0, 0, 1001, 0],
     },
-    // One more than the other 500 is owed.
+    // The second delay has the other 500 bytes, and one byte more is owed.
     Row {
         moment: 1000,
         rate: 1_000_000,
         asked: [500, 501, 1],
         waits: [0, 1001, 1002, 0],
     },
-    // One byte a second: a millisecond's refill is one byte, and the other 16 are owed, from a millisecond on.
+    // One byte a second: a millisecond's refill is one byte. The other 16 are owed, counted from a millisecond later.
     Row {
         moment: 1000,
         rate: 1,
         asked: [17, 17, 1],
         waits: [16_001_000, 33_001_000, 34_001_000, 0],
     },
-    // Moments stop at the greatest: the first delay moves the refill there, and the others find it there, with no
-    // credit.
+    // Moments stop at the greatest `u64`: the first delay moves the refill there, and the others find it there, with
+    // no credit.
     Row {
         moment: 0,
         rate: 1,
@@ -63,7 +63,7 @@ const ROWS: [Row; 5] = [
     },
 ];
 
-// The last client's pass.
+// The pass of the last client.
 fn last_of(controller: &Stepped, mut passes: Passes, clients: u32) -> Option<Pass>
     requires new { AreNew controller.now clients passes }
     ensures own { IfSome result (λ p. IsPassOf controller.now p) }

@@ -1,4 +1,4 @@
-//! What a client of a test does, and what it is told.
+//! The calls that a client of a test makes, and their answers.
 
 use log_batch::Run;
 use model_base::{Refusal, WriteOptions};
@@ -29,7 +29,7 @@ pub enum Step {
 /// What a call answered.
 #[derive(Clone, Copy, Debug, PartialEq, Eq)]
 pub enum StepAnswer {
-    /// The batch was written under these sequences, in a group that ends at `group_last`. It came back with this
+    /// The batch was written with these sequences, in a group that ends at `group_last`. It came back with this
     /// sequence set.
     Wrote {
         run: Run,
@@ -37,7 +37,7 @@ pub enum StepAnswer {
         sequence: u64,
     },
     Refused(Refusal),
-    /// A read at this sequence found a value of this one byte.
+    /// A read at this sequence found a value of one byte, which is this.
     Saw {
         at: u64,
         byte: u8,
@@ -54,7 +54,7 @@ pub enum StepAnswer {
     NoMemory,
     /// A token was taken or given back.
     Done,
-    /// The client holds such a token.
+    /// The client already holds such a token.
     Held,
     /// The client holds no such token.
     NotHeld,

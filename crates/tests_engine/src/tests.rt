@@ -1,9 +1,9 @@
-//! The write path on one thread, and threads that write and read at once.
+//! The write path on one thread, and with threads that write and read at once.
 //!
-//! - `alone`: what one client is told, and what its log has then
+//! - `alone`: what one client's calls answer, and what its log has then
 //! - `at_once`: runs and reads of clients that write at once
 //! - `faults`: clients that write at once, while a call of the disk fails
-//! - `stops`: a client that stops writes, beside one that writes
+//! - `stops`: a client that stops writes, while another one writes
 
 ghost use Rattle.std.specs.Prelude.{◌<◌, ◌≤◌};
 ghost use Rattle.model_base.specs.History.{max_sequence};
@@ -30,7 +30,7 @@ const PLAIN: WriteOptions = WriteOptions {
     no_slowdown: false,
 };
 
-/// A write that may not wait.
+/// A write that doesn't wait where writes are held up.
 const HASTY: WriteOptions = WriteOptions {
     no_slowdown: true,
     ..PLAIN
@@ -55,8 +55,8 @@ const READ_A: Step = Step::Read { key: b"a" };
 
 const READ_B: Step = Step::Read { key: b"b" };
 
-// What came of an engine: what each client was told, the disk, the log's length and fault, and the last published
-// sequence.
+// What an engine leaves: the answers to each client's calls, the disk, the log's length and fault, and the last
+// published sequence.
 #[derive(Drop)]
 struct Outcome {
     notes: Vec<Vec<StepAnswer>>,
@@ -66,7 +66,7 @@ struct Outcome {
     last: u64,
 }
 
-// What so many clients note, each on its own, with nothing noted yet.
+// Empty notes for `count` clients, each with its own.
 fn empty_notes(rt: &impl Abort, alloc: Global, count: usize) -> Vec<Notes> {
     let mut shared = Vec::with_capacity(alloc, count).expect(rt, "memory");
     // The notes so far are empty.
@@ -88,9 +88,9 @@ fn noted(rt: &impl Abort, alloc: Global, shared: Vec<Notes>) -> Vec<Vec<StepAnsw
     notes
 }
 
-// Opens an engine over a table of so many shards, in one stage or two, with a client for each script, lets all play at
-// once, and closes it. The disk has much room, and its calls with a number in the list fail. The first batch is written
-// after this sequence.
+// Opens an engine over a table of `shards` shards, in one stage or two, with a client for each script, lets all
+// clients play at once, and closes it. The disk has much room, and its calls with the numbers in `fails` fail. The
+// first batch is written after the sequence `start`.
 fn ended<R: Threads + Wait + rt::Clock + Abort + Sync>(
     rt: &R,
     alloc: Global,
@@ -141,7 +141,7 @@ fn ended<R: Threads + Wait + rt::Clock + Abort + Sync>(
     }
 }
 
-// A script of these steps, so many times over.
+// A script that repeats these steps `times` times.
 fn script(rt: &impl Abort, alloc: Global, steps: &[Step], times: usize) -> Vec<Step> {
     let mut all = Vec::new(alloc);
     for _ in 0..times {

@@ -1,8 +1,8 @@
--- What a held disk shows: the disk in memory, but for an append that waited in vain.
+-- What a held disk shows: it is the disk in memory, except for an append that waited in vain.
 --
--- Such an append failed, so it may have come to the medium from the place on and as far as it tried to, and it is a
--- fault more. What the disk in memory tells of crashes before it doesn't speak of that. So nothing is told of them any
--- more.
+-- Such an append failed. So it may have reached the medium, from the disk's place on and as far as it tried to write,
+-- and it counts as one more fault. What the disk in memory tells of crashes before now leaves this out. So from then
+-- on a held disk tells nothing of crashes before now.
 use Rattle.std.specs.Prelude.{ℕ, ◌+◌, min, max, Bool, true, List, Option, Some, Result}
 use Rattle.base_devices.specs.Disk.{Disk}
 use Rattle.base_devices.specs.Listed.{FailsAsListed, faults_after_call}
@@ -13,7 +13,7 @@ use Rattle.tests_held_disk.specs.declared.disk.Turn.{Turn}
 use Rattle.tests_held_disk.specs.declared.disk.Turn.TheVariants.{Ahead, Past, Late}
 use Rattle.tests_held_disk.specs.declared.hold.AppendHold.{AppendHold}
 
--- how many have to arrive
+-- how many have to arrive before the hold is open
 abbrev pub need_of : AppendHold → ℕ
 need_of hold = hold.need
 
@@ -25,7 +25,7 @@ inner_of h = h.inner
 abbrev pub hold_need : HeldDisk → ℕ
 hold_need h = need_of h.hold.now
 
--- how many appends there are to the held one, with it; 0 where none is held any more
+-- how many appends remain up to the held one, with it; 0 where none is held any more
 abbrev pub left_at : Turn → ℕ
 left_at (Ahead others) = others + 1
 left_at Past = 0
@@ -38,25 +38,25 @@ left_of h = left_at h.turn
 abbrev pub FailsAsInner : {T E : Type 0} → HeldDisk → HeldDisk → Bool → Result T E → Type 0
 FailsAsInner old new full result = FailsAsListed (disk_calls (inner_of old)) (disk_calls (inner_of new)) full result
 
--- a disk, where an append that waited in vain leaves no more than so many bytes safe, and tried to come so far
+-- the disk, where an append that waited in vain left at most `safe` bytes safe and tried to write up to `tried`
 abbrev pub disk_at : Turn → Disk → Disk
 disk_at (Ahead others) d = d
 disk_at Past d = d
 disk_at (Late safe tried) d = record d { synced = min d.synced safe; reach = max d.reach tried }
 
--- a first moment, where nothing is told of the time before an append waited in vain
+-- the first moment that the disk tells of: after an append waited in vain, one that is later than now
 abbrev pub from_at : Turn → ℕ → ℕ → ℕ
 from_at (Ahead others) from moment = from
 from_at Past from moment = from
 from_at (Late safe tried) from moment = max from (moment + 1)
 
--- a count of faults, where an append that waited in vain is one
+-- the count of faults, where an append that waited in vain is one
 abbrev pub faults_at : Turn → ℕ → ℕ
 faults_at (Ahead others) faults = faults
 faults_at Past faults = faults
 faults_at (Late safe tried) faults = faults_after_call true faults
 
--- the members of a held disk
+-- what a held disk gives as the ghost members of the trait `Disk`
 abbrev pub held_told : HeldDisk → Option Disk
 held_told h = Some (disk_at h.turn (disk_of h.inner))
 

@@ -1,4 +1,4 @@
--- Why a held disk keeps the laws of a disk.
+-- A held disk keeps the laws of a disk.
 use Rattle.std.specs.Prelude.{ℕ, ◌+◌, ◌<◌, ◌≤◌, ◌^◌, List, max}
 use Rattle.std.proofs.Common.{inl}
 use Rattle.std.proofs.Math.Nat.{le_trans, min-le_left, le-max_left, le-max_right, lt_irrefl, lt_of_lt_of_le, le_refl}
@@ -12,7 +12,7 @@ use Rattle.tests_held_disk.specs.declared.disk.HeldDisk.{HeldDisk}
 use Rattle.tests_held_disk.specs.declared.disk.Turn.{Turn}
 use Rattle.tests_held_disk.specs.declared.disk.Turn.TheVariants.{Ahead, Past, Late}
 
--- fewer safe bytes and a reach that is no less make it a disk still
+-- with fewer safe bytes, and a reach that is no less, it is a disk still
 is_disk_at : (turn : Turn) (d : Disk) → IsDisk d → IsDisk (disk_at turn d)
 is_disk_at (Ahead others) d is = is
 is_disk_at Past d is = is
@@ -30,13 +30,13 @@ held_is_disk h = is_disk_at h.turn (disk_of h.inner) (mem_disk_is_disk h.inner)
 pub held_added_small : (h : HeldDisk) → held_added h < 2 ^ 63
 held_added_small h = mem_disk_is_small h.inner
 
--- no moment until now is told of after an append waited in vain
+-- after an append waited in vain, the disk tells of no moment up to now
 never_late : (from moment t : ℕ) → max from (moment + 1) ≤ t → t ≤ moment → ⊥
 never_late from moment t after until =
     let passed : moment + 1 ≤ t = le_trans (le-max_right from (moment + 1)) after in
     lt_irrefl moment (lt_of_lt_of_le (lt-add-one moment) (le_trans passed until))
 
--- else it is told what the disk in memory tells
+-- otherwise it tells what the disk in memory tells
 counts_now_at : (turn : Turn) (d : MemDisk) (t : ℕ) (image : List ℕ) → from_at turn (from_of d) (moment_of d) ≤ t
     → t ≤ moment_of d → IsImage (disk_at turn (disk_of d)) image → since_of d t image
 counts_now_at (Ahead others) d t image after until is = inl is

@@ -5,23 +5,23 @@ ghost use Rattle.std.specs.Prelude.{◌≡◌, ◌≢◌, ◌+◌, ◌-◌, ◌^
 use crate::AppendHold;
 use base_devices::{Disk, Failed, MemDisk};
 
-/// Where a disk stands to the append that is held.
+/// How far a disk is from the append that is held.
 #[derive(Clone, Copy)]
 enum Turn {
-    /// The held append comes after so many others.
+    /// The held append comes after this many others.
     Ahead(u64),
     /// The held append was let through, or no append is held.
     Past,
-    /// The held append waited in vain. At most so many bytes were safe then, and it tried to come so far; after the
-    /// next sync these are the greatest `u64` and 0.
+    /// The held append waited in vain. At most the first number of bytes were safe then, and it tried to write up to
+    /// the second number. The next sync sets them to the greatest `u64` and 0.
     Late(u64, u64),
 }
 
-/// A disk in memory, one of whose appends waits until an [`AppendHold`] is open. All else is handed on to the disk in
-/// memory, and so is that append then.
+/// A disk in memory, one of whose appends waits until an [`AppendHold`] is open. Then it is handed on to the disk in
+/// memory, and all other calls are handed on at once.
 ///
-/// An append that waits in vain fails and writes nothing, but as with each that fails no byte from the place on is safe
-/// then. From then on the disk tells nothing more of crashes before now.
+/// An append that waits in vain fails and writes nothing. But as with each append that fails, no byte from the place
+/// on is safe then. From then on the disk tells nothing of crashes before now.
 #[derive(Drop)]
 pub struct HeldDisk<'h> {
     inner: MemDisk,
@@ -131,7 +131,8 @@ impl<'h> Disk for HeldDisk<'h> {
         self.inner.read(at, buf)
     }
 
-    // One that isn't held fails just as the disk in memory does, and so does each where nobody has to arrive.
+    // An append that isn't held fails just as the disk in memory does, and so does each append where nobody has to
+    // arrive.
     fn append(&mut self, piece: &[u8]) -> Result<(), Failed>
         ensures appended { Told (held_told self.old) (held_told self.new)
             (λ old new. Appended old new piece.now result) }
@@ -151,7 +152,7 @@ impl<'h> Disk for HeldDisk<'h> {
                     self.turn = Turn::Past;
                     self.inner.append(piece)
                 } else {
-                    // The count can rise, or stands at the greatest `u64`.
+                    // The count can rise by one, or is the greatest `u64`.
                     let _faults = self.inner.faults();
                     let place = self.inner.place();
                     self.turn = Turn::Late(place, place + piece.len() as u64);

@@ -1,4 +1,4 @@
-//! What an append is held back by.
+//! What holds an append back.
 
 ghost use Rattle.std.specs.Prelude.{◌≡◌, IsTrue};
 ghost use Rattle.tests_held_disk.specs.HeldDisk.{need_of};
@@ -7,11 +7,11 @@ use std::sync::atomic::Ordering::SeqCst;
 use std::sync::atomic::{AtomicBool, AtomicU64};
 use std::thread;
 
-/// How many turns an append waits at most: more than a test will take, so that a test whose others never arrive ends
-/// too.
+/// How many turns an append waits at most: more than any test needs, so that a test ends even where the others never
+/// arrive.
 const MOST_TURNS: u64 = 1_000_000_000;
 
-/// Holds an append back until others have arrived. Threads share it by `&`, so nothing is known of how many have.
+/// Holds an append back until others have arrived. Threads share it by `&`, so no contract says how many have arrived.
 #[derive(Drop)]
 pub struct AppendHold {
     need: u64,
@@ -20,7 +20,8 @@ pub struct AppendHold {
 }
 
 impl AppendHold {
-    /// It opens once [`arrive`](AppendHold::arrive) was called so many times, and is open at once where that is 0.
+    /// The hold opens once [`arrive`](AppendHold::arrive) was called `need` times. Where `need` is 0 it is open at
+    /// once.
     pub fn new(need: u64) -> AppendHold
         ensures { need_of result ≡ need }
     {
@@ -31,7 +32,7 @@ impl AppendHold {
         }
     }
 
-    /// Tells that one more has come so far.
+    /// Notes that one more has arrived.
     pub fn arrive(&self) {
         self.arrived.fetch_add(1, SeqCst);
     }
@@ -48,8 +49,8 @@ impl AppendHold {
         self.arrived.load(SeqCst) >= self.need
     }
 
-    /// Tells that the held append was begun, and waits until all have arrived. Each turn lets another thread run. It
-    /// answers false where they haven't after all turns.
+    /// Notes that the held append was begun, and waits until all have arrived. Each turn lets another thread run. It
+    /// answers false where they haven't arrived after all turns.
     pub(crate) fn enter(&self) -> bool
         ensures { need_of self.now ≡ 0 → IsTrue result }
     {

@@ -1,4 +1,4 @@
-//! A disk in memory that holds one append back until others have come so far, for tests of overlap: what another thread
+//! A disk in memory that holds one append back until others have arrived, for tests of overlap: what another thread
 //! does while an append is under way.
 //!
 //! - `hold`: what the append waits for, which threads share

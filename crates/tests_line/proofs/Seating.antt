@@ -1,4 +1,4 @@
--- From the writers of an opened list to those who take part, and back.
+-- Players are made from the writers of an opened list, and give the writers back.
 use Rattle.std.proofs.Common.{◌≡◌, ◌≢◌, ℕ, ◌+◌, ◌-◌, ◌<◌, ◌≤◌, ◌⊎◌, inl, inr, suc, List, [], ◌∷◌, ◌++◌, length, get_or, set, refl, sym, ap, ◌∙◌, subst, arith, length-append}
 use Rattle.std.proofs.lemmas.List.{get_or_push, get_or_append_left, get_or-set_other, get_or-set_same, length-set}
 use Rattle.std.proofs.lemmas.Bool.{cases_lt}
@@ -27,7 +27,8 @@ ready_last n (y ∷ ys) x all = let t = ready_last n ys x all.1 in ((all.0, t.0)
 pub below_or_at : (i n : ℕ) → i < n + 1 → (i < n) ⊎ (i ≡ n)
 below_or_at i n h = elim (cases_lt i n) [ inl lt ↦ inl lt | inr ge ↦ inr (omega arith) ]
 
--- what holds at each place below i and then at i too, and what holds from there on
+-- An item is set at place i. A property that holds below i, and of the new item at i, then holds below i + 1. One that
+-- holds from i on then holds from i + 1 on.
 pub set_below : {T : Type 0} (P : ℕ → T → Type 0) (xs : List T) (i : ℕ) (y : T) → ((j : ℕ) (d : T) → j < i → P j (get_or xs j d)) → P i y → i < length xs → (j : ℕ) (d : T) → j < i + 1 → P j (get_or (set xs i y) j d)
 set_below P xs i y below at lt j d h = elim (below_or_at j i h) [
   | inl less ↦ (let ne : j ≢ i = omega arith in subst (P j) (sym (get_or-set_other xs i j y d ne)) (below j d less))
@@ -37,14 +38,14 @@ set_below P xs i y below at lt j d h = elim (below_or_at j i h) [
 pub set_above : {T : Type 0} (P : ℕ → T → Type 0) (xs : List T) (i : ℕ) (y : T) → ((j : ℕ) (d : T) → i ≤ j → j < length xs → P j (get_or xs j d)) → (j : ℕ) (d : T) → i + 1 ≤ j → j < length (set xs i y) → P j (get_or (set xs i y) j d)
 set_above P xs i y above j d le lt = let ne : j ≢ i = omega arith in subst (P j) (sym (get_or-set_other xs i j y d ne)) (above j d (omega arith) (subst (λ n. j < n) (length-set xs i y) lt))
 
--- what holds from i on holds at i
+-- what holds from place i on holds at i
 pub at_first : {T : Type 0} (P : ℕ → T → Type 0) (xs : List T) (i : ℕ) → ((j : ℕ) (d : T) → i ≤ j → j < length xs → P j (get_or xs j d)) → i < length xs → (d : T) → P i (get_or xs i d)
 at_first P xs i from lt d = from i d (omega arith) lt
 
 pub below_end : (i n all end : ℕ) → i < n → n ≡ all → all ≤ end → i < end
 below_end i n all end lt is le = omega arith
 
--- one more of n clients gets its seat: `made` have theirs, and `rest` are left
+-- one more of n clients gets its seat: `made` have theirs, and `rest` don't yet
 pub record IsNext (n made rest : ℕ) : Type 0 where
   pub number : n - rest ≡ made + 1
   pub left : rest + (made + 1) ≡ n
@@ -65,7 +66,7 @@ module _ (list : Counted) where
   pub new_sat : (k : ℕ) (w : Writer CountRequest CountReply CountLog Nothing) → IsNew (table_of list) k w → 0 < k → k ≤ clients_of list → IsSat list k w
   new_sat k w new positive within = ((new.2, subst (λ c. 0 < c) (sym new.0) positive, subst (λ c. c ≤ clients_of list) (sym new.0) within), new_is_out k w new, new.0)
 
-  -- a writer that was linked is linked with what it was told
+  -- a writer that was linked with what it was told is asking
   pub linked : (q : CountRequest) (mine : List (CountRequest × CountReply)) (w : Writer CountRequest CountReply CountLog Nothing) → IsIn (law list) q mine w → IsAsking list w
   linked q mine w is = (q, subst (λ answers_told. IsIn (law list) q answers_told w) (sym (known w.task is)) is)
     where
@@ -76,14 +77,14 @@ module _ (list : Counted) where
       known Queues l = absurd l
       known Serves l = absurd l
 
-  -- a writer that was chosen leads, and one that is done is out
+  -- a writer that was chosen leads, and one that is done is out of the list
   pub leads : (own : QueuedWriter CountRequest) (seen : List (Handling CountRequest CountReply)) (mine : List (CountRequest × CountReply)) (w : Writer CountRequest CountReply CountLog Nothing) → Belongs list w → IsChosen own seen mine w → Leads list w
   leads own seen mine w ours is = (ours, (own, seen, subst (λ answers_told. IsChosen own seen answers_told w) (sym (ap told_in_first is.0)) is))
 
   pub done : (mine : List (CountRequest × CountReply)) (w : Writer CountRequest CountReply CountLog Nothing) → w.seat.me.0 ≡ hold w.client Idle mine ∷ [] → w.seat.me.1 ≡ [] → IsOut w
   done mine w at none = (at ∙ (λ i. hold w.client Idle (sym (ap told_in_first at) i) ∷ []), none)
 
-  -- one more who may write
+  -- one more client may write
   pub seat_more : (ps : List Player) (p : Player) → AllMayWrite list ps → MayWrite list (length ps + 1) p → AllMayWrite list (ps ++ p ∷ [])
   seat_more ps p all may =
       let more = length-append ps (p ∷ []) in
@@ -94,7 +95,7 @@ module _ (list : Counted) where
         ];
       }
 
-  -- the last who may write
+  -- all clients may write: so may all but the last, and so may the last
   pub seat_last : (ps : List Player) (p : Player) → AllMayWrite list (ps ++ p ∷ []) → AllMayWrite list ps × MayWrite list (length ps + 1) p
   seat_last ps p all =
       let more = length-append ps (p ∷ []) in (
@@ -102,7 +103,7 @@ module _ (list : Counted) where
         subst (MayWrite list (length ps + 1)) (get_or_push ps p p (length ps) refl) (all.each (length ps) p (omega arith)),
       )
 
-  -- the writer of the next lesser client
+  -- the writer of the client with the next lower number
   pub sat_snoc : (m : ℕ) (ws : List (Writer CountRequest CountReply CountLog Nothing)) (w : Writer CountRequest CountReply CountLog Nothing) → AreSat list m ws → IsSat list (m - length ws) w → AreSat list m (ws ++ w ∷ [])
   sat_snoc m [] w all sat = (subst (λ k. IsSat list k w) (let h : m - 0 ≡ m = omega arith in h) sat, tt)
   sat_snoc m (x ∷ xs) w all sat = (all.0, sat_snoc (m - 1) xs w all.1 (subst (λ k. IsSat list k w) (let h : m - suc (length xs) ≡ m - 1 - length xs = omega arith in h) sat))

@@ -1,4 +1,4 @@
-//! Bells that nobody rings, and one that another thread rings.
+//! Bells that nobody rings, and a bell that another thread rings.
 
 use base_waiting::{Bells, Pauses};
 use std::sync::Wait;
@@ -22,7 +22,7 @@ fn await_change<R: Wait + rt::Clock>(rt: &R, bells: &Bells, changed: &AtomicU64)
     }
 }
 
-// Each pause ends. The client 3 has no bell.
+// Each pause ends. Client 3 has no bell.
 #[test]
 fn nobody_rings(rt: HostRuntime) -> Result<(), Fail> {
     let bells = Bells::for_clients(rt.alloc(), 2)?;

@@ -1,4 +1,4 @@
-//! A plain counter as the log, what it answers, and who takes part.
+//! A plain counter as the log, what it answers, and the clients.
 ghost use Rattle.std.specs.Prelude.{◌≡◌, ◌≤◌, [], vec_len, vec_capacity, ⊤};
 ghost use Rattle.line_writers.specs.Roles.{firsts};
 
@@ -7,7 +7,7 @@ use line_writers::{Lists, Replies, Requests, Writer};
 use model_base::Item;
 use std::mem;
 
-/// A request to be counted.
+/// A request that the counter should count.
 #[derive(Drop)]
 pub struct CountRequest {
     pub item: Item,
@@ -17,7 +17,7 @@ impl HasGroupingItem for CountRequest {
     ghost item_of = { λ a. a.item };
 }
 
-/// The counter's number at the handling, and the size that was asked.
+/// The counter's number when it handled the request, and the size in the request.
 #[derive(Drop, Clone, Copy)]
 pub struct CountReply {
     pub number: u64,
@@ -28,8 +28,8 @@ impl GivesRun for CountReply {
     ghost run_of = { λ a. (0, 0) };
 }
 
-/// How many were counted, and the sum of their sizes, whatever right goes with it. What it says of the handlings is
-/// left to the tests.
+/// How many requests were counted, and the sum of their sizes, with any kind of right. It promises nothing of the
+/// handlings: the tests compare what it answered.
 #[derive(Drop)]
 pub struct CountLog {
     pub count: u64,
@@ -54,13 +54,14 @@ impl<Right> LogOfGroups<CountRequest, CountReply, Right> for CountLog {
     }
 }
 
-/// In place of the right to a second list.
+/// Takes the place of the right to a second list, which this list doesn't have.
 #[derive(Drop)]
 pub struct Nothing {
     pub mark: u64,
 }
 
-/// A client: its writer, the lists that it leads with, what it was told, and the size of the group that it led last.
+/// A client: its writer, the lists that it leads with, the replies that it got, and the size of the group that it led
+/// last.
 #[derive(Drop)]
 pub struct Player {
     pub writer: Writer<CountRequest, CountReply, CountLog, Nothing>,
@@ -69,7 +70,7 @@ pub struct Player {
     pub led: usize,
 }
 
-/// Answers each request with the counter's next number and its own size.
+/// Answers each request with the counter's next number and the request's own size.
 pub fn answer_all(
     counter: &mut CountLog,
     requests: &mut Requests<CountRequest>,
@@ -100,15 +101,15 @@ pub fn answer_all(
     requests.list.clear();
 }
 
-/// Notes what a client was told, where there is room for it.
+/// Notes a client's reply, where there is room for it.
 pub fn note(told: &mut Vec<CountReply>, answer: CountReply) {
     if told.len() < told.capacity() {
         told.push_reserved(answer);
     }
 }
 
-/// Notes each number that a client was told, whose requests have this size. An `Err` has the first answer that is
-/// wrong: its size is another, or its number is one that was noted before, has no place, or isn't above the one
+/// Notes each number in a client's replies, whose requests all have this size. An `Err` has the first reply that is
+/// wrong: its size is another, or its number was noted before, has no place in `noted`, or isn't above the number
 /// before it.
 pub fn note_numbers(told: &[CountReply], size: u64, noted: &mut [bool]) -> Result<(), CountReply> {
     let mut next = 0;

@@ -1,11 +1,11 @@
-//! How long the group is that a leader takes of two writers.
+//! How long a leader's group is, where two writers are in the queue.
 
 use crate::items::{EIGHTH, HASTY, MAX, PAST_EIGHTH, PAST_REST, PLAIN, REST, SYNCED, UNLOGGED};
 use line_grouping::group_len;
 use model_base::Item;
 use std::process::Abort;
 
-/// A leader and the writer behind it, and how many the leader's group has.
+/// A leader and the writer after it, and the length of the leader's group.
 #[derive(Clone, Copy)]
 struct Row {
     queue: [Item; 2],
@@ -13,27 +13,27 @@ struct Row {
 }
 
 const ROWS: [Row; 8] = [
-    // A small leader's cap, its 100 and an eighth, is reached.
+    // The group just reaches a small leader's cap: its own 100 and an eighth of the bound.
     Row {
         queue: [PLAIN, EIGHTH],
         len: 2,
     },
-    // A small leader's cap is passed by one.
+    // The group would pass a small leader's cap by one.
     Row {
         queue: [PLAIN, PAST_EIGHTH],
         len: 1,
     },
-    // A larger leader's cap, the bound, is reached.
+    // The group just reaches a larger leader's cap, the bound.
     Row {
         queue: [PAST_EIGHTH, REST],
         len: 2,
     },
-    // A larger leader's cap is passed by one.
+    // The group would pass a larger leader's cap by one.
     Row {
         queue: [PAST_EIGHTH, PAST_REST],
         len: 1,
     },
-    // A sync doesn't go with a leader without one, and a leader with a sync takes one without along.
+    // A leader without a sync takes no writer with one. A leader with a sync takes one without.
     Row {
         queue: [PLAIN, SYNCED],
         len: 1,
@@ -42,7 +42,8 @@ const ROWS: [Row; 8] = [
         queue: [SYNCED, PLAIN],
         len: 2,
     },
-    // Out of the log, and none that may be slowed down, alone.
+    // A writer that stays out of the log, or one that doesn't wait where writes are held up, shares no group with a
+    // plain writer.
     Row {
         queue: [PLAIN, UNLOGGED],
         len: 1,
@@ -64,7 +65,7 @@ fn check_row(rt: &impl Abort, row: &Row) {
 
 #[test]
 fn sizes_and_options_end_the_group(rt: HostRuntime) {
-    // The groups of the rows so far have the lengths that they say.
+    // The groups of the rows so far had the lengths that their rows say.
     for row in &ROWS {
         check_row(&rt, row);
     }

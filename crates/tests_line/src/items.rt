@@ -1,10 +1,10 @@
-//! What the tests' writers ask for, with the sizes at which the grouping rule decides.
+//! The items that the tests' writers ask with, of the sizes at which the grouping rule decides.
 
 ghost use Rattle.std.specs.Prelude.{◌≡◌};
 
 use model_base::{Item, WriteOptions};
 
-/// The bound that the grouping rule's worked examples take.
+/// The bound of the grouping rule's worked examples.
 pub const MAX: u64 = 1048576;
 
 pub const UNFLAGGED: WriteOptions = WriteOptions {
@@ -13,7 +13,7 @@ pub const UNFLAGGED: WriteOptions = WriteOptions {
     no_slowdown: false,
 };
 
-/// A small one. As a leader its cap is its 100 and an eighth of the bound.
+/// A small item. As a leader its cap is its own 100 and an eighth of the bound.
 pub const PLAIN: Item = Item {
     size: 100,
     options: UNFLAGGED,
@@ -43,7 +43,7 @@ pub const HASTY: Item = Item {
     ..PLAIN
 };
 
-/// An eighth of the bound. A leader past it is a larger one.
+/// An eighth of the bound. A leader above this size is a larger one, whose cap is the bound.
 pub const EIGHTH: Item = Item {
     size: 131072,
     ..PLAIN
@@ -54,7 +54,7 @@ pub const PAST_EIGHTH: Item = Item {
     ..PLAIN
 };
 
-/// What the bound leaves beside that.
+/// What `PAST_EIGHTH` leaves of the bound.
 pub const REST: Item = Item {
     size: 917503,
     ..PLAIN
@@ -65,7 +65,7 @@ pub const PAST_REST: Item = Item {
     ..PLAIN
 };
 
-/// A plain one of this size.
+/// A plain item of this size.
 pub fn sized(size: u64) -> Item
     ensures { result.size ≡ size }
 {

@@ -1,7 +1,7 @@
-//! Tests of the line of writers, over a plain counter as its log: who goes with whom, what each is told, who leads
-//! next, and threads that write at once; of the rule alone by which its groups are made; and of the bells that its
-//! writers sleep on. They stand in a crate of their own, so that `line_grouping`, `line_writers` and `base_waiting` are
-//! proved once and not with their tests again.
+//! Tests of the line of writers, over a plain counter as its log: which writers form a group, which reply each gets,
+//! who leads next, and threads that write at once. Also tests of the rule alone by which groups are made, and of the
+//! bells that writers sleep on. They are a crate of their own, so that `line_grouping`, `line_writers` and
+//! `base_waiting` are proved once, and not again with their tests.
 #![tactic(auto)]
 
 #[cfg(test)]

@@ -24,7 +24,7 @@ use std::test::Fail;
 
 const ONE: Item = Item { size: 1, ..PLAIN };
 
-/// What three writers ask in turn, and the sizes of the groups that they lead then; none where another
+/// What three writers ask for, one after another, and the sizes of the groups that they lead then, 0 where another one
 /// leads.
 #[derive(Clone, Copy)]
 struct Row {
@@ -33,49 +33,50 @@ struct Row {
 }
 
 const ROWS: [Row; 8] = [
-    // All alike.
+    // All three are alike.
     Row {
         items: [PLAIN, PLAIN, PLAIN],
         led: [3, 0, 0],
     },
-    // A small leader's cap, its 100 and an eighth, is reached.
+    // The group just reaches a small leader's cap: its own 100 and an eighth of the bound.
     Row {
         items: [PLAIN, EIGHTH, ONE],
         led: [2, 0, 1],
     },
-    // A small leader's cap is passed by one.
+    // The group would pass a small leader's cap by one.
     Row {
         items: [PLAIN, PAST_EIGHTH, ONE],
         led: [1, 2, 0],
     },
-    // A larger leader's cap, the bound, is reached.
+    // The group just reaches a larger leader's cap, the bound.
     Row {
         items: [PAST_EIGHTH, REST, ONE],
         led: [2, 0, 1],
     },
-    // A larger leader's cap is passed by one.
+    // The group would pass a larger leader's cap by one.
     Row {
         items: [PAST_EIGHTH, PAST_REST, ONE],
         led: [1, 2, 0],
     },
-    // A sync doesn't go with a leader without one, and goes before one without.
+    // A leader without a sync takes no writer with one. A leader with a sync takes one without.
     Row {
         items: [PLAIN, SYNCED, PLAIN],
         led: [1, 2, 0],
     },
-    // Out of the log, and none that may be slowed down, alone.
+    // A plain writer, one that stays out of the log and one that doesn't wait where writes are held up: each has a
+    // group of its own.
     Row {
         items: [PLAIN, UNLOGGED, HASTY],
         led: [1, 1, 1],
     },
-    // The flags alike.
+    // Two writers with the same flags share a group.
     Row {
         items: [UNLOGGED, UNLOGGED, PLAIN],
         led: [2, 0, 1],
     },
 ];
 
-/// Another bound, under which the group is cut.
+/// Another bound, which cuts the group.
 const SMALL_BOUND: u64 = 250;
 
 const CUT: Row = Row {
@@ -83,18 +84,20 @@ const CUT: Row = Row {
     led: [2, 0, 1],
 };
 
-// The size of the group that a client led last, and the number and the size that it was told last.
+// The size of the group that a client led last, and the number and the size in its last reply.
 fn told_last(player: &Player) -> Option<(usize, u64, u64)> {
     let answer = player.told.last()?;
     Some((player.led, answer.number, answer.size))
 }
 
-// What a client in the row from `from` was told last: the size of the group that it led, its number and its size.
+// Compares a client after the row whose numbers begin at `from`: the size of the group that it led last, and the
+// number and the size in its last reply.
 fn check_player(rt: &impl Abort, player: &Player, want: (usize, u64, u64), from: u64) {
     assert_eq!(rt; told_last(player), Some(want), "in the row from {from}");
 }
 
-// The answers of a row are those of the counter from `from` on, in the order of the links, each with its own size.
+// The replies in a row have the counter's numbers from `from` on, in the order in which the writers linked, and each
+// has its request's own size.
 fn check_row(rt: &impl Abort, players: &[Player], row: &Row, from: u64) {
     assert_eq!(rt; players.len(), 3);
     let mut number = from;
@@ -104,7 +107,7 @@ fn check_row(rt: &impl Abort, players: &[Player], row: &Row, from: u64) {
     }
 }
 
-// A row's requests come in turn, and then each of the three waits for its role.
+// The three clients link one after another, and then each waits for its role.
 fn play_row<R: Wait + rt::Clock + Abort>(
     rt: &R,
     list: &Counted,
@@ -143,7 +146,7 @@ fn a_smaller_bound_cuts_the_group(rt: HostRuntime) {
     assert_eq!(rt; (log.count, log.sum, right.mark), (3, 300, 7));
 }
 
-// The first leads, and the newcomer links itself when the group is made.
+// The first client leads, and the newcomer links itself once the group is made.
 fn lead_beside<R: Wait + rt::Clock + Abort>(
     rt: &R,
     list: &Counted,
@@ -191,7 +194,7 @@ fn a_newcomer_leads_the_next_group(rt: HostRuntime) {
     check_row(&rt, &[first, second, third], &NEWCOMER, 0);
 }
 
-// Each of the clients was told so many numbers with its own size, and each number was told once.
+// Each client got `times` replies with its own size, and each number was given once.
 fn check_told(rt: &impl Abort, alloc: Global, players: &[Player], times: usize) {
     let all = players.len().wrapping_mul(times);
     let mut noted = vec![in alloc; false; all].expect(rt, "memory");
@@ -205,7 +208,7 @@ fn check_told(rt: &impl Abort, alloc: Global, players: &[Player], times: usize) 
     }
 }
 
-// Just one of two that link at once leads. Both are linked before a group is made, so that its group is both.
+// Of two clients that link at once just one leads. Both are linked before a group is made, so both are in it.
 #[test]
 fn two_link_at_once(rt: HostRuntime) {
     let alloc = rt.alloc();
@@ -220,7 +223,7 @@ fn two_link_at_once(rt: HostRuntime) {
     assert!(rt; led == (0, 2) || led == (2, 0));
 }
 
-// Each is told its own, each number is told once, and the log that comes back has counted all.
+// Each client gets its own replies, each number is given once, and the log that comes back has counted all.
 #[test]
 fn four_write_at_once(rt: HostRuntime) {
     let alloc = rt.alloc();
@@ -231,7 +234,8 @@ fn four_write_at_once(rt: HostRuntime) {
     assert_eq!(rt; (log.count, log.sum, right.mark), (4000, 10000, 7));
 }
 
-// How many writers and lists an opened list for three has, or the counts, the sum and the mark that come back.
+// How many writers and lists an opened list for three clients has, or the log's count and sum and the right's mark,
+// which come back.
 fn open_three(alloc: Global) -> Result<(usize, usize), (u64, u64, u64)> {
     let start = Start {
         clients: 3,
@@ -247,8 +251,8 @@ fn open_three(alloc: Global) -> Result<(usize, usize), (u64, u64, u64)> {
     }
 }
 
-// Log and right come back where memory is short: `tests/fail_alloc` makes each allocation fail in turn, and reads what
-// this prints.
+// The log and the right come back where memory is short: `tests/fail_alloc` makes each allocation fail in turn, and
+// reads what this prints.
 #[test]
 fn open_gives_back(rt: HostRuntime) -> Result<(), Fail> {
     let text = match open_three(rt.alloc()) {

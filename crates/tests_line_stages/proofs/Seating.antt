@@ -1,4 +1,4 @@
--- From the writers of an opened list to its clients, and back.
+-- Clients are made from the writers of an opened list, and give the writers back.
 use Rattle.std.proofs.Common.{◌≡◌, ℕ, ◌+◌, ◌-◌, ◌<◌, ◌≤◌, inl, inr, suc, List, [], ◌∷◌, ◌++◌, length, get_or, set, refl, sym, ap, ◌∙◌, subst, arith, length-append}
 use Rattle.std.proofs.lemmas.List.{get_or_push, get_or_append_left, get_or-set_other, get_or-set_same, length-set}
 use Rattle.std.proofs.lemmas.Bool.{cases_lt, cases_eq}
@@ -10,7 +10,7 @@ use Rattle.line_writers.specs.declared.writer.Task.TheVariants.{Awaits, Leads, H
 use Rattle.line_rule.specs.declared.view.Handling.{Handling}
 use Rattle.line_rule.specs.declared.view.QueuedWriter.{QueuedWriter}
 use Rattle.line_writers.specs.Roles.{IsNew, AreNew, IsLinked, Chosen}
-use Rattle.line_writers.specs.Seats.{table_of, clients_of, Belongs, IsIn, IsChosen, IsOut, AllOut, AllThere, StandsStill, answers_told, told_in_first}
+use Rattle.line_writers.specs.Seats.{table_of, clients_of, Belongs, IsIn, IsChosen, IsOut, AllOut, AllThere, IsUnchanged, answers_told, told_in_first}
 use Rattle.tests_line.proofs.Seating.{below_or_at}
 use Rattle.tests_line.specs.declared.counter.CountRequest.{CountRequest}
 use Rattle.tests_line.specs.declared.counter.CountReply.{CountReply}
@@ -19,7 +19,8 @@ use Rattle.tests_line_stages.specs.declared.counter.CountingRight.{CountingRight
 use Rattle.tests_line_stages.specs.declared.client.StagePlayer.{StagePlayer}
 use Rattle.tests_line_stages.specs.Clients.{Counted, law, IsAsking, IsLeader, IsIdle, MayWrite, AllMayWrite, AreIdle, Stands, AllStand}
 
--- what holds of each client by its number holds where one more comes, and where one is another
+-- What holds of each client and its number still holds of all, after one client more is added that has it, and after
+-- one is replaced by another that has it.
 each_more : (P : ℕ → StagePlayer → Type 0) (ps : List StagePlayer) (p : StagePlayer) → ((i : ℕ) (d : StagePlayer) → i < length ps → P (i + 1) (get_or ps i d)) → P (length ps + 1) p → (i : ℕ) (d : StagePlayer) → i < length (ps ++ p ∷ []) → P (i + 1) (get_or (ps ++ p ∷ []) i d)
 each_more P ps p each one i d h =
     let more = length-append ps (p ∷ []) in
@@ -47,7 +48,7 @@ module _ (list : Counted) where
   pub new_idle : (k : ℕ) (w : Writer CountRequest CountReply CountLog CountingRight) → IsNew (table_of list) k w → 0 < k → k ≤ clients_of list → IsIdle list k w
   new_idle k w new positive within = ((new.2, subst (λ c. 0 < c) (sym new.0) positive, subst (λ c. c ≤ clients_of list) (sym new.0) within), new_is_out k w new, new.0)
 
-  -- a writer that was linked is linked with what it was told
+  -- a writer that was linked with what it was told is asking
   pub linked : (q : CountRequest) (mine : List (CountRequest × CountReply)) (w : Writer CountRequest CountReply CountLog CountingRight) → IsIn (law list) q mine w → IsAsking list w
   linked q mine w is = (q, subst (λ answers_told. IsIn (law list) q answers_told w) (sym (known w.task is)) is)
     where
@@ -58,12 +59,12 @@ module _ (list : Counted) where
       known Queues l = absurd l
       known Serves l = absurd l
 
-  -- a writer that was chosen leads, and one that is done is out
+  -- a writer that was chosen leads
   pub leads : (own : QueuedWriter CountRequest) (seen : List (Handling CountRequest CountReply)) (mine : List (CountRequest × CountReply)) (w : Writer CountRequest CountReply CountLog CountingRight) → Belongs list w → IsChosen own seen mine w → IsLeader list w
   leads own seen mine w ours is = (ours, (own, seen, subst (λ answers_told. IsChosen own seen answers_told w) (sym (ap told_in_first is.0)) is))
 
-  -- and leads still where it stands still
-  pub leads_still : (new old : Writer CountRequest CountReply CountLog CountingRight) → StandsStill new old → IsLeader list old → IsLeader list new
+  -- a leader whose state is unchanged still leads
+  pub leads_still : (new old : Writer CountRequest CountReply CountLog CountingRight) → IsUnchanged new old → IsLeader list old → IsLeader list new
   leads_still new old still is =
       let own : QueuedWriter CountRequest = is.1.0 in let seen : List (Handling CountRequest CountReply) = is.1.1 in
       let chosen = subst (λ m. Chosen old.client own seen (told_in_first m.0) m) (sym still.2) is.1.2 in (
@@ -74,18 +75,18 @@ module _ (list : Counted) where
   pub done : (mine : List (CountRequest × CountReply)) (w : Writer CountRequest CountReply CountLog CountingRight) → w.seat.me.0 ≡ hold w.client Idle mine ∷ [] → w.seat.me.1 ≡ [] → IsOut w
   done mine w at none = (at ∙ (λ i. hold w.client Idle (sym (ap told_in_first at) i) ∷ []), none)
 
-  -- one more who may write, and stands as its stage says
+  -- one more client may write (`seat_more`), or is in the list where its stage says (`stand_more`)
   pub seat_more : (ps : List StagePlayer) (p : StagePlayer) → AllMayWrite list ps → MayWrite list (length ps + 1) p → AllMayWrite list (ps ++ p ∷ [])
   seat_more ps p all may = record { each = each_more (MayWrite list) ps p all.each may }
 
   pub stand_more : (ps : List StagePlayer) (p : StagePlayer) → AllStand list ps → Stands list (length ps + 1) p → AllStand list (ps ++ p ∷ [])
   stand_more ps p all stands = record { each = each_more (Stands list) ps p all.each stands }
 
-  -- one of them stands elsewhere
+  -- one of the clients is now elsewhere
   pub stand_elsewhere : (ps : List StagePlayer) (i : ℕ) (p : StagePlayer) → AllStand list ps → Stands list (i + 1) p → AllStand list (set ps i p)
   stand_elsewhere ps i p all stands = record { each = each_set (Stands list) ps i p all.each stands }
 
-  -- the last who may write
+  -- all clients may write: so may all but the last, and so may the last
   pub seat_last : (ps : List StagePlayer) (p : StagePlayer) → AllMayWrite list (ps ++ p ∷ []) → AllMayWrite list ps × MayWrite list (length ps + 1) p
   seat_last ps p all =
       let more = length-append ps (p ∷ []) in (
@@ -93,7 +94,7 @@ module _ (list : Counted) where
         subst (MayWrite list (length ps + 1)) (get_or_push ps p p (length ps) refl) (all.each (length ps) p (omega arith)),
       )
 
-  -- the writer of the next lesser client
+  -- the writer of the client with the next lower number
   pub idle_snoc : (m : ℕ) (ws : List (Writer CountRequest CountReply CountLog CountingRight)) (w : Writer CountRequest CountReply CountLog CountingRight) → AreIdle list m ws → IsIdle list (m - length ws) w → AreIdle list m (ws ++ w ∷ [])
   idle_snoc m [] w all sat = (subst (λ k. IsIdle list k w) (let h : m - 0 ≡ m = omega arith in h) sat, tt)
   idle_snoc m (x ∷ xs) w all sat = (all.0, idle_snoc (m - 1) xs w all.1 (subst (λ k. IsIdle list k w) (let h : m - suc (length xs) ≡ m - 1 - length xs = omega arith in h) sat))

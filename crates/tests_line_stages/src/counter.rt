@@ -1,7 +1,7 @@
 //! A right that counts what is served.
 
-/// The next number to be served, how many groups were served, how many of them didn't come in the counter's order, and
-/// how many writers worked beside their leaders.
+/// The next number to be served, how many groups were served, how many of these didn't come in the counter's order,
+/// and how many writers worked in parallel with their leaders.
 #[derive(Drop)]
 pub struct CountingRight {
     pub next: u64,

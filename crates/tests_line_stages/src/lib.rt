@@ -1,6 +1,6 @@
-//! Tests of the line of writers with its second list: who leads, who waits behind whom, who works beside its leader and
-//! what each is told, in schedules of the calls on one thread, and from threads that write at once. They stand in a
-//! crate of their own, so that `line_writers` is proved once and not with its tests again.
+//! Tests of the line of writers with its second list: who leads, who waits for whom, who works in parallel with its
+//! leader and which reply each gets. They run schedules of the calls on one thread, and threads that write at once.
+//! They are a crate of their own, so that `line_writers` is proved once, and not again with its tests.
 #![tactic(auto)]
 
 mod client;

@@ -1,4 +1,4 @@
-//! Schedules on one thread, and threads that write at once, to a list with the second one.
+//! Schedules on one thread, and threads that write at once, on a list with a second list.
 
 mod clients;
 mod leading;
@@ -18,8 +18,9 @@ use std::test::Fail;
 use tests_line::{CountLog, MAX, note_numbers};
 use threads::write_at_once;
 
-/// Three log one after the other, and their groups are served in that order, each with the number that comes next. Who
-/// links before the leader of the log gives it on leads by that, and who links then leads at once.
+/// Three clients log one after another, and their groups are served in that order, each with the number that comes
+/// next. A client that links before the leader hands the log on becomes the leader by that, and one that links
+/// afterwards leads at once.
 const IN_ORDER: &[Turn] = &[
     (1, Call::Link, Seen::Nothing),
     (1, Call::AwaitRole, Seen::LogLeader(0, false)),
@@ -41,8 +42,8 @@ const IN_ORDER: &[Turn] = &[
     (3, Call::ExitMemtable, Seen::Done(2)),
 ];
 
-/// A group that is refused leaves by the first list, while an older one stands in the second. That one is served then.
-/// The next one finds nobody there, and has the number that the refused one didn't take.
+/// A group that is refused leaves through the first list, while an older group is in the second. The older group is
+/// served then. The next group finds the second list empty, and has the number that the refused one didn't take.
 const REFUSED: &[Turn] = &[
     (1, Call::Link, Seen::Nothing),
     (1, Call::AwaitRole, Seen::LogLeader(0, false)),
@@ -64,8 +65,8 @@ const REFUSED: &[Turn] = &[
     (2, Call::ExitMemtable, Seen::Done(1)),
 ];
 
-/// Members that are told to work beside their leader are told so once, and have their replies when it has left. One
-/// that looks only then has its reply at once.
+/// Members that are asked to work in parallel with their leader are asked once, and get their replies when the leader
+/// has left. A member that looks only then gets its reply at once.
 const BESIDE: &[Turn] = &[
     (1, Call::Link, Seen::Nothing),
     (2, Call::Link, Seen::Nothing),
@@ -92,12 +93,12 @@ fn schedules_on_one_thread(rt: HostRuntime) {
     }
 }
 
-// Each of the clients was told so many numbers with its own size, and each number was told once.
+// Each client got `times` replies with its own size, and each number was given once.
 fn check_told(rt: &impl Abort, alloc: Global, clients: &[StagePlayer], times: usize) {
     let all = clients.len().wrapping_mul(times);
     let mut noted = vec![in alloc; false; all].expect(rt, "memory");
     let mut size = 0u64;
-    // `size` is the number of clients gone through, and the last one's own.
+    // `size` is how many clients were gone through, and the size of the last one's requests.
     for client in clients {
         size = size.wrapping_add(1);
         assert_eq!(rt; client.told.len(), times);
@@ -107,8 +108,8 @@ fn check_told(rt: &impl Abort, alloc: Global, clients: &[StagePlayer], times: us
     }
 }
 
-// Each is told its own, each number is told once, the log that comes back has counted all, and the right has served all
-// groups in the log's order.
+// Each client gets its own replies, each number is given once, the log that comes back has counted all, and the right
+// has served all groups in the log's order.
 #[test]
 fn four_write_at_once(rt: HostRuntime) {
     let alloc = rt.alloc();
@@ -124,7 +125,8 @@ fn four_write_at_once(rt: HostRuntime) {
     assert_eq!(rt; right.groups.wrapping_add(right.helped), 4000);
 }
 
-// How many writers and lists an opened list for three has, or the count, the sum and the next number that come back.
+// How many writers and lists an opened list for three clients has, or the log's count and sum and the right's next
+// number, which come back.
 fn open_three(alloc: Global) -> Result<(usize, usize), (u64, u64, u64)> {
     let start = Start {
         clients: 3,
@@ -146,8 +148,8 @@ fn open_three(alloc: Global) -> Result<(usize, usize), (u64, u64, u64)> {
     }
 }
 
-// Log and right come back where memory is short: `tests/fail_alloc` makes each allocation fail in turn, and reads what
-// this prints.
+// The log and the right come back where memory is short: `tests/fail_alloc` makes each allocation fail in turn, and
+// reads what this prints.
 #[test]
 fn open_gives_back(rt: HostRuntime) -> Result<(), Fail> {
     let text = match open_three(rt.alloc()) {

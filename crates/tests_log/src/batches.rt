@@ -1,4 +1,4 @@
-//! Batches: the bytes of their additions, the limit on their size, and batches read from bytes.
+//! Batches: the bytes that their additions make, the limit on their size, and batches read from bytes.
 
 use crate::checks::check;
 use crate::logs::{NOTE, PUT, WITH_LONG_VARINT, WITH_TAG_2, WITHOUT_VALUE, add_all, batch_bytes};
@@ -55,7 +55,7 @@ const DELETED: [RecordView<'static>; 1] = [SingleDeletion { key: b"a" }];
 // A batch's bytes, its sequence, how many of its additions count, and its size.
 type Facts<'a> = (&'a [u8], u64, u32, u64);
 
-// Additions, and what the batch of them is. Log data isn't counted.
+// Additions, and the facts of the batch that has them. Log data isn't counted.
 const MADE: [(&[RecordView<'static>], Facts<'static>); 3] = [
     (&PUTS, (&TWO_PUTS_AND_A_DELETION, 1, 3, 25)),
     (&DELETED, (&A_SINGLE_DELETION, 3, 1, 15)),
@@ -66,7 +66,8 @@ fn facts(batch: &Batch) -> Facts<'_> {
     (batch.bytes(), batch.sequence(), batch.count(), batch.size())
 }
 
-// One batch has the additions of each row after it was new or cleared.
+// One batch gets the additions of each row in turn: it is new before the first row, and is cleared before each other
+// one.
 #[test]
 fn has_the_bytes_of_its_additions(rt: HostRuntime) -> Result<(), Fail> {
     let mut batch = Batch::new(rt.alloc())?;
@@ -80,7 +81,7 @@ fn has_the_bytes_of_its_additions(rt: HostRuntime) -> Result<(), Fail> {
     Ok(())
 }
 
-// What putting so many zeros at a key comes to, how many additions count then, and the size.
+// Puts `len` zeros at a key. Answers what the put answered, how many additions count then, and the batch's size.
 fn put_zeros(
     alloc: Global,
     batch: &mut Batch,
@@ -112,7 +113,7 @@ const WITH_ANOTHER: [u8; 33] = [
     1, 1, b'a', 1, b'1', // put a 1
 ];
 
-// The records of another batch come behind, and its sequence isn't looked at.
+// The records of another batch are added after those of this one. The other batch's sequence is ignored.
 #[test]
 fn takes_the_records_of_another(rt: HostRuntime) -> Result<(), Fail> {
     let mut batch = Batch::new(rt.alloc())?;
@@ -123,7 +124,7 @@ fn takes_the_records_of_another(rt: HostRuntime) -> Result<(), Fail> {
     Ok(())
 }
 
-// Eight bytes are too many by one, and none of them is taken.
+// The other batch's records would make this one too large by one byte, so none of them is taken.
 #[test]
 fn takes_all_records_of_another_or_none(rt: HostRuntime) -> Result<(), Fail> {
     let mut batch = Batch::new(rt.alloc())?;
@@ -184,13 +185,13 @@ fn counted(bytes: &[u8]) -> Result<u32, BatchError> {
     Ok(read_batch(bytes)?.count())
 }
 
-// A put whose key's length, a varint, has 33 bits.
+// A put whose key has a length, a varint, of 33 bits.
 const WITH_VARINT_OF_33_BITS: [u8; 6] = [1, 0xff, 0xff, 0xff, 0xff, 0x1f];
 
-// A tag that no record has, before half a varint.
+// A tag that no record has, followed by half a varint.
 const WITH_TAG_255: [u8; 2] = [0xff, 0x80];
 
-// What the header says that counts, the records, and why they are no batch.
+// The count in the header, the records, and why they are no batch.
 const NO_BATCHES: [(u32, &[u8], BatchError); 8] = [
     (1, &WITH_TAG_2, BatchError::Tag(2)),
     (2, &PUT, BatchError::Count { said: 2, found: 1 }),
@@ -211,7 +212,7 @@ fn refuses_what_is_no_batch(rt: HostRuntime) -> Result<(), Fail> {
     Ok(())
 }
 
-// What is read of the first so many bytes of the batch of two puts and a deletion.
+// What is read of the first `len` bytes of the batch of two puts and a deletion.
 fn counted_of_cut(len: usize) -> Result<u32, BatchError> {
     match len {
         12 => Err(BatchError::Count { said: 3, found: 0 }),

@@ -72,13 +72,13 @@ fn reads_what_is_cut(rt: HostRuntime) -> Result<(), Fail> {
     Ok(())
 }
 
-// Where the type stands in a fragment, and the last byte of its part.
+// Where a fragment has its type, and the last byte of its part.
 const TYPE_AT: usize = 6;
 
 const C_AT: usize = 9;
 
-// A fragment, the place that gets another byte, that byte, and what is wrong then. No fragments have the types 0 and 5,
-// whatever the checksum.
+// A fragment, the place that gets another byte, that byte, and the damage that is seen then. No fragment has the type
+// 0 or 5, whatever its checksum.
 const CHANGED: [([u8; 10], usize, u8, Damage); 3] = [
     (FIRST_ABC, TYPE_AT, 0, Damage::BadType(0)),
     (FIRST_ABC, TYPE_AT, 5, Damage::BadType(5)),
@@ -108,7 +108,8 @@ pub(crate) fn zeros(alloc: Global) -> Result<Vec<u8>, AllocError>
     vec![in alloc; 0u8; BLOCK_LEN]
 }
 
-/// What is seen at a place of a block, of which the file has so many bytes, in a log with this number, if it has one.
+/// What is seen at the place `at` of a block, of which the file has the first `there` bytes, in a log with this
+/// number, if it has one.
 pub(crate) fn seen_in(number: Option<u32>, block: &[u8], there: usize, at: usize) -> Seen
     requires whole { length block.now ≡ BLOCK_LEN }
     requires in_block { there ≤ BLOCK_LEN }
@@ -117,8 +118,8 @@ pub(crate) fn seen_in(number: Option<u32>, block: &[u8], there: usize, at: usize
     read_fragment(number, &block[..there], at)
 }
 
-// What is seen at a block's last six bytes, at its last one, behind it, and at the last six where the file
-// lacks three of them.
+// What is seen at a block's last six bytes, at its last byte, at its end, and at the last six bytes where the file
+// ends three bytes before the block does.
 fn seen_at_the_end(block: &[u8]) -> [Seen; 4]
     requires { length block.now ≡ BLOCK_LEN }
 {
@@ -130,14 +131,14 @@ fn seen_at_the_end(block: &[u8]) -> [Seen; 4]
     ]
 }
 
-// The block with a fragment in its last seven bytes.
+// Puts a fragment into the last seven bytes of the block.
 fn put_at_the_end(block: &mut [u8], fragment: [u8; 7])
     requires { length block.old ≡ BLOCK_LEN }
 {
     block[BLOCK_LEN - 7..].copy_from_slice(&fragment);
 }
 
-// In zeros, and behind a fragment that begins seven bytes before the end.
+// The block is all zeros at first, and then has a fragment that begins seven bytes before its end.
 #[test]
 fn reads_the_end_of_a_block(rt: HostRuntime) -> Result<(), Fail> {
     let mut block = zeros(rt.alloc())?;
@@ -160,7 +161,7 @@ fn reads_the_end_of_a_block(rt: HostRuntime) -> Result<(), Fail> {
     Ok(())
 }
 
-// A piece: the zeros before it, its type, and where in the record its part begins and ends.
+// A piece: how many zeros come before it, its type, and where its part begins and ends in the record.
 type Cut = Option<(usize, u8, usize, usize)>;
 
 fn next_cut(pieces: &mut Fragmenter) -> Cut {
@@ -168,7 +169,7 @@ fn next_cut(pieces: &mut Fragmenter) -> Cut {
     Some((piece.zeros, piece.kind, piece.start, piece.end))
 }
 
-// The first pieces of a record of `len` bytes that is written at that place of a block, in a log with this number, if
+// The first pieces of a record of `len` bytes that is written at this place of a block, in a log with this number, if
 // it has one.
 fn cuts(number: Option<u32>, place: usize, len: usize) -> [Cut; 4] {
     let mut pieces = Fragmenter::new(number, place % BLOCK_LEN, len);
@@ -180,9 +181,10 @@ fn cuts(number: Option<u32>, place: usize, len: usize) -> [Cut; 4] {
     ]
 }
 
-// The log's number, a place, the length of a record that is written there, and its pieces: one of 97270 bytes behind
-// one of 1000, one whose first fragment has room for its header alone, and one that is too long for a block by a byte.
-// Then the same two in a log with a number, whose header is four bytes longer.
+// The log's number, if it has one, a place, the length of a record that is written there, and its pieces. The records:
+// one of 97270 bytes after one of 1000, one whose first fragment has room for its header alone, and one that is too
+// long for a block by one byte. The last two rows are the second and the third again, in a log with a number, whose
+// headers are four bytes longer.
 const SEVERAL: [(Option<u32>, usize, usize, [Cut; 4]); 5] = [
     (
         None,
@@ -239,9 +241,9 @@ fn cuts_records_into_several(rt: HostRuntime) {
     }
 }
 
-// The log's number, the place, the length, and the zeros before the one fragment. At first the records of 1000 and 8000
-// bytes around that of 97270, then records in the last bytes of a block, and then those that leave 7, 6, 1 and 0 bytes
-// of it. The last are of logs with a number.
+// The log's number, if it has one, the place, the record's length, and how many zeros come before its one fragment.
+// First the records of 1000 and of 8000 bytes that come before and after that of 97270, then records in the last bytes
+// of a block, and then records that leave 7, 6, 1 and 0 bytes of a block. The last rows are of logs with a number.
 const ONE: [(Option<u32>, usize, usize, usize); 13] = [
     (None, 0, 1000, 0),
     (None, 32762, 8000, 6),

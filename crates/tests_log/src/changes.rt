@@ -1,10 +1,10 @@
-//! What is done to logs: they are cut, bytes of them are changed, and more is put behind them. A place in a log is
-//! counted from its first byte, which stands at 0.
+//! Changes to logs: they are cut, bytes of them are changed, and more is added at their end. A place in a log is
+//! counted from its first byte, which is at 0.
 
 use log_block::{BLOCK_LEN, header, header_len, max_part_len};
 use std::alloc::AllocError;
 
-/// The first so many bytes of a log. It is an error where the log has fewer.
+/// The first `len` bytes of a log. It is an error where the log has fewer.
 pub(crate) fn cut_at(log: &[u8], len: usize) -> Result<&[u8], &'static str> {
     log.get(..len).ok_or("the log has fewer bytes")
 }
@@ -23,8 +23,8 @@ pub(crate) fn flip_byte(log: &mut [u8], at: usize) -> Result<(), &'static str> {
     Ok(())
 }
 
-/// Makes the checksum right of the fragment whose header stands at a place, by the length and the type in the header,
-/// in a log without a number. It is an error where no whole fragment stands there.
+/// Makes the checksum right of the fragment whose header is at the place `at`, by the length and the type in the
+/// header, in a log without a number. It is an error where there is no whole fragment.
 pub(crate) fn fix_checksum(log: &mut [u8], at: usize) -> Result<(), &'static str> {
     let rest = log.get_mut(at..).ok_or("the log has no such byte")?;
     let start = header_len(None);
@@ -40,12 +40,12 @@ pub(crate) fn fix_checksum(log: &mut [u8], at: usize) -> Result<(), &'static str
     Ok(())
 }
 
-/// Puts so many zeros behind a log.
+/// Adds `len` zeros at the end of a log.
 pub(crate) fn put_zeros(log: &mut Vec<u8>, len: usize) -> Result<(), AllocError> {
     log.resize(log.len().saturating_add(len), 0)
 }
 
-/// Puts zeros behind a log up to the end of its last block.
+/// Adds zeros at the end of a log, up to the end of its last block.
 pub(crate) fn fill_block(log: &mut Vec<u8>) -> Result<(), AllocError> {
     match log.len() % BLOCK_LEN {
         0 => Ok(()),

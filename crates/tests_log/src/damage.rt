@@ -1,5 +1,5 @@
-//! What logs recover that were cut or changed: the log of two records at each of its bytes, an empty record, and a log
-//! with a trailer.
+//! What is recovered from logs that were cut or changed: the log of two records, cut or changed at each of its bytes,
+//! an empty record, and a log with a trailer.
 
 use crate::changes::{cut_at, fill_block, fix_checksum, flip_byte, put_zeros, set_byte};
 use crate::checks::check;
@@ -13,7 +13,7 @@ use std::test::Fail;
 
 const SHORT_HEADER: EndReason = EndReason::Broken(Damage::ShortHeader);
 
-// Why the first so many bytes of the log end.
+// Why the first `len` bytes of the log end.
 fn why_cut(len: usize) -> EndReason {
     match len % 24 {
         0 => EndReason::Clean,
@@ -22,7 +22,7 @@ fn why_cut(len: usize) -> EndReason {
     }
 }
 
-// What the log recovers that is whole up to that byte, where both records have 24 bytes.
+// What is recovered where the log is whole up to the byte `at`. Both records have 24 bytes.
 fn whole_up_to(at: usize, why: EndReason) -> Summary {
     match at {
         0..=23 => (0, 0, 0, 0, why),
@@ -40,7 +40,8 @@ fn stops_where_the_log_is_cut(rt: HostRuntime) -> Result<(), Fail> {
     Ok(())
 }
 
-// What is wrong with a fragment whose byte there is flipped. A header is a checksum, a length of two bytes and a kind.
+// The damage that is seen in a fragment whose byte `at` is flipped. A header is a checksum, a length of two bytes and
+// a type.
 fn flipped(at: usize) -> Damage {
     match at {
         4 | 5 => Damage::BadLength,
@@ -61,7 +62,7 @@ fn stops_at_a_flipped_byte(rt: HostRuntime) -> Result<(), Fail> {
     Ok(())
 }
 
-// The first record, and zeros where a header would stand.
+// The first record, and zeros in place of the second header.
 fn zeros_behind(alloc: Global) -> Result<Vec<u8>, Fail> {
     let mut log = Vec::from_slice(alloc, cut_at(&LOG, SECOND_AT)?)?;
     put_zeros(&mut log, header_len(None))?;
@@ -78,14 +79,15 @@ fn stops_where_no_record_follows(rt: HostRuntime) -> Result<(), Fail> {
     Ok(())
 }
 
-// A log of one fragment of this type, with so many zeros.
+// A log of one fragment of this type, whose part is `len` zeros.
 fn lone_part(alloc: Global, kind: u8, len: usize) -> Result<Vec<u8>, AllocError> {
     let mut log = Vec::new(alloc);
     put_fragment(&mut log, kind, &vec![in alloc; 0u8; len]?)?;
     Ok(log)
 }
 
-// A type, how many zeros, and why such a log ends at once. The second one fills its block.
+// A fragment's type, how many zeros its part has, and why reading such a log ends at once. The second one fills its
+// block.
 const LONE: [(u8, usize, EndReason); 2] = [
     (LAST, 1, EndReason::BadOrder),
     (FIRST, 32_761, EndReason::Unfinished),
@@ -93,7 +95,7 @@ const LONE: [(u8, usize, EndReason); 2] = [
 
 #[test]
 fn stops_at_a_lone_part(rt: HostRuntime) -> Result<(), Fail> {
-    // The rows before it end as they should.
+    // The rows so far ended as they should.
     for (row, (kind, len, why)) in LONE.iter().enumerate() {
         let log = lone_part(rt.alloc(), *kind, *len)?;
         let left = recovered(rt.alloc(), &log);
@@ -102,7 +104,7 @@ fn stops_at_a_lone_part(rt: HostRuntime) -> Result<(), Fail> {
     Ok(())
 }
 
-// The second record puts another value, with the checksum of the first value, and with its own.
+// The second record gets another value: first with the checksum of the old value, then with the right one.
 #[test]
 fn stops_at_another_byte(rt: HostRuntime) -> Result<(), Fail> {
     let mut log = LOG;
@@ -116,8 +118,8 @@ fn stops_at_another_byte(rt: HostRuntime) -> Result<(), Fail> {
     Ok(())
 }
 
-// The beginning of a record that puts 32740 zeros at `a`, before the zeros. With its fragment's header it has 32765
-// bytes.
+// The beginning of a record that puts 32740 zeros at `a`, up to the zeros. With its fragment's header the record has
+// 32765 bytes.
 const LONG: [u8; 25] = [
     0x58, 0x87, 0x9c, 0xa3, 0xf6, 0x7f, 0x01, // the header
     0x01, 0x00, 0x00, 0x00, 0x00, 0x00, 0x00, 0x00, // sequence 1
@@ -134,7 +136,7 @@ fn log_of_two_blocks(alloc: Global) -> Result<Vec<u8>, AllocError> {
     Ok(log)
 }
 
-// A log of one record, of log data alone, which leaves six bytes of its block. In the first of them stands this byte.
+// A log of one record, of log data alone, which leaves six bytes of its block. The first of the six has this value.
 fn log_with_trailer(alloc: Global, byte: u8) -> Result<Vec<u8>, AllocError> {
     let mut note = Vec::from_slice(alloc, &[3, 0xe3, 0xff, 0x01])?;
     put_zeros(&mut note, 32_739)?;
@@ -144,7 +146,7 @@ fn log_with_trailer(alloc: Global, byte: u8) -> Result<Vec<u8>, AllocError> {
     Ok(log)
 }
 
-// The byte, where recovery ends, and why.
+// That byte, where recovery ends, and why.
 const TRAILERS: [(u8, u64, EndReason); 2] = [
     (1, 32_762, EndReason::Broken(Damage::BadTrailer)),
     (0, 32_763, EndReason::Clean),
@@ -152,7 +154,7 @@ const TRAILERS: [(u8, u64, EndReason); 2] = [
 
 #[test]
 fn looks_at_a_trailer(rt: HostRuntime) -> Result<(), Fail> {
-    // The rows before it end as they should.
+    // The rows so far ended as they should.
     for (row, (byte, at, why)) in TRAILERS.iter().enumerate() {
         let log = log_with_trailer(rt.alloc(), *byte)?;
         let left = recovered(rt.alloc(), &log);
@@ -161,7 +163,7 @@ fn looks_at_a_trailer(rt: HostRuntime) -> Result<(), Fail> {
     Ok(())
 }
 
-// Whole, and without its last 20 bytes.
+// How many bytes of the log are left, and what is recovered: from the whole log, and without its last 20 bytes.
 const BEHIND_TRAILER: [(usize, Summary); 2] = [
     (32792, (2, 2, 32792, 32792, EndReason::Clean)),
     (32772, (1, 1, 32765, 32768, SHORT_HEADER)),

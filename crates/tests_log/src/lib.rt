@@ -1,19 +1,19 @@
-//! Tests of the log: its fragments and records, batches, the writer and recovery. They stand in a crate of their own,
-//! so that `log_block`, `log_text`, `log_reader`, `log_batch`, `log_writer` and `log_recovery` are proved once and not
-//! with their tests again.
+//! Tests of the log: its fragments and records, batches, the writer and recovery. They are a crate of their own, so
+//! that `log_block`, `log_text`, `log_reader`, `log_batch`, `log_writer` and `log_recovery` are proved once, and not
+//! again with their tests.
 //!
 //! - `checks`: a comparison, for the others
-//! - `changes`: what is done to logs, for the others
+//! - `changes`: changes to logs, for the others
 //! - `logs`: logs and batches that several tests make, and what a log recovers, for the others
 //! - `blocks`: fragments, and how a record is cut into them
 //! - `numbered_fragments`: fragments of a log with a number
 //! - `reading`: a log's records one after another
-//! - `batches`: batches made and read
+//! - `batches`: batches, made and read
 //! - `texts`: the text of a record in a buffer
 //! - `writing`: groups on a disk, its faults and its crashes
-//! - `reopening`: logs over old bytes, and logs behind what was recovered
-//! - `recovery`: what whole logs and those with another last record recover
-//! - `damage`: what logs recover that were cut or changed
+//! - `reopening`: logs written over old bytes, and logs that go on after what was recovered
+//! - `recovery`: what is recovered from whole logs, and from those with another last record
+//! - `damage`: what is recovered from logs that were cut or changed
 //! - `modes`: what each mode of recovery accepts
 //! - `numbered_logs`: logs with a number, read and recovered
 #![tactic(auto)]

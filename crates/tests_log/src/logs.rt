@@ -22,10 +22,10 @@ pub(crate) const NOTE: [u8; 3] = [3, 1, b'x'];
 /// `put a 1` with a tag that no record has.
 pub(crate) const WITH_TAG_2: [u8; 5] = [2, 1, b'a', 1, b'1'];
 
-/// `put a` with a value of five bytes, of which none is there.
+/// `put a` with a value of five bytes, none of which is there.
 pub(crate) const WITHOUT_VALUE: [u8; 4] = [1, 1, b'a', 5];
 
-/// A put whose key's length, 0, is a varint of two bytes.
+/// A put with an empty key, whose length 0 is a varint of two bytes.
 pub(crate) const WITH_LONG_VARINT: [u8; 3] = [1, 0x80, 0];
 
 /// The fragment of an empty record. The checksum was computed by another program.
@@ -43,11 +43,11 @@ pub(crate) const LOG: [u8; 48] = [
     0x01, 0x01, b'b', 0x01, b'2', // put b 2
 ];
 
-/// Where the second record of `LOG` stands. The first has the bytes before it.
+/// Where the second record of `LOG` begins. The first has the bytes before it.
 pub(crate) const SECOND_AT: usize = 24;
 
-/// Puts a fragment of this type behind a log with this number, if it has one. It leaves the log as it is where the part
-/// is too long for one.
+/// Adds a fragment of this type at the end of a log with this number, if it has one. It leaves the log as it is where
+/// the part is too long for one fragment.
 pub(crate) fn put_fragment_in(
     number: Option<u32>,
     log: &mut Vec<u8>,
@@ -61,19 +61,19 @@ pub(crate) fn put_fragment_in(
     Ok(())
 }
 
-/// The same, of a log without a number.
+/// As [`put_fragment_in`], for a log without a number.
 pub(crate) fn put_fragment(log: &mut Vec<u8>, kind: u8, part: &[u8]) -> Result<(), AllocError> {
     put_fragment_in(None, log, kind, part)
 }
 
-/// Puts a record behind a log with this number, if it has one, in its fragments, with the checksums that they should
-/// have.
+/// Adds a record at the end of a log with this number, if it has one, cut into its fragments, with their right
+/// checksums.
 pub(crate) fn put_record_in(
     number: Option<u32>,
     log: &mut Vec<u8>,
     bytes: &[u8],
 ) -> Result<(), AllocError> {
-    // The pieces so far stand behind the log.
+    // The pieces so far are at the end of the log.
     for piece in Fragmenter::new(number, log.len() % BLOCK_LEN, bytes.len()) {
         put_zeros(log, piece.zeros)?;
         if let Some(part) = bytes.get(piece.start..piece.end) {
@@ -83,7 +83,7 @@ pub(crate) fn put_record_in(
     Ok(())
 }
 
-/// The same, of a log without a number.
+/// As [`put_record_in`], for a log without a number.
 pub(crate) fn put_record(log: &mut Vec<u8>, bytes: &[u8]) -> Result<(), AllocError> {
     put_record_in(None, log, bytes)
 }
@@ -123,7 +123,7 @@ pub(crate) fn add_all(batch: &mut Batch, records: &[RecordView<'_>]) -> Result<(
 /// What a log recovers: how many groups, the last sequence, how many bytes are kept, where recovery ends, and why.
 pub(crate) type Summary = (usize, u64, u64, u64, EndReason);
 
-/// What these bytes recover, as a log with this number, if it has one.
+/// What is recovered from these bytes, read as a log with this number, if it has one.
 pub(crate) fn recovered_as(
     number: Option<u32>,
     alloc: Global,
@@ -135,12 +135,12 @@ pub(crate) fn recovered_as(
     Ok((log.groups.len(), log.last, log.kept, at, why))
 }
 
-/// The same, as a log without a number.
+/// What is recovered from these bytes, read as a log without a number.
 pub(crate) fn recovered(alloc: Global, bytes: &[u8]) -> Result<Summary, RecoverError> {
     recovered_as(None, alloc, bytes)
 }
 
-/// Compares what a log recovers that is cut after so many bytes.
+/// For each row, compares what the first `len` bytes of a log recover with what they should.
 pub(crate) fn check_cuts(
     rt: &impl Abort,
     alloc: Global,

@@ -1,4 +1,4 @@
-//! What each mode accepts of logs that were cut or changed, or that have more behind their records.
+//! What each mode accepts of logs that were cut or changed, or that have more after their records.
 
 use crate::changes::{cut_at, fill_block, put_zeros, set_byte};
 use crate::checks::check;
@@ -42,7 +42,7 @@ fn is_among(mode: Mode, modes: Accepting) -> bool {
 /// What a log recovers by point-in-time recovery, and which modes accept its end.
 type Row = (Summary, Accepting);
 
-// What these bytes recover by this mode, as a log with this number, if it has one.
+// What is recovered from these bytes by this mode, read as a log with this number, if it has one.
 fn recovered_by(
     mode: Mode,
     number: Option<u32>,
@@ -56,7 +56,7 @@ fn recovered_by(
     Ok((log.groups.len(), log.last, log.kept, at, why))
 }
 
-// What the mode is to say.
+// What recovery by this mode should answer.
 fn wanted_by(mode: Mode, (found, modes): Row) -> Result<Summary, RecoverError> {
     let (_, _, _, at, why) = found;
     if is_among(mode, modes) {
@@ -66,7 +66,7 @@ fn wanted_by(mode: Mode, (found, modes): Row) -> Result<Summary, RecoverError> {
     }
 }
 
-// Compares what each mode says of a log.
+// Compares what each mode answers for a log.
 fn check_modes(
     rt: &impl Abort,
     alloc: Global,
@@ -93,7 +93,7 @@ const CUT: [(usize, Row); 5] = [
 
 #[test]
 fn a_cut_log_by_mode(rt: HostRuntime) -> Result<(), Fail> {
-    // The rows before it are so.
+    // All rows so far were as wanted.
     for (row, (len, wanted)) in CUT.iter().enumerate() {
         let log = cut_at(&LOG, *len)?;
         check_modes(&rt, rt.alloc(), row, None, log, *wanted);
@@ -101,8 +101,8 @@ fn a_cut_log_by_mode(rt: HostRuntime) -> Result<(), Fail> {
     Ok(())
 }
 
-// A place of the log of two batches, the byte that is put there, and what is recovered then. The length stands at 28
-// and 29: with `0x1011` the part would end in the block, with `0x8011` behind it.
+// A place of the log of two batches, the byte that is put there, and what is recovered then. The second record's
+// length is at 28 and 29: with `0x1011` the part would end within the block, with `0x8011` after it.
 const CHANGED: [(usize, u8, Row); 4] = [
     (
         47,
@@ -131,7 +131,7 @@ const CHANGED: [(usize, u8, Row); 4] = [
 
 #[test]
 fn a_changed_log_by_mode(rt: HostRuntime) -> Result<(), Fail> {
-    // The rows before it are so.
+    // All rows so far were as wanted.
     for (row, (at, byte, wanted)) in CHANGED.iter().enumerate() {
         let mut log = LOG;
         set_byte(&mut log, *at, *byte)?;
@@ -140,7 +140,7 @@ fn a_changed_log_by_mode(rt: HostRuntime) -> Result<(), Fail> {
     Ok(())
 }
 
-// So many bytes of the log of two batches, so many zeros behind them, and one more byte, if any.
+// The first `len` bytes of the log of two batches, `zeros` zeros after them, and one more byte, if any.
 fn with_zeros(alloc: Global, len: usize, zeros: usize, last: Option<u8>) -> Result<Vec<u8>, Fail> {
     let mut log = Vec::from_slice(alloc, cut_at(&LOG, len)?)?;
     put_zeros(&mut log, zeros)?;
@@ -185,7 +185,7 @@ const WITH_ZEROS: [(usize, usize, Option<u8>, Row); 5] = [
 
 #[test]
 fn zeros_by_mode(rt: HostRuntime) -> Result<(), Fail> {
-    // The rows before it are so.
+    // All rows so far were as wanted.
     for (row, (len, zeros, last, wanted)) in WITH_ZEROS.iter().enumerate() {
         let log = with_zeros(rt.alloc(), *len, *zeros, *last)?;
         check_modes(&rt, rt.alloc(), row, None, &log, *wanted);
@@ -214,7 +214,7 @@ fn other_ends_by_mode(rt: HostRuntime) -> Result<(), Fail> {
     Ok(())
 }
 
-// The log of one batch and seven zeros is read by two calls. The third looks at the zeros.
+// The log of one batch and seven zeros is read by two calls of the disk. A third call looks at the zeros.
 const FAULTS: [(Mode, Result<Summary, RecoverError>); 3] = [
     (Mode::Point, Ok((1, 1, 24, 24, ZEROS))),
     (Mode::Tail, Err(RecoverError::Fault { count: 1 })),
@@ -227,7 +227,7 @@ const FAULTS: [(Mode, Result<Summary, RecoverError>); 3] = [
 #[test]
 fn a_fault_behind_the_records_by_mode(rt: HostRuntime) -> Result<(), Fail> {
     let log = with_zeros(rt.alloc(), SECOND_AT, 7, None)?;
-    // The rows before it are so.
+    // All rows so far were as wanted.
     for (row, (mode, wanted)) in FAULTS.iter().enumerate() {
         let found = recovered_by(*mode, None, rt.alloc(), &log, &[3]);
         check(&rt, row, &found, wanted);

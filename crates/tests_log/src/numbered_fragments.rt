@@ -8,7 +8,7 @@ use log_block::{BLOCK_LEN, FIRST, FULL, LAST, MIDDLE, Seen, header, plain_type, 
 use model_base::Damage;
 use std::test::Fail;
 
-// The first record of `LOG`, as it stands in the log 7. The checksums were computed by another program.
+// The first record of `LOG`, as it is in log 7. The checksums were computed by another program.
 const IN_LOG_7: [u8; 28] = [
     0x32, 0x33, 0x0f, 0x45, 0x11, 0x00, 0x05, 0x07, 0x00, 0x00, 0x00, // the header
     0x01, 0x00, 0x00, 0x00, 0x00, 0x00, 0x00, 0x00, // sequence 1
@@ -39,7 +39,7 @@ fn knows_types(rt: HostRuntime) {
     }
 }
 
-// A fragment of the log 7, and its type.
+// A fragment of log 7, and its type.
 const FRAGMENTS: [(&[u8], u8); 3] = [(&IN_LOG_7, 5), (&EMPTY_FIRST, 6), (&LAST_ABC, 8)];
 
 #[test]
@@ -64,8 +64,8 @@ fn reads_fragments(rt: HostRuntime) {
     }
 }
 
-// A log's number, bytes of another log, and what is wrong with them: those of an older log, and fragments where there
-// is a number and where there is none.
+// A log's number, if it has one, bytes of another log, and the damage that is seen: those of an older log, one without
+// a number read with one, and one with a number read without.
 const OF_ANOTHER: [(Option<u32>, &[u8], Damage); 3] = [
     (Some(8), &IN_LOG_7, Damage::OldLog(7)),
     (Some(8), &LOG, Damage::BadType(1)),
@@ -85,7 +85,7 @@ fn reads_other_logs(rt: HostRuntime) {
     }
 }
 
-// What is seen of the first so many bytes of the fragment.
+// What is seen of the first `len` bytes of the fragment.
 fn seen_cut(len: usize) -> Seen {
     match len {
         0 => Seen::End,
@@ -104,8 +104,8 @@ fn reads_what_is_cut(rt: HostRuntime) -> Result<(), Fail> {
     Ok(())
 }
 
-// What is wrong with the fragment where that byte is flipped. A header is a checksum, a length of two bytes, a type and
-// a number of four bytes.
+// The damage that is seen in the fragment where the byte `at` is flipped. A header is a checksum, a length of two
+// bytes, a type and a number of four bytes.
 fn flipped(at: usize) -> Damage {
     match at {
         4 | 5 => Damage::BadLength,
@@ -120,7 +120,7 @@ fn flipped(at: usize) -> Damage {
 
 #[test]
 fn reads_what_is_flipped(rt: HostRuntime) -> Result<(), Fail> {
-    // Each byte before this one was flipped, and seen as wanted.
+    // Each byte before this one was flipped, and its damage was seen as wanted.
     for at in 0..28 {
         let mut fragment = IN_LOG_7;
         flip_byte(&mut fragment, at)?;
@@ -130,7 +130,8 @@ fn reads_what_is_flipped(rt: HostRuntime) -> Result<(), Fail> {
     Ok(())
 }
 
-// A log's number, a place of a block of zeros, and what is seen there. The trailer has as many bytes as a header lacks.
+// A log's number, if it has one, a place of a block of zeros, and what is seen there. A trailer has too few bytes for
+// a header.
 const ZEROS: [(Option<u32>, usize, Seen); 4] = [
     (None, 32_761, Seen::Damage(Damage::Zeros)),
     (None, 32_762, Seen::End),

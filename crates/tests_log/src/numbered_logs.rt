@@ -1,4 +1,4 @@
-//! Logs with a number: what is read and recovered of them, also where a log was written over what another one left.
+//! Logs with a number: what is read and recovered from them, also where one was written over an older log.
 
 use crate::changes::cut_at;
 use crate::checks::check;
@@ -28,7 +28,7 @@ pub(crate) const LOG_7: [u8; 56] = [
     0x01, 0x01, b'b', 0x01, b'2', // put b 2
 ];
 
-// Where the second record of `LOG_7` stands. The first has the bytes before it.
+// Where the second record of `LOG_7` begins. The first has the bytes before it.
 const SECOND_AT: usize = 28;
 
 // The first record of a log with the number 8, which puts `3` at `c`.
@@ -43,7 +43,7 @@ const FIRST_OF_8: [u8; 28] = [
 // `put b 2`.
 const PUT_B: [u8; 5] = [1, 1, b'b', 1, b'2'];
 
-// The log with this number of `put a 1` and `put b 2`.
+// The log with this number, if it has one, of `put a 1` and `put b 2`.
 fn two_puts(alloc: Global, number: Option<u32>) -> Result<Vec<u8>, AllocError> {
     let mut log = Vec::new(alloc);
     put_record_in(number, &mut log, &batch_bytes(alloc, 1, 1, &PUT)?)?;
@@ -75,10 +75,10 @@ const TYPE_1: EndReason = EndReason::Broken(Damage::BadType(1));
 
 const TYPE_5: EndReason = EndReason::Broken(Damage::BadType(5));
 
-/// With which number a log is read, if with one, and what it recovers then.
+/// The number that a log is read with, if any, and what is recovered then.
 pub(crate) type Row = (Option<u32>, Summary);
 
-/// What log 7 recovers.
+/// What is recovered from log 7.
 pub(crate) const OF_LOG_7: [Row; 3] = [
     (Some(7), (2, 2, 56, 56, EndReason::Clean)),
     (Some(8), (0, 0, 0, 0, NUMBER_7)),
@@ -90,14 +90,14 @@ const OF_PLAIN: [Row; 2] = [
     (Some(7), (0, 0, 0, 0, TYPE_1)),
 ];
 
-/// What they recover where log 8 has its first record, over log 7.
+/// What is recovered where log 8 with its first record was written over log 7.
 pub(crate) const OF_WRITTEN_OVER: [Row; 3] = [
     (Some(8), (1, 1, 28, 28, NUMBER_7)),
     (Some(7), (0, 0, 0, 0, NUMBER_8)),
     (None, (0, 0, 0, 0, TYPE_5)),
 ];
 
-/// Compares what a log recovers, with each number.
+/// Compares what a log recovers when it is read with each row's number.
 pub(crate) fn check_rows(rt: &impl Abort, alloc: Global, log: &[u8], rows: &[Row]) {
     // All rows so far were as wanted.
     for (row, (number, wanted)) in rows.iter().enumerate() {
@@ -137,7 +137,7 @@ fn recovers_what_was_written_over_another_log(rt: HostRuntime) -> Result<(), Fai
     Ok(())
 }
 
-// Why the first so many bytes of log 7 end.
+// Why the first `len` bytes of log 7 end.
 fn why_cut(len: usize) -> EndReason {
     match len % 28 {
         0 => EndReason::Clean,
@@ -146,7 +146,7 @@ fn why_cut(len: usize) -> EndReason {
     }
 }
 
-// What they recover, where both records have 28 bytes.
+// What is recovered from these bytes. Both records have 28 bytes.
 fn left_of(len: usize) -> Summary {
     let why = why_cut(len);
     match len {
@@ -167,7 +167,7 @@ fn stops_where_a_log_with_a_number_is_cut(rt: HostRuntime) -> Result<(), Fail> {
 }
 
 // The records of a log with a number that ends in its fourth block, with ten zeros at the end of the third: the byte
-// that each has, how many of them, and where it stands.
+// that a record consists of, how many of them it has, and what is read.
 const RECORDS: [(u8, usize, Next); 3] = [
     (
         b'a',
@@ -197,7 +197,7 @@ const RECORDS: [(u8, usize, Next); 3] = [
 
 fn three_on_disk(alloc: Global) -> Result<MemDisk, Fail> {
     let mut log = Vec::new(alloc);
-    // The records so far stand in the log.
+    // The records so far are in the log.
     for (byte, len, _) in &RECORDS {
         put_record_in(Some(7), &mut log, &vec![in alloc; *byte; *len]?)?;
     }
@@ -236,7 +236,8 @@ const MIDDLE: u8 = 7;
 
 const LAST: u8 = 8;
 
-// What is read first of two fragments of these types, of which the second has this number, in a log with the number 8.
+// What the first read answers where the log has two fragments of these types, the second with this number, in a log
+// with the number 8.
 fn read_first(alloc: Global, first: u8, second: u8, number: u32) -> Result<Next, Fail> {
     let mut log = Vec::new(alloc);
     put_fragment_in(Some(8), &mut log, first, b"a")?;
@@ -245,7 +246,8 @@ fn read_first(alloc: Global, first: u8, second: u8, number: u32) -> Result<Next,
     Ok(LogReader::open(alloc, Some(8))?.next(&mut disk))
 }
 
-// The types of two fragments, each of twelve bytes, the number of the second, and where and why no record is read.
+// The types of two fragments, each of twelve bytes, the number of the second, where reading ends without a record, and
+// why.
 const STOPPED: [(u8, u8, u32, u64, EndReason); 5] = [
     (FIRST, LAST, 7, 12, NUMBER_7),
     (FIRST, FULL, 7, 12, NUMBER_7),

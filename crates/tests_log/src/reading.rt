@@ -26,14 +26,15 @@ const THIRD_RECORD: Next = Next::Record {
     end: 106_311,
 };
 
-// The records of a log that ends in its fourth block: the byte that each has, how many of them, and where it stands.
+// The records of a log that ends in its fourth block: the byte that a record consists of, how many of them it has, and
+// what is read.
 const RECORDS: [(u8, usize, Next); 3] = [
     (b'a', 1000, FIRST_RECORD),
     (b'b', 97270, SECOND_RECORD),
     (b'c', 8000, THIRD_RECORD),
 ];
 
-// Puts a record of so many equal bytes behind a log.
+// Adds a record of `len` equal bytes at the end of a log.
 fn put_equal(alloc: Global, log: &mut Vec<u8>, byte: u8, len: usize) -> Result<(), AllocError> {
     put_record(log, &vec![in alloc; byte; len]?)
 }
@@ -46,7 +47,7 @@ fn three_records(alloc: Global) -> Result<Vec<u8>, AllocError> {
     Ok(log)
 }
 
-// What reading a log comes to, where one of the disk's calls fails: the first four answers.
+// The first four answers of the reader, where the disk's call with the number `fails` fails.
 fn answers(alloc: Global, content: &[u8], fails: u64) -> Result<[Next; 4], Fail> {
     let mut disk = MemDisk::new(alloc, content.len(), content, &[fails])?;
     let mut reader = LogReader::open(alloc, None)?;
@@ -58,7 +59,7 @@ fn answers(alloc: Global, content: &[u8], fails: u64) -> Result<[Next; 4], Fail>
     ])
 }
 
-// The first so many records, of which there may be two, and then this.
+// The first `records` records, at most two, and then the answer `then` each time.
 fn answers_after(records: usize, then: Next) -> [Next; 4] {
     match records {
         0 => [then; 4],
@@ -72,7 +73,7 @@ fn three_on_disk(alloc: Global) -> Result<MemDisk, NoMemory> {
     MemDisk::new(alloc, log.len(), &log, &[])
 }
 
-// Compares what is read next, and the record in hand.
+// Compares what is read next, and the record that the reader has then.
 fn check_next(
     rt: &impl Abort,
     reader: &mut LogReader,
@@ -101,7 +102,7 @@ fn reads_the_records_of_several_blocks(rt: HostRuntime) -> Result<(), Fail> {
     Ok(())
 }
 
-// Where a log is cut: how many records are read, where reading ends, and why.
+// Where a log is cut, how many records are read, where reading ends, and why.
 const CUT: [(usize, usize, u64, EndReason); 4] = [
     (0, 0, 0, EndReason::Clean),
     (32768, 1, 1007, EndReason::Unfinished),
@@ -123,7 +124,7 @@ fn reads_what_is_left_of_a_log(rt: HostRuntime) -> Result<(), Fail> {
     check_cut(&rt, rt.alloc(), &three_records(rt.alloc())?)
 }
 
-// Each of the five reads fails in turn. How many records are read before that.
+// Each of the five reads fails in turn: which one, and how many records are read before it.
 const FAILED: [(u64, usize); 5] = [(1, 0), (2, 1), (3, 1), (4, 2), (5, 2)];
 
 #[test]
@@ -144,7 +145,7 @@ fn two_fragments(alloc: Global, first: u8, second: u8) -> Result<Vec<u8>, AllocE
     Ok(log)
 }
 
-// The types of two fragments, and where the one stands that may not stand there.
+// The types of two fragments, and the place of the one that may not be there.
 const MISPLACED: [(u8, u8, u64); 4] = [
     (LAST, FULL, 0),
     (MIDDLE, LAST, 0),

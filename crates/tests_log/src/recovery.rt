@@ -1,5 +1,5 @@
-//! What logs recover: whole ones, with records in one part and in several, those with one more record that may follow
-//! or may not, and those whose disk fails. That a log which isn't there is a fault shows in `tests/real_file`.
+//! What logs recover: whole ones, with records in one fragment and in several, logs with one more record that may
+//! follow or may not, and logs whose disk fails. `tests/real_file` shows that a missing log is a fault.
 
 use crate::changes::cut_at;
 use crate::checks::check;
@@ -23,7 +23,7 @@ fn batch_of(alloc: Global, sequence: u64, records: &[RecordView<'_>]) -> Result<
     Ok(batch)
 }
 
-// Puts a batch of these records behind a log.
+// Adds a batch of these records at the end of a log.
 fn put_batch(
     alloc: Global,
     log: &mut Vec<u8>,
@@ -45,7 +45,7 @@ const SECOND_BATCH: [RecordView<'static>; 4] = [
     SingleDeletion { key: b"d" },
 ];
 
-// The log of two batches, of which the first puts this value, which has 40,000 bytes, and stands in two fragments.
+// The log of two batches. The first puts this value of 40,000 bytes, and so lies in two fragments.
 fn log_of_two(alloc: Global, value: &[u8]) -> Result<Vec<u8>, Fail> {
     let small = Value {
         key: b"a",
@@ -132,8 +132,7 @@ const MAX_SEQUENCE: u64 = 72_057_594_037_927_935;
 // Two deletions of an empty key.
 const TWO_DELETIONS: [u8; 4] = [0, 0, 0, 0];
 
-// A record that may not follow: its first sequence, what its header says that counts, its records, and why it isn't
-// kept.
+// A record that may not follow: its first sequence, the count in its header, its records, and why it isn't kept.
 const STOPPED: [(u64, u32, &[u8], EndReason); 6] = [
     (2, 1, &WITH_TAG_2, EndReason::Tag(2)),
     (2, 2, &PUT, EndReason::Count { said: 2, found: 1 }),
@@ -154,7 +153,7 @@ const STOPPED: [(u64, u32, &[u8], EndReason); 6] = [
 // `put a 1` and `put b 2`.
 const TWO_PUTS: [u8; 10] = [1, 1, b'a', 1, b'1', 1, 1, b'b', 1, b'2'];
 
-// A log of one record, which begins at the greatest sequence and has one more.
+// The log has one record with two puts, which begins at the greatest sequence.
 #[test]
 fn stops_at_a_first_record_that_goes_too_high(rt: HostRuntime) -> Result<(), Fail> {
     let bytes = batch_bytes(rt.alloc(), MAX_SEQUENCE, 2, &TWO_PUTS)?;
@@ -179,7 +178,7 @@ const KEPT: [(u64, u32, &[u8], Summary); 2] = [
     (1, 0, &NOTE, (2, 1, 46, 46, EndReason::Clean)),
 ];
 
-// The log of the first record, and this one behind it.
+// The log's first record, with this one after it.
 fn log_behind(alloc: Global, first: u64, count: u32, records: &[u8]) -> Result<Vec<u8>, Fail> {
     let mut log = Vec::from_slice(alloc, cut_at(&LOG, SECOND_AT)?)?;
     let bytes = batch_bytes(alloc, first, count, records)?;
@@ -206,7 +205,7 @@ fn keeps_what_may_follow(rt: HostRuntime) -> Result<(), Fail> {
     Ok(())
 }
 
-// The error where that call fails of a disk that has the first record.
+// The error where this call of a disk with the first record fails.
 fn fault_at(alloc: Global, call: u64) -> Result<Option<RecoverError>, Fail> {
     let log = cut_at(&LOG, SECOND_AT)?;
     let mut disk = MemDisk::new(alloc, log.len(), log, &[call])?;

@@ -1,4 +1,4 @@
-//! Logs that are written over old bytes, and logs that go on behind what was recovered: their bytes and what they
+//! Logs that are written over old bytes, and logs that go on after what was recovered: their bytes and what they
 //! recover, each call of the disk failing in turn, and what crashes leave.
 
 ghost use Rattle.std.specs.Prelude.{◌<◌, ◌^◌};
@@ -17,7 +17,7 @@ use std::alloc::Global;
 use std::process::Abort;
 use std::test::Fail;
 
-/// A log with this number over what stands on the disk.
+/// A log with this number, written over what the disk has.
 pub(crate) fn reused(
     alloc: Global,
     disk: MemDisk,
@@ -26,22 +26,22 @@ pub(crate) fn reused(
     Ok(LogWriter::reuse(alloc, disk, number).map_err(|(_, error)| error)?)
 }
 
-// A log that was begun, or why it wasn't, and the disk.
+// A log that was begun, or the disk and why the log wasn't begun.
 type Begun = Result<LogWriter<MemDisk>, (MemDisk, OpenError)>;
 
-// Recovers a log, and goes on behind what is kept of it.
+// Recovers a log, and resumes it after what is kept of it.
 fn resumed(alloc: Global, mut disk: MemDisk, number: Option<u32>) -> Result<Begun, RecoverError> {
     let kept = recover(alloc, &mut disk, number)?.kept;
     Ok(LogWriter::resume(alloc, disk, kept, number))
 }
 
-// Begins a log that has this number, if it has one, behind what is recovered.
+// Resumes a log that has this number, if it has one, after what is recovered.
 fn gone_on(alloc: Global, disk: MemDisk, number: Option<u32>) -> Result<LogWriter<MemDisk>, Fail> {
     Ok(resumed(alloc, disk, number)?.map_err(|(_, error)| error)?)
 }
 
 // Adds a batch as a group of its own, syncs it, and ends the log. Answers the disk, where the log ended before, what
-// the call answered, and where the log ends then.
+// the call answered, and where the log ends now.
 fn added(
     mut log: LogWriter<MemDisk>,
     first: u64,
@@ -55,7 +55,7 @@ fn added(
     (log.into_disk(), (before, answer, len))
 }
 
-// The disk of log 7, which is written over nothing.
+// The disk of log 7, which is written over an empty disk.
 fn log_7(rt: &impl Abort, alloc: Global) -> Result<MemDisk, Fail> {
     let (one, two) = (put(alloc, b"a", b"1")?, put(alloc, b"b", b"2")?);
     let mut log = reused(alloc, MemDisk::new(alloc, 56, b"", &[])?, 7)?;
@@ -78,7 +78,7 @@ fn writes_over_old_bytes(rt: HostRuntime) -> Result<(), Fail> {
     Ok(())
 }
 
-// The disk of log 7, over which log 8 is begun, and why it isn't where that call of the disk fails.
+// The disk of log 7, over which log 8 is begun, and why it isn't begun where this call of the disk fails.
 fn begun_over(alloc: Global, call: u64) -> Result<(MemDisk, Option<OpenError>), Fail> {
     let disk = MemDisk::new(alloc, 56, &LOG_7, &[call])?;
     match LogWriter::reuse(alloc, disk, 8) {
@@ -87,13 +87,13 @@ fn begun_over(alloc: Global, call: u64) -> Result<(MemDisk, Option<OpenError>), 
     }
 }
 
-// Which call of the disk fails, why the log isn't begun then, and where the disk stands.
+// Which call of the disk fails, why the log isn't begun then, and the place of the disk.
 const OVER: [(u64, Option<OpenError>, u64); 2] = [
     (1, Some(OpenError::Fault { count: 1 }), 56),
     (2, None, 0),
 ];
 
-// Before the first append all that was there is there, also behind a crash.
+// Before the first append all old bytes are still there, also after a crash.
 #[test]
 fn begins_over_old_bytes(rt: HostRuntime) -> Result<(), Fail> {
     // All rows so far were as wanted.
@@ -131,11 +131,11 @@ fn gives_up_old_bytes_as_it_writes(rt: HostRuntime) -> Result<(), Fail> {
     Ok(())
 }
 
-// What goes on: a log's number, if it has one, the first so many bytes of a log, how many of them are kept, and which
-// bytes stand there with `put b 2` behind these: those of a log from a place on.
+// What is resumed: a log's number, if it has one, a log that is cut, its length then, how many of these bytes are
+// kept, a log, and a place of it. After `put b 2` is added the disk has the bytes of this last log from that place on.
 type Going = (Option<u32>, &'static [u8], usize, u64, &'static [u8], usize);
 
-// The last two keep nothing of the disk.
+// The last two rows keep nothing of the disk.
 const GOING: [Going; 6] = [
     (None, &LOG, 40, 24, &LOG, 0),
     (None, &LOG, 24, 24, &LOG, 0),
@@ -167,8 +167,8 @@ fn goes_on_behind_what_is_kept(rt: HostRuntime) -> Result<(), Fail> {
     Ok(())
 }
 
-// A log's number, if it has one, how many zeros its first record puts, where that ends, and where a record of 17 bytes
-// ends behind it.
+// A log's number, if it has one, how many zeros its first record puts, where that record ends, and where a record of
+// 17 bytes after it ends.
 const BEHIND: [(Option<u32>, usize, u64, u64); 7] = [
     (None, 40_000, 40_032, 40_056),
     (None, 32_736, 32_761, 32_792),
@@ -179,7 +179,7 @@ const BEHIND: [(Option<u32>, usize, u64, u64); 7] = [
     (Some(7), 32_739, 32_768, 32_796),
 ];
 
-// The disk of a log that puts so many zeros, and of two more of them behind that.
+// The disk of a log of one record that puts `zeros` zeros, with two more zeros after it.
 fn large_log(alloc: Global, number: Option<u32>, zeros: usize) -> Result<MemDisk, Fail> {
     let batch = put_zeros(alloc, zeros)?;
     let disk = MemDisk::new(alloc, 40_068, b"", &[])?;
@@ -188,8 +188,8 @@ fn large_log(alloc: Global, number: Option<u32>, zeros: usize) -> Result<MemDisk
     Ok(disk)
 }
 
-// A record in the middle of a block, one with room for no more than a header behind it, one with less room, and one
-// that ends its block.
+// The first record ends in the middle of a block, or where the block has room for no more than a header, or for less,
+// or at the end of the block.
 #[test]
 fn goes_on_at_the_end_of_a_block(rt: HostRuntime) -> Result<(), Fail> {
     // All rows so far were as wanted.
@@ -204,8 +204,8 @@ fn goes_on_at_the_end_of_a_block(rt: HostRuntime) -> Result<(), Fail> {
     Ok(())
 }
 
-// A disk of the first so many bytes of `LOG`, of which the first are safe, and of which that call fails. The first call
-// puts the others there.
+// A disk with the first `len` bytes of `LOG`, of which the first `safe` are safe. Its first call adds the others. The
+// call with the number `call` fails.
 fn partly_safe(alloc: Global, safe: usize, len: usize, call: u64) -> Result<MemDisk, Fail> {
     let content = cut_at(&LOG, safe)?;
     let mut disk = MemDisk::new(alloc, content.len().max(48), content, &[call])?;
@@ -213,7 +213,7 @@ fn partly_safe(alloc: Global, safe: usize, len: usize, call: u64) -> Result<MemD
     Ok(disk)
 }
 
-// The disk where a log is to go on, and why it doesn't.
+// The disk on which a log should be resumed, and why it isn't.
 fn begun_behind(alloc: Global, disk: MemDisk) -> Result<(MemDisk, Option<OpenError>), Fail> {
     match resumed(alloc, disk, None)? {
         Ok(log) => Ok((log.into_disk(), None)),
@@ -221,8 +221,9 @@ fn begun_behind(alloc: Global, disk: MemDisk) -> Result<(MemDisk, Option<OpenErr
     }
 }
 
-// How many bytes are safe of how many, and which call fails: the fourth is the cut, and the fifth the sync. Why the log
-// doesn't go on then, how long the content is, and how many bytes of it are safe. What isn't kept is cut off.
+// How many bytes are safe, how many there are, and which call fails: the fourth is the cut, and the fifth the sync.
+// Then why the log isn't resumed, how long the content is, and how many bytes of it are safe. What isn't kept is cut
+// off.
 type Cutting = (usize, usize, u64, Option<OpenError>, usize, u64);
 
 const FAULT: Option<OpenError> = Some(OpenError::Fault { count: 1 });
@@ -239,8 +240,8 @@ const CUTTING: [Cutting; 9] = [
     (24, 48, 6, None, 48, 48),
 ];
 
-// The place is always the content's end. A crash then leaves what is safe and nothing else, or torn bytes behind it:
-// either way all records are recovered that were safe.
+// The disk's place is always the content's end. A crash then leaves just what is safe, or torn bytes after it: either
+// way all records that were safe are recovered.
 fn check_cutting(
     rt: &impl Abort,
     alloc: Global,

@@ -1,4 +1,5 @@
-//! The text of a record in a buffer: worked ones, buffers that are too small, and what a log's writer puts on its disk.
+//! The text of a record in a buffer: worked examples, buffers that are too small, and what a log's writer puts on its
+//! disk.
 
 use crate::checks::check;
 use crate::reopening::reused;
@@ -10,7 +11,7 @@ use log_writer::LogWriter;
 use std::alloc::{AllocError, Global};
 use std::test::Fail;
 
-// The record of `GROUP`, which stands there behind its fragment's header.
+// The record of `GROUP`, where it comes after its fragment's header.
 const RECORD: [u8; 22] = [
     0x01, 0x00, 0x00, 0x00, 0x00, 0x00, 0x00, 0x00, // sequence 1
     0x02, 0x00, 0x00, 0x00, // count 2
@@ -48,10 +49,10 @@ const TEXTS: [(Option<u32>, u64, &[u8], &[u8]); 5] = [
     (Some(7), 32_757, b"abc", &NUMBERED),
 ];
 
-// What stands in a buffer before anything is laid there.
+// What a buffer has before anything is laid there.
 const OLD: u8 = 0xee;
 
-// Lays a record's text in a buffer of so many bytes. Answers what the call did, and the buffer.
+// Lays a record's text in a buffer of `room` bytes. Answers what the call answered, and the buffer.
 fn laid(
     alloc: Global,
     number: Option<u32>,
@@ -64,14 +65,14 @@ fn laid(
     Ok((len, buffer))
 }
 
-// A text, and one byte that was there before.
+// A text, and after it one byte of what was in the buffer before.
 fn with_old(alloc: Global, text: &[u8]) -> Result<Vec<u8>, AllocError> {
     let mut bytes = Vec::from_slice(alloc, text)?;
     bytes.extend_from_slice(&[OLD])?;
     Ok(bytes)
 }
 
-// In a buffer of one byte more.
+// The buffer has one byte more than the text.
 #[test]
 fn lays_texts(rt: HostRuntime) -> Result<(), Fail> {
     // All rows so far were as wanted.
@@ -84,7 +85,7 @@ fn lays_texts(rt: HostRuntime) -> Result<(), Fail> {
     Ok(())
 }
 
-// In one of a byte less.
+// The buffer has one byte less than the text.
 #[test]
 fn leaves_small_buffers(rt: HostRuntime) -> Result<(), Fail> {
     // All rows so far were as wanted.
@@ -98,7 +99,8 @@ fn leaves_small_buffers(rt: HostRuntime) -> Result<(), Fail> {
     Ok(())
 }
 
-// The log's number, if it has one, an offset, a record's length and that of its text. The last is more than can be said.
+// The log's number, if it has one, an offset, a record's length and the length of its text. The last text is longer
+// than a `u64` can say, so the answer is the greatest `u64`.
 const LENGTHS: [(Option<u32>, u64, usize, u64); 6] = [
     (None, 0, 0, 7),
     (None, 1007, 97_270, 97_291),
@@ -116,7 +118,7 @@ fn tells_lengths(rt: HostRuntime) {
     }
 }
 
-// Lays a record's text behind a log with this number, if it has one.
+// Lays a record's text at the end of a log with this number, if it has one.
 fn lay_behind(log: &mut Vec<u8>, number: Option<u32>, bytes: &[u8]) -> Result<(), AllocError> {
     let offset = log.len();
     let len = text_len(number, offset as u64, bytes.len());
@@ -135,7 +137,7 @@ fn begun(alloc: Global, number: Option<u32>) -> Result<LogWriter<MemDisk>, Fail>
     }
 }
 
-// Batches that put so many zeros, from sequence 1, 2 and 3 on.
+// Batches that put these numbers of zeros, with the sequences 1, 2 and 3.
 fn batches_of(alloc: Global, zeros: [usize; 3]) -> Result<[Batch; 3], Fail> {
     let [mut one, mut two, mut three] = three_batches(alloc, zeros)?;
     one.set_sequence(1);
@@ -144,7 +146,7 @@ fn batches_of(alloc: Global, zeros: [usize; 3]) -> Result<[Batch; 3], Fail> {
     Ok([one, two, three])
 }
 
-// The texts of the records of batches, one behind another.
+// The texts of the batches' records, one after another.
 fn texts_of(alloc: Global, number: Option<u32>, batches: &[Batch]) -> Result<Vec<u8>, AllocError> {
     let mut texts = Vec::new(alloc);
     // The batches so far have their texts there.
@@ -154,7 +156,7 @@ fn texts_of(alloc: Global, number: Option<u32>, batches: &[Batch]) -> Result<Vec
     Ok(texts)
 }
 
-// The disk of a log of three groups, each of a batch that puts so many zeros, and the texts of their records.
+// The disk of a log of three groups, whose batches put these numbers of zeros, and the texts of their records.
 fn written_and_laid(
     alloc: Global,
     number: Option<u32>,
@@ -167,8 +169,8 @@ fn written_and_laid(
     Ok((log.into_disk(), answers, texts))
 }
 
-// A log's number, if it has one, and how many zeros its batches put. One of them is cut over several blocks. Behind the
-// other first ones a block has just the room for a header, or less, or none.
+// A log's number, if it has one, and how many zeros its batches put. One of them is cut over several blocks. In the
+// other rows the first record leaves room in its block for just a header, or for less, or for nothing.
 const LOGS: [(Option<u32>, [usize; 3]); 7] = [
     (None, [983, 97_252, 7983]),
     (None, [32_736, 1, 1]),

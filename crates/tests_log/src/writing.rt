@@ -1,5 +1,5 @@
-//! Groups on a disk in memory: the bytes of a small one and the sizes of large ones, each call of the disk failing in
-//! turn, and what crashes leave.
+//! Groups on a disk in memory: the bytes of a small group and the sizes of large ones, each call of the disk failing
+//! in turn, and what crashes leave.
 
 ghost use Rattle.std.specs.Prelude.{◌<◌, ◌^◌};
 
@@ -29,14 +29,14 @@ pub(crate) fn put(alloc: Global, key: &[u8], value: &[u8]) -> Result<Batch, Fail
     Ok(batch)
 }
 
-/// A batch that puts so many zeros at a key. Its record has 16 bytes more, or 17 or 18 where these are at least 128 or
-/// 16384.
+/// A batch that puts `len` zeros at a key. Its record has 16 bytes more, or 17 where `len` is at least 128, or 18
+/// where it is at least 16384.
 pub(crate) fn put_zeros(alloc: Global, len: usize) -> Result<Batch, Fail> {
     let value = vec![in alloc; 0u8; len]?;
     put(alloc, b"k", &value)
 }
 
-/// Batches of so many zeros.
+/// Batches that put these numbers of zeros.
 pub(crate) fn three_batches(alloc: Global, zeros: [usize; 3]) -> Result<[Batch; 3], Fail> {
     let [one, two, three] = zeros;
     Ok([
@@ -46,7 +46,7 @@ pub(crate) fn three_batches(alloc: Global, zeros: [usize; 3]) -> Result<[Batch; 
     ])
 }
 
-/// A log on an empty disk that has room for so many bytes.
+/// A log on an empty disk that has room for `capacity` bytes.
 pub(crate) fn opened(
     alloc: Global,
     capacity: usize,
@@ -87,7 +87,7 @@ pub(crate) fn add_three(
     (answers, log.len())
 }
 
-// Adds two batches of one small put each as one group, and syncs it.
+// Adds two batches, each of one small put, as one group, and syncs it.
 fn add_two(
     rt: &impl Abort,
     log: &mut LogWriter<MemDisk>,
@@ -126,7 +126,7 @@ fn refused(alloc: Global, disk: MemDisk) -> (Option<OpenError>, MemDisk) {
     }
 }
 
-// The disk's first call fails, or another one, which isn't made.
+// The disk's first call fails, or its second one, which isn't made.
 #[test]
 fn opens_an_empty_disk(rt: HostRuntime) -> Result<(), Fail> {
     for (call, want) in [
@@ -140,8 +140,9 @@ fn opens_an_empty_disk(rt: HostRuntime) -> Result<(), Fail> {
     Ok(())
 }
 
-// What is answered where that call of the disk fails. They are a look at its length, an append and a sync, an append
-// for each of three blocks and a sync, and the zeros that end the third block, an append and a sync.
+// What the groups are answered where this call of the disk fails. The calls are a look at the length, an append and a
+// sync, then an append for each of three blocks and a sync, and then the zeros that end the third block, an append and
+// a sync.
 fn answers_at(call: u64) -> Answers {
     let done = Ok(());
     let fault = Err(Fault { count: 1 });
@@ -153,7 +154,7 @@ fn answers_at(call: u64) -> Answers {
     }
 }
 
-// The disk and the answers where that call of the disk fails. The records have 1000, 97270 and 8000 bytes.
+// The disk and the answers where this call of the disk fails. The records have 1000, 97270 and 8000 bytes.
 fn large_groups(alloc: Global, call: u64) -> Result<(MemDisk, Answers), Fail> {
     let batches = three_batches(alloc, [983, 97252, 7983])?;
     let mut log = opened(alloc, 106_311, &[call])?;
@@ -161,7 +162,7 @@ fn large_groups(alloc: Global, call: u64) -> Result<(MemDisk, Answers), Fail> {
     Ok((log.into_disk(), answers))
 }
 
-// What a failed call has left on the disk may come after the log's end.
+// A failed call may leave bytes on the disk after the log's end.
 #[test]
 fn ends_at_the_first_fault(rt: HostRuntime) -> Result<(), Fail> {
     for call in 2..12 {
@@ -172,7 +173,7 @@ fn ends_at_the_first_fault(rt: HostRuntime) -> Result<(), Fail> {
     Ok(())
 }
 
-// The disk of three records, each of 24 bytes, of which the first is safe.
+// The disk of three records, each of 24 bytes. The first is safe.
 fn small_groups(rt: &impl Abort, alloc: Global) -> Result<MemDisk, Fail> {
     let batches = three_batches(alloc, [1, 1, 1])?;
     let mut log = opened(alloc, 72, &[])?;
@@ -181,7 +182,7 @@ fn small_groups(rt: &impl Abort, alloc: Global) -> Result<MemDisk, Fail> {
     Ok(log.into_disk())
 }
 
-// Of the others a crash leaves those that it leaves whole.
+// Of the other two records those are recovered that a crash leaves whole.
 #[test]
 fn a_crash_leaves_a_prefix(rt: HostRuntime) -> Result<(), Fail> {
     for len in 24..73 {
@@ -207,7 +208,7 @@ fn two_safe_groups(rt: &impl Abort, alloc: Global) -> Result<MemDisk, Fail> {
     Ok(log.into_disk())
 }
 
-// How many bytes a crash leaves that tears what wasn't safe, with the seed 2, and what is recovered.
+// How many bytes are left by a crash that tears what wasn't safe, with the seed 2, and what is recovered.
 const TORN: [(u64, Summary); 3] = [
     (48, (2, 2, 48, 48, EndReason::Clean)),
     (54, (2, 2, 48, 48, EndReason::Broken(Damage::ShortHeader))),

@@ -3,11 +3,11 @@
 //! - `runs`: scripts of one client, what is refused, devices that fail, and generated scripts
 //! - `clients`: scripts of several clients
 //! - `failing`: each call of a device fails in turn, and what crashes leave
-//! - `modes`: ends of logs that a mode of recovery accepts, and others
+//! - `modes`: ends of logs that a mode of recovery accepts, and others that it refuses
 //! - `numbers`: logs with a number, alone and over older ones
 //! - `overlap`: what clients do while another's append, or its group, is under way
 //! - `recovery`: what logs recover
-//! - `resumed`: logs that go on
+//! - `resumed`: logs that are resumed
 //! - `replay`: schedules of events
 
 mod clients;
@@ -33,34 +33,34 @@ const SCRIPT: &[u8] = b"client 1\nput a 1\ncommit\nget a\n";
 const OUTCOME: &str =
     "client 1\nok 1 1\nval 1 1\nhistory 1\n1 1 1 1 log 0100000000000000010000000101610131\nstate 1 1\na 1\nlog 24\n";
 
-/// Its calls of the disk are a look at the length, or a rewind, two appends, a sync, and an append.
+/// A run of it calls the disk for its length, or for a rewind, and then for two appends, a sync, and an append.
 const THREE_COMMITS: &[u8] =
     b"client 1\nput a 1\ncommit\nclear\nput b 2\ncommit sync\nclear\nput c 3\ncommit\n";
 
-/// The log's bytes: the record's masked CRC-32C, length and kind, as the RocksDB wiki's "Write Ahead Log File Format"
-/// lays them out, and the batch. The checksums here and below were reckoned by another program.
+/// The log's bytes: the record's masked CRC-32C, length and type, as the RocksDB wiki's "Write Ahead Log File Format"
+/// lays them out, and the batch. The checksums here and below were computed by another program.
 const RECORD: &[u8] =
     b"\xe9\x9f\x78\x19\x11\x00\x01\x01\x00\x00\x00\x00\x00\x00\x00\x01\x00\x00\x00\x01\x01a\x011";
 
-/// That record, and behind it the one of a batch that puts b at sequence 2.
+/// That record, and after it the record of a batch that puts b with sequence 2.
 const TWO_RECORDS: &[u8] =
     b"\xe9\x9f\x78\x19\x11\x00\x01\x01\x00\x00\x00\x00\x00\x00\x00\x01\x00\x00\x00\x01\x01a\x011\x8f\x72\xbc\x7a\x11\x00\x01\x02\x00\x00\x00\x00\x00\x00\x00\x01\x00\x00\x00\x01\x01b\x012";
 
-/// How many bytes the source gives and the sink takes in a call, where no other number is asked for. Most lines are
+/// How many bytes the source gives and the sink takes in a call, where a test asks for no other number. Most lines are
 /// longer.
 const PIECE: usize = 7;
 
 /// How many bytes the sink takes in all.
 const SINK_ROOM: usize = 1024;
 
-/// How many bytes the disk takes: the log of the greatest script below has fewer.
+/// How many bytes the disk takes. The log of the greatest script below has fewer.
 const DISK_ROOM: usize = 1_048_576;
 
-/// The moment at which the clock stands.
+/// The moment of the clock.
 const START: u64 = 1000;
 
-/// Which call of a device fails, counted from 1. A disk's calls of all kinds are counted together. The first asks for
-/// its length, or rewinds it.
+/// Which call of a device fails, counted from 1. A disk's calls of all kinds are counted together. The first call of a
+/// disk asks for its length, or rewinds it.
 #[derive(Clone, Copy)]
 enum Fails {
     Nothing,
@@ -69,7 +69,7 @@ enum Fails {
     Disk(u64),
 }
 
-/// What a call runs its script over.
+/// The write path that a call runs its script over.
 #[derive(Clone, Copy)]
 struct WritePath {
     /// The options that ask for it, with a space before each word.
@@ -78,7 +78,7 @@ struct WritePath {
     locks: u64,
 }
 
-/// What there is unless something else is asked for: one tree, and a single stage.
+/// The write path where no other one is asked for: one tree, and a single stage.
 const ONE_TREE: WritePath = WritePath {
     options: "",
     locks: 1,
@@ -99,7 +99,7 @@ const PIPELINED_SHARDS: WritePath = WritePath {
     locks: 16,
 };
 
-/// Those in which the log is handed on before a group goes into the table.
+/// The write paths in which the log is handed on before a group goes into the table.
 const IN_TWO_STAGES: [WritePath; 2] = [PIPELINED, PIPELINED_SHARDS];
 
 const PATHS: [WritePath; 4] = [ONE_TREE, SHARDS, PIPELINED, PIPELINED_SHARDS];
@@ -107,7 +107,7 @@ const PATHS: [WritePath; 4] = [ONE_TREE, SHARDS, PIPELINED, PIPELINED_SHARDS];
 /// What a call is given.
 #[derive(Clone, Copy)]
 struct Given<'a> {
-    /// The words after the program's name, with a space between them, but for those of the write path.
+    /// The words after the program's name, with a space between them, without those of the write path.
     words: &'a str,
     path: WritePath,
     text: &'a [u8],
@@ -127,7 +127,7 @@ const PLAIN: Given<'static> = Given {
     piece: PIECE,
 };
 
-/// What came of a call.
+/// A call's status, its sink and its disk, when it has ended.
 #[derive(Drop)]
 struct Came {
     status: u8,
@@ -135,7 +135,7 @@ struct Came {
     disk: MemDisk,
 }
 
-/// The program's name, words with a space between them, and the write path's options, one by one.
+/// The program's name, the words, and the write path's options, one by one. `words` has a space between each two.
 fn words_of(rt: &impl Abort, alloc: Global, words: &str, path: WritePath) -> Vec<String> {
     let options = path.options;
     let line = format!(in alloc; "writepath {words}{options}").expect(rt, "memory");
@@ -147,7 +147,7 @@ fn words_of(rt: &impl Abort, alloc: Global, words: &str, path: WritePath) -> Vec
     all
 }
 
-/// What a call is made on.
+/// The words and the devices of a call.
 #[derive(Drop)]
 struct Devices {
     words: Vec<String>,
@@ -189,7 +189,7 @@ fn came_of<R: Threads + Wait + rt::Clock + Abort + Sync>(
     Came { status, sink, disk }
 }
 
-/// Makes a call, compares its status and all that it printed, and gives its disk back.
+/// Makes a call, compares its status and all that it printed, and answers its disk.
 fn ended<R: Threads + Wait + rt::Clock + Abort + Sync>(
     rt: &R,
     alloc: Global,
@@ -209,7 +209,7 @@ fn ended<R: Threads + Wait + rt::Clock + Abort + Sync>(
 /// The words and the text of a call, and all that it prints.
 type Row = (&'static str, &'static [u8], &'static str);
 
-/// Makes calls that end with this status, over such a write path.
+/// Makes calls over this write path that end with this status.
 fn check_rows<R: Threads + Wait + rt::Clock + Abort + Sync>(
     rt: &R,
     alloc: Global,
@@ -228,7 +228,7 @@ fn check_rows<R: Threads + Wait + rt::Clock + Abort + Sync>(
     }
 }
 
-/// Whether a line is as wanted, where a `*` stands for anything.
+/// Whether a line is as wanted, where a `*` fits anything.
 fn is_line(line: &str, wanted: &str) -> bool {
     match wanted.split_once('*') {
         None => line == wanted,
@@ -248,10 +248,10 @@ fn is_text(text: &str, wanted: &str) -> bool {
     is_as_wanted
 }
 
-/// Whether a text is as wanted, line by line, but for the log's length.
+/// Whether a text is as wanted, line by line, except for the log's length.
 fn is_but_for_length(text: &str, wanted: &str) -> bool {
     let mut is_as_wanted = text.lines().count() == wanted.lines().count();
-    // It says whether the lines so far are the wanted ones.
+    // `is_as_wanted` says whether the lines so far are the wanted ones.
     for (line, wanted) in text.lines().zip(wanted.lines()) {
         let are_lengths = line.starts_with("log ") && wanted.starts_with("log ");
         is_as_wanted = is_as_wanted && (line == wanted || are_lengths);
@@ -259,7 +259,7 @@ fn is_but_for_length(text: &str, wanted: &str) -> bool {
     is_as_wanted
 }
 
-/// What was printed is one of the texts, in which a `*` stands for what hangs on the order in which clients came.
+/// What was printed is one of these texts, in which a `*` fits what depends on the order in which clients came.
 fn check_texts(rt: &impl Abort, sink: &MemSink, wanted: &[&str]) {
     let Ok(text) = str::from_utf8(sink.taken()) else {
         panic!(rt; "no text")

@@ -1,4 +1,4 @@
-//! Schedules of two clients, which write one batch each.
+//! Schedules of two clients, each of which writes one batch.
 
 use crate::opening::{clients_of, opened};
 use log_batch::Run;
@@ -10,7 +10,7 @@ use std::alloc::Global;
 use std::process::Abort;
 use std::test::Fail;
 
-/// What is replayed, and what comes of it.
+/// What is replayed, and what it gives.
 #[derive(Clone, Copy)]
 struct Row {
     /// The sequence before the first batch.
@@ -19,18 +19,18 @@ struct Row {
     batches: [&'static [&'static [u8]]; 2],
     events: &'static [Event],
     counts: Counts,
-    /// What each client is told.
+    /// The replies that each client gets.
     first: &'static [CoreReply],
     second: &'static [CoreReply],
     /// How many entries each logged group has, and how many there are in all.
     logged: &'static [u64],
     entries: usize,
-    /// The sequence published last.
+    /// The last published sequence.
     published: u64,
 }
 
 const ROWS: [Row; 3] = [
-    // Two groups. The first read can't come: a commit stands before it.
+    // Two groups. The first read is skipped: the client's commit comes before it.
     Row {
         last: 0,
         batches: [&[b"a"], &[b"b"]],
@@ -105,7 +105,8 @@ const ROWS: [Row; 3] = [
         entries: 2,
         published: 2,
     },
-    // Two sequences are left for three, so the first has no run and isn't inserted. The second has one.
+    // Two sequences are left for a batch of three, so the first batch has no run and isn't inserted. The second batch
+    // has one.
     Row {
         last: 72057594037927933,
         batches: [&[b"a", b"b", b"c"], &[b"d"]],
@@ -161,7 +162,7 @@ fn check_row(rt: &impl Abort, alloc: Global, row: &Row) -> Result<(), Fail> {
 
 #[test]
 fn schedules_are_replayed(rt: HostRuntime) -> Result<(), Fail> {
-    // The rows so far came to what they say.
+    // The rows so far gave what they say.
     for row in &ROWS {
         check_row(&rt, rt.alloc(), row)?;
     }

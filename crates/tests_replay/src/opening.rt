@@ -27,7 +27,7 @@ fn commands_of(rt: &impl Abort, alloc: Global, keys: &[&[u8]]) -> Result<Command
     Ok(commands)
 }
 
-/// Such clients, of whose batches each has the keys of one of these lists.
+/// A client for each of these lists, which puts the list's keys.
 pub(crate) fn clients_of(
     rt: &impl Abort,
     alloc: Global,
@@ -41,7 +41,7 @@ pub(crate) fn clients_of(
     Ok(clients)
 }
 
-/// A core of a single stage for clients with these commands.
+/// A core in a single stage for clients with these commands.
 pub(crate) fn opened<'a>(
     rt: &impl Abort,
     alloc: Global,

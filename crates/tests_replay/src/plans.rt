@@ -1,4 +1,4 @@
-//! The way of a plan to its next call.
+//! How a plan gets to its next call.
 
 use crate::opening::PLAIN;
 use log_batch::Measure;
@@ -13,7 +13,7 @@ const SYNCED: WriteOptions = WriteOptions {
     ..PLAIN
 };
 
-/// A client puts `a`, notes it, commits, and stops writes.
+/// A client puts `a`, adds log data, commits, and stops writes.
 fn commands_of(alloc: Global) -> Result<CommandList, NoMemory> {
     let mut commands = CommandList::new(alloc);
     commands.push(CommandView::Put {

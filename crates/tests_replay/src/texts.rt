@@ -1,16 +1,16 @@
-//! Texts that no call comes to.
+//! Texts that no call of the program gives.
 
 use base_bytes::Bytes;
 use base_maps::ByteMap;
 use model_base::{NoMemory, Refusal};
-use program_text::{disk_fault, outcome_text, summary_text};
+use program_text::{outcome_text, summary_text};
 use run_batches::BatchList;
 use run_outcome::{History, Outcome, Reply};
 use std::alloc::Global;
 use std::process::Abort;
 use std::test::Fail;
 
-/// A commit that the log's fault refuses, and a read that finds no memory.
+/// The log's fault refuses a commit, one read finds nothing, and another finds no memory.
 fn one_fault(alloc: Global) -> Result<Outcome<ByteMap>, NoMemory> {
     let replies = vec![in alloc;
         Reply::Refused(Refusal::LogFault { count: 1 }),
@@ -50,6 +50,5 @@ const SUMMARY: &str = "clients 1\nbatches 0\nrecords 0\nlast 0\nkeys 0\nsum 1844
 fn prints_what_no_call_comes_to(rt: HostRuntime) -> Result<(), Fail> {
     let alloc = rt.alloc();
     check(&rt, outcome(alloc), OUTCOME)?;
-    check(&rt, summary(alloc), SUMMARY)?;
-    check(&rt, disk_fault(alloc, 2), "disk fault 2\n")
+    check(&rt, summary(alloc), SUMMARY)
 }

@@ -23,7 +23,7 @@ const ENTRY: HistoryEntry<Lines> = HistoryEntry {
     batch: Lines { from: 0, to: 1 },
 };
 
-/// What the write of a client that puts `a` is taken through.
+/// The events of a client's write that puts `a`.
 const EVENTS: [Event; 8] = [
     Link(1),
     Elect(1),
@@ -54,7 +54,7 @@ fn value_in(found: &Found) -> Option<&[u8]> {
     }
 }
 
-/// What a read finds at a sequence, and then at an earlier one.
+/// The sequences of two reads, the later one first, and what each finds.
 const READS: [(u64, Option<&[u8]>); 2] = [(1, Some(b"1")), (0, None)];
 
 #[test]
@@ -62,7 +62,7 @@ fn a_write_is_read_from_its_sequence_on(rt: HostRuntime) -> Result<(), Fail> {
     let clients = clients_of(&rt, rt.alloc(), &KEYS)?;
     let state = written(&rt, rt.alloc(), &clients)?;
     let mut read = MapUpTo::new(rt.alloc());
-    // The reads so far found what they were to find.
+    // The reads so far found what they should.
     for (at, want) in READS {
         let found = read.value(&state, b"a", at)?;
         assert_eq!(rt; value_in(&found), want, "at {at}");

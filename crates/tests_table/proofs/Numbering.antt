@@ -1,4 +1,4 @@
--- Numbered versions are one run.
+-- Versions that are numbered one after another are one run.
 use Rattle.std.proofs.Common.{◌≡◌, ℕ, suc, ◌+◌, List, [], ◌∷◌, subst, arith}
 use Rattle.table_rule.specs.declared.content.Version.{Version}
 use Rattle.table_rule.specs.Histories.{Runs}

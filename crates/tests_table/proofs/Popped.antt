@@ -1,4 +1,4 @@
--- What is taken off a list's end was in it.
+-- What is taken off a list's end was in the list, and so was what is left.
 use Rattle.std.proofs.Common.{◌≡◌, List, ◌++◌, Option, Some, refl, sym, subst, inl}
 use Rattle.std.specs.Option.{option_to_list}
 use Rattle.table_rule.specs.Histories.{In}

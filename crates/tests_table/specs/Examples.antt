@@ -10,7 +10,7 @@ one_of_each =
     log_data (codes "note") ∷ value (codes "a") (codes "1") ∷ deletion (codes "b") ∷ single_deletion (codes "c")
     ∷ []
 
--- its versions, with sequences from one on
+-- the versions that it makes, with sequences from `first` on
 abbrev pub versions_from : ℕ → List Version
 versions_from first = number_from first (new_versions one_of_each)
 
@@ -23,10 +23,10 @@ delete_b sequence = record { key = codes "b"; value = None; sequence = sequence 
 abbrev pub delete_c : ℕ → Version
 delete_c sequence = record { key = codes "c"; value = None; sequence = sequence }
 
--- the three, at these sequences
+-- its three versions, with these sequences
 abbrev pub three_at : ℕ → ℕ → ℕ → List Version
 three_at a b c = put_a a ∷ delete_b b ∷ delete_c c ∷ []
 
--- a member's versions
+-- the versions of this member
 abbrev pub of_member : ℕ → List Version → MemberVersions
 of_member member versions = record { member = member; versions = versions }

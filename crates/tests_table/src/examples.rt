@@ -1,11 +1,11 @@
-//! An example: what the records of batches become in the parts of a group.
+//! An example: which versions the records of batches become in the parts of a group.
 
 ghost use Rattle.std.specs.Prelude.{◌≡◌, [], ◌∷◌, ◌++◌};
 ghost use Rattle.table_tree.specs.Parts.{with_part, group_of};
 ghost use Rattle.tests_table.specs.Examples.{versions_from, three_at, of_member};
 
-/// Of a record of each kind, log data makes no version, and a single deletion one like a deletion. A member's second
-/// batch goes behind its first one, and not behind another member's.
+/// Each batch has a record of each kind. Log data makes no version, and a single deletion makes the same version as a
+/// deletion. A member's second batch comes after its first one, not after another member's.
 pub fn parts_of_a_group()
     ensures { group_of (with_part (with_part (with_part [] 2 (versions_from 7)) 1 (versions_from 20)) 2
         (versions_from 30))

@@ -1,4 +1,4 @@
-//! Keys, the tree and the tables. What tests of several of them share stands in `nodes` and in `rows`.
+//! Keys, the tree and the tables. What several of these tests share is in `nodes` and in `rows`.
 
 mod at_once;
 mod keys;

@@ -1,4 +1,4 @@
--- Where a key stands among pairs in the order of their keys.
+-- The place of a key among pairs in the order of their keys.
 use Rattle.std.proofs.Common.{◌≡◌, ℕ, ◌<◌, ◌≤◌, Bool, true, false, cond, List, [], ◌∷◌, refl, sym, ap, ◌∙◌, length, filter, Option, Some, None, slice_get, slice_index_or, arith, zero, suc}
 use Rattle.std.proofs.lemmas.Bool.{true≢false}
 use Rattle.std.specs.declared.cmp.Ordering.{Ordering}
@@ -32,13 +32,13 @@ module _ {K : Type 0} (R : K → K → Ordering) (o : IsTotalOrder R) (key : K) 
     abbrev pub before : K × V → Bool
     before p = is_lt (R p.0 key)
 
-    -- ---- how many come before
+    -- ---- how many pairs come before the key
 
     none_before : (l : List (K × V)) → AllByRecursion (λ k. R key k ≡ Less) (keys_of l) → length (filter before l) ≡ 0
     none_before [] a = refl
     none_before (p ∷ l) a = rw (turned key p.0 Less a.0) (none_before l a.1)
 
-    -- the first i alone come before
+    -- where exactly the first i pairs come before the key, there are i of these
     pub counted : (l : List (K × V)) (i : ℕ) → i ≤ length l → AllWithin (λ y. before y ≡ true) l 0 i
         → AllWithin (λ y. before y ≡ false) l i (length l) → length (filter before l) ≡ i
     counted [] zero le front back = refl
@@ -49,7 +49,7 @@ module _ {K : Type 0} (R : K → K → Ordering) (o : IsTotalOrder R) (key : K) 
         rw (front 0 p (omega arith) (omega arith))
         (ap suc (counted l i (omega arith) (λ k d a b. front (suc k) d (omega arith) (omega arith)) (λ k d a b. back (suc k) d (omega arith) (omega arith))))
 
-    -- ---- they come first
+    -- ---- the pairs before the key come first
 
     key_at : (P : K → Type 0) (l : List (K × V)) → AllByRecursion P (keys_of l) → (j : ℕ) (d : K × V) → j < length l → P (slice_index_or l j d).0
     key_at P [] a j d lt = absurd (omega arith)
@@ -65,7 +65,7 @@ module _ {K : Type 0} (R : K → K → Ordering) (o : IsTotalOrder R) (key : K) 
     first (p ∷ l) s (suc i) zero d le lt t = absurd (omega arith)
     first (p ∷ l) s (suc i) (suc j) d le lt t = first l s.1 i j d (omega arith) (omega arith) t
 
-    -- ---- what stands behind them
+    -- ---- what comes after them
 
     lacked : (l : List (K × V)) → AllByRecursion (λ k. R key k ≡ Less) (keys_of l) → lookup (is_at (R key)) l ≡ None
     lacked [] a = refl
@@ -86,7 +86,7 @@ module _ {K : Type 0} (R : K → K → Ordering) (o : IsTotalOrder R) (key : K) 
         let f = turned p.0 key Greater e in let b = all_past p.0 (keys_of l) f a in
         rw e (rw (none_before l b) (rw f (lacked l b)))
 
-    -- a key that has a value stands behind those before it
+    -- a key has a value exactly where the first pair that isn't before it has this key, and it is that pair's value
     pub there : (l : List (K × V)) → IsStrictlySortedBy R (keys_of l)
         → lookup (is_at (R key)) l ≡ value_of (slice_get l (length (filter before l)))
     unfolding IsStrictlySortedBy

@@ -1,8 +1,9 @@
--- What a call of `Box` over any types is passed for an object on the heap. Assumes `Logic`.
---     Item, Heap              the rows of an object and of the heap as they are passed, with their laws `item_laws` and `heap_laws`
---     item_drops, heap_drops  how a value of each is let go
+-- What is passed for an object on the heap to a call of `Box` over any types. Assumes `Logic`.
+--     Item, Heap              the rows of an object and of the heap as they are passed, with their laws `item_laws`
+--                             and `heap_laws`
+--     item_drops, heap_drops  how a value of each is dropped
 --     Boxed                   the two together, as the steps for boxes take them
---     lets_go                 an object is let go as such a call wants it
+--     lets_go                 an object is dropped as such a call needs it
 use Rattle.std.proofs.Common.{[], ◌∷◌, refl}
 use seplogic.Ra.Ura.{Ura}
 use mir.Raw.{raw as bare}
@@ -54,7 +55,7 @@ Heap = passed heap.the_row
 abbrev pub heap_laws : Laws Heap
 heap_laws = arg_laws (bare (layout heap.the_row)) no heap.the_row of_heap.the_row_laws refl
 
--- the drop of what needs none
+-- the drop of a value that needs no drop
 abbrev pub none : Symbol
 none = "wolzenn_c::Destruct++none::drop"
 

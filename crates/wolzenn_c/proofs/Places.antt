@@ -1,4 +1,4 @@
--- Where a record's strings stand in the bytes round it.
+-- Where a record's strings are in the bytes around it.
 use Rattle.std.proofs.Common.{◌≡◌, ℕ, ◌+◌, ◌-◌, ◌≤◌, List, [], ◌∷◌, ◌++◌, length, take, drop, refl, sym, ◌∙◌, ap, subst, arith, append_assoc, append-nil, length-append, length-drop}
 use Rattle.std.proofs.Math.Seq.{take-append_seam, drop-append_seam}
 use Rattle.std.proofs.lemmas.List.{take-append-drop}
@@ -9,7 +9,7 @@ use Rattle.log_batch.proofs.OneAnswer.{from_place}
 use Rattle.wolzenn_c.specs.declared.batch_bytes.WzOp.{WzOp}
 use Rattle.wolzenn_c.specs.BatchBytes.{StandsAt, Shows, IsRecordBetween}
 
--- a string between a front and a rest, and within two other places
+-- a string after a front and before a rest, which also lies between two other places
 stands_between : (front s rest : List ℕ) (from to : ℕ) → from ≤ length front → length front + length s ≤ to
     → StandsAt (front ++ (s ++ rest)) from to (length front) (length s) s
 stands_between front s rest from to after before =
@@ -27,7 +27,7 @@ stands : (bytes front s rest : List ℕ) (from to place : ℕ) → bytes ≡ fro
 stands bytes front s rest from to place is at after before =
     rw (is, at) (stands_between front s rest from to (omega (arith, after, at)) (omega (arith, before, at)))
 
--- the key of a record of one string, in front of the record's end
+-- the key of a record of one string, which ends where the record ends
 pub key_alone : (front key rest : List ℕ) (tag end place : ℕ) → end ≡ length (front ++ (tag ∷ (varstring key ++ []))) → place + length key ≡ end
     → StandsAt (front ++ (tag ∷ (varstring key ++ [])) ++ rest) (length front) end place (length key) key
 key_alone front key rest tag end place is at =
@@ -65,7 +65,7 @@ key_before front key s rest tag end place is at =
     let place_is : place ≡ length (front ++ (tag ∷ v)) = omega (arith, all, at, length-append front (tag ∷ v)) in
     stands bytes (front ++ (tag ∷ v)) key ((varstring s ++ []) ++ rest) (length front) end place split place_is (omega (arith, all, at)) (omega (arith, all, at))
 
--- its value
+-- and its value
 pub value_behind : (front key s rest : List ℕ) (tag end place : ℕ) → end ≡ length (front ++ (tag ∷ (varstring key ++ (varstring s ++ [])))) → place ≡ end - length s
     → StandsAt (front ++ (tag ∷ (varstring key ++ (varstring s ++ []))) ++ rest) (length front) end place (length s) s
 value_behind front key s rest tag end place is at =
@@ -77,7 +77,7 @@ value_behind front key s rest tag end place is at =
     omega (arith, all, at, length-append front (tag ∷ (varstring key ++ varint (length s))), length-append (varstring key) (varint (length s)), length-append (varint (length key)) key) in
     stands bytes before s rest (length front) end place split place_is (omega (arith, all, at)) (omega (arith, all, at))
 
--- The record in front of the bytes from a place on is the next, and its operation shows it.
+-- The record that the bytes begin with, from a place on, is the next one, and its operation shows it.
 pub next_is : (bytes : List ℕ) (place : ℕ) (r : Record) (rest : List ℕ) (op : WzOp) → place ≤ length bytes → IsReadable r
     → take (length bytes - place) (drop place bytes) ≡ record_bytes r ++ rest
     → ((front behind : List ℕ) → length bytes - length rest ≡ length (front ++ record_bytes r)
@@ -100,6 +100,6 @@ next_is bytes place r rest op inside readable is shown =
           subst P (sym all) (subst Q at (shown (take place bytes) rest end));
     }
 
--- An error in front of the bytes from a place on, which are all that is left.
+-- An error at the start of the bytes from a place on, which are all that is left.
 pub error_from : (bytes : List ℕ) (place : ℕ) (e : BatchError) → NoRecord (take (length bytes - place) (drop place bytes)) e → NoRecord (drop place bytes) e
 error_from bytes place e wrong = let P : List ℕ → Type 0 = λ l. NoRecord l e in subst P (from_place place bytes) wrong

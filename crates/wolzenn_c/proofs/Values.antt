@@ -23,7 +23,7 @@ use Rattle.wolzenn_c.specs.contracts.held.Held as held
 use Rattle.wolzenn_c.specs.contracts.object.Object as object
 use Rattle.wolzenn_c.specs.Holding.{chunk, held_owns}
 
--- a pointer with a handle beside it has its type, if the handle has
+-- a pointer together with a handle has its type, if the handle has its own
 pub box_good : (Z : RattleType) (b o : ℕ) (h : Val) → Good (layout Z) h
     → T (has_ty (layout Z) h && true) × WT (vstruct (vcons (vptr b o) (vcons h vnil)))
 box_good Z b o h fits = (and_tt (has_ty (layout Z) h) fits.0, (tt, (fits.1, tt)))
@@ -40,7 +40,7 @@ module _ {M : Type 1} {𝓤 : Ura M} {𝓛 : Logic 𝓤} {K : Type 0} {Γ : List
       nothing t $ feq_i t (List Val) (ptr_val p ∷ []) (ptr_val p ∷ []) refl $ fjoin t $ feq_i t (List Val) (v ∷ []) (v ∷ []) refl $ fjoin t $
       fpack t (Valss (RawPtr ∷ [])) (within (shape held.the_type) (p, tt) (v ∷ [])) (ptr_val p ∷ [], tt) $ fjoin t $ s)
 
-  -- the way back
+  -- and a `Held` is a pointer and what it owns
   pub held_out : K → (d : held.the_row.Denot) (vs : List Val)
       → (vs ≡ alone (ptr_val d.at) ∷ [] → Seq K 𝓛 (‵ (held_owns object.the_row d.at d.object) ∷ Γ) G)
       → Seq K 𝓛 (‵ (held.the_row.own_val d vs) ∷ Γ) G
@@ -48,7 +48,7 @@ module _ {M : Type 1} {𝓤 : Ura M} {𝓛 : Logic 𝓤} {K : Type 0} {Γ : List
       fsplit t $ fpick t (λ vss. fsplit t $ feq_l t (λ ev. fsplit t $ feq_l t (λ ep. drop t $
       k (subst (λ (ps : List Val). vs ≡ vstruct (of_list (ps ++ [])) ∷ []) ep ev))))
 
-  -- where there is an object, it is behind the pointer
+  -- where there is an object, the pointer leads to it
   pub held_some : K → (p : Ptr) (x : Option object.the_row.Denot) → (x ≡ None → ⊥)
       → ((b o : ℕ) (y : object.the_row.Denot) → p ≡ block_ptr b o → x ≡ Some y
       → Seq K 𝓛 (‵ (box_owns chunk object.the_row (block_ptr b o) y) ∷ Γ) G)

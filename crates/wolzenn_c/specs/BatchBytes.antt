@@ -1,4 +1,4 @@
--- What C is told of a batch's bytes.
+-- What C learns of a batch's bytes.
 use Rattle.std.specs.Prelude.{◌≡◌, ◌≤◌, ℕ, ◌+◌, List, ◌++◌, length, drop, slice_range, Option, Some, None, MatchOption}
 use Rattle.model_base.specs.declared.batch.BatchError.{BatchError}
 use Rattle.model_base.specs.declared.batch.BatchError.TheVariants as error
@@ -7,21 +7,21 @@ use Rattle.model_base.specs.declared.log.EndReason.TheVariants as ends
 use Rattle.model_base.specs.Batch.{Record, value, deletion, single_deletion, log_data, tag_of, record_bytes, IsReadable}
 use Rattle.wolzenn_c.specs.declared.batch_bytes.WzOp.{WzOp}
 
--- the reason for which bytes are no batch, as one for which a log ends
+-- the reason for which bytes are no batch, as a reason for which a log ends
 abbrev pub reason_of : BatchError → EndReason
 reason_of error.Short = ends.Short
 reason_of error.BadVarint = ends.BadVarint
 reason_of (error.Tag tag) = ends.Tag tag
 reason_of (error.Count said found) = ends.Count said found
 
--- The string stands in the bytes at this place, and has this length. It lies between two others.
+-- The string is in the bytes at this place, has this length, and lies between the places `from` and `to`.
 pub record StandsAt (bytes : List ℕ) (from to place len : ℕ) (string : List ℕ) : Type 0 where
   pub len_is : len ≡ length string
   pub behind_from : from ≤ place
   pub before_to : place + len ≤ to
   pub there : slice_range bytes place (place + len) ≡ string
 
--- A record's key. That of log data is all of it.
+-- A record's key. For log data it is the whole data.
 abbrev pub key_of : Record → List ℕ
 key_of (value key v) = key
 key_of (deletion key) = key
@@ -35,15 +35,15 @@ value_of (deletion key) = None
 value_of (single_deletion key) = None
 value_of (log_data blob) = None
 
--- The operation shows the record that lies between two places of the bytes: by its tag, and by where its strings
--- stand. The place and the length of a value that it hasn't are 0.
+-- The operation shows the record that lies between two places of the bytes: its tag, and where its strings are. Where
+-- the record has no value, the value's place and length are 0.
 pub record Shows (bytes : List ℕ) (from to : ℕ) (op : WzOp) (r : Record) : Type 0 where
   pub kind : op.kind ≡ tag_of r
   pub key_stands : StandsAt bytes from to op.key_at op.key_len (key_of r)
   pub value_stands : MatchOption (value_of r) ((op.value_at ≡ 0) × (op.value_len ≡ 0))
       (StandsAt bytes from to op.value_at op.value_len)
 
--- From one place of the bytes to another lies a record, which the operation shows.
+-- Between the two places of the bytes there is a record, which the operation shows.
 pub record IsRecordBetween (bytes : List ℕ) (from to : ℕ) (op : WzOp) : Type 0 where
   pub found : Record
   pub readable : IsReadable found

@@ -16,15 +16,15 @@ holding contents = Some (object.Batch contents)
 abbrev pub bytes_of : Contents → List ℕ
 bytes_of contents = batch contents.sequence contents.records
 
--- The answer of adding records to a batch, and what the handle holds then. Too many bytes are always refused, and
--- for others only memory can be missing.
+-- The answer of adding records to a batch, and what the handle holds then. Too many bytes are always refused;
+-- otherwise only memory can be missing.
 pub record AddsTo (old : Contents) (additions : List Record) (code : ℕ) (new : Option Object) : Type 0 where
   pub done : code ≡ DONE → new ≡ holding (with_additions old additions)
   pub refused : code ≢ DONE → new ≡ holding old
   pub too_large : MAX_SIZE < size_with_all old additions → code ≡ TOO_LARGE
   pub fits : size_with_all old additions ≤ MAX_SIZE → (code ≡ DONE) ⊎ (code ≡ NO_MEMORY)
 
--- The answer where a handle holds no batch: it holds the same then.
+-- The answer where a handle holds no batch: the handle holds what it held.
 pub record IsClosed (old : Option Object) (code : ℕ) (new : Option Object) : Type 0 where
   pub closed : code ≡ CLOSED
   pub same : new ≡ old
@@ -34,7 +34,7 @@ abbrev pub Adds : Option Object → List Record → ℕ → Option Object → Ty
 Adds old additions code new = MatchOption (as_batch old) (IsClosed old code new)
     (λ contents. AddsTo contents additions code new)
 
--- making another batch of the one in a handle
+-- changing the batch in a handle to another one
 abbrev pub Changes : (Contents → Contents) → Option Object → ℕ → Option Object → Type 0
 Changes change old code new = MatchOption (as_batch old) (IsClosed old code new)
     (λ contents. (code ≡ DONE) × (new ≡ holding (change contents)))

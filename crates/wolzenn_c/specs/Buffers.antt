@@ -6,7 +6,7 @@ use Rattle.wolzenn_c.specs.declared.codes.TheConstants.{DONE, SMALL}
 abbrev pub begun_with : List ℕ → List ℕ → List ℕ
 begun_with bytes buffer = bytes ++ drop (length bytes) buffer
 
--- the bytes are copied to the start of a buffer, if they have room in it
+-- the bytes are copied to the start of a buffer, if it has room for them
 pub record Copies (bytes old : List ℕ) (code : ℕ) (new : List ℕ) : Type 0 where
   pub fits : length bytes ≤ length old → (code ≡ DONE) × (new ≡ begun_with bytes old)
   pub small : length old < length bytes → (code ≡ SMALL) × (new ≡ old)

@@ -3,6 +3,6 @@ use Rattle.std.specs.Prelude.{◌≢◌, ℕ, Option, Some}
 use Rattle.log_reader.specs.declared.reader.Next.{Next}
 use Rattle.log_reader.specs.declared.reader.Next.TheVariants.{Fault}
 
--- a reader with this answer hasn't stopped by a fault
+-- a reader that has this answer hasn't stopped for a fault
 abbrev pub IsUnfailed : Option Next → Type 0
 IsUnfailed stopped = (count : ℕ) → stopped ≢ Some (Fault count)

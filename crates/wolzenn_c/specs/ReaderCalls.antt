@@ -1,4 +1,4 @@
--- What the functions of a reader come to for C.
+-- What the functions for a reader give to C.
 use Rattle.std.specs.Prelude.{◌≡◌, ℕ, ◌==◌, false, List, length, Option, Some, None, if◌then◌else◌}
 use Rattle.log_reader.specs.declared.reader.Next.{Next}
 use Rattle.log_reader.specs.declared.reader.Next.TheVariants as next
@@ -10,7 +10,8 @@ use Rattle.wolzenn_c.specs.declared.reading.Reading.{Reading}
 use Rattle.wolzenn_c.specs.Readings.{number_of, ReadsOn}
 use Rattle.wolzenn_c.specs.Reasons.{end_of}
 
--- a reader of a log with this number, at its start, with no record in hand
+-- a reader of a log with this number, or with none where it is 0: at the log's start, not stopped, and with no record
+-- in hand
 pub record IsOpened (number : ℕ) (r : Reading) : Type 0 where
   pub number_is : r.reader.number ≡ number_of number
   pub start : r.reader.place ≡ 0
@@ -18,8 +19,8 @@ pub record IsOpened (number : ℕ) (r : Reading) : Type 0 where
   pub no_record : r.has_record ≡ false
   pub follows : (file : List ℕ) → Follows file r.reader
 
--- An answer in numbers: its code, and the record and the end that C has before and after. The record has this many
--- bytes. No fault is told.
+-- An answer in numbers: its code, and C's record and end before the call and after it. The record has `len` bytes. A
+-- fault has no code, and is never the answer.
 abbrev pub Tells : Next → ℕ → WzRecord × WzEnd → ℕ → WzRecord × WzEnd → Type 0
 Tells (next.Record start end) len before code after =
     (code ≡ DONE) × (after ≡ (record { start = start; end = end; len = len }, before.1))
@@ -27,7 +28,7 @@ Tells (next.End at why) len before code after = (code ≡ END) × (after ≡ (be
 Tells (next.Fault count) len before code after = ⊥
 Tells next.NoMemory len before code after = (code ≡ NO_MEMORY) × (after ≡ before)
 
--- A reader has read on, and its answer is told. A record is in hand just where the code says that one was read.
+-- A reader has read on, and its answer is told. A record is in hand exactly where the code says that one was read.
 pub record IsNext (file : List ℕ) (old new : Reading) (before : WzRecord × WzEnd) (code : ℕ)
     (after : WzRecord × WzEnd) : Type 0 where
   pub answer : Next
@@ -35,6 +36,6 @@ pub record IsNext (file : List ℕ) (old new : Reading) (before : WzRecord × Wz
   pub tells : Tells answer (length new.reader.in_hand) before code after
   pub in_hand : new.has_record ≡ (code == DONE)
 
--- the record in hand, if one is
+-- the record in hand, if there is one
 abbrev pub record_of : Reading → Option (List ℕ)
 record_of r = if r.has_record then Some r.reader.in_hand else None

@@ -1,22 +1,22 @@
--- What a call of a reader over bytes in memory comes to.
+-- What a call of a reader over bytes in memory gives.
 use Rattle.std.specs.Prelude.{◌≡◌, ℕ, ◌==◌, Bool, true, false, List, Option, Some, None, IfSome, if◌then◌else◌}
 use Rattle.log_reader.specs.declared.reader.Next.{Next}
 use Rattle.log_reader.specs.declared.reader.Next.TheVariants as next
 use Rattle.log_reader.specs.Reader.{Reader, Follows, PlaceAfter, GoesForward}
 use Rattle.log_reader.specs.Records.{Reads, stopped_by}
 
--- the number of a log, which has none where 0 is given
+-- the number of a log; where 0 is given it has none
 abbrev pub number_of : ℕ → Option ℕ
 number_of number = if number == 0 then None else Some number
 
--- a reader that hasn't stopped reads on, and answers what this comes to
+-- a reader that hasn't stopped reads on, and this is its answer
 pub record Goes (file : List ℕ) (old new : Reader) (answer : Next) : Type 0 where
   pub reads : Follows file old → Reads old.number file old.place new.in_hand answer
   pub place : PlaceAfter old new answer
   pub forward : GoesForward old.place answer
   pub stopped : new.stopped ≡ stopped_by answer
 
--- A reader is asked for the next record of the file. Once it has stopped it answers the same again.
+-- A reader is asked for the next record of the file. Once it has stopped it gives the same answer again.
 pub record ReadsOn (file : List ℕ) (old new : Reader) (answer : Next) : Type 0 where
   pub number : new.number ≡ old.number
   pub follows : Follows file old → Follows file new

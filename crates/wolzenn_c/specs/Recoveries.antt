@@ -1,4 +1,4 @@
--- What recovering a log comes to for C.
+-- What recovering a log gives to C.
 use Rattle.std.specs.Prelude.{◌≡◌, ◌⊎◌, ℕ, ◌==◌, List, length, Option, Some, None, MatchOption, if◌then◌else◌}
 use Rattle.model_base.specs.declared.log.EndReason.{EndReason}
 use Rattle.model_base.specs.Map.{Pairs}
@@ -29,7 +29,7 @@ summary_of r = record {
 abbrev pub damage_of : ℕ → EndReason → WzRecovered
 damage_of at why = record { groups = 0; pairs = 0; last = 0; kept = 0; end = end_of at why }
 
--- these pairs and this summary are what the file recovers, and the mode accepts its end
+-- these pairs and this summary are what is recovered from the file, and the mode accepts the end of this recovery
 pub record IsRecovery (number : Option ℕ) (mode : Mode) (file : List ℕ) (pairs : Pairs) (summary : WzRecovered) :
     Type 0 where
   pub recovered : Recovered
@@ -45,7 +45,7 @@ pub record IsRefused (number : Option ℕ) (mode : Mode) (file : List ℕ) (summ
   pub damage : IsDamage number mode file at why
   pub summary_is : summary ≡ damage_of at why
 
--- what recovering the file answers, with the pairs that the handle holds then
+-- what recovery of the file answers, with the pairs that the handle holds then
 pub record Recovers (number : Option ℕ) (mode : Mode) (file : List ℕ) (code : ℕ) (pairs : Option Pairs)
     (summary : WzRecovered) : Type 0 where
   pub codes : (code ≡ DONE) ⊎ (code ≡ NO_MEMORY) ⊎ (code ≡ DAMAGE)

@@ -1,8 +1,8 @@
 //! Building a batch.
 //!
-//! The five calls that add are one function, `add`, over what each of them adds. Where the handle holds no batch each
-//! call here but `wz_batch_new` answers `CLOSED`, and the handle holds what it held. Of these only `wz_batch_append`
-//! looks at its bytes first.
+//! The five calls that add are one function, `add`, called with what each of them adds. Where the handle holds no
+//! batch, each call here but `wz_batch_new` answers `CLOSED`, and the handle holds what it held. Of these calls only
+//! `wz_batch_append` looks at its bytes first.
 
 ghost use Rattle.std.specs.Prelude.{◌≡◌, ◌≢◌, ◌<◌, ◌≤◌, ◌^◌, ◌-◌, ℕ, List, [], ◌∷◌, length, min, OnOk, OnErr, IsOkUnless, None, MatchOption};
 ghost use Rattle.model_base.specs.Batch as model;
@@ -32,7 +32,7 @@ enum Addition<'a> {
 
 /// Opens a batch of no records, with the sequence 0.
 ///
-/// What the handle held before is freed. `DONE`: it holds the batch. `NO_MEMORY`: it holds nothing.
+/// What the handle held before is freed. `DONE`: the handle holds the batch. `NO_MEMORY`: it holds nothing.
 #[unsafe(no_mangle)]
 pub extern "C" fn wz_batch_new(alloc: Global, handle: &mut WzHandle) -> u32
     ensures done { result ≡ DONE → handle.new.held.object ≡ holding empty }
@@ -49,10 +49,10 @@ pub extern "C" fn wz_batch_new(alloc: Global, handle: &mut WzHandle) -> u32
     DONE
 }
 
-/// Adds a key with its value behind the other records.
+/// Adds a key with its value after the other records.
 ///
-/// `DONE`. `TOO_LARGE`: the batch would have more than `MAX_SIZE` bytes. `NO_MEMORY`. At these two the batch is as it
-/// was.
+/// `DONE`. `TOO_LARGE`: the batch would have more than `MAX_SIZE` bytes. `NO_MEMORY`. After the last two the batch is
+/// as it was.
 #[unsafe(no_mangle)]
 pub extern "C" fn wz_batch_put(
     alloc: Global,
@@ -66,7 +66,7 @@ pub extern "C" fn wz_batch_put(
     add(alloc, handle, Addition::Record(view))
 }
 
-/// Adds a deletion of a key behind the other records. It answers as `wz_batch_put`.
+/// Adds a deletion of a key after the other records. It answers like `wz_batch_put`.
 #[unsafe(no_mangle)]
 pub extern "C" fn wz_batch_delete(alloc: Global, handle: &mut WzHandle, key: &[u8]) -> u32
     ensures { Adds handle.old.held.object (model.deletion key.now ∷ []) result handle.new.held.object }
@@ -75,7 +75,7 @@ pub extern "C" fn wz_batch_delete(alloc: Global, handle: &mut WzHandle, key: &[u
     add(alloc, handle, Addition::Record(view))
 }
 
-/// Adds a single deletion of a key behind the other records. It answers as `wz_batch_put`.
+/// Adds a single deletion of a key after the other records. It answers like `wz_batch_put`.
 #[unsafe(no_mangle)]
 pub extern "C" fn wz_batch_single_delete(alloc: Global, handle: &mut WzHandle, key: &[u8]) -> u32
     ensures { Adds handle.old.held.object (model.single_deletion key.now ∷ []) result handle.new.held.object }
@@ -84,7 +84,7 @@ pub extern "C" fn wz_batch_single_delete(alloc: Global, handle: &mut WzHandle, k
     add(alloc, handle, Addition::Record(view))
 }
 
-/// Adds log data, which takes no sequence, behind the other records. It answers as `wz_batch_put`.
+/// Adds log data, which takes no sequence, after the other records. It answers like `wz_batch_put`.
 #[unsafe(no_mangle)]
 pub extern "C" fn wz_batch_log_data(alloc: Global, handle: &mut WzHandle, blob: &[u8]) -> u32
     ensures { Adds handle.old.held.object (model.log_data blob.now ∷ []) result handle.new.held.object }
@@ -93,18 +93,19 @@ pub extern "C" fn wz_batch_log_data(alloc: Global, handle: &mut WzHandle, blob: 
     add(alloc, handle, Addition::Record(view))
 }
 
-/// Adds the records of another batch's bytes behind the other records. The sequence in the bytes isn't looked at.
+/// Adds the records of another batch, of which these are the bytes, after the other records. The sequence in the bytes
+/// isn't looked at.
 ///
-/// `NO_BATCH`: the bytes are no batch, whatever the handle holds, and it holds that still. Else it answers as
+/// `NO_BATCH`: the bytes are no batch, whatever the handle holds, and it still holds that. Otherwise it answers like
 /// `wz_batch_put`.
 #[unsafe(no_mangle)]
 pub extern "C" fn wz_batch_append(alloc: Global, handle: &mut WzHandle, bytes: &[u8]) -> u32
-    // What it answers is so.
+    // If it answers this, it is true.
     ensures no_batch { result ≡ NO_BATCH → (error : BatchError) × model.IsBatchError bytes.now error }
     ensures batch { result ≢ NO_BATCH
         → (sequence : ℕ) × (records : List model.Record) × model.IsBatch bytes.now sequence records }
 
-    // What is so is its answer.
+    // If it is true, it answers this.
     ensures adds { (sequence : ℕ) (records : List model.Record) → model.IsBatch bytes.now sequence records
         → Adds handle.old.held.object records result handle.new.held.object }
     ensures refuses { (error : BatchError) → model.IsBatchError bytes.now error
@@ -132,7 +133,7 @@ fn add(alloc: Global, handle: &mut WzHandle, addition: Addition<'_>) -> u32
     code
 }
 
-/// Adds to a batch, and tells what came of it.
+/// Adds to a batch, and answers with the code for the result.
 fn add_to(batch: &mut Batch, addition: Addition<'_>) -> u32
     ensures added { AddsTo batch.old (records_in addition.entry) result (holding batch.new) }
     ensures never_no_batch { result ≢ NO_BATCH }
@@ -144,7 +145,7 @@ fn add_to(batch: &mut Batch, addition: Addition<'_>) -> u32
     }
 }
 
-/// Adds behind the others, by the batch's own call for this.
+/// Adds after the other records, by the batch's own call for this.
 fn put_behind(batch: &mut Batch, addition: Addition<'_>) -> Result<(), AddError>
     ensures ok { OnOk result (batch.new ≡ with_additions batch.old (records_in addition.entry)) }
     ensures err { OnErr result (batch.new ≡ batch.old) }
@@ -181,7 +182,7 @@ pub extern "C" fn wz_batch_clear(alloc: Global, handle: &mut WzHandle) -> u32
     code
 }
 
-/// Gives the batch the sequence of its first record that counts, and changes nothing else. `DONE`.
+/// Sets the batch's sequence, which is that of its first record that counts, and changes nothing else. `DONE`.
 #[unsafe(no_mangle)]
 pub extern "C" fn wz_batch_set_sequence(alloc: Global, handle: &mut WzHandle, sequence: u64) -> u32
     ensures { Changes (λ contents. record contents { sequence = sequence })
@@ -244,7 +245,7 @@ pub extern "C" fn wz_batch_len(alloc: Global, handle: &mut WzHandle, len: &mut u
     code
 }
 
-/// Copies the batch's bytes to the start of the caller's buffer, and touches nothing behind them.
+/// Copies the batch's bytes to the start of the caller's buffer, and touches nothing after them.
 ///
 /// `DONE`. `SMALL`: the buffer has fewer bytes than the batch, and none was written.
 #[unsafe(no_mangle)]

@@ -17,7 +17,7 @@ const DELETION: u32 = 0;
 /// It gives a key a value.
 const VALUE: u32 = 1;
 
-/// It stands in the log alone.
+/// It is in the log only.
 const LOG_DATA: u32 = 3;
 
 /// It takes a key out that was set at most once.
@@ -31,7 +31,7 @@ pub struct WzBatchHead {
     pub count: u32,
 }
 
-/// A record of a batch: what it does, and where in the batch's bytes its key and its value stand.
+/// A record of a batch: what it does, and where in the batch's bytes its key and its value are.
 #[repr(C)]
 #[derive(Clone, Copy, Debug)]
 pub struct WzOp {
@@ -44,18 +44,18 @@ pub struct WzOp {
 
 /// Looks through the bytes of a batch.
 ///
-/// `DONE`: they are one, and `head` is its sequence and how many of its records count. `NO_BATCH`: they are none, and
-/// `why` is the first fault, with the offset 0.
+/// `DONE`: they are a batch, and `head` is its sequence and how many of its records count. `NO_BATCH`: they are none,
+/// and `why` is the first fault, with the offset 0.
 #[unsafe(no_mangle)]
 pub extern "C" fn wz_batch_read(bytes: &[u8], head: &mut WzBatchHead, why: &mut WzEnd) -> u32
-    // What it answers is so.
+    // Which answers there are, and what is true if it gives them.
     ensures answers { (result ≡ DONE) ⊎ (result ≡ NO_BATCH) }
     ensures done { result ≡ DONE → (records : List Record) × IsBatch bytes.now head.new.sequence records
         × (head.new.count ≡ count_of records) × (why.new ≡ why.old) }
     ensures no_batch { result ≡ NO_BATCH → (error : BatchError) × IsBatchError bytes.now error
         × (why.new ≡ end_in_numbers 0 (log_reason error)) × (head.new ≡ head.old) }
 
-    // What is so is its answer.
+    // If it is true, it answers this.
     ensures reads { (sequence : ℕ) (records : List Record) → IsBatch bytes.now sequence records
         → (result ≡ DONE) × (head.new ≡ record { sequence = sequence; count = count_of records }) }
     ensures refuses { (error : BatchError) → IsBatchError bytes.now error
@@ -74,27 +74,28 @@ pub extern "C" fn wz_batch_read(bytes: &[u8], head: &mut WzBatchHead, why: &mut 
     }
 }
 
-/// The record that stands at a place of a batch's bytes, which is first that behind its header.
+/// The record at the place `at` of a batch's bytes. For the first record this is the place after the batch's header.
+/// At a place where none begins, the bytes are read as if one did.
 ///
-/// `DONE`: `op` is what the record does, and where in the bytes its key and its value stand; the place is moved behind
-/// it. `END`: the place is the bytes' end. `RANGE`: it is past their end. `NO_BATCH`: no record stands there, and `why`
-/// is the fault, with the place as its offset.
+/// `DONE`: `op` is what the record does, and where in the bytes its key and its value are; the place is moved to the
+/// record's end. `END`: the place is the end of the bytes. `RANGE`: it is past their end. `NO_BATCH`: no record is
+/// there, and `why` is the fault, with the place as its offset.
 #[unsafe(no_mangle)]
 pub extern "C" fn wz_batch_next(bytes: &[u8], at: &mut usize, op: &mut WzOp, why: &mut WzEnd) -> u32
-    // What it answers is so.
+    // What is true if it answers this, and what it may answer before the end.
     ensures done { result ≡ DONE → IsRecordBetween bytes.now at.old at.new op.new }
     ensures no_batch { result ≡ NO_BATCH → (error : BatchError) × NoRecord (drop at.old bytes.now) error
         × (why.new ≡ end_in_numbers at.old (log_reason error)) }
     ensures before_end { at.old < length bytes.now → (result ≡ DONE) ⊎ (result ≡ NO_BATCH) }
 
-    // What is so is its answer.
+    // If it is true, it answers this.
     ensures end { (result ≡ END) ↔ (at.old ≡ length bytes.now) }
     ensures range { (result ≡ RANGE) ↔ (length bytes.now < at.old) }
     ensures reads { (found : Record) (rest : List ℕ) → IsReadable found
         → drop at.old bytes.now ≡ record_bytes found ++ rest → result ≡ DONE }
     ensures refuses { (error : BatchError) → NoRecord (drop at.old bytes.now) error → result ≡ NO_BATCH }
 
-    // What it doesn't answer with stays as it was.
+    // What an answer doesn't set stays as it was.
     ensures place_and_op { result ≢ DONE → (at.new ≡ at.old) × (op.new ≡ op.old) }
     ensures reason { result ≢ NO_BATCH → why.new ≡ why.old }
 {
@@ -119,8 +120,8 @@ pub extern "C" fn wz_batch_next(bytes: &[u8], at: &mut usize, op: &mut WzOp, why
     }
 }
 
-/// A record that ends at a place of some bytes, by the places of its strings in them: these are counted back from
-/// there.
+/// A record that ends at the place `end` of some bytes, with the places of its strings in them. They are counted back
+/// from this end.
 fn op_of(view: RecordView<'_>, end: usize) -> WzOp
     requires { length (record_bytes (record_of view)) ≤ end }
     ensures { let spelling = record_bytes (record_of view.entry) in
@@ -145,7 +146,7 @@ fn op_of(view: RecordView<'_>, end: usize) -> WzOp
     }
 }
 
-/// A record of one string.
+/// The same for a record of one string.
 fn op_of_key(kind: u32, key: &[u8], end: usize) -> WzOp
     requires { length key.now ≤ end }
     ensures kind { result.kind ≡ kind }
@@ -162,7 +163,7 @@ fn op_of_key(kind: u32, key: &[u8], end: usize) -> WzOp
     }
 }
 
-/// The reason for which bytes are no batch, as one for which a log ends.
+/// The reason for which bytes are no batch, as a reason for which a log ends.
 fn reason_of(error: BatchError) -> EndReason
     ensures { result ≡ log_reason error }
 {

@@ -5,7 +5,7 @@ ghost use Rattle.wolzenn_c.specs.Buffers.{begun_with, Copies};
 
 use crate::codes::{DONE, SMALL};
 
-/// Copies bytes to the start of a buffer, if they have room in it.
+/// Copies bytes to the start of a buffer, if it has room for them.
 pub fn copy_to(bytes: &[u8], buffer: &mut [u8]) -> u32
     ensures { Copies bytes.now buffer.old result buffer.new }
 {
@@ -16,7 +16,7 @@ pub fn copy_to(bytes: &[u8], buffer: &mut [u8]) -> u32
     DONE
 }
 
-/// Copies bytes to the start of a buffer, in which they have room.
+/// Copies bytes to the start of a buffer, which has room for them.
 pub fn put(bytes: &[u8], buffer: &mut [u8])
     requires { length bytes.now ≤ length buffer.old }
     ensures { buffer.new ≡ begun_with bytes.now buffer.old }

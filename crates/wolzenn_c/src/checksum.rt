@@ -11,7 +11,7 @@ pub extern "C" fn wz_crc32c(bytes: &[u8]) -> u32
     base_bytes::crc32c(bytes)
 }
 
-/// The CRC-32C of some bytes and these behind them, from that of the former.
+/// The CRC-32C of some bytes followed by these bytes. `crc` is the CRC-32C of the first ones.
 #[unsafe(no_mangle)]
 pub extern "C" fn wz_crc32c_extend(crc: u32, bytes: &[u8]) -> u32
     ensures { (front : List ℕ) → checksum.crc32c front ≡ crc → result ≡ checksum.crc32c (front ++ bytes.now) }
@@ -19,7 +19,7 @@ pub extern "C" fn wz_crc32c_extend(crc: u32, bytes: &[u8]) -> u32
     base_bytes::extend(crc, bytes)
 }
 
-/// The form in which a checksum stands in a log.
+/// The form that a checksum has in a log: it is masked.
 #[unsafe(no_mangle)]
 pub extern "C" fn wz_crc32c_mask(crc: u32) -> u32
     ensures { result ≡ checksum.masked crc }

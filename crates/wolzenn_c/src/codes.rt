@@ -1,4 +1,4 @@
-//! The numbers that stand for answers and for reasons.
+//! The numbers for answers and for reasons.
 
 ghost use Rattle.std.specs.Prelude.{◌≡◌};
 ghost use Rattle.wolzenn_c.specs.Reasons.{damage_code, reason_code, numbers_of, end_of as end_in_numbers};

@@ -28,7 +28,7 @@ impl Drop for WzHandle {
 }
 
 impl WzHandle {
-    /// It holds nothing.
+    /// A handle that holds nothing.
     fn empty(alloc: Global) -> WzHandle
         ensures { result.held.object ≡ None }
     {
@@ -39,7 +39,7 @@ impl WzHandle {
         }
     }
 
-    /// It holds an object.
+    /// A handle that holds this object.
     fn of(alloc: Global, object: Box<Object>) -> WzHandle
         ensures { result.held.object ≡ Some object.value }
     {
@@ -50,7 +50,7 @@ impl WzHandle {
         }
     }
 
-    /// The object, if it holds one.
+    /// The object, if the handle holds one.
     fn into_box(self) -> Option<Box<Object>>
         ensures { MatchOption result (self.held.object ≡ None) (λ object. self.held.object ≡ Some object.value) }
     {

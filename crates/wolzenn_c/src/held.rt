@@ -10,7 +10,7 @@ use std::marker::Model;
 
 /// An object on the heap, or nothing. Contracts see which, as `object`.
 ///
-/// It can't be let go: it ends by `into_box` or `end`, so that no object is left behind.
+/// It can't be dropped: it ends by `into_box` or `end`, so that no object is leaked.
 #[repr(C)]
 pub struct Held {
     at: *mut u8,
@@ -25,7 +25,7 @@ impl Model for Held {
 }
 
 impl Held {
-    /// Nothing.
+    /// A `Held` that holds nothing.
     pub fn empty() -> Held
         ensures { result.object ≡ None }
     {
@@ -34,7 +34,7 @@ impl Held {
         }
     }
 
-    /// Keeps an object.
+    /// A `Held` that keeps this object.
     pub fn of(object: Box<Object>) -> Held
         ensures { result.object ≡ Some object.value }
     {
@@ -51,7 +51,7 @@ impl Held {
         unsafe { Box::from_raw(alloc, at as *mut Object) }
     }
 
-    /// Ends what holds nothing.
+    /// Ends a `Held` that holds nothing.
     pub fn end(self)
         requires { self.object ≡ None }
     {

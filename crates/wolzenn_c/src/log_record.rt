@@ -1,5 +1,5 @@
-//! Writing a log, whose file is the caller's: a record is written at the file's end, and the offset there is given.
-//! A log has the number that is given, or none where it is 0.
+//! Writing a log whose file is the caller's. A record goes to the log's end, and the caller gives the offset there; an
+//! older file that the log is written over may be longer. A log has the number that is given, or none where it is 0.
 
 ghost use Rattle.std.specs.Prelude.{◌≡◌, ◌≢◌, ℕ, List, length, min};
 ghost use Rattle.model_base.specs.Log.{record_text};
@@ -10,8 +10,8 @@ use crate::codes::{DONE, SMALL};
 use crate::reading::log_number;
 use log_text::{lay_record, text_len};
 
-/// How many bytes a record of this length takes at this offset of a log. Where they are more than a `usize` can say, it
-/// is the greatest of these.
+/// How many bytes a record of this length takes at this offset of a log. Where they are more than a `usize` can say,
+/// the answer is the greatest `usize`.
 #[unsafe(no_mangle)]
 pub extern "C" fn wz_log_record_len(number: u32, offset: u64, len: usize) -> usize
     ensures { (bytes : List ℕ) → length bytes ≡ len
@@ -20,8 +20,8 @@ pub extern "C" fn wz_log_record_len(number: u32, offset: u64, len: usize) -> usi
     text_len(log_number(number), offset, len) as usize
 }
 
-/// Puts the bytes that a record takes at this offset of a log to the start of the caller's buffer, and touches nothing
-/// behind them.
+/// Puts the bytes that a record takes at this offset of a log at the start of the caller's buffer, and touches nothing
+/// after them.
 ///
 /// `DONE`: `len` is how many they are. `SMALL`: the buffer has fewer, and none was written.
 #[unsafe(no_mangle)]

@@ -13,7 +13,7 @@ use log_batch::Batch;
 pub enum Object {
     /// A reader of a log.
     Reader(Reading),
-    /// The pairs that a log recovered.
+    /// The pairs that were recovered from a log.
     Recovery(RecoveryPairs),
     /// A batch that is being built.
     Batch(Batch),

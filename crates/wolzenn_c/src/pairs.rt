@@ -18,9 +18,10 @@ pub struct WzPairLens {
     pub value_len: usize,
 }
 
-/// How many bytes the key and the value have of the pair with this index, from 0 on, in the byte order of the keys.
+/// How many bytes the key and the value of the pair with this index have. The indexes are from 0 on, in the byte order
+/// of the keys.
 ///
-/// `DONE`: `lens` says it. `END`: there is no such pair. `CLOSED`: the handle holds no recovery. At these two `lens`
+/// `DONE`: `lens` says it. `END`: there is no such pair. `CLOSED`: the handle holds no recovery. With these two `lens`
 /// stays as it was. The handle holds what it held.
 #[unsafe(no_mangle)]
 pub extern "C" fn wz_pair_len(
@@ -62,11 +63,11 @@ fn tell_lens(recovery: &RecoveryPairs, index: usize, lens: &mut WzPairLens) -> u
     }
 }
 
-/// Copies the key and the value of this pair to the starts of the caller's two buffers, and touches nothing behind
-/// them.
+/// Copies the key and the value of the pair with this index to the starts of the caller's two buffers, and touches
+/// nothing after them.
 ///
-/// `DONE`. `SMALL`: one of the buffers has fewer bytes than are to be copied there, and neither was written to. `END`:
-/// there is no such pair. `CLOSED`: the handle holds no recovery. The handle holds what it held.
+/// `DONE`. `SMALL`: one of the buffers has too few bytes, and neither was written to. `END`: there is no such pair.
+/// `CLOSED`: the handle holds no recovery. The handle holds what it held.
 #[unsafe(no_mangle)]
 pub extern "C" fn wz_pair(
     alloc: Global,
@@ -115,12 +116,12 @@ fn copy_pair(
     DONE
 }
 
-/// How many pairs have a key before this one, in byte order: the index of its own pair, if it has one, and else where
-/// it would stand.
+/// How many pairs have a key before this one, in byte order: that is the index of the key's own pair, if it has one,
+/// and otherwise the index where its pair would be.
 ///
 /// `DONE`: the key has a pair, and `index` is its index. `END`: it has none, and `index` is that of the next key's
-/// pair, or how many there are. `CLOSED`: the handle holds no recovery, and `index` stays as it was. The handle holds
-/// what it held.
+/// pair, or how many pairs there are. `CLOSED`: the handle holds no recovery, and `index` stays as it was. The handle
+/// holds what it held.
 #[unsafe(no_mangle)]
 pub extern "C" fn wz_pair_find(
     alloc: Global,

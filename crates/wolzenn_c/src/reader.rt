@@ -15,7 +15,7 @@ use crate::reading::Reading;
 use log_reader::Next;
 use std::alloc::Global;
 
-/// A record: the offset of its first fragment, the one behind its last, and how many bytes it has.
+/// A record: the offset of its first fragment, the one after its last, and how many bytes it has.
 #[repr(C)]
 #[derive(Clone, Copy, Debug, Drop)]
 pub struct WzRecord {
@@ -26,7 +26,7 @@ pub struct WzRecord {
 
 /// Opens a reader at the start of a log. The log has this number, or none where it is 0.
 ///
-/// What the handle held before is freed. `DONE`: it holds the reader. `NO_MEMORY`: it holds nothing.
+/// What the handle held before is freed. `DONE`: the handle holds the reader. `NO_MEMORY`: it holds nothing.
 #[unsafe(no_mangle)]
 pub extern "C" fn wz_reader_open(alloc: Global, handle: &mut WzHandle, number: u32) -> u32
     ensures code { (result ≡ DONE) ⊎ (result ≡ NO_MEMORY) }
@@ -44,12 +44,13 @@ pub extern "C" fn wz_reader_open(alloc: Global, handle: &mut WzHandle, number: u
     DONE
 }
 
-/// Reads the next record of the log that these bytes are, which are the caller's, and the same at each call of this
-/// reader.
+/// Reads the next record of the log that these bytes are. They are the caller's, and should be the same at each call
+/// of this reader.
 ///
-/// `DONE`: `found` is where its fragments stand in the log, as offsets in bytes, and how many bytes the record has.
-/// `END`: `end` is at which offset no more is read, and why. `NO_MEMORY`. After `END` and `NO_MEMORY` each further call
-/// answers the same. `CLOSED`: the handle holds no reader. What an answer doesn't tell stays as it was.
+/// `DONE`: `found` is where the record's fragments begin and end in the log, as offsets in bytes, and how many bytes
+/// the record has. `END`: `end` is at which offset no more is read, and why. `NO_MEMORY`. After `END` and `NO_MEMORY`
+/// each further call answers the same. `CLOSED`: the handle holds no reader. What an answer doesn't set stays as it
+/// was.
 #[unsafe(no_mangle)]
 pub extern "C" fn wz_reader_next(
     alloc: Global,
@@ -75,7 +76,7 @@ pub extern "C" fn wz_reader_next(
     code
 }
 
-/// Reads on, and tells what this comes to.
+/// Reads on, and tells the answer.
 fn next_of(reading: &mut Reading, log: &[u8], found: &mut WzRecord, end: &mut WzEnd) -> u32
     ensures { IsNext log.now reading.old reading.new (found.old, end.old) result (found.new, end.new) }
 {
@@ -103,10 +104,10 @@ fn tell(answer: Next, len: usize, found: &mut WzRecord, last: &mut WzEnd) -> u32
 }
 
 /// Copies the record that the last `wz_reader_next` of this reader read to the start of the caller's buffer, and
-/// touches nothing behind it.
+/// touches nothing after it.
 ///
-/// `DONE`. `SMALL`: the buffer has fewer bytes than the record. `END`: that call read no record, or there was none yet.
-/// `CLOSED`: the handle holds no reader. At these three nothing is written. The handle holds what it held.
+/// `DONE`. `SMALL`: the buffer has fewer bytes than the record. `END`: that call read no record, or there was no call
+/// yet. `CLOSED`: the handle holds no reader. With these three nothing is written. The handle holds what it held.
 #[unsafe(no_mangle)]
 pub extern "C" fn wz_reader_record(alloc: Global, handle: &mut WzHandle, buffer: &mut [u8]) -> u32
     ensures same { handle.new.held.object ≡ handle.old.held.object }
@@ -125,7 +126,7 @@ pub extern "C" fn wz_reader_record(alloc: Global, handle: &mut WzHandle, buffer:
     code
 }
 
-/// Copies the record in hand, if one is.
+/// Copies the record in hand, if there is one.
 fn copy_record(reading: &Reading, buffer: &mut [u8]) -> u32
     ensures { MatchOption (record_of reading.now) ((result ≡ END) × (buffer.new ≡ buffer.old))
         (λ bytes. Copies bytes buffer.old result buffer.new) }

@@ -11,8 +11,8 @@ use log_reader::{LogReader, Next};
 use model_base::NoMemory;
 use std::alloc::Global;
 
-/// A reader that has met no fault: it reads bytes in memory, which have none. It knows whether a record is in hand: the
-/// one that the last call of `next` read, if that read one.
+/// A reader that has met no fault: it reads bytes in memory, which have none. It knows whether a record is in hand:
+/// the one that the last call of `next` read, if that read one.
 #[derive(Drop)]
 pub struct Reading {
     pub reader: LogReader,
@@ -21,7 +21,7 @@ pub struct Reading {
 }
 
 impl Reading {
-    /// At the start of a log with this number, or without one where it is 0.
+    /// A reader at the start of a log with this number, or without one where it is 0.
     pub fn open(alloc: Global, number: u32) -> Result<Reading, NoMemory>
         ensures number { IfOk result (λ r. r.reader.number ≡ number_of number) }
         ensures start { IfOk result (λ r. r.reader.place ≡ 0) }
@@ -48,7 +48,7 @@ impl Reading {
     }
 }
 
-/// The number of a log, which has none where 0 is given.
+/// The number of a log. Where 0 is given it has none.
 pub fn log_number(number: u32) -> Option<u32>
     ensures { result ≡ number_of number }
 {

@@ -16,8 +16,8 @@ use base_devices::SliceDisk;
 use log_recovery::{Mode, RecoverError, recover_mode};
 use std::alloc::Global;
 
-/// What was recovered, in numbers: how many batches, how many pairs of key and value they leave, the last sequence, the
-/// offset behind the last batch kept, and where and why recovery ended.
+/// What was recovered, in numbers: how many batches, how many pairs of key and value they leave, the last sequence and
+/// the offset after the last batch that is kept (each is 0 where there is none), and where and why recovery ended.
 #[repr(C)]
 #[derive(Clone, Copy, Debug, Drop)]
 pub struct WzRecovered {
@@ -29,7 +29,8 @@ pub struct WzRecovered {
 }
 
 /// Recovers the log that these bytes are, which are the caller's. The log has this number, or none where it is 0. The
-/// modes are 0 for point-in-time recovery, 1 for a tail that may be cut off, and 2 for whole logs alone.
+/// modes are 0 for point-in-time recovery, 1 for logs that are whole or whose last write was cut off, and 2 for whole
+/// logs only.
 ///
 /// What the handle held before is freed. `DONE`: `summary` says what was recovered, and the handle holds the pairs.
 /// `DAMAGE`: the mode doesn't accept the end; `summary.end` says where and why, and the rest of `summary` is 0.
@@ -89,7 +90,7 @@ fn mode_of(mode: u32) -> Option<Mode>
     }
 }
 
-/// The pairs that a log recovers, and the numbers of its recovery.
+/// The pairs that are recovered from a log, and the summary of its recovery.
 fn recovered(
     alloc: Global,
     number: Option<u32>,

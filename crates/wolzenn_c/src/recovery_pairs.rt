@@ -1,4 +1,4 @@
-//! The pairs that a log recovered.
+//! The pairs that were recovered from a log.
 
 ghost use Rattle.std.specs.Prelude.{◌≡◌, length, is_some, slice_get, IfOk};
 ghost use Rattle.std.specs.List.Sorted.{IsStrictlySortedBy};
@@ -14,7 +14,7 @@ use base_maps::ByteMap;
 use model_base::NoMemory;
 use std::alloc::Global;
 
-/// The pairs of keys and values that a log recovered, in the byte order of the keys.
+/// The pairs of keys and values that were recovered from a log, in the byte order of the keys.
 #[derive(Drop)]
 pub struct RecoveryPairs {
     pub pairs: PairList,
@@ -22,7 +22,7 @@ pub struct RecoveryPairs {
 }
 
 impl RecoveryPairs {
-    /// Those of a map. Each is copied.
+    /// The pairs of a map. Each is copied.
     pub fn of(alloc: Global, map: &ByteMap) -> Result<RecoveryPairs, NoMemory>
         ensures { IfOk result (λ r. r.pairs ≡ map.now) }
     {
@@ -31,7 +31,7 @@ impl RecoveryPairs {
         Ok(RecoveryPairs { pairs })
     }
 
-    /// The key and the value with this index, if there are any.
+    /// The key and the value of the pair with this index, if there is one.
     pub fn get(&self, index: usize) -> Option<(&[u8], &[u8])>
         ensures { option_map (λ p. (p.0.now, p.1.now)) result ≡ slice_get self.now.pairs index }
     {
@@ -58,7 +58,7 @@ fn pairs_of(alloc: Global, map: &ByteMap) -> Result<PairList, NoMemory>
     ensures { IfOk result (λ pairs. pairs ≡ map.now) }
 {
     let mut pairs = PairList::new(alloc);
-    // With the pairs that are left, those so far are all pairs.
+    // The pairs so far, and after them those that are left, are all pairs of the map.
     for (key, value) in map.iter() {
         pairs.push(Bytes::copy(alloc, key)?, Bytes::copy(alloc, value)?)?;
     }

@@ -17,7 +17,7 @@ fn main(rt: HostRuntime) -> ExitCode {
         Err(error) if error.kind() == ErrorKind::OutOfMemory => {
             return ExitCode::from(OUT_OF_MEMORY);
         }
-        // Arguments that are no text are no lawful words.
+        // Arguments that aren't text can't be lawful words.
         Err(_) => (String::new(rt.alloc()), Vec::new(rt.alloc())),
     };
     let mut source = StdSource::new(&rt);
@@ -36,7 +36,7 @@ fn main(rt: HostRuntime) -> ExitCode {
     ExitCode::from(status)
 }
 
-/// The log's path, and the words of the call: the program's name and all behind the path.
+/// The log's path, and the words of the call: the program's name, and all words after the path.
 fn arguments(rt: &HostRuntime) -> io::Result<(String, Vec<String>)> {
     let mut path = String::new(rt.alloc());
     let mut words = Vec::new(rt.alloc());

@@ -1,4 +1,4 @@
-//! Prints a log of RocksDB or LevelDB: where each record stands, and what the batch in it does.
+//! Prints a log of RocksDB or LevelDB: where each record is, and what the batch in it does.
 //!
 //!     print_log LOG [NUMBER]
 //!

@@ -2,8 +2,8 @@
 //!
 //!     recover_log LOG [NUMBER [point|tail|absolute]]
 //!
-//! NUMBER is the log's own, or 0 where it has none. Where the mode doesn't accept the end, it prints `damage` with
-//! that, and the status is 8.
+//! NUMBER is the log's own, or 0 where it has none. Where the mode doesn't accept the end, it prints `damage` with the
+//! end, and the status is 8.
 
 use std::num::NonZeroU32;
 use std::process::ExitCode;

@@ -2,7 +2,7 @@
 //!
 //!     write_log LOG [NUMBER]
 //!
-//! Each record is safe once the file is synced, which this program does itself. Where LOG is there, the log goes on:
+//! Each record is safe once the file is synced, which this program does itself. Where LOG exists, the log is resumed:
 //! what it recovers is kept, and the rest is cut off.
 
 use std::error::Error;
@@ -32,7 +32,7 @@ fn main() -> Result<(), Box<dyn Error>> {
     let recovery = recover(&std::fs::read(&path)?, number, Mode::Tail)?;
     file.set_len(recovery.kept())?;
     file.sync_all()?;
-    // The file's entry in its folder, which the file's own sync doesn't make safe.
+    // Syncs the file's entry in its folder, which the file's own sync doesn't make safe.
     let folder = Path::new(&path).parent().filter(|folder| *folder != Path::new(""));
     File::open(folder.unwrap_or(Path::new(".")))?.sync_all()?;
     file.seek(SeekFrom::Start(recovery.kept()))?;
@@ -46,7 +46,7 @@ fn main() -> Result<(), Box<dyn Error>> {
     batch.log_data(b"a note")?;
     commit(&mut log, &mut batch, &mut last)?;
 
-    // A group: two batches, as two clients may have built them, that go into the log as one record.
+    // A group: two batches, as two clients may have built them, which go into the log as one record.
     let mut first = Batch::new()?;
     first.put(b"apple", b"green")?;
     let mut second = Batch::new()?;

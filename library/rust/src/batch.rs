@@ -25,7 +25,7 @@ impl Batch {
         Ok(Batch { held: Handle::batch()? })
     }
 
-    /// Adds a key with its value behind the other records. Where that can't be, the batch is as it was.
+    /// Adds a key with its value after the other records. Where that can't be done, the batch is as it was.
     pub fn put(&mut self, key: &[u8], value: &[u8]) -> Result<(), Error> {
         self.held.put(key, value)
     }
@@ -40,13 +40,13 @@ impl Batch {
         self.held.single_delete(key)
     }
 
-    /// Adds bytes that stand in the log alone, and take no sequence.
+    /// Adds bytes that are in the log alone, and take no sequence.
     pub fn log_data(&mut self, blob: &[u8]) -> Result<(), Error> {
         self.held.log_data(blob)
     }
 
-    /// Adds the records of another batch's bytes, whose sequence isn't looked at: so several batches make one record
-    /// of the log, a group.
+    /// Adds the records of another batch's bytes, whose sequence is ignored: so several batches make one record of the
+    /// log, a group.
     pub fn append(&mut self, bytes: &[u8]) -> Result<(), Error> {
         self.held.append(bytes)
     }
@@ -56,7 +56,7 @@ impl Batch {
         self.held.clear()
     }
 
-    /// Gives it the sequence of its first record that counts.
+    /// Sets the sequence of its first record that counts.
     pub fn set_sequence(&mut self, sequence: u64) {
         self.held.set_sequence(sequence)
     }
@@ -95,12 +95,12 @@ pub enum Op<'a> {
     Delete(&'a [u8]),
     /// Takes a key out that was set at most once.
     SingleDelete(&'a [u8]),
-    /// Stands in the log alone.
+    /// Bytes that are in the log alone.
     LogData(&'a [u8]),
 }
 
-/// The records of a batch's bytes, which they borrow. Where no record stands there is an error, and no more behind it.
-/// [`read_batch`] says beforehand whether there will be one.
+/// The records of a batch's bytes, which they borrow. Where there is no record they give an error, and nothing more
+/// after it. [`read_batch`] says beforehand whether there will be an error.
 #[derive(Clone, Debug)]
 pub struct BatchRecords<'a> {
     bytes: &'a [u8],
@@ -108,7 +108,7 @@ pub struct BatchRecords<'a> {
 }
 
 impl<'a> BatchRecords<'a> {
-    /// The records behind the header.
+    /// The records after the header.
     pub fn new(bytes: &'a [u8]) -> BatchRecords<'a> {
         BatchRecords { bytes, at: Some(BATCH_HEADER_LEN) }
     }

@@ -6,7 +6,7 @@ use std::io;
 /// Where reading or recovery ended, and why; or why bytes are no batch.
 #[derive(Clone, Copy, Debug, PartialEq, Eq)]
 pub struct End {
-    /// The offset of the fragment or the record that is meant.
+    /// The offset of the fragment or the record that the reason is about.
     pub at: u64,
     /// Why.
     pub why: Why,
@@ -16,7 +16,7 @@ pub struct End {
 /// `docs/RECOVERY.md`.
 #[derive(Clone, Copy, Debug, PartialEq, Eq)]
 pub enum Why {
-    /// The log ends behind a whole record, or is empty.
+    /// The log ends after a whole record, or is empty.
     Clean,
     /// A fragment's header is cut off.
     ShortHeader,
@@ -32,7 +32,7 @@ pub enum Why {
     BadTrailer,
     /// A fragment of another log, which has this number.
     OldLog(u32),
-    /// A fragment stands where none of its type may.
+    /// A fragment is where none of its type may be.
     BadOrder,
     /// The log ends inside a record.
     Unfinished,
@@ -44,23 +44,23 @@ pub enum Why {
     Tag(u8),
     /// A batch's header has another count than its records.
     Count {
-        /// That of the header.
+        /// The count in the header.
         said: u32,
-        /// That of the records.
+        /// The count of the records.
         found: u64,
     },
     /// A batch's run of sequences doesn't begin above the last one before it.
     Order {
         /// Its first sequence.
         first: u64,
-        /// The last one before it.
+        /// The last sequence before it.
         last: u64,
     },
     /// A batch's run of sequences passes 2^56 - 1.
     High {
         /// Its first sequence.
         first: u64,
-        /// How many there are.
+        /// How many sequences it has.
         count: u32,
     },
 }
@@ -103,7 +103,7 @@ pub enum Error {
     TooLarge,
     /// The log ends here in a way that the mode doesn't accept.
     Damage(End),
-    /// The bytes are no batch, or no record of one stands here.
+    /// The bytes are no batch, or there is no record at this place.
     NoBatch(End),
 }
 

@@ -1,8 +1,8 @@
 //! The logs and write batches of RocksDB and LevelDB, read and written by proved code.
 //!
 //! The code is that of the repository's `library/wolzenn.h`: written in Rattle, proved there, and linked here as an
-//! archive, which `library/build` makes. This crate is what makes it safe to call. It isn't proved itself; `unsafe`
-//! stands in its module `raw` alone.
+//! archive, which `library/build` makes. This crate makes it safe to call. The crate itself isn't proved; only its
+//! module `raw` has `unsafe`.
 //!
 //! ```no_run
 //! use wolzenn::{recover, Mode};

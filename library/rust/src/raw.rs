@@ -6,7 +6,7 @@ use std::ffi::c_void;
 use std::fmt;
 use std::num::NonZeroU32;
 
-// As in library/wolzenn.h, which says what each is.
+// As in library/wolzenn.h, which says what each code means.
 const DONE: u32 = 0;
 const NO_MEMORY: u32 = 1;
 const END: u32 = 4;
@@ -135,12 +135,12 @@ extern "C" {
     ) -> u32;
 }
 
-/// What an answer means that only the library could give wrongly.
+/// Compares an answer that only a fault of the library could make another one.
 fn wanted(code: u32, wanted: u32) {
     assert_eq!(code, wanted, "an answer of the library");
 }
 
-/// An answer of a function that can find no memory, or a batch too large.
+/// The answer of a function that may find no memory, or a batch too large.
 fn done(code: u32) -> Result<(), Error> {
     match code {
         DONE => Ok(()),
@@ -177,19 +177,19 @@ fn end_of(raw: &RawEnd) -> End {
     End { at: raw.at, why }
 }
 
-/// A handle that holds a reader, a recovery or a batch. It isn't `Sync`, so no two calls work on it at once, and no
-/// call of the library calls back: so the library has it alone during a call, also where it is shared here.
+/// A handle that holds a reader, a recovery or a batch. It isn't `Sync`, so no two calls use it at once, and no
+/// function of the library calls back. So a call has the handle to itself, also where it is shared here.
 pub(crate) struct Handle {
     raw: UnsafeCell<RawHandle>,
 }
 
-/// What reading on comes to.
+/// What reading on gives.
 pub(crate) enum Next {
     Record { start: u64, end: u64, len: usize },
     End(End),
 }
 
-/// What is told of a recovery.
+/// What the library tells of a recovery.
 #[derive(Debug)]
 pub(crate) struct Summary {
     pub groups: usize,
@@ -213,7 +213,7 @@ impl Drop for Handle {
 }
 
 impl Handle {
-    /// It holds nothing.
+    /// A handle that holds nothing.
     fn empty() -> Handle {
         Handle { raw: UnsafeCell::new(RawHandle { full: false, at: std::ptr::null_mut() }) }
     }
@@ -228,8 +228,8 @@ impl Handle {
     /// Reads on in the log.
     pub fn next(&mut self, log: &[u8]) -> Result<Next, Error> {
         let (mut record, mut end) = (RawRecord::default(), RawEnd::default());
-        // SAFETY: the handle is ours alone, and the slice is that many bytes, as all slices below are. That these are
-        // the same at each call is `Records`' part; where they aren't, other records are read.
+        // SAFETY: the handle is ours alone, and the slice is that many bytes, as all slices below are. `Records` sees
+        // to it that these are equal at each call; where they aren't, other records are read.
         let code = unsafe { wz_reader_next(self.raw.get(), log.as_ptr(), log.len(), &mut record, &mut end) };
         match code {
             DONE => Ok(Next::Record { start: record.start, end: record.end, len: record.len }),
@@ -238,7 +238,7 @@ impl Handle {
         }
     }
 
-    /// Copies the record in hand, which has as many bytes as the buffer.
+    /// Copies the record that was read last, which has as many bytes as the buffer.
     pub fn record(&self, buffer: &mut [u8]) {
         // SAFETY: the handle is used by this call alone, and the buffer is ours alone.
         let code = unsafe { wz_reader_record(self.raw.get(), buffer.as_mut_ptr(), buffer.len()) };
@@ -388,9 +388,9 @@ pub(crate) fn read_batch(bytes: &[u8]) -> Result<BatchHead, Error> {
     Ok(BatchHead { sequence: head.sequence, count: head.count })
 }
 
-/// What stands at a place of a batch's bytes.
+/// What there is at a place of a batch's bytes.
 pub(crate) enum Step<'a> {
-    /// A record, and the place behind it.
+    /// A record, and the place after it.
     Op(Op<'a>, usize),
     End,
     NoBatch(End),

@@ -11,7 +11,7 @@ use std::num::NonZeroU32;
 pub struct Record {
     /// The offset of its first fragment.
     pub start: u64,
-    /// The offset behind its last fragment.
+    /// The offset after its last fragment.
     pub end: u64,
     /// What it holds.
     pub bytes: Vec<u8>,
@@ -23,15 +23,15 @@ impl AsRef<[u8]> for Record {
     }
 }
 
-/// To read it piece by piece.
+/// Lets it be read piece by piece.
 impl From<Record> for Cursor<Vec<u8>> {
     fn from(record: Record) -> Self {
         Cursor::new(record.bytes)
     }
 }
 
-/// The records of a log from its first on, up to where it doesn't read on. [`Records::end`] says then where that is,
-/// and why.
+/// The records of a log from its first on, up to where reading ends. [`Records::end`] says then where that is, and
+/// why.
 #[derive(Debug)]
 pub struct Records<'a> {
     reader: Handle,
@@ -47,14 +47,14 @@ impl<'a> Records<'a> {
         Ok(Records { reader, log, end: None, failed: None })
     }
 
-    /// Where no more was read, and why: once there was no next record.
+    /// Where reading ended, and why: once there was no next record.
     pub fn end(&self) -> Option<End> {
         self.end
     }
 
     /// Reads the next record into a buffer, whose content it replaces, and answers its offsets: that of its first
-    /// fragment, and the one behind its last. At `None` the buffer stays as it is. After `None` and after an error it
-    /// is the same again.
+    /// fragment, and the one after its last. At `None` the buffer stays as it is. After `None` and after an error each
+    /// further call answers the same.
     pub fn read_into(&mut self, buffer: &mut Vec<u8>) -> Result<Option<(u64, u64)>, Error> {
         if let Some(error) = self.failed {
             return Err(error);

@@ -8,11 +8,11 @@ use std::num::NonZeroU32;
 /// Which ends of a log recovery accepts.
 #[derive(Clone, Copy, Debug, PartialEq, Eq)]
 pub enum Mode {
-    /// Any: the records in front of it are recovered (kPointInTimeRecovery).
+    /// Any end: the records before it are recovered (kPointInTimeRecovery).
     Point,
-    /// That of a whole log, and one where the last write was cut off.
+    /// The end of a whole log, and one where the last write was cut off.
     Tail,
-    /// That of a whole log (kAbsoluteConsistency).
+    /// The end of a whole log (kAbsoluteConsistency).
     Absolute,
 }
 
@@ -23,15 +23,15 @@ pub struct Recovery {
     summary: Summary,
 }
 
-/// Recovers a log with this number, if it has one: the batches in front of the first place that doesn't read, or where
-/// a record is no batch or its sequences don't rise. `Error::Damage` where the mode doesn't accept the end.
+/// Recovers a log with this number, if it has one: the batches before the first place that can't be read, or where a
+/// record is no batch or its sequences don't rise. `Error::Damage` where the mode doesn't accept the end.
 pub fn recover(log: &[u8], number: Option<NonZeroU32>, mode: Mode) -> Result<Recovery, Error> {
     let (held, summary) = Handle::recovery(log, number, mode)?;
     Ok(Recovery { held, summary })
 }
 
 impl Recovery {
-    /// How many records of the log are recovered, each of them a batch.
+    /// How many records of the log are recovered. Each is one batch.
     pub fn groups(&self) -> usize {
         self.summary.groups
     }
@@ -41,7 +41,7 @@ impl Recovery {
         self.summary.last
     }
 
-    /// The offset behind the last record that is recovered. The log may go on there, once it is cut there.
+    /// The offset after the last record that is recovered. The log may be resumed there, once it is cut there.
     pub fn kept(&self) -> u64 {
         self.summary.kept
     }
@@ -69,7 +69,7 @@ impl Recovery {
         Some((key, value))
     }
 
-    /// The index of this key's pair; or as an error, where it has none, that of the next key's, which is
+    /// The index of this key's pair. Where the key has none, the error is the index of the next key's pair, or
     /// [`len`](Recovery::len) where there is none.
     pub fn find(&self, key: &[u8]) -> Result<usize, usize> {
         self.held.find(key)

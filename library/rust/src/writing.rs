@@ -4,8 +4,8 @@ use crate::raw;
 use std::io::{self, Write};
 use std::num::NonZeroU32;
 
-/// Writes the records of a log one behind another. What is written becomes safe by a sync of the file, which is the
-/// caller's.
+/// Writes the records of a log one after another. What is written becomes safe by a sync of the file, which is up to
+/// the caller.
 #[derive(Debug)]
 pub struct LogWriter<W> {
     sink: W,
@@ -21,15 +21,15 @@ impl<W: Write> LogWriter<W> {
         LogWriter::resume(sink, number, 0)
     }
 
-    /// A log that goes on at this offset, as [`Recovery::kept`](crate::Recovery::kept) tells it. What the sink writes
-    /// comes there: a file is cut to this length first, and stands at its end.
+    /// A log that is resumed at this offset, as [`Recovery::kept`](crate::Recovery::kept) tells it. What is written to
+    /// the sink must land there: a file is cut to this length first, and its cursor is at its end.
     pub fn resume(sink: W, number: Option<NonZeroU32>, offset: u64) -> LogWriter<W> {
         LogWriter { sink, number, offset, buffer: Vec::new(), has_failed: false }
     }
 
-    /// Writes a record, and answers the offset behind it. Where that fails, the sink may have a part of it: then no
-    /// more is written, each further call fails with [`ErrorKind::Other`](io::ErrorKind::Other), and the log may go on
-    /// by another writer at [`offset`](LogWriter::offset), once it is cut there. A log that would have 2^64 bytes or
+    /// Writes a record, and answers the offset after it. Where that fails, the sink may have a part of it: then no
+    /// more is written, each further call fails with [`ErrorKind::Other`](io::ErrorKind::Other), and another writer
+    /// may resume the log at [`offset`](LogWriter::offset), once it is cut there. A log that would have 2^64 bytes or
     /// more is refused before anything is written.
     pub fn append(&mut self, record: &[u8]) -> io::Result<u64> {
         if self.has_failed {
@@ -53,12 +53,12 @@ impl<W: Write> LogWriter<W> {
         self.sink.flush()
     }
 
-    /// The offset behind the last record that was written.
+    /// The offset after the last record that was written.
     pub fn offset(&self) -> u64 {
         self.offset
     }
 
-    /// What it writes to, as to sync it.
+    /// What it writes to, for example to sync it.
     pub fn get_ref(&self) -> &W {
         &self.sink
     }

@@ -1,10 +1,10 @@
-//! What the crate's own code does over the library: of that `tests/library` of the repository tries more.
+//! Tests of the crate's own code over the library. `tests/library` of the repository tries more of it.
 
 use std::io::{self, Cursor, Read, Write};
 use std::num::NonZeroU32;
 use wolzenn::*;
 
-/// A batch of sequence 1 that sets `a` to `1`, as docs/FORMATS.md has it.
+/// A batch with sequence 1 that sets `a` to `1`, as docs/FORMATS.md lays it out.
 const BATCH: &[u8] = b"\x01\0\0\0\0\0\0\0\x01\0\0\0\x01\x01a\x011";
 
 fn log_of(records: &[&[u8]], number: Option<NonZeroU32>) -> Vec<u8> {
@@ -102,7 +102,7 @@ fn a_recovery() {
     let refused = recover(&log, None, Mode::Absolute).unwrap_err();
     assert_eq!(refused, Error::Damage(recovery.end()));
     assert_eq!(io::Error::from(refused).kind(), io::ErrorKind::InvalidData);
-    // It goes on at `kept`, once it is cut there.
+    // The log is resumed at `kept`, once it is cut there.
     log.truncate(recovery.kept() as usize);
     let mut log = LogWriter::resume(log, None, recovery.kept());
     batch.set_sequence(recovery.last() + 1);
@@ -110,7 +110,7 @@ fn a_recovery() {
     assert_eq!(recover(&log.into_inner(), None, Mode::Absolute).unwrap().groups(), 4);
 }
 
-/// Takes so many bytes, and no more.
+/// A sink that takes this number of bytes, and no more.
 struct Full(usize);
 
 impl Write for Full {

@@ -1,4 +1,4 @@
--- A word is shifted by four looks at tables, and a chunk of four words is taken in.
+-- Four look-ups in tables shift a word, and a chunk of four words is taken in at once. A sum is an exclusive or.
 use Rattle.std.proofs.Common.{◌≡◌, ℕ, zero, suc, ◌+◌, ◌*◌, ◌/◌, ◌%◌, ◌^◌, ◌<◌, List, [], ◌∷◌, length, map, take, drop, get_or, fold, refl, sym, ap, ap₂, ◌∙◌, arith, add_comm, take-append-drop}
 use Rattle.std.specs.Simd.{first_chunks}
 use lib.Lanes.{number_l, digits_l}
@@ -13,11 +13,11 @@ use Rattle.base_bytes.specs.Register.{shift, take_in_byte}
 use Rattle.base_bytes.proofs.Crc.Register.{shift-xor}
 use Rattle.base_bytes.proofs.Crc.Tables.{word_of, AreBytes, shift-shift, shift-byte, fold_take_in_byte-shift, IsTable}
 
--- the looks at four tables, each with a byte of the word
+-- the sum of four look-ups, one table for each byte of the word
 abbrev pub looked_up : List ℕ → List ℕ → List ℕ → List ℕ → ℕ → ℕ
 looked_up a b c d w = bit_xor (bit_xor (bit_xor (get_or a (bit_and w 255) 0) (get_or b (bit_and (w / 256) 255) 0)) (get_or c (bit_and (w / 65536) 255) 0)) (get_or d (w / 16777216) 0)
 
--- Four tables, of one byte less each, shift a word.
+-- Four tables, each for one byte less than the one before it, shift a word.
 pub by_tables : (k : ℕ) (a b c d : List ℕ) → IsTable (k + 4) a → IsTable (k + 3) b → IsTable (k + 2) c → IsTable (k + 1) d → (w : ℕ) → w < 2 ^ 32 → looked_up a b c d w ≡ shift (8 * (k + 4)) w
 by_tables k a b c d is_a is_b is_c is_d w small =
     let w1 = w / 256 in
@@ -43,11 +43,12 @@ take_in_four : (r a b c d : ℕ) → AreBytes (a ∷ b ∷ c ∷ d ∷ []) → f
 take_in_four r a b c d are =
     fold_take_in_byte-shift (a ∷ b ∷ c ∷ d ∷ []) r are ∙ ap (λ w. shift 32 (bit_xor r w)) (let same : word_of (a ∷ b ∷ c ∷ d ∷ []) ≡ from_le_bytes w32 (a ∷ b ∷ c ∷ d ∷ []) = omega arith in same)
 
--- a sum that was shifted before is shifted further, with a word more
+-- a word added to a shifted register, and the sum shifted by 32, is the register shifted by 32 more plus the shifted
+-- word
 shift_more : (k r w : ℕ) → shift 32 (bit_xor (shift k r) w) ≡ bit_xor (shift (k + 32) r) (shift 32 w)
 shift_more k r w = shift-xor 32 (shift k r) w ∙ ap (λ m. bit_xor m (shift 32 w)) (shift-shift 32 k r)
 
--- four words are taken in
+-- taking in four words, one after another, is adding the words each shifted to the end of the chunk
 take_in_words : (r w x y z : ℕ) → shift 32 (bit_xor (shift 32 (bit_xor (shift 32 (bit_xor (shift 32 (bit_xor r w)) x)) y)) z)
     ≡ bit_xor (bit_xor (bit_xor (shift 96 x) (shift 64 y)) (shift 32 z)) (shift 128 (bit_xor r w))
 take_in_words r w x y z =
@@ -66,19 +67,19 @@ take_in_words r w x y z =
     ∙ xor_assoc (shift 128 s) (bit_xor (shift 96 x) (shift 64 y)) (shift 32 z)
     ∙ xor_comm (shift 128 s) (bit_xor (bit_xor (shift 96 x) (shift 64 y)) (shift 32 z))
 
--- the words of four bytes each
+-- the first four words of the bytes, four bytes each
 abbrev pub words_in : List ℕ → List ℕ
 words_in bytes = map (from_le_bytes w32) (first_chunks 4 4 bytes)
 
--- one of them
+-- the word at the place i
 abbrev pub word_in : List ℕ → ℕ → ℕ
 word_in bytes i = get_or (words_in bytes) i 0
 
--- four digits by 256 spell a word
+-- four digits to the base 256 are the number that the four bytes spell
 number_l-word : (a b c d : ℕ) → number_l 256 (a ∷ b ∷ c ∷ d ∷ []) ≡ from_le_bytes w32 (a ∷ b ∷ c ∷ d ∷ [])
 number_l-word a b c d = omega arith
 
--- A number's digits by 2 ^ 32 are the words of its bytes.
+-- The digits to the base 2 ^ 32 of the number of 16 bytes are the four words of the bytes.
 pub digits-words_in : (bytes : List ℕ) → length bytes ≡ 16 → AreBytes bytes
     → digits_l 4294967296 4 (number_l 256 bytes) ≡ words_in bytes
 digits-words_in (a ∷ b ∷ c ∷ d ∷ e ∷ f ∷ g ∷ h ∷ i ∷ j ∷ k ∷ l ∷ m ∷ n ∷ o ∷ p ∷ []) long are =
@@ -110,7 +111,7 @@ take_in_sixteen r (a ∷ b ∷ c ∷ d ∷ e ∷ f ∷ g ∷ h ∷ i ∷ j ∷ k
     ∙ four)
 take_in_sixteen r bytes long are = absurd (omega (arith, long))
 
--- Chunks are taken in one after another, and then the bytes behind them.
+-- Taking in chunk after chunk, and then the bytes that follow them, is taking in all bytes.
 pub fold_chunks : (k r : ℕ) (bytes : List ℕ) → fold take_in_byte (fold (fold take_in_byte) r (first_chunks 16 k bytes)) (drop (k * 16) bytes) ≡ fold take_in_byte r bytes
 fold_chunks zero r bytes = ap (λ n. fold take_in_byte r (drop n bytes)) (let none : zero * 16 ≡ 0 = omega arith in none)
 fold_chunks (suc k) r bytes =
@@ -121,7 +122,7 @@ fold_chunks (suc k) r bytes =
     ∙ sym (fold-append take_in_byte r (take 16 bytes) (drop 16 bytes))
     ∙ ap (fold take_in_byte r) (take-append-drop 16 bytes)
 
--- Numbers that are bytes at each place are bytes.
+-- If the number at each place is below 256, all are bytes.
 pub are_bytes : (bytes : List ℕ) → ((i : ℕ) → get_or bytes i 0 < 256) → AreBytes bytes
 are_bytes [] small = tt
 are_bytes (b ∷ bytes) small = (small 0, are_bytes bytes (λ i. small (suc i)))

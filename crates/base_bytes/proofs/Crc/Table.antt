@@ -1,4 +1,4 @@
--- One look at the table takes in a byte.
+-- One look-up in the table takes in a byte.
 use Rattle.std.proofs.Common.{◌≡◌, ℕ, zero, suc, ◌+◌, ◌*◌, ◌/◌, ◌%◌, ◌^◌, ◌<◌, Bool, false, ◌==◌, List, ◌∷◌, map, length, get_or, fold, take, refl, sym, ap, ap₂, ◌∙◌, arith, pow-suc, pow_pos, mul-one, div-one, shr-shr, add_comm, mod-lt}
 use Rattle.std.specs.List.{range_with_len}
 use Rattle.std.specs.Int.Bits.{bit_and, bit_xor, xor_zero_r}
@@ -11,7 +11,7 @@ use Rattle.base_bytes.specs.declared.tables.TheConstants.{TABLE_0}
 use Rattle.base_bytes.specs.Register.{low_divisor, lowest, step, shift, take_in, take_in_byte}
 use Rattle.base_bytes.proofs.Crc.Register.{step-xor, shift-xor}
 
--- the bits from place a + 1 on are those of the half from place a on
+-- the bits of n from place a + 1 on are those of n / 2 from place a on
 bits_of_half : (n k a : ℕ)
     → map (λ i. n / 2 ^ i % 2 == 1) (range_with_len (a + 1) k) ≡ map (λ i. n / 2 / 2 ^ i % 2 == 1) (range_with_len a k)
 bits_of_half n zero a = refl
@@ -19,7 +19,7 @@ bits_of_half n (suc k) a =
     let place : n / 2 ^ (a + 1) ≡ n / 2 / 2 ^ a = ap (λ i. n / 2 ^ i) (add_comm a 1) ∙ sym (shr-shr n 1 a) in
     ap₂ (λ (m : ℕ) (bits : List Bool). (m % 2 == 1) ∷ bits) place (bits_of_half n k (a + 1))
 
--- the lowest bit, and then those of the half
+-- the low bits of n are its lowest bit, and then those of n / 2
 low_bits-suc : (k n : ℕ) → low_bits (suc k) n ≡ (n % 2 == 1) ∷ low_bits k (n / 2)
 low_bits-suc k n =
     ap₂ (λ (m : ℕ) (bits : List Bool). (m % 2 == 1) ∷ bits) (div-one n) (bits_of_half n k 0)
@@ -30,7 +30,7 @@ digit-lowest zero h = refl
 digit-lowest (suc zero) h = refl
 digit-lowest (suc (suc d)) h = absurd (omega arith)
 
--- a step of n is a step of its lowest bit, plus its half
+-- a step of n is a step of its lowest bit, plus n / 2
 step-digit : (n : ℕ) → step n false ≡ bit_xor (step (n % 2) false) (n / 2)
 unfolding step
 step-digit n =
@@ -39,7 +39,7 @@ step-digit n =
     let low = ap₂ (λ h d. bit_xor (bit_xor h (d * low_divisor)) 0) half digit in
     cc (xor_zero_r (bit_xor (n / 2) (n % 2 * low_divisor)), xor_zero_r (n % 2 * low_divisor), xor_comm (n / 2) (n % 2 * low_divisor))
 
--- a step of the register plus n is a step that takes in the lowest bit of n, plus the half of n
+-- a step of the register plus n is a step that takes in the lowest bit of n, plus n / 2
 step-half : (r n : ℕ) → step (bit_xor r n) false ≡ bit_xor (take_in r (n % 2 == 1)) (n / 2)
 unfolding take_in
 step-half r n =
@@ -48,7 +48,7 @@ step-half r n =
     ∙ sym (xor_assoc (step r false) (step (n % 2) false) (n / 2))
     ∙ ap (λ m. bit_xor m (n / 2)) (sym digit)
 
--- to take in k bits is to add their number and to shift k times
+-- taking in k bits is adding their number and shifting k times
 pub shift-low_bits : (k r n : ℕ) → n < 2 ^ k → shift k (bit_xor r n) ≡ fold take_in r (low_bits k n)
 unfolding shift
 shift-low_bits zero r n small =
@@ -59,20 +59,20 @@ shift-low_bits (suc k) r n small =
     ∙ shift-low_bits k (take_in r (n % 2 == 1)) (n / 2) (omega (arith, pow-suc 2 k))
     ∙ ap (fold take_in r) (sym (low_bits-suc k n))
 
--- a step takes off one zero
+-- a step takes off one of the zeros at the low end
 step-shifted : (k a : ℕ) → step (a * 2 ^ suc k) false ≡ a * 2 ^ k
 unfolding step
 step-shifted k a =
     ap₂ (λ h d. bit_xor (bit_xor h (d * low_divisor)) 0) (shifted_half a k) (shifted_even a k)
     ∙ xor_zero_r (bit_xor (a * 2 ^ k) 0) ∙ xor_zero_r (a * 2 ^ k)
 
--- a shift by k takes off k zeros
+-- a shift by k takes off k of them
 pub shift-shifted : (k a : ℕ) → shift k (a * 2 ^ k) ≡ a
 unfolding shift
 shift-shifted zero a = mul-one a
 shift-shifted (suc k) a = ap (shift k) (step-shifted k a) ∙ shift-shifted k a
 
--- so a shift by k is that of the low k bits, plus the others
+-- so a shift by k is that of the low k bits, plus the other bits moved down by k
 pub shift-split : (k n : ℕ) → shift k n ≡ bit_xor (shift k (n % 2 ^ k)) (n / 2 ^ k)
 shift-split k n =
     let low = mod-lt n (pow_pos k) in
@@ -81,17 +81,17 @@ shift-split k n =
     ∙ ap (λ m. bit_xor m (shift k (n % 2 ^ k))) (shift-shifted k (n / 2 ^ k))
     ∙ xor_comm (n / 2 ^ k) (shift k (n % 2 ^ k))
 
--- the table holds what 8 shifts make of each byte
+-- the table has what a shift by 8 makes of each byte
 table-shift : map (shift 8) (range_with_len 0 256) ≡ TABLE_0
 unfolding shift step
 table-shift = refl
 
--- so an entry is 8 shifts of its place
+-- so an entry is its index shifted by 8
 pub table-at : (i : ℕ) → i < 256 → get_or TABLE_0 i 0 ≡ shift 8 i
 table-at i small =
     ap (λ table. get_or table i 0) (sym table-shift) ∙ get_or-map-range_with_len (shift 8) 0 256 i i 0 small (omega arith)
 
--- what the code computes of a byte
+-- the code takes in a byte by one look-up
 take_in_byte-table : (r byte : ℕ) → byte < 2 ^ 8
     → take_in_byte r byte ≡ bit_xor (get_or TABLE_0 (bit_and (bit_xor r byte) 255) 0) (r / 256)
 unfolding take_in_byte

@@ -1,4 +1,4 @@
--- Slicing: several bytes are taken in at once, by one look at a table for each of them.
+-- Slicing: several bytes are taken in at once, by one look-up in a table for each of them.
 use Rattle.std.proofs.Common.{◌≡◌, ℕ, zero, suc, false, ◌+◌, ◌*◌, ◌/◌, ◌%◌, ◌^◌, ◌<◌, List, [], ◌∷◌, length, map, get_or, fold, refl, sym, ap, ap₂, ◌∙◌, arith}
 use Rattle.std.specs.List.{AllByRecursion}
 use Rattle.std.specs.Int.Bits.{bit_xor, xor_zero_r}
@@ -19,7 +19,7 @@ word_of (b ∷ bytes) = word_of bytes * 2 ^ 8 + b
 abbrev pub AreBytes : List ℕ → Type 0
 AreBytes bytes = AllByRecursion (λ b. b < 256) bytes
 
--- shifts one after another are one
+-- two shifts, one after the other, are one shift
 pub shift-shift : (j k n : ℕ) → shift j (shift k n) ≡ shift (k + j) n
 unfolding shift
 shift-shift j zero n = let same : j ≡ 0 + j = omega arith in ap (λ m. shift m n) same
@@ -27,12 +27,12 @@ shift-shift j (suc k) n =
     let same : suc (k + j) ≡ suc k + j = omega arith in
     shift-shift j k (step n false) ∙ ap (λ m. shift m n) same
 
--- one byte is 8 shifts of the register plus it
+-- taking in one byte is shifting the register plus the byte by 8
 pub take_in_byte-shift : (r b : ℕ) → b < 2 ^ 8 → take_in_byte r b ≡ shift 8 (bit_xor r b)
 unfolding take_in_byte
 take_in_byte-shift r b small = sym (shift-low_bits 8 r b small)
 
--- many bytes are so many shifts of the register plus their number
+-- taking in bytes is shifting the register plus their number, by 8 for each byte
 pub fold_take_in_byte-shift : (bytes : List ℕ) (r : ℕ) → AreBytes bytes
     → fold take_in_byte r bytes ≡ shift (8 * length bytes) (bit_xor r (word_of bytes))
 unfolding shift
@@ -47,17 +47,17 @@ fold_take_in_byte-shift (b ∷ bytes) r all =
     ∙ ap (λ m. shift m (bit_xor (bit_xor r b) (w * 2 ^ 8))) longer
     ∙ ap (shift (8 * length (b ∷ bytes))) (xor_assoc r b (w * 2 ^ 8) ∙ ap (bit_xor r) (xor_comm b (w * 2 ^ 8) ∙ xor_shifted w 8 b all.0))
 
--- a shift by 8 and more is that of the low byte, plus the others shifted by 8 less
+-- a shift by 8 or more is that of the low byte, plus the other bytes shifted by 8 less
 pub shift-byte : (i j n : ℕ) → i ≡ 8 + j → shift i n ≡ bit_xor (shift i (n % 2 ^ 8)) (shift j (n / 2 ^ 8))
 shift-byte i j n same =
     ap (λ m. shift m n) same ∙ sym (shift-shift j 8 n) ∙ ap (shift j) (shift-split 8 n) ∙ shift-xor j (shift 8 (n % 2 ^ 8)) (n / 2 ^ 8)
     ∙ ap (λ m. bit_xor m (shift j (n / 2 ^ 8))) (shift-shift j 8 (n % 2 ^ 8) ∙ ap (λ m. shift m (n % 2 ^ 8)) (sym same))
 
--- the table has what k bytes of zeros make of each byte
+-- the table has what a shift by k bytes makes of each byte
 abbrev pub IsTable : ℕ → List ℕ → Type 0
 IsTable k table = (i : ℕ) → i < 256 → get_or table i 0 ≡ shift (8 * k) i
 
--- the next table has what one byte more makes of it
+-- the next table has what a shift by one more byte makes of it
 next_table : (k : ℕ) (table next : List ℕ) → length table ≡ 256 → map (shift 8) table ≡ next → IsTable k table → IsTable (suc k) next
 next_table k table next long e is i small =
     ap (λ (t : List ℕ). get_or t i 0) (sym e)

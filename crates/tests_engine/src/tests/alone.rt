@@ -1,4 +1,4 @@
-//! One client on its own, which writes one record. The clock stands at 1000.
+//! One client on its own, which writes one record. The clock is at 1000.
 
 use super::{HASTY_PUT, PLAIN, PUT_A, PUT_B, READ_A, READ_B, ended, script};
 use crate::script::{Step, StepAnswer};
@@ -26,12 +26,12 @@ const FIRST: StepAnswer = StepAnswer::Wrote {
     sequence: 1,
 };
 
-/// A sequence and the count 1, as a batch has them.
+/// The sequence 1 and the count 1, as the bytes of a batch begin with them.
 const AT_FIRST: &[u8] = b"\x01\x00\x00\x00\x00\x00\x00\x00\x01\x00\x00\x00";
 
 const AT_LAST: &[u8] = b"\xff\xff\xff\xff\xff\xff\xff\x00\x01\x00\x00\x00";
 
-/// What a client does, and what it is told.
+/// A client's calls, and their answers.
 #[derive(Clone, Copy)]
 struct Row {
     /// The sequence before the first batch.
@@ -47,8 +47,7 @@ struct Row {
 }
 
 const ROWS: [Row; 4] = [
-    // The disk's third call, the second append, fails. The length of the log stands, and recovery finds the first
-    // record.
+    // The disk's third call, the second append, fails. The log keeps its length, and recovery finds the first record.
     Row {
         last: 0,
         fails: &[3],
@@ -63,7 +62,8 @@ const ROWS: [Row; 4] = [
         fault: Some(1),
         start: AT_FIRST,
     },
-    // Two sequences are left for three, and one for one.
+    // One sequence is left: a batch of two is refused, a batch of one takes it, and then another batch of one is
+    // refused.
     Row {
         last: 72057594037927934,
         fails: &[],
@@ -87,8 +87,8 @@ const ROWS: [Row; 4] = [
         fault: None,
         start: AT_LAST,
     },
-    // A client that stops writes is told so where its write may not wait, and where it may, that it would wait for
-    // itself.
+    // A client stops writes itself. Its write that doesn't wait is refused as incomplete, and its write that may wait
+    // is refused since it would wait for its own stop.
     Row {
         last: 0,
         fails: &[],
@@ -117,7 +117,8 @@ const ROWS: [Row; 4] = [
         fault: None,
         start: AT_FIRST,
     },
-    // At a byte a second, a millisecond's refill is one byte of 17, and the other 16 are owed from a millisecond on.
+    // At a byte a second a millisecond's refill is one byte of the 17. The other 16 are owed, counted from a
+    // millisecond later.
     Row {
         last: 0,
         fails: &[],
@@ -137,7 +138,7 @@ const ROWS: [Row; 4] = [
     },
 ];
 
-// The record of a batch that puts one byte at a key of one byte has 24 bytes. The batch begins behind the first seven.
+// The record of a batch that puts one byte at a key of one byte has 24 bytes. The batch begins after the first seven.
 fn check_row<R: Threads + Wait + rt::Clock + Abort + Sync>(
     rt: &R,
     alloc: Global,

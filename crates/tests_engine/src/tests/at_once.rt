@@ -1,4 +1,4 @@
-//! Clients that write at once: the runs that they are given, and what their reads see.
+//! Clients that write at once: the runs that they get, and what their reads see.
 
 ghost use Rattle.std.specs.Prelude.{◌<◌};
 
@@ -15,17 +15,18 @@ use std::thread::Threads;
 /// What clients do at once.
 #[derive(Clone, Copy)]
 struct Round {
-    /// How many calls each makes, and how many of all are writes.
+    /// How many calls each client makes, and how many calls of all clients are writes.
     calls: usize,
     writes: usize,
     /// How many sequences each batch takes.
     count: u64,
-    /// The last sequence that is given.
+    /// The last sequence of all runs.
     last: u64,
 }
 
-// At the end of each run the number of its write, where the clients' writes are counted from 1, client by client. All
-// that aren't reads are writes. Each has its run, which no other has.
+// For each sequence that ends a run, the number of the write that has the run, and 0 for the others. The clients'
+// writes are counted from 1, client by client. All calls that aren't reads are writes. Each write has a run, which no
+// other has.
 fn owners(rt: &impl Abort, notes: &[Vec<StepAnswer>], round: Round) -> [usize; 201] {
     let mut owner = [0usize; 201];
     let mut write = 0usize;
@@ -79,7 +80,7 @@ fn two_write_at_once(rt: HostRuntime) {
     two_write(&rt, alloc, true);
 }
 
-/// What four clients write, four times each: both keys with a name of the write's own, which is one byte.
+/// What four clients write, four times each: at both keys the write's own name, which is one byte.
 const NAMED: [[&[(&[u8], &[u8])]; 4]; 4] = [
     [
         &[(b"a", b"A"), (b"b", b"A")],
@@ -117,7 +118,7 @@ const FOUR: Round = Round {
     last: 32,
 };
 
-// A client writes both keys with a name of its own and reads them, four times.
+// A client writes a name of its own at both keys and reads them, four times.
 fn writes_and_reads(
     rt: &impl Abort,
     alloc: Global,
@@ -136,7 +137,7 @@ fn writes_and_reads(
     steps
 }
 
-// A read at the end of a batch sees that batch's name at each of both keys. No read is within a batch.
+// A read as of a batch's last sequence sees that batch's name, whichever key it reads. No read is within a batch.
 fn check_read(rt: &impl Abort, owner: &[usize; 201], note: StepAnswer) {
     match note {
         StepAnswer::Wrote { .. } => {}
@@ -151,7 +152,7 @@ fn check_read(rt: &impl Abort, owner: &[usize; 201], note: StepAnswer) {
     }
 }
 
-// Four clients write both keys and read them, over a table of any number of shards, in one stage or two.
+// Four clients write both keys and read them, over a table of `shards` shards, in one stage or two.
 fn write_and_read_both<R: Threads + Wait + rt::Clock + Abort + Sync>(
     rt: &R,
     alloc: Global,
@@ -176,7 +177,7 @@ fn write_and_read_both<R: Threads + Wait + rt::Clock + Abort + Sync>(
     }
 }
 
-// Of three shards, the keys are in the first and in the last.
+// In a table of three shards, one key is in the first shard and the other in the last.
 #[test]
 fn no_read_sees_one_key_without_the_other(rt: HostRuntime) {
     let alloc = rt.alloc();

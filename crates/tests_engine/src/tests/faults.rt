@@ -12,7 +12,7 @@ use std::rt::HostRuntime;
 use std::sync::Wait;
 use std::thread::Threads;
 
-/// Two keys with a sync, and then without.
+/// A client writes two keys with a sync, and then without.
 const STEPS: [Step; 2] = [
     Step::Write {
         rows: &[(b"a", b"1"), (b"b", b"1")],
@@ -27,7 +27,7 @@ const STEPS: [Step; 2] = [
     },
 ];
 
-// Each commit was answered with its run or the log's fault, and a synced one that has a run is recovered.
+// Each commit was answered with its run or with the log's fault. A synced one that has a run is recovered.
 fn check_told(rt: &impl Abort, told: &[StepAnswer], fault: Option<u64>, recovered: u64) {
     assert_eq!(rt; told.len(), 2);
     for (i, note) in told.iter().enumerate() {
@@ -42,8 +42,8 @@ fn check_told(rt: &impl Abort, told: &[StepAnswer], fault: Option<u64>, recovere
     }
 }
 
-// What is safe of a disk, on a disk of its own: where groups were few, the first one's call that fails is still to
-// come.
+// The safe bytes of a disk, on a disk of their own. Where there were few groups, the old disk's call that should fail
+// may not have been made yet.
 fn safe_part(rt: &impl Abort, alloc: Global, disk: MemDisk) -> MemDisk {
     let safe = disk.synced();
     assert!(rt; safe <= disk.content().len() as u64);

@@ -1,4 +1,4 @@
-//! Clients that call an engine over a disk in memory, each allowed where it calls.
+//! Clients that call an engine over a disk in memory. The contract of each step says when it is allowed.
 
 ghost use Rattle.std.specs.Prelude.{◌≡◌, ◌+◌, ◌<◌, ◌≤◌, length};
 ghost use Rattle.model_base.specs.History.{max_sequence};
@@ -30,8 +30,9 @@ pub(super) type Members = Clients<Member, ClosingRoom<MemDisk, MemoryTable, Step
 
 pub(super) type Notes = Mutex<Vec<StepAnswer>>;
 
-// Opens an engine with an empty table of so many shards, in one stage or two, over an empty disk with so much room, of
-// whose calls those of a list fail. The first looks at the disk's length. The clock stands at 1000.
+// Opens an engine with an empty table of `shards` shards, in one stage or two, over an empty disk with room for `room`
+// bytes. The disk's calls with the numbers in `fails` fail; the first call looks at the disk's length. The clock is at
+// 1000.
 pub(super) fn opened(
     rt: &impl Abort,
     alloc: Global,
@@ -99,7 +100,7 @@ fn saw(read: &Read) -> StepAnswer {
     }
 }
 
-// Where the write is refused, the batch is what was given back last.
+// Where the write is refused, `back` gets its batch.
 fn write<R: Wait + rt::Clock>(
     rt: &R,
     engine: &Path,
@@ -198,7 +199,7 @@ fn step<R: Wait + rt::Clock + Abort>(
     }
 }
 
-// Takes the steps one after the other, and notes what it is told.
+// Makes the calls one after another, and notes their answers.
 fn play<R: Wait + rt::Clock + Abort>(
     rt: &R,
     alloc: Global,
@@ -217,7 +218,7 @@ fn play<R: Wait + rt::Clock + Abort>(
     }
 }
 
-// The script and the notes of one of the clients.
+// A client plays its own script, and notes the answers in its own notes.
 fn play_own<R: Wait + rt::Clock + Abort>(
     rt: &R,
     alloc: Global,
@@ -256,7 +257,7 @@ pub(super) fn play_at_once<R: Threads + Wait + rt::Clock + Abort + Sync>(
     thread::for_each_mut(rt, clients, threads, &each);
 }
 
-// The log and the last published sequence.
+// Closes the engine. Answers the log and the last published sequence.
 pub(super) fn closed<R: Wait + rt::Clock>(
     rt: &R,
     engine: Path,

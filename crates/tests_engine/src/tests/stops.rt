@@ -1,4 +1,4 @@
-//! A client that stops writes, beside one that writes.
+//! A client that stops writes, while another one writes.
 
 use super::{HASTY_PUT, PUT_B, ended, script};
 use crate::script::{Step, StepAnswer};
@@ -10,8 +10,8 @@ use std::rt::HostRuntime;
 use std::sync::Wait;
 use std::thread::Threads;
 
-// Each second write may wait and has its run, and of the others those that meet a stop are refused. The runs have no
-// gap: this is the last sequence.
+// Every second write may wait, and has a run. The others are refused where writes are held up. The runs have no gap.
+// Answers the last sequence.
 fn last_written(rt: &impl Abort, told: &[StepAnswer]) -> u64 {
     let mut last = 0u64;
     for (i, note) in told.iter().enumerate() {
@@ -38,7 +38,7 @@ fn last_written(rt: &impl Abort, told: &[StepAnswer]) -> u64 {
     last
 }
 
-// One client stops and unstops, and never writes between. Another writes.
+// One client stops and unstops writes, and never writes in between. Another client writes.
 fn stop_and_write<R: Threads + Wait + rt::Clock + Abort + Sync>(
     rt: &R,
     alloc: Global,

@@ -1,4 +1,4 @@
-//! Steps of those who take part, each allowed where it is made.
+//! The clients' steps. The contract of each step says when it is allowed.
 
 ghost use Rattle.std.specs.Prelude.{◌≡◌, ℕ, ◌+◌, ◌<◌, ◌≤◌, [], vec_len, vec_capacity, length};
 ghost use Rattle.line_writers.specs.Rooms.{AreReady, AllReady};
@@ -20,7 +20,7 @@ pub(super) type Counted = WriterList<CountRequest, CountReply, CountLog, Nothing
 
 type Seat = Writer<CountRequest, CountReply, CountLog, Nothing>;
 
-// Takes the requests of the group.
+// Takes the requests of the leader's group.
 pub(super) fn grouped(
     list: &Counted,
     writer: &mut Seat,
@@ -34,7 +34,7 @@ pub(super) fn grouped(
     list.group(writer, &mut lists.requests, &mut lists.room);
 }
 
-// Answers the group and leaves: the writer's own answer, and the group's size.
+// Answers the group and leaves. Answers the writer's own reply, and the group's size.
 pub(super) fn left(
     list: &Counted,
     writer: &mut Seat,
@@ -78,7 +78,7 @@ pub(super) fn ask<R: Wait + rt::Clock>(rt: &R, list: &Counted, writer: &mut Seat
     list.link(rt, writer, item, CountRequest { item });
 }
 
-// The answer, and the size of the group where the writer led.
+// Waits for the role, and leads if it should. Answers the reply, and the size of the group that it led, or 0.
 pub(super) fn served<R: Wait + rt::Clock>(
     rt: &R,
     list: &Counted,
@@ -97,7 +97,7 @@ pub(super) fn served<R: Wait + rt::Clock>(
     }
 }
 
-// Waits for the role, leads where it is to, and notes what it was told.
+// Waits for the role, leads if it should, and notes the reply.
 pub(super) fn finish<R: Wait + rt::Clock>(rt: &R, list: &Counted, player: &mut Player)
     requires asked { HasAsked list.now player.old.writer.client player.old }
     requires plain { IsPlain list.now }
@@ -108,7 +108,7 @@ pub(super) fn finish<R: Wait + rt::Clock>(rt: &R, list: &Counted, player: &mut P
     note(&mut player.told, answer);
 }
 
-// Each links itself, one after the other, with its item.
+// The clients link themselves one after another, each with its item.
 pub(super) fn ask_all<R: Wait + rt::Clock + Abort>(
     rt: &R,
     list: &Counted,
@@ -126,7 +126,7 @@ pub(super) fn ask_all<R: Wait + rt::Clock + Abort>(
     }
 }
 
-// Each waits for its role, one after the other.
+// The clients wait for their roles one after another.
 pub(super) fn finish_all<R: Wait + rt::Clock>(rt: &R, list: &Counted, players: &mut [Player])
     requires asked { AllHaveAsked list.now players.old }
     requires plain { IsPlain list.now }
@@ -144,7 +144,7 @@ fn meet<R: Wait + rt::Clock>(rt: &R, linked: &Option<Barrier>) {
     }
 }
 
-// Writes so many times. With a barrier it waits there for the others when it is linked.
+// Writes `times` times. Where there is a barrier, it waits there for the others each time it has linked.
 pub(super) fn write_often<R: Wait + rt::Clock>(
     rt: &R,
     list: &Counted,
@@ -165,8 +165,8 @@ pub(super) fn write_often<R: Wait + rt::Clock>(
     }
 }
 
-// All write so many times at once, each on a thread of its own. The sizes are the clients' numbers. With a barrier for
-// all of them each group is made when all are linked.
+// All clients write `times` times at once, each on a thread of its own. Their sizes are the clients' numbers. With a
+// barrier for all of them, no group is made before all are linked.
 pub(super) fn write_at_once<R: Threads + Wait + rt::Clock + Sync>(
     rt: &R,
     list: &Counted,
@@ -186,8 +186,8 @@ pub(super) fn write_at_once<R: Threads + Wait + rt::Clock + Sync>(
     thread::for_each_mut(rt, players, threads, &each);
 }
 
-// A list over a counter at 0, whose groups are built under this bound, and its clients in their order, each with room
-// for so many answers.
+// A list over a counter at 0, with this bound for its groups, and its clients in their order, each with room for
+// `room` replies.
 pub(super) fn opened(
     rt: &impl Abort,
     alloc: Global,
@@ -250,7 +250,7 @@ pub(super) fn seated(
     players
 }
 
-// What comes back where the list is closed.
+// Closes the list. Answers what comes back: the log and the right.
 pub(super) fn closed(
     rt: &impl Abort,
     alloc: Global,
@@ -264,7 +264,7 @@ pub(super) fn closed(
     list.close(writers)
 }
 
-// The writers, of the greatest number first.
+// Takes the writers out of the clients, the one with the greatest number first.
 pub(super) fn unseat(list: &Counted, players: &mut Vec<Player>, writers: &mut Vec<Seat>)
     requires out { AllMayWrite list.now players.old.items }
     requires room { (writers.old.items ≡ []) × (vec_len writers.old ≡ 0)

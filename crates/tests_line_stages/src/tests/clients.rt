@@ -1,4 +1,4 @@
-//! How clients come to a list, ask and leave it, each step allowed where it is made.
+//! How clients get to a list, ask and leave it. The contract of each step says when it is allowed.
 
 ghost use Rattle.std.specs.Prelude.{◌≡◌, ◌<◌, ◌≤◌, [], vec_len, vec_capacity};
 ghost use Rattle.line_writers.specs.Rooms.{AllReady};
@@ -20,7 +20,7 @@ pub(super) type Counted = WriterList<CountRequest, CountReply, CountLog, Countin
 
 pub(super) type Seat = Writer<CountRequest, CountReply, CountLog, CountingRight>;
 
-// A list over a counter at 0, and its clients in their order, each with room for so many answers.
+// A list over a counter at 0, and its clients in their order, each with room for `room` replies.
 pub(super) fn opened(
     rt: &impl Abort,
     alloc: Global,
@@ -74,7 +74,7 @@ fn seated(
 {
     let count = writers.len();
     let mut clients = Vec::with_capacity(alloc, count).expect(rt, "memory");
-    // The clients so far may all write, and those of the writers that are left come next.
+    // The clients so far may all write, and the writers that are left are those of the next clients.
     for made in 0..count {
         let Some(writer) = writers.pop() else {
             unreachable!()
@@ -95,7 +95,7 @@ fn seated(
     clients
 }
 
-// What comes back where the list is closed.
+// Closes the list. Answers what comes back: the log and the right.
 pub(super) fn closed(
     rt: &impl Abort,
     alloc: Global,
@@ -109,7 +109,7 @@ pub(super) fn closed(
     list.close(writers)
 }
 
-// The writers, of the greatest number first.
+// Takes the writers out of the clients, the one with the greatest number first.
 fn unseat(list: &Counted, clients: &mut Vec<StagePlayer>, writers: &mut Vec<Seat>)
     requires out { AllMayWrite list.now clients.old.items }
     requires room { (writers.old.items ≡ []) × (vec_len writers.old ≡ 0)
@@ -117,7 +117,7 @@ fn unseat(list: &Counted, clients: &mut Vec<StagePlayer>, writers: &mut Vec<Seat
     ensures { AreIdle list.now (vec_len clients.old) writers.new.items
         × (vec_len writers.new ≡ vec_len clients.old) }
 {
-    // The writers so far are those of the clients taken out, and each of these is in no list.
+    // The writers so far are those of the clients taken out, and each of them is in no list.
     for i in 0..clients.len() {
         let Some(client) = clients.pop() else {
             unreachable!()

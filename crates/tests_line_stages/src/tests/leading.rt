@@ -1,9 +1,10 @@
-//! How a leader makes its group, answers it, and serves it, each step allowed where it is made.
+//! How a leader makes its group, answers it, and serves it. The contract of each step says when it is allowed.
 
 ghost use Rattle.std.specs.Prelude.{◌≡◌, ℕ, ◌≤◌, List, vec_len, vec_capacity};
 ghost use Rattle.line_rule.specs.declared.view.QueuedWriter.{QueuedWriter};
 ghost use Rattle.line_rule.specs.Chain.{heads, Within};
-ghost use Rattle.line_writers.specs.Roles.{pays, AreMembers};
+ghost use Rattle.line_rule.specs.Members.{pays};
+ghost use Rattle.line_writers.specs.Roles.{AreMembers};
 ghost use Rattle.line_writers.specs.Rooms.{AreReady};
 ghost use Rattle.line_writers.specs.Seats.{clients_of};
 ghost use Rattle.tests_line_stages.specs.Clients.{IsPipelined, IsIdle, IsLeader, HasRequests, IsSentOn, MayServe, MayWrite};
@@ -16,7 +17,7 @@ use std::rt;
 use std::sync::Wait;
 use tests_line::{CountLog, CountReply, CountRequest, answer_all};
 
-// Takes the requests of the group.
+// Takes the requests of the leader's group.
 pub(super) fn grouped(
     list: &Counted,
     writer: &mut Seat,
@@ -30,7 +31,7 @@ pub(super) fn grouped(
     list.group(writer, &mut lists.requests, &mut lists.room);
 }
 
-// Notes the members of a group beside its leader.
+// Notes the members of a group, without its leader.
 fn note_members(replies: &Replies<CountReply>, members: &mut Vec<u32>)
     requires room { vec_len replies.now.list ≤ vec_capacity members.old }
     ensures room { vec_capacity members.new ≡ vec_capacity members.old }
@@ -40,13 +41,13 @@ fn note_members(replies: &Replies<CountReply>, members: &mut Vec<u32>)
 {
     members_in_order::<CountRequest, CountReply>();
     members.clear();
-    // The members before `i` are noted, but for the leader.
+    // The members before place `i` are noted, without the leader.
     for i in 1..replies.list.len() {
         members.push_reserved(replies.list[i].0);
     }
 }
 
-// Answers the group, and sends it on to the second list: the counter before it and after it.
+// Answers the group, and sends it on to the second list. Answers the counter's number before the group and after it.
 pub(super) fn sent<R: Wait + rt::Clock>(
     rt: &R,
     list: &Counted,
@@ -98,7 +99,7 @@ pub(super) fn refused(
     list.exit(writer, counter, &mut lists.replies, &mut lists.room)
 }
 
-// Waits until the group, which is sent on, is the first of the second list.
+// Waits until the client's group, which was sent on, is the oldest of the second list.
 pub(super) fn right_for<R: Wait + rt::Clock>(
     rt: &R,
     list: &Counted,
@@ -117,7 +118,7 @@ pub(super) fn right_for<R: Wait + rt::Clock>(
     }
 }
 
-// Tells all other members of the group to work beside their leader.
+// Asks all other members of the group to work in parallel with their leader.
 pub(super) fn launched(list: &Counted, client: &mut StagePlayer)
     requires serves { MayServe list.now client.old }
     ensures client { client.new.writer.client ≡ client.old.writer.client }
@@ -126,7 +127,7 @@ pub(super) fn launched(list: &Counted, client: &mut StagePlayer)
     list.launch_roles(&mut client.writer, client.members.as_slice());
 }
 
-// Leaves the second list: the client's own answer.
+// Leaves the second list. Answers the client's own reply.
 pub(super) fn served(list: &Counted, client: &mut StagePlayer, right: CountingRight) -> CountReply
     requires serves { MayServe list.now client.old }
     requires pipelined { IsPipelined list.now }
@@ -135,7 +136,8 @@ pub(super) fn served(list: &Counted, client: &mut StagePlayer, right: CountingRi
     list.exit_memtable(&mut client.writer, right, &mut client.lists.room)
 }
 
-// Notes a group of these numbers in the right, of whose writers so many work beside the leader.
+// Notes in the right that a group with these numbers is served, in which `helpers` writers work in parallel with the
+// leader.
 pub(super) fn note_group(right: &mut CountingRight, (first, next): (u64, u64), helpers: usize) {
     if right.next != first {
         right.wrong = right.wrong.wrapping_add(1);

@@ -25,11 +25,11 @@ pub(super) enum Call {
     ExitMemtable,
 }
 
-/// What it answers.
+/// What a call answers.
 #[derive(Clone, Copy, Debug, PartialEq)]
 pub(super) enum Seen {
     Nothing,
-    /// How many the log has counted, and whether a group stands in the second list.
+    /// How many requests the log has counted, and whether a group is in the second list.
     LogLeader(u64, bool),
     /// How many members the group has.
     Group(usize),
@@ -40,10 +40,10 @@ pub(super) enum Seen {
     Done(u64),
 }
 
-/// Who makes a call, and what it answers.
+/// The client that makes a call, the call, and what it answers.
 pub(super) type Turn = (usize, Call, Seen);
 
-// Makes the calls one after the other.
+// Makes the calls one after another, and compares what each answers.
 pub(super) fn play<R: Wait + rt::Clock + Abort>(
     rt: &R,
     list: &Counted,

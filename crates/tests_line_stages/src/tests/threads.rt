@@ -1,4 +1,4 @@
-//! Clients that write at once, each on a thread of its own, and whose members all work beside their leaders.
+//! Clients that write at once, each on a thread of its own. All members of a group work in parallel with their leader.
 
 ghost use Rattle.std.specs.Prelude.{◌≡◌, ◌+◌, ◌<◌, ◌≤◌, vec_capacity, length};
 ghost use Rattle.line_writers.specs.Rooms.{AreReady};
@@ -21,7 +21,7 @@ use tests_line::{CountLog, CountReply, note, sized};
 // Waits until all members have worked.
 fn await_members<R: Wait + rt::Clock>(rt: &R, pending: &AtomicU64) {
     let backoff = Backoff::new();
-    // `pending` is how many members have yet to work.
+    // `pending` is how many members have not worked yet.
     for _ in rt.forever() {
         if pending.load(SeqCst) == 0 {
             return;
@@ -31,7 +31,7 @@ fn await_members<R: Wait + rt::Clock>(rt: &R, pending: &AtomicU64) {
     unreachable!()
 }
 
-// Serves the group, which is sent on, when it is the first, with all members beside the leader.
+// Serves the client's group, which was sent on, once it is the oldest. All members work in parallel with the leader.
 fn serve<R: Wait + rt::Clock>(
     rt: &R,
     list: &Counted,
@@ -70,7 +70,7 @@ fn lead<R: Wait + rt::Clock>(
     serve(rt, list, client, numbers, pending)
 }
 
-// Waits for the role, and works beside its leader or leads where it is to, until it is done.
+// Waits for its role until it is done: works in parallel with its leader, or leads, where it should.
 fn finish<R: Wait + rt::Clock>(
     rt: &R,
     list: &Counted,
@@ -81,7 +81,7 @@ fn finish<R: Wait + rt::Clock>(
     requires pipelined { IsPipelined list.now }
     ensures { MayWrite list.now client.old.writer.client client.new }
 {
-    // The client's request is in the list, and whatever it was asked to do beside its leader is done.
+    // The client's request is in the list, and it has done all that it was asked to do in parallel with its leader.
     for _ in rt.forever() {
         match list.await_pipelined_role(rt, &mut client.writer) {
             PipelinedRole::Done(answer) => {
@@ -102,7 +102,7 @@ fn finish<R: Wait + rt::Clock>(
     unreachable!()
 }
 
-// Writes so many times.
+// Writes `times` times.
 fn write_often<R: Wait + rt::Clock>(
     rt: &R,
     list: &Counted,
@@ -116,14 +116,14 @@ fn write_often<R: Wait + rt::Clock>(
     requires pipelined { IsPipelined list.now }
     ensures { MayWrite list.now client.old.writer.client client.new }
 {
-    // The client is in no list, and was told the numbers of `time` writes.
+    // The client is in no list, and has got the replies to its first `time` writes.
     for time in 0..times {
         ask(rt, list, &mut client.writer, item);
         finish(rt, list, client, pending);
     }
 }
 
-// All write so many times at once. The sizes are the clients' numbers.
+// All clients write `times` times at once. Their sizes are the clients' numbers.
 pub(super) fn write_at_once<R: Threads + Wait + rt::Clock + Sync>(
     rt: &R,
     list: &Counted,

@@ -1,4 +1,4 @@
-//! Scripts of several clients, which come in any order.
+//! Scripts of several clients, which may come in any order.
 
 use super::{Came, Given, PATHS, PLAIN, came_of, check_texts};
 use std::alloc::Global;
@@ -24,7 +24,7 @@ fn check_clients<R: Threads + Wait + rt::Clock + Abort + Sync>(
     }
 }
 
-/// Either writer may come first, and the reader before, between and after them.
+/// Either writer may come first, and the reader may come before, between or after them.
 const BOTH_OR_NEITHER: [&str; 6] = [
     "client 1\nok 1 2\nclient 2\nok 3 4\nclient 3\nmany 0 2 - -\n\
         history 2\n1 2 1 1 log *\n3 4 2 1 log *\nstate 4 2\na 2\nb 2\nlog *\n",
@@ -40,7 +40,7 @@ const BOTH_OR_NEITHER: [&str; 6] = [
         history 2\n1 2 2 1 log *\n3 4 1 1 log *\nstate 4 2\na 1\nb 1\nlog *\n",
 ];
 
-/// Each client reads what it wrote last. Each batch is a group of its own, so that the log has one length.
+/// Each client reads what it wrote last. Each batch is a group of its own, so the log always has the same length.
 const OWN: [&str; 1] = [
     "client 1\nok *\nmany * 2 =1 =1\nscan * 2 a1 1 a2 1\nclient 2\nok *\nval * 2\nok *\nnil *\n\
         client 3\nok *\nok *\nval * 4\n\

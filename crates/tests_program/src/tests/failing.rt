@@ -13,7 +13,7 @@ use std::rt::HostRuntime;
 use std::sync::Wait;
 use std::thread::Threads;
 
-/// The checksums were reckoned by another program.
+/// The checksums were computed by another program.
 const THREE_RECORDS: &[u8] =
     b"\xe9\x9f\x78\x19\x11\x00\x01\x01\x00\x00\x00\x00\x00\x00\x00\x01\x00\x00\x00\x01\x01a\x011\
     \x8f\x72\xbc\x7a\x11\x00\x01\x02\x00\x00\x00\x00\x00\x00\x00\x01\x00\x00\x00\x01\x01b\x012\
@@ -34,14 +34,15 @@ const ALL_LOGGED: &str = "client 1\nok 1 1\nok 2 2\nok 3 3\n\
     2 2 1 2 sync 0200000000000000010000000101620132\n\
     3 3 1 3 log 0300000000000000010000000101630133\nstate 3 3\na 1\nb 2\nc 3\nlog 72\n";
 
-/// Which call of the disk fails, the status, all that is printed then, what the disk holds, and how much of it is safe.
+/// Which call of the disk fails, the status, all that is printed then, what the disk holds, and how much of it is
+/// safe.
 type Left = (Fails, u8, &'static str, &'static [u8], u64);
 
 const LEFT: [Left; 6] = [
     (Fails::Disk(1), 3, "disk fault 1\n", b"", 0),
     (Fails::Disk(2), 3, NONE_LOGGED, b"", 0),
     (Fails::Disk(3), 3, ONE_LOGGED, RECORD, 0),
-    // The second record is written. It isn't synced.
+    // The second record is written, but not synced.
     (Fails::Disk(4), 3, ONE_LOGGED, TWO_RECORDS, 0),
     (Fails::Disk(5), 3, TWO_LOGGED, TWO_RECORDS, 48),
     (Fails::Nothing, 0, ALL_LOGGED, THREE_RECORDS, 48),
@@ -66,7 +67,7 @@ fn check_left<R: Threads + Wait + rt::Clock + Abort + Sync>(
 
 #[test]
 fn each_call_of_the_disk_fails(rt: HostRuntime) {
-    // The paths before it, and on this one the rows before it, came out as they should.
+    // All paths and rows so far were as wanted.
     for path in PATHS {
         for row in LEFT {
             check_left(&rt, rt.alloc(), path, row);
@@ -74,8 +75,8 @@ fn each_call_of_the_disk_fails(rt: HostRuntime) {
     }
 }
 
-/// How the machine goes down: so many bytes are left, and those that weren't safe are as they were, or torn with the
-/// seed 2.
+/// How the machine crashes: this many bytes are left. Those that weren't safe are as they were (`Cut`), or torn with
+/// the seed 2 (`Torn`).
 #[derive(Clone, Copy)]
 enum Crash {
     Cut(u64),
@@ -96,7 +97,7 @@ fn left_by(rt: &impl Abort, disk: MemDisk, crash: Crash) -> MemDisk {
     }
 }
 
-/// Runs the script of three commits, lets the machine go down, and compares what the log recovers.
+/// Runs the script of three commits, lets the machine crash, and compares what the log recovers.
 fn check_crash<R: Threads + Wait + rt::Clock + Abort + Sync>(
     rt: &R,
     alloc: Global,
@@ -126,7 +127,7 @@ const TWO_AND_A_PART: &str =
 const ALL_LEFT: &str =
     "groups 3\n1 1 17\n2 1 17\n3 1 17\nstate 3 3\n61 31\n62 32\n63 33\nend 72 clean\n";
 
-/// Which call of the disk fails, how the machine goes down behind that, and what the log recovers.
+/// Which call of the disk fails, how the machine crashes after that, and what the log recovers.
 const CRASHES: [(Fails, Crash, &str); 5] = [
     (Fails::Disk(4), Crash::Cut(24), ONE_LEFT),
     (Fails::Disk(4), Crash::Cut(48), TWO_LEFT),
@@ -137,13 +138,13 @@ const CRASHES: [(Fails, Crash, &str); 5] = [
 
 #[test]
 fn crashes_leave_what_was_safe(rt: HostRuntime) {
-    // The crashes before it left what was safe.
+    // All crashes so far left what was safe.
     for (fails, crash, want) in CRASHES {
         check_crash(&rt, rt.alloc(), fails, crash, want);
     }
 }
 
-/// What the first so many bytes of three records recover, of which two are safe.
+/// What is recovered from the first `len` bytes of three records. The first two records are safe.
 fn left_of(len: u64) -> &'static str {
     match len {
         48 => TWO_LEFT,
@@ -165,15 +166,16 @@ fn crashes_leave_each_length(rt: HostRuntime) {
 const FOUR_CLIENTS: &[u8] = b"client 1\nput a 1\ncommit\nclient 2\nput b 2\ncommit\n\
     client 3\nput c 3\ncommit\nclient 4\nput d 4\ncommit\n";
 
-/// How many lines they and their answers are.
+/// How many lines name these clients or answer them.
 const THEIR_LINES: usize = 8;
 
-/// Whether a commit was written, or refused for the log's first fault. A client's own line stands before.
+/// Whether the line names a client, or says that a commit was written, or that it was refused for the log's first
+/// fault.
 fn is_answer(line: &str) -> bool {
     is_line(line, "client *") || is_line(line, "ok *") || line == "no logfault 1"
 }
 
-/// Each of the four is answered so, and the status says whether the call that was to fail was made.
+/// Each of the four clients gets such an answer. The status says whether the call that should fail was made.
 fn check_four<R: Threads + Wait + rt::Clock + Abort + Sync>(rt: &R, alloc: Global, call: u64) {
     let given = Given {
         path: PIPELINED_SHARDS,
@@ -192,20 +194,20 @@ fn check_four<R: Threads + Wait + rt::Clock + Abort + Sync>(rt: &R, alloc: Globa
 
 #[test]
 fn a_call_of_the_disk_fails_under_four_clients(rt: HostRuntime) {
-    // Each earlier call has failed so.
+    // It was so where each earlier call failed.
     for call in 2..7u64 {
         check_four(&rt, rt.alloc(), call);
     }
 }
 
-/// A run whose source gives a byte a call, and whose sink takes one.
+/// A run whose source gives one byte in a call, and whose sink takes one.
 const BYTE_BY_BYTE: Given<'static> = Given { piece: 1, ..PLAIN };
 
-/// The script has a read for each byte, and one for its end.
+/// The source is read once for each byte of the script, and once for its end.
 #[test]
 fn each_read_of_the_source_fails(rt: HostRuntime) {
     let calls = (SCRIPT.len() as u64).saturating_add(1);
-    // Each earlier read has failed so.
+    // It was so where each earlier read failed.
     for call in 1..=calls {
         let given = Given {
             fails: Fails::Source(call),
@@ -216,7 +218,8 @@ fn each_read_of_the_source_fails(rt: HostRuntime) {
     }
 }
 
-/// The sink has taken what stands before that byte of the outcome. All was done by then.
+/// Where the write of the byte `at` of the outcome fails, the sink has taken the bytes before it. All else was done by
+/// then.
 fn check_sink<R: Threads + Wait + rt::Clock + Abort + Sync>(rt: &R, alloc: Global, at: usize) {
     let given = Given {
         fails: Fails::Sink((at as u64).saturating_add(1)),
@@ -232,7 +235,7 @@ fn check_sink<R: Threads + Wait + rt::Clock + Abort + Sync>(rt: &R, alloc: Globa
 
 #[test]
 fn each_write_of_the_sink_fails(rt: HostRuntime) {
-    // Each earlier write has failed so.
+    // It was so where each earlier write failed.
     for at in 0..OUTCOME.len() {
         check_sink(&rt, rt.alloc(), at);
     }

@@ -1,4 +1,4 @@
-//! Modes of recovery: what `recover` and `run --resume` say of ends that a mode accepts, and of those that it doesn't.
+//! Modes of recovery: what `recover` and `run --resume` say of ends that a mode accepts, and of those that it refuses.
 
 use super::Fails::{Disk, Nothing};
 use super::numbers::check_left;
@@ -11,7 +11,7 @@ use std::rt::HostRuntime;
 use std::sync::Wait;
 use std::thread::Threads;
 
-/// The two records, and seven zeros behind them.
+/// The two records, and seven zeros after them.
 const ZEROS_BEHIND: &[u8] =
     b"\xe9\x9f\x78\x19\x11\x00\x01\x01\x00\x00\x00\x00\x00\x00\x00\x01\x00\x00\x00\x01\x01a\x011\
     \x8f\x72\xbc\x7a\x11\x00\x01\x02\x00\x00\x00\x00\x00\x00\x00\x01\x00\x00\x00\x01\x01b\x012\
@@ -22,12 +22,12 @@ const ZEROS_AT_SECOND: &[u8] =
     b"\xe9\x9f\x78\x19\x11\x00\x01\x01\x00\x00\x00\x00\x00\x00\x00\x01\x00\x00\x00\x01\x01a\x011\
     \x00\x00\x00\x00\x00\x00\x00";
 
-/// The first record, and the second one, of which no more than its header is lost.
+/// The first record, and the second one with zeros in place of its header.
 const ZEROS_WITHIN: &[u8] =
     b"\xe9\x9f\x78\x19\x11\x00\x01\x01\x00\x00\x00\x00\x00\x00\x00\x01\x00\x00\x00\x01\x01a\x011\
     \x00\x00\x00\x00\x00\x00\x00\x02\x00\x00\x00\x00\x00\x00\x00\x01\x00\x00\x00\x01\x01b\x012";
 
-/// The two records, whose last byte is another.
+/// The two records, with another last byte.
 const CHANGED: &[u8] =
     b"\xe9\x9f\x78\x19\x11\x00\x01\x01\x00\x00\x00\x00\x00\x00\x00\x01\x00\x00\x00\x01\x01a\x011\
     \x8f\x72\xbc\x7a\x11\x00\x01\x02\x00\x00\x00\x00\x00\x00\x00\x01\x00\x00\x00\x01\x01b\x013";
@@ -46,7 +46,7 @@ const FIRST_UP_TO_CHANGED: &str = "groups 1\n1 1 17\nstate 1 1\n61 31\nend 24 ba
 
 const OF_EIGHT: &str = "groups 1\n1 1 17\nstate 1 1\n63 33\nend 28 oldlog 7\n";
 
-/// Words, how many first bytes of what the disk holds, the status, and all that is printed.
+/// Words, bytes and how many of them the disk holds, the status, and all that is printed.
 type ByMode = (&'static str, (&'static [u8], usize), u8, &'static str);
 
 /// Each log in each mode.
@@ -180,8 +180,8 @@ const C_FOUND: &str = "client 1\nnil 1\nhistory 0\nstate 1 1\nc 3\nlog 28\n";
 
 const NONE_FOUND: &str = "client 1\nnil 0\nhistory 0\nstate 0 0\nlog 0\n";
 
-/// Words, how many first bytes of what the disk holds, the status, all that is printed, and how many of these bytes it
-/// holds then.
+/// Words, bytes and how many of them the disk holds, the status, all that is printed, and how many of these bytes the
+/// disk holds then.
 type GoesOn = (
     &'static str,
     (&'static [u8], usize),
@@ -262,7 +262,7 @@ const GOING_ON: [GoesOn; 14] = [
         C_FOUND,
         28,
     ),
-    // Without `--resume` no log is recovered, and the mode says nothing.
+    // Without `--resume` no log is recovered, and the mode has no effect.
     ("run --mode absolute", (b"", 0), 0, NONE_FOUND, 0),
     (
         "run --mode absolute",
@@ -368,7 +368,7 @@ fn writes_behind_an_accepted_end(rt: HostRuntime) {
 }
 
 /// Words, which call of the disk fails, the status, and all that is printed. The disk holds two records and zeros. Two
-/// calls read the log, and the third looks at the zeros, for the tail alone.
+/// calls read the log. The third, which only the mode `tail` makes, looks at the zeros.
 type Failing = (&'static str, Fails, u8, &'static str);
 
 const FAILING: [Failing; 4] = [

@@ -1,4 +1,4 @@
-//! Logs with a number: what they hold, alone and over an older log, and what is left where a call of the disk fails.
+//! Logs with a number: their bytes, alone and over an older log, and what is left where a call of the disk fails.
 
 use super::Fails::{Disk, Nothing, Sink, Source};
 use super::recovery::{WRITTEN_OVER, check_by_numbers};
@@ -35,7 +35,8 @@ const WITH_NUMBER: [WritePath; 4] = [
     },
 ];
 
-/// Makes calls that end well, and compares all that is printed but the log's length: each header has four bytes more.
+/// Makes calls that succeed, and compares all that is printed except the log's length: each header has four bytes
+/// more.
 fn check_rows_but_for_length<R: Threads + Wait + rt::Clock + Abort + Sync>(
     rt: &R,
     alloc: Global,
@@ -71,7 +72,7 @@ const PUT_A: &[u8] = b"client 1\nput a 1\ncommit\n";
 const A_PUT: &str =
     "client 1\nok 1 1\nhistory 1\n1 1 1 1 log 0100000000000000010000000101610131\nstate 1 1\na 1\nlog 28\n";
 
-/// How many bytes of data the record has, its kind, and the number 7.
+/// The record's length, its type, and the number 7, as its header has them.
 const HEADER_FROM_LENGTH: &[u8] = b"\x11\x00\x05\x07\x00\x00\x00";
 
 #[test]
@@ -99,7 +100,7 @@ const TWO_PUT: &str = "client 1\nok 1 1\nok 2 2\n\
     history 2\n1 1 1 1 log 0100000000000000010000000101610131\n\
     2 2 1 2 log 0200000000000000010000000101620132\nstate 2 2\na 1\nb 2\nlog 56\n";
 
-/// A log with the number 7, of two records. The checksums here and below were reckoned by another program.
+/// A log with the number 7, of two records. The checksums here and below were computed by another program.
 pub(super) const SEVEN: &[u8] =
     b"\x32\x33\x0f\x45\x11\x00\x05\x07\x00\x00\x00\x01\x00\x00\x00\x00\x00\x00\x00\x01\x00\x00\x00\x01\x01a\x011\
     \xd4\x65\xc3\xae\x11\x00\x05\x07\x00\x00\x00\x02\x00\x00\x00\x00\x00\x00\x00\x01\x00\x00\x00\x01\x01b\x012";
@@ -114,7 +115,7 @@ pub(super) fn check_left(rt: &impl Abort, disk: &MemDisk, want: &[u8]) {
     assert_eq!(rt; disk.content(), want);
 }
 
-/// Writes a log, and another one over it, and reads what stands there by each number and by none.
+/// Writes a log, and another one over it, and recovers the log by each number and without one.
 fn check_used_again<R: Threads + Wait + rt::Clock + Abort + Sync>(
     rt: &R,
     alloc: Global,
@@ -159,7 +160,7 @@ type Device = (
     &'static [u8],
 );
 
-/// No length is asked for: whatever stands there, it is written over.
+/// The length isn't asked for: whatever the disk holds is written over.
 const DEVICES: [Device; 9] = [
     ("run --number 8", b"", Disk(1), 3, "disk fault 1\n", b""),
     ("run --number 8", SEVEN, Disk(1), 3, "disk fault 1\n", SEVEN),
@@ -209,7 +210,8 @@ fn devices_fail_or_are_written_over(rt: HostRuntime) {
     }
 }
 
-/// The words stand before the script: one with a fault, and one that commits nothing to the log, leave what is there.
+/// Words, a script, the status, and all that is printed. Each leaves the older log as it is: a script with a fault,
+/// one that commits nothing to the log, and words that are refused.
 const LEFT_ALONE: [(&str, &[u8], u8, &str); 3] = [
     (
         "run --number 8",
@@ -269,16 +271,16 @@ const ALL_LOGGED: &str = "client 1\nok 1 1\nok 2 2\nok 3 3\n\
     2 2 1 2 sync 0200000000000000010000000101620132\n\
     3 3 1 3 log 0300000000000000010000000101630133\nstate 3 3\na 1\nb 2\nc 3\nlog 84\n";
 
-/// Which call of the disk fails, the status, all that is printed then, what the disk holds, and how much of it is safe.
-/// The calls are a rewind, two appends, a sync, and an append.
+/// Which call of the disk fails, the status, all that is printed then, what the disk holds, and how much of it is
+/// safe. The calls are a rewind, two appends, a sync, and an append.
 type Left = (Fails, u8, &'static str, &'static [u8], u64);
 
 const LEFT: [Left; 6] = [
     (Disk(1), 3, "disk fault 1\n", SEVEN, 56),
-    // Nobody knows what of the first record stands there, so that nothing is safe.
+    // Any part of the first record may be on the disk, so nothing is safe.
     (Disk(2), 3, NONE_LOGGED, SEVEN, 0),
     (Disk(3), 3, ONE_LOGGED, A_OF_EIGHT, 0),
-    // The second record is written. It isn't synced.
+    // The second record is written, but not synced.
     (Disk(4), 3, ONE_LOGGED, TWO_OF_EIGHT, 0),
     (Disk(5), 3, TWO_LOGGED, TWO_OF_EIGHT, 56),
     (Nothing, 0, ALL_LOGGED, THREE_OF_EIGHT, 56),

@@ -1,5 +1,5 @@
 //! What clients do while others are under way: the disk holds an append back, and a gate holds clients back, until
-//! others have come so far. Clients that ran one after another, or under one lock, would wait in vain.
+//! others have come far enough. Clients that ran one after another, or under one lock, would wait in vain.
 
 use super::recovery::check_recovery;
 use super::{
@@ -19,33 +19,33 @@ use std::thread::Threads;
 use std::{rt, thread};
 use tests_held_disk::{AppendHold, HeldDisk};
 
-/// How many turns a client waits at most: more than a test will take, so that a test in which nobody comes ends too.
+/// How many turns a client waits at most: more than any test needs, so that a test ends even where nobody comes.
 const MOST_TURNS: u64 = 1_000_000_000;
 
-/// Where clients come by.
+/// The places that clients pass.
 #[derive(Clone, Copy, PartialEq, Eq)]
 enum Place {
     /// The append that may be held back is begun.
     Appending,
-    /// The first client stands in the line of writers.
+    /// The first client is in the line of writers.
     FirstLinked,
     /// The first client is about to launch its group.
     FirstLaunching,
-    /// A call of the first client is answered, once it has launched its group.
+    /// A call of the first client is answered, after it has launched its group.
     FirstAnswered,
-    /// Another client stands in the line of writers.
+    /// Another client is in the line of writers.
     OthersLinked,
     /// A call of another client is answered.
     OthersAnswered,
 }
 
-/// When clients have come by a place so often.
+/// The moment when clients have passed a place this number of times.
 type Moment = (Place, u64);
 
-/// Nobody waits for it.
+/// Nobody waits for this moment.
 const AT_ONCE: Moment = (Place::FirstLinked, 0);
 
-/// How clients meet, and what comes of it.
+/// How clients meet, and what should be seen then.
 #[derive(Clone, Copy)]
 struct Meeting {
     paths: &'static [WritePath],
@@ -55,12 +55,12 @@ struct Meeting {
     /// Which append may be held back, counted from 1, and when it goes on.
     append: u64,
     appends: Moment,
-    /// When the others begin.
+    /// When the other clients begin.
     begin: Moment,
-    /// When the first client goes on that stands in the line of writers, and when it launches its group.
+    /// When the first client, which is in the line of writers, goes on, and when it launches its group.
     leads: Moment,
     launches: Moment,
-    /// When another client goes on that stands in the line of writers, after so many turns at most.
+    /// When another client, which is in the line of writers, goes on, and how many turns a client waits at most.
     follows: Moment,
     turns: u64,
     /// Whether a client waits in vain.
@@ -71,14 +71,14 @@ struct Meeting {
     recovered: &'static str,
 }
 
-/// Holds clients back, and tells the append how far others come.
+/// Holds clients back, and tells the held append when others pass the place that it waits for.
 #[derive(Drop)]
 struct Turnstile<'a> {
     meeting: Meeting,
     hold: &'a AppendHold,
-    /// All locks that it was told of.
+    /// The sum of all numbers of locks that it learned.
     locks: AtomicU64,
-    /// How often clients came by.
+    /// How often clients have passed each place.
     first_linked: AtomicU64,
     first_launching: AtomicU64,
     first_answered: AtomicU64,
@@ -103,7 +103,7 @@ impl<'a> Turnstile<'a> {
         }
     }
 
-    /// How often clients have come by.
+    /// How often clients have passed a place.
     fn times(&self, place: Place) -> u64 {
         match place {
             Place::Appending => u64::from(self.hold.is_entered()),
@@ -115,7 +115,7 @@ impl<'a> Turnstile<'a> {
         }
     }
 
-    /// A client comes by.
+    /// A client passes a place.
     fn come(&self, place: Place, times: &AtomicU64) {
         times.fetch_add(1, SeqCst);
         if self.meeting.appends.0 == place {
@@ -123,9 +123,9 @@ impl<'a> Turnstile<'a> {
         }
     }
 
-    /// Waits until clients have come by so often. Each turn lets another thread run.
+    /// Waits until clients have passed a place this number of times. Each turn lets another thread run.
     fn wait_for(&self, (place, times): Moment) {
-        // They haven't come by so often yet.
+        // They haven't passed it this often yet.
         for _ in 0..self.meeting.turns {
             if self.times(place) >= times {
                 return;
@@ -173,7 +173,8 @@ impl<'a> Gate for Turnstile<'a> {
     }
 }
 
-/// Lets clients meet over a write path. The table has its number of locks, and who waits in vain is to.
+/// Lets clients meet over a write path. The table should have the path's number of locks, and a client should wait in
+/// vain just where the meeting says so.
 fn meet<R: Threads + Wait + rt::Clock + Abort + Sync>(
     rt: &R,
     alloc: Global,
@@ -256,8 +257,8 @@ const ALONE: Meeting = Meeting {
     recovered: "groups 1\n1 1 17\nstate 1 1\n61 31\nend 24 clean\n",
 };
 
-/// Two clients are one group, of which the second is held back in the line until the first is answered: its leader puts
-/// the second one's records into the table too.
+/// Two clients are one group. The second one is held back in the line until the first one, its leader, is answered. So
+/// the leader puts the second one's records into the table too.
 const LEFT_TO_THE_LEADER: Meeting = Meeting {
     paths: &[ONE_TREE, SHARDS, PIPELINED],
     text: b"client 1\nput d 1\ncommit\n\
@@ -276,14 +277,15 @@ const LEFT_TO_THE_LEADER: Meeting = Meeting {
 const MEETINGS: [Meeting; 9] = [
     ALONE,
     LEFT_TO_THE_LEADER,
-    // In two stages over shards the second puts in its own: the first is not answered before it goes on.
+    // In two stages over shards the second client puts in its own records. The first isn't answered before the second
+    // goes on.
     Meeting {
         paths: &[PIPELINED_SHARDS],
         turns: 100_000,
         late: true,
         ..LEFT_TO_THE_LEADER
     },
-    // The second client is answered while the first one's record is written, and sees nothing of it.
+    // The second client's read is answered while the first one's record is written, and sees nothing of it.
     Meeting {
         paths: &PATHS,
         text: b"client 1\nput a 1\ncommit\nclient 2\nget a\n",
@@ -294,7 +296,7 @@ const MEETINGS: [Meeting; 9] = [
             history 1\n1 1 1 1 log 0100000000000000010000000101610131\nstate 1 1\na 1\nlog 24\n",
         ..ALONE
     },
-    // The three that come to the line while the first one's record is written are one group, and one record.
+    // The three clients that link while the first one's record is written are one group, and one record.
     Meeting {
         paths: &PATHS,
         text: b"client 1\nput a 1\ncommit\nclient 2\nput b 1\ncommit\nclient 3\nput c 1\ncommit\n\
@@ -307,8 +309,8 @@ const MEETINGS: [Meeting; 9] = [
         recovered: "groups 2\n1 1 17\n2 3 27\nstate 4 4\n61 31\n62 31\n63 31\n64 31\nend 58 clean\n",
         ..ALONE
     },
-    // Two clients are one group. No run is left for the first one's batch, so that it puts the second one's into the
-    // table.
+    // Two clients are one group. There is no run left for the first one's batch, so the first puts the second one's
+    // batch into the table.
     Meeting {
         paths: &PATHS,
         words: "run --last 72057594037927933",
@@ -322,8 +324,8 @@ const MEETINGS: [Meeting; 9] = [
         recovered: "groups 1\n72057594037927934 1 17\nstate 72057594037927934 1\n64 31\nend 24 clean\n",
         ..ALONE
     },
-    // Three clients are one group, and the others bring so many records that they are woken in two stages over shards,
-    // to put in their own. A run is left for one of them: the other has nothing to put in.
+    // Three clients are one group. The other two bring enough records that in two stages over shards they are woken,
+    // to put in their own. A run is left for just one of them: the other has nothing to put in.
     Meeting {
         paths: &PATHS,
         words: "run --last 72057594037927917",
@@ -341,7 +343,7 @@ const MEETINGS: [Meeting; 9] = [
             end 104 clean\n",
         ..ALONE
     },
-    // The second one's record is begun before the first one's group is launched.
+    // The second client's record is begun before the first one's group is launched.
     Meeting {
         paths: &IN_TWO_STAGES,
         text: b"client 1\nput a 1\ncommit\nclient 2\nput a 1\ncommit\n",
@@ -354,8 +356,8 @@ const MEETINGS: [Meeting; 9] = [
         recovered: "groups 2\n1 1 17\n2 1 17\nstate 2 1\n61 31\nend 48 clean\n",
         ..ALONE
     },
-    // The log fails before the first one's group is launched. That is published all the same, and who comes later is
-    // refused, without waiting for it.
+    // The log fails before the first client's group is launched. That group is published all the same, and a client
+    // that comes later is refused, without waiting for that group.
     Meeting {
         paths: &IN_TWO_STAGES,
         text: b"client 1\nput a 1\ncommit\nput c 3\ncommit\nclient 2\nput b 2\ncommit\ncommit\nget a\n",
@@ -370,7 +372,7 @@ const MEETINGS: [Meeting; 9] = [
     },
 ];
 
-/// Lets them meet over each of its write paths.
+/// Lets clients meet over each of the meeting's write paths.
 fn meet_on_each<R: Threads + Wait + rt::Clock + Abort + Sync>(
     rt: &R,
     alloc: Global,

@@ -1,4 +1,4 @@
-//! What logs recover. What they do where they are cut, or damaged otherwise, is tried in `tests/real_file`.
+//! What logs recover. `tests/real_file` tries logs that are cut, or damaged otherwise.
 
 use super::{Given, PLAIN, RECORD, ended};
 use std::alloc::Global;
@@ -8,7 +8,7 @@ use std::rt::HostRuntime;
 use std::sync::Wait;
 use std::thread::Threads;
 
-/// Recovers a log, which is left as it is.
+/// Recovers a log, and checks that it is left as it is.
 pub(super) fn check_recovery<R: Threads + Wait + rt::Clock + Abort + Sync>(
     rt: &R,
     alloc: Global,
@@ -18,7 +18,7 @@ pub(super) fn check_recovery<R: Threads + Wait + rt::Clock + Abort + Sync>(
     check_recovery_by(rt, alloc, "recover", content, want);
 }
 
-/// The same by these words.
+/// As [`check_recovery`], with these words.
 fn check_recovery_by<R: Threads + Wait + rt::Clock + Abort + Sync>(
     rt: &R,
     alloc: Global,
@@ -68,12 +68,13 @@ fn prints_what_a_log_recovers(rt: HostRuntime) {
     }
 }
 
-/// A log with the number 8, of one record, that was written over the first of two records of a log with the number 7.
+/// A log with the number 8, of one record, which was written over the first of the two records of a log with the
+/// number 7.
 pub(super) const WRITTEN_OVER: &[u8] =
     b"\x13\x6d\x32\x7d\x11\x00\x05\x08\x00\x00\x00\x01\x00\x00\x00\x00\x00\x00\x00\x01\x00\x00\x00\x01\x01\x63\x01\x33\
     \xd4\x65\xc3\xae\x11\x00\x05\x07\x00\x00\x00\x02\x00\x00\x00\x00\x00\x00\x00\x01\x00\x00\x00\x01\x01\x62\x01\x32";
 
-/// Words, and what that log recovers by them.
+/// Words, and what they recover from that log.
 const BY_NUMBER: [(&str, &str); 4] = [
     (
         "recover --number 8",
@@ -90,7 +91,7 @@ const BY_NUMBER: [(&str, &str); 4] = [
     ("recover", "groups 0\nstate 0 0\nend 0 badtype 5\n"),
 ];
 
-/// Recovers it by each number, and by none.
+/// Recovers that log by each number, and without one.
 pub(super) fn check_by_numbers<R: Threads + Wait + rt::Clock + Abort + Sync>(
     rt: &R,
     alloc: Global,

@@ -1,4 +1,4 @@
-//! Schedules of events, which are run on the core.
+//! Schedules of events, which are played on the core.
 
 use super::{ONE_TREE, Row, check_rows};
 use std::rt::HostRuntime;
@@ -14,7 +14,7 @@ const REPLAYED: [Row; 11] = [
             history 2\n1 1 1 1 log 0100000000000000010000000101610131\n\
             2 2 2 1 log 0200000000000000010000000101620132\nstate 2 2\na 1\nb 2\ngroups 1\n",
     ),
-    // The read can't come: a commit stands before it.
+    // The read is skipped: the client's commit comes before it.
     (
         "replay",
         b"client 1\nput a 1\ncommit\nclient 2\nput b 2\ncommit\nget a\n\
@@ -24,7 +24,7 @@ const REPLAYED: [Row; 11] = [
             history 2\n1 1 1 1 log 0100000000000000010000000101610131\n\
             2 2 2 1 log 0200000000000000010000000101620132\nstate 2 2\na 1\nb 2\ngroups 1\n",
     ),
-    // The second doesn't fit the group of the first.
+    // The second batch doesn't fit into the group of the first.
     (
         "replay --group-bytes 20",
         b"client 1\nput a 1\ncommit\nclient 2\nput b 2\ncommit\nget a\n\
@@ -35,7 +35,7 @@ const REPLAYED: [Row; 11] = [
             history 2\n1 1 1 1 log 0100000000000000010000000101610131\n\
             2 2 2 1 log 0200000000000000010000000101620132\nstate 2 2\na 1\nb 2\ngroups 2\n",
     ),
-    // Most can't come, for nobody leads.
+    // Most events are skipped, since nobody leads.
     (
         "replay",
         b"client 1\nput a 1\ncommit\nclient 2\nput b 2\ncommit\nget a\n\
@@ -43,7 +43,7 @@ const REPLAYED: [Row; 11] = [
             elect 2\n",
         "events 1 skipped 9\nclient 1\nclient 2\nhistory 0\nstate 0 0\ngroups 0\n",
     ),
-    // The second group is logged while the first is inserted, and isn't launched before that has left.
+    // The second group is logged while the first one is inserted. It isn't launched before the first one has left.
     (
         "replay --pipelined",
         b"client 1\nput a 1\ncommit\nclient 2\nput b 2\ncommit\nget a\nclient 3\nget a\nget b\n\
@@ -55,7 +55,7 @@ const REPLAYED: [Row; 11] = [
             history 2\n1 1 1 1 log 0100000000000000010000000101610131\n\
             2 2 2 1 log 0200000000000000010000000101620132\nstate 2 2\na 1\nb 2\ngroups 2\n",
     ),
-    // The log fails behind a group that isn't in the table yet. That one is published all the same.
+    // The log fails after a group that isn't in the table yet. That group is published all the same.
     (
         "replay --pipelined",
         b"client 1\nput a 1\ncommit\nclient 2\nput b 2\ncommit\nget a\n\
@@ -65,7 +65,7 @@ const REPLAYED: [Row; 11] = [
         "events 19 skipped 0\nclient 1\nok 1 1\nclient 2\nno logfault 1\nnil 0\n\
             history 1\n1 1 1 1 log 0100000000000000010000000101610131\nstate 1 1\na 1\ngroups 1\n",
     ),
-    // In a single stage the log isn't handed on: the second isn't even elected before the first has left.
+    // In a single stage the log isn't handed on early: the second client isn't even elected before the first has left.
     (
         "replay",
         b"client 1\nput a 1\ncommit\nclient 2\nput b 2\ncommit\nget a\nclient 3\nget a\nget b\n\
@@ -76,7 +76,7 @@ const REPLAYED: [Row; 11] = [
         "events 13 skipped 18\nclient 1\nok 1 1\nclient 2\nclient 3\nnil 0\nnil 1\n\
             history 1\n1 1 1 1 log 0100000000000000010000000101610131\nstate 1 1\na 1\ngroups 1\n",
     ),
-    // A client reads several keys at once, before and after the batch of another is published.
+    // A client reads several keys at once, before and after another client's batch is published.
     (
         "replay",
         b"client 1\nput a 1\nput b 2\ncommit\nclient 2\nmany b a x\nscan a c\nmany b x\nscan a b\n\
@@ -87,7 +87,7 @@ const REPLAYED: [Row; 11] = [
             history 1\n1 2 1 1 log 01000000000000000200000001016101310101620132\nstate 2 2\na 1\nb 2\n\
             groups 1\n",
     ),
-    // The second commit may not be slowed down and the first may, so that they are in no group together.
+    // The second commit doesn't wait where writes are held up, and the first does. So they share no group.
     (
         "replay",
         b"client 1\nput a 1\ncommit\nclient 2\nput b 2\ncommit noslow\n\
@@ -96,7 +96,7 @@ const REPLAYED: [Row; 11] = [
         "events 11 skipped 1\nclient 1\nok 1 1\nclient 2\n\
             history 1\n1 1 1 1 log 0100000000000000010000000101610131\nstate 1 1\na 1\ngroups 1\n",
     ),
-    // A batch of three and one of one, in one group.
+    // A batch of three records and a batch of one, in one group.
     (
         "replay",
         b"client 1\nput a 1\nput b 2\nput c 3\ncommit\nclient 2\nput d 4\ncommit\n\
@@ -106,7 +106,7 @@ const REPLAYED: [Row; 11] = [
             history 2\n1 3 1 1 log 010000000000000003000000010161013101016201320101630133\n\
             4 4 2 1 log 0400000000000000010000000101640134\nstate 4 4\na 1\nb 2\nc 3\nd 4\ngroups 1\n",
     ),
-    // The first batch has no run where two sequences are left, and isn't inserted. The second has one.
+    // Two sequences are left, so the first batch has no run and isn't inserted. The second batch has one.
     (
         "replay --last 72057594037927933",
         b"client 1\nput a 1\nput b 1\nput c 1\ncommit\nclient 2\nput d 1\ncommit\n\
@@ -119,7 +119,7 @@ const REPLAYED: [Row; 11] = [
     ),
 ];
 
-/// There are no tokens, and there must be a schedule.
+/// A script for `replay` has no tokens, and must have a schedule.
 const REFUSED: [Row; 2] = [
     ("replay", b"client 1\nstop\nschedule\n", "script 2 word\n"),
     (

@@ -1,4 +1,5 @@
-//! Logs that go on: what a run finds in one, what it leaves, and what stands there where a call of the disk fails.
+//! Logs that are resumed: what a run finds in one, what it leaves, and what the log has where a call of the disk
+//! fails.
 
 use super::Fails::{Disk, Nothing};
 use super::numbers::SEVEN;
@@ -32,7 +33,7 @@ const C_FOUND: &str = "client 1\nnil 1\nval 1 3\nhistory 0\nstate 1 1\nc 3\nlog 
 
 const A_FOUND: &str = "client 1\nval 1 1\nhistory 0\nstate 1 1\na 1\nlog 24\n";
 
-/// The checksums here and below were reckoned by another program.
+/// The checksums here and below were computed by another program.
 const THREE_RECORDS: &[u8] =
     b"\xe9\x9f\x78\x19\x11\x00\x01\x01\x00\x00\x00\x00\x00\x00\x00\x01\x00\x00\x00\x01\x01a\x011\
     \x8f\x72\xbc\x7a\x11\x00\x01\x02\x00\x00\x00\x00\x00\x00\x00\x01\x00\x00\x00\x01\x01b\x012\
@@ -48,7 +49,7 @@ const B_RECORD: &[u8] =
 const EIGHT: &[u8] =
     b"\x13\x6d\x32\x7d\x11\x00\x05\x08\x00\x00\x00\x01\x00\x00\x00\x00\x00\x00\x00\x01\x00\x00\x00\x01\x01c\x013";
 
-/// Words, a script, how many first bytes of what the disk holds, all that is printed, and what the disk holds then.
+/// Words, a script, bytes and how many of them the disk holds, all that is printed, and what the disk holds then.
 type GoneOn = (
     &'static str,
     &'static [u8],
@@ -58,7 +59,7 @@ type GoneOn = (
 );
 
 const GONE_ON: [GoneOn; 12] = [
-    // The second record was cut, and its part that is left is cut off.
+    // The second record was cut in its middle. What is left of it is cut off.
     ("run --resume", PUT_B, (TWO_RECORDS, 40), B_PUT, TWO_RECORDS),
     ("run --resume", PUT_B, (RECORD, 24), B_PUT, TWO_RECORDS),
     (
@@ -68,7 +69,7 @@ const GONE_ON: [GoneOn; 12] = [
         A_FOUND,
         RECORD,
     ),
-    // Behind the last sequence that is given, or the recovered one.
+    // The run goes on after the sequence that `--last` gives, or after the recovered one if that is greater.
     (
         "run --resume --last 5",
         PUT_B,
@@ -83,11 +84,11 @@ const GONE_ON: [GoneOn; 12] = [
         B_PUT_AT_3,
         THREE_RECORDS,
     ),
-    // An empty log is a new one, and so is one of which nothing is kept.
+    // An empty log is begun as a new one, and so is a log of which nothing is kept.
     ("run --resume", PUT_B, (b"", 0), B_ALONE, B_RECORD),
     ("run --resume", PUT_B, (RECORD, 23), B_ALONE, B_RECORD),
     ("run --resume", PUT_B, (SEVEN, 56), B_ALONE, B_RECORD),
-    // With a number: of the log that stands there, and of one that was written over it.
+    // With a number: logs that are alone on the disk, and one that was written over another log.
     (
         "run --resume --number 7",
         PUT_B,
@@ -150,7 +151,7 @@ fn goes_on_behind_what_is_recovered(rt: HostRuntime) {
     }
 }
 
-/// Scripts that are run one behind the other, and what each of them prints.
+/// Scripts that are run one after another, and what each of them prints.
 const IN_TURN: [(&[u8], &str); 4] = [
     (
         b"client 1\nput a 1\ncommit\n",
@@ -200,8 +201,8 @@ const ONE_AND_A_PART: &str = "groups 1\n1 1 17\nstate 1 1\n61 31\nend 24 badleng
 
 const TWO_LEFT: &str = "groups 2\n1 1 17\n2 1 17\nstate 2 2\n61 31\n62 32\nend 48 clean\n";
 
-/// Which call of the disk fails, the status, all that is printed then, how many bytes the disk holds and how many are
-/// safe, and what they recover. The calls are a look at the length, a read, a cut, a sync, and an append.
+/// Which call of the disk fails, the status, all that is printed then, how many bytes the disk holds, how many of them
+/// are safe, and what they recover. The calls are a look at the length, a read, a cut, a sync, and an append.
 type Left = (Fails, u8, &'static str, u64, u64, &'static str);
 
 const LEFT: [Left; 6] = [
@@ -238,7 +239,7 @@ fn each_call_of_the_disk_fails_where_a_log_goes_on(rt: HostRuntime) {
     }
 }
 
-/// What leaves the log as it is: words and scripts that are refused, and a source that fails.
+/// Runs that leave the log as it is: words and scripts that are refused, and a source that fails.
 const LEFT_ALONE: [(&str, &[u8], Fails, u8, &str); 5] = [
     (
         "run --resume",

@@ -13,7 +13,7 @@ use std::rt::HostRuntime;
 use std::sync::Wait;
 use std::thread::Threads;
 
-/// Of other words `tests/real_file` has more.
+/// `tests/real_file` tries more words.
 const WORDS: [Row; 5] = [
     ("", SCRIPT, "usage\n"),
     ("walk", SCRIPT, "usage\n"),
@@ -102,21 +102,23 @@ pub(super) const OUTCOMES: [Row; 13] = [
         b"client 1\nput a 1\ncommit sync nolog\n",
         "client 1\nno syncwithoutlog\nhistory 0\nstate 0 0\nlog 0\n",
     ),
-    // Who holds a stop token isn't kept waiting.
+    // A client that holds a stop token doesn't wait for itself.
     (
         "run",
         b"client 1\nstop\nput a 1\ncommit noslow\ncommit\nstop\nunstop\nunstop\ncommit\n",
         "client 1\ndone\nno incomplete 1 0 0\nno selfstop\nheld\ndone\nnotheld\nok 1 1\n\
             history 1\n1 1 1 1 log 0100000000000000010000000101610131\nstate 1 1\na 1\nlog 24\n",
     ),
-    // At a byte a second, a millisecond brings one byte of 17, and the other 16 are owed from a millisecond on.
+    // At a byte a second, a millisecond's refill is one byte of the 17. The other 16 are owed, counted from a
+    // millisecond later.
     (
         "run",
         b"client 1\nslow 1\nput a 1\ncommit noslow\nunslow\ncommit\n",
         "client 1\ndone\nno incomplete 0 1 16001000\ndone\nok 1 1\n\
             history 1\n1 1 1 1 log 0100000000000000010000000101610131\nstate 1 1\na 1\nlog 24\n",
     ),
-    // The first one's commit waits where the third holds its token, which is given back as that client ends.
+    // Where the third client holds its stop token, the first one's commit waits. The token is given back when the
+    // third client ends.
     (
         "run",
         b"client 1\nput a 1\ncommit sync\nget a\nclient 2\nunstop\ncommit\nput b 2\ncommit sync nolog\n\
@@ -139,13 +141,13 @@ pub(super) const OUTCOMES: [Row; 13] = [
             history 1\n72057594037927935 72057594037927935 1 1 log ffffffffffffff00010000000101610131\n\
             state 72057594037927935 1\na 1\nlog 24\n",
     ),
-    // A leader is in its group, however large its batch is.
+    // A leader is in its own group, however large its batch is.
     ("run --group-bytes 1", SCRIPT, OUTCOME),
 ];
 
 const SMALL_SUMMARY: &str = "clients 1\nbatches 2\nrecords 3\nlast 3\nkeys 2\nsum 1445\n";
 
-/// Reckoned by another program, as the one below.
+/// Computed by another program, as the one below.
 const MIDDLE_SUMMARY: &str =
     "clients 16\nbatches 1600\nrecords 3947\nlast 3947\nkeys 1090\nsum 528519\n";
 
@@ -155,7 +157,7 @@ const LARGE_SUMMARY: &str =
 const MOST_SUMMARY: &str =
     "clients 64\nbatches 6400\nrecords 16008\nlast 16008\nkeys 4372\nsum 2166241\n";
 
-/// However the clients meet, whatever the table is made of, and in one stage or two.
+/// The summaries are the same however the clients meet, whatever the table is made of, and in one stage or two.
 const SUMMARIES: [Row; 12] = [
     ("gen 1 1 2", b"", SMALL_SUMMARY),
     ("gen 7 16 1000", b"", LARGE_SUMMARY),
@@ -259,7 +261,7 @@ const FAULTS: [Left; 4] = [
             history 1\n1 1 1 1 log 0100000000000000010000000101610131\nstate 1 1\na 1\nlog 24 fault 1\n",
         RECORD,
     ),
-    // Two records are written. They aren't synced.
+    // Two records are written, but not synced.
     (
         b"client 1\nput a 1\ncommit\nput b 2\ncommit sync\nget b\n",
         Disk(4),
@@ -270,7 +272,7 @@ const FAULTS: [Left; 4] = [
     ),
 ];
 
-/// Runs scripts over such a write path, and compares what they leave on the disk too.
+/// Runs scripts over this write path, and compares what they leave on the disk too.
 fn check_left<R: Threads + Wait + rt::Clock + Abort + Sync>(
     rt: &R,
     alloc: Global,

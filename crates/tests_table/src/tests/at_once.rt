@@ -21,18 +21,18 @@ use table_calls::Table;
 use table_memory::MemoryTable;
 use table_tree::{Nodes, Parts};
 
-// The published sequence when the table is opened, and the last one of the group.
+// The published sequence when the table is opened, and the last sequence of the group.
 const BEFORE: u64 = 7;
 
 const LAST: u64 = 10;
 
-// A client.
+// A client of the table.
 #[derive(Drop)]
 struct Player {
     seat: MemSeat,
-    // Who has it launches the group.
+    // The client that has it launches the group.
     turn: Option<MemTurn>,
-    // Whether it was the last to finish, and published the group.
+    // Whether this client was the last to finish, and so published the group.
     published: bool,
 }
 
@@ -46,7 +46,7 @@ fn seated(seat: MemSeat, turn: Option<MemTurn>) -> Player
     }
 }
 
-// The parts of three members, each a value of a key of its own. Of three shards their keys are of one each.
+// The parts of three members. Each is a value of one key. In a table of three shards each key has a shard of its own.
 fn three_parts(rt: &impl Abort, alloc: Global) -> Parts
     ensures run { Runs 7 (versions_in (group_of result.parts)) × (length (versions_in (group_of result.parts)) ≡ 3) }
     ensures members { Members 4 (group_of result.parts) }
@@ -59,7 +59,8 @@ fn three_parts(rt: &impl Abort, alloc: Global) -> Parts
     parts
 }
 
-// Launches the group of three, takes part in it and waits until it is published. Whether the client published it.
+// Launches the group of three, takes its own part and waits until the group is published. Answers whether this client
+// published it.
 fn lead<R: Wait + rt::Clock + Abort>(
     rt: &R,
     alloc: Global,
@@ -89,7 +90,7 @@ fn count_values(found: &[Found]) -> usize {
     values
 }
 
-// How many of the keys have a value, all read at once, and of which sequence that is.
+// How many of the keys have a value, all read at one sequence, and that sequence.
 fn read_all<R: Wait + rt::Clock + Abort>(
     rt: &R,
     alloc: Global,
@@ -104,7 +105,7 @@ fn read_all<R: Wait + rt::Clock + Abort>(
     (reads.at, count_values(reads.values.as_slice()))
 }
 
-// How many rows there are, and of which sequence that is.
+// How many rows there are, and as of which sequence.
 fn scan_all<R: Wait + rt::Clock + Abort>(
     rt: &R,
     alloc: Global,
@@ -119,7 +120,8 @@ fn scan_all<R: Wait + rt::Clock + Abort>(
     (at, rows.rows.as_slice().len())
 }
 
-// A read is of before the group and shows none of its keys, or of its end and shows all of them.
+// A read is as of the sequence before the group and shows none of its keys, or as of its last one and shows all of
+// them.
 fn check_whole(rt: &impl Abort, read: (u64, usize)) {
     assert!(rt; read == (BEFORE, 0) || read == (LAST, 3), "{read:?}");
 }
@@ -146,7 +148,7 @@ fn watch<R: Wait + rt::Clock + Abort>(
     unreachable!()
 }
 
-// What a client does: who has the turn leads, the last one reads, and the others take part.
+// What a client does: the one with the turn leads, the last one reads, and the others take part.
 fn play<R: Wait + rt::Clock + Abort>(
     rt: &R,
     alloc: Global,
@@ -186,7 +188,7 @@ fn play_at_once<R: Threads + Wait + rt::Clock + Abort + Sync>(
     thread::for_each_mut(rt, players, threads, &each);
 }
 
-// Three members and a reader over a table of so many shards: just one member publishes the group.
+// Three members and a reader use a table of `shards` shards. Just one member publishes the group.
 fn race_over<R: Threads + Wait + rt::Clock + Abort + Sync>(
     rt: &R,
     alloc: Global,

@@ -5,7 +5,7 @@ use std::alloc::Global;
 use std::cmp::Ordering;
 use std::process::Abort;
 
-// Each of these is below the next, by every call that compares, and `as_slice` gives each back.
+// Each row is below the next one, by every call that compares, and `as_slice` gives each row back.
 fn check_order(rt: &impl Abort, alloc: Global, rows: &[&[u8]]) {
     for (at, row) in rows.iter().enumerate() {
         let key = ByteKey::copy(alloc, row).expect(rt, "memory");

@@ -9,7 +9,7 @@ use std::alloc::Global;
 use std::process::Abort;
 use table_tree::Nodes;
 
-// A node of this sequence, which gives the key a value or deletes it.
+// A node with this sequence, which gives the key a value or deletes it.
 pub(super) fn node_of(
     rt: &impl Abort,
     alloc: Global,
@@ -43,7 +43,7 @@ fn batch_of(rt: &impl Abort, alloc: Global, writes: &[(&[u8], Option<&[u8]>)]) -
     batch
 }
 
-// The nodes of such a batch, with sequences from the one behind `last` on, and how many they are. `last` is below 1000.
+// The nodes of such a batch, with sequences from `last + 1` on, and how many they are. `last` is below 1000.
 pub(super) fn nodes_behind(
     rt: &impl Abort,
     alloc: Global,

@@ -15,8 +15,8 @@ use std::sync::Wait;
 use std::test::Fail;
 use table_memory::MemoryTable;
 
-// Three keys, of which one gets another value, one is deleted, and then a fourth one comes, and what was deleted comes
-// back.
+// A map of three keys, and rounds over it: `a` gets another value; then `d` is deleted, `c` is added and `b` gets
+// another value; then `a` is deleted, and `d` gets a value again.
 const PAIRS: [(&[u8], &[u8]); 3] = [
     (b"a", b"1"),
     (b"b", b"a value that is too long to stand in its node"),
@@ -42,7 +42,7 @@ const ROUNDS_OVER: [Round; 3] = [
     },
 ];
 
-// One pair, and a key more.
+// A map of one pair, and a round that adds one key.
 const ONE_PAIR: [(&[u8], &[u8]); 1] = [(b"a", b"1")];
 
 const ONE_ROUND: [Round; 1] = [Round {
@@ -61,7 +61,7 @@ fn map_of(rt: &impl Abort, alloc: Global, pairs: &[(&[u8], &[u8])]) -> ByteMap {
     map
 }
 
-// A table of so many shards for two clients over a map, with its turn and their seats, from the first on.
+// A table of `shards` shards for two clients over a map, with its turn and their seats, client 1's first.
 fn open_over(
     alloc: Global,
     shards: u32,
@@ -83,7 +83,8 @@ fn open_over(
     Ok((table, seats.turn, first, second))
 }
 
-// What a client reads over a map, before these rounds and after each of them. The map's pairs stand at one sequence.
+// What a client reads over a map, before these rounds and after each of them. All pairs of the map have one sequence,
+// `base_last`.
 fn try_over<R: Wait + rt::Clock + Abort>(
     rt: &R,
     alloc: Global,
@@ -112,7 +113,7 @@ fn try_over<R: Wait + rt::Clock + Abort>(
     close(alloc, table, turn, leader, member)
 }
 
-// A table over an empty map is one with no base.
+// A table over an empty map is the same as a table without a base.
 fn try_over_none<R: Wait + rt::Clock + Abort>(
     rt: &R,
     alloc: Global,

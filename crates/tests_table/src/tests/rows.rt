@@ -1,4 +1,4 @@
-//! Rows, of a key and its value, and what is found against them.
+//! Rows, each a key and its value, and comparisons of what was found with them.
 
 use base_bytes::{Bytes, Found, PairList};
 use std::alloc::Global;
@@ -19,7 +19,7 @@ pub(super) fn are_rows(found: &PairList, rows: &[(&[u8], &[u8])]) -> bool {
     true
 }
 
-// Whether what was found of a key is what its row has, or nothing where it has no row.
+// Whether what was found for a key is what its row has, or nothing where it has no row.
 pub(super) fn is_found(rows: &[(&[u8], &[u8])], key: &[u8], found: Option<&[u8]>) -> bool {
     let mut wanted: Option<&[u8]> = None;
     for i in 0..rows.len() {
@@ -39,7 +39,7 @@ pub(super) fn value_of(found: &Found) -> Option<&[u8]> {
     }
 }
 
-// Whether this was found of the keys, in their order.
+// Whether this was found for the keys, in their order.
 pub(super) fn are_found(rows: &[(&[u8], &[u8])], keys: &[Bytes], found: &[Found]) -> bool {
     if found.len() != keys.len() {
         return false;
@@ -52,7 +52,7 @@ pub(super) fn are_found(rows: &[(&[u8], &[u8])], keys: &[Bytes], found: &[Found]
     true
 }
 
-// Keys as a read of several takes them.
+// Keys in the form that a read of several takes.
 pub(super) fn keys_of(rt: &impl Abort, alloc: Global, keys: &[&[u8]]) -> Vec<Bytes> {
     let mut copies = Vec::with_capacity(alloc, keys.len()).expect(rt, "memory");
     for i in 0..keys.len() {

@@ -1,4 +1,5 @@
-//! A client launches groups through a table over the memtable's tree, and another publishes them, and reads after each.
+//! A client launches groups through a table over the memtable's tree, and another one publishes them, and reads after
+//! each.
 
 ghost use Rattle.std.specs.Prelude.{◌≡◌, ◌+◌, ◌<◌, ◌^◌, length, IfOk};
 ghost use Rattle.table_rule.specs.declared.view.Stage.TheVariants.{Idle};
@@ -25,7 +26,7 @@ pub(super) type MemSeat = TableSeat<Tree, Nodes>;
 
 pub(super) type MemTurn = Turn<Tree, Nodes>;
 
-// A group of one client, and what is there behind it.
+// A group of one client, and what the table has after it.
 #[derive(Drop, Clone, Copy)]
 pub(super) struct Round {
     // Keys, each with the value that it gets, or none where it is deleted.
@@ -34,8 +35,8 @@ pub(super) struct Round {
     pub(super) rows: &'static [(&'static [u8], &'static [u8])],
 }
 
-// `a` gets two values and is deleted, `b` gets one, and then four keys get one at once. Of three shards, the last two
-// of these are of one, and the others of one each.
+// `a` gets two values and is deleted, `b` gets one, and then four keys get one each in one group. In a table of three
+// shards, the last two of these four keys share one shard, and the other two have one each.
 pub(super) const ROUNDS: [Round; 5] = [
     Round {
         writes: &[(b"a", Some(b"1"))],
@@ -64,8 +65,8 @@ pub(super) const ROUNDS: [Round; 5] = [
     },
 ];
 
-// Takes the client's part of a launched group, and inserts and finishes it. Whether it was the last to finish, and
-// published the group.
+// Takes the client's part of a launched group, inserts it and finishes. Answers whether it was the last to finish, and
+// so published the group.
 pub(super) fn complete<R: Wait + rt::Clock>(rt: &R, table: &MemoryTable, seat: &mut MemSeat) -> bool
     requires ours { IsOurs table.now seat.old }
     requires free { MayTake (account_of seat.old).stage }
@@ -85,8 +86,9 @@ pub(super) fn complete<R: Wait + rt::Clock>(rt: &R, table: &MemoryTable, seat: &
     }
 }
 
-// A group of so many nodes behind the sequence `last` is launched by a client that has no part of it, and published.
-// Its only member is the last to finish: else nobody would publish it, and this wouldn't return.
+// A client that has no part in it launches a group of `count` nodes after the sequence `last`, and waits until it is
+// published. The only member is the last to finish: otherwise nobody would publish the group, and this wouldn't
+// return.
 fn write<R: Wait + rt::Clock + Abort>(
     rt: &R,
     alloc: Global,
@@ -116,7 +118,7 @@ fn write<R: Wait + rt::Clock + Abort>(
     Table::<Nodes, Parts>::await_published(table, rt, leader, last + count)
 }
 
-// Takes the last seat out, of seats that have nothing to do.
+// Takes the last seat off a list of seats that have nothing to do.
 pub(super) fn taken(table: &MemoryTable, seats: &mut Vec<MemSeat>) -> Result<MemSeat, Fail>
     requires { (seat : _) → In seat seats.old.items → IsIdle table.now seat }
     ensures seat { IfOk result (λ seat. IsIdle table.now seat) }
@@ -126,7 +128,7 @@ pub(super) fn taken(table: &MemoryTable, seats: &mut Vec<MemSeat>) -> Result<Mem
     Ok(seat)
 }
 
-// A table of so many shards for two clients, with its turn and their seats, from the first on.
+// A table of `shards` shards for two clients, with its turn and their seats, client 1's first.
 fn open_for_two(
     alloc: Global,
     shards: u32,
@@ -144,7 +146,7 @@ fn open_for_two(
     Ok((table, seats.turn, first, second))
 }
 
-// Gives the table up.
+// Closes the table.
 pub(super) fn close(
     alloc: Global,
     table: MemoryTable,
@@ -182,8 +184,8 @@ fn check_each<R: Wait + rt::Clock + Abort>(
     }
 }
 
-// The keys read together, those from `a` on and below `z`, and each alone, have what their rows say, as of this
-// sequence. `e` has no row.
+// Whether they are read together, scanned from `a` up to `z`, or read alone, the keys have what their rows say, as of
+// this sequence. `e` has no row.
 pub(super) fn check<R: Wait + rt::Clock + Abort>(
     rt: &R,
     alloc: Global,
@@ -214,8 +216,8 @@ pub(super) fn check<R: Wait + rt::Clock + Abort>(
     );
 }
 
-// Client 1 launches the group of each round behind the sequence `start`, and the other one publishes it, and reads
-// after it.
+// Client 1 launches the group of each round, the first one after the sequence `start`. The other client publishes it,
+// and reads after it.
 pub(super) fn play<R: Wait + rt::Clock + Abort>(
     rt: &R,
     alloc: Global,
@@ -245,7 +247,7 @@ pub(super) fn play<R: Wait + rt::Clock + Abort>(
     turn
 }
 
-// All rounds over a table of so many shards, which has a lock for each.
+// All rounds over a table of `shards` shards, which has a lock for each.
 fn try_over<R: Wait + rt::Clock + Abort>(rt: &R, alloc: Global, shards: u32) -> Result<(), Fail>
     requires { 0 < shards }
 {

@@ -1,4 +1,4 @@
-//! The tree by hand and against a plain list, and a batch's nodes as parts of a group.
+//! The tree, by hand and against a plain list, and a batch's nodes as parts of a group.
 //!
 //! That the tree stays low has no test: an insertion is proved to leave at each key two sides whose heights differ by
 //! at most one.
@@ -20,7 +20,7 @@ const KEYS: u16 = 300;
 
 const VERSIONS: u64 = 3000;
 
-// Inserts a version of a sequence above those in the tree.
+// Inserts a version whose sequence is above those in the tree.
 fn put(
     rt: &impl Abort,
     alloc: Global,
@@ -40,7 +40,7 @@ fn put(
     tree.insert(node);
 }
 
-// A tree of these versions, whose sequences are those from 1 on.
+// A tree of these versions, with sequences from 1 on.
 fn tree_of(rt: &impl Abort, alloc: Global, versions: &[(&[u8], Option<&[u8]>)]) -> Tree
     requires { length versions.now ≤ 1000 }
 {
@@ -52,7 +52,7 @@ fn tree_of(rt: &impl Abort, alloc: Global, versions: &[(&[u8], Option<&[u8]>)]) 
     tree
 }
 
-// At a sequence these are the rows from `a` on and below `c`, and `a` and `b` are found by them.
+// As of this sequence these are the rows from `a` on and below `c`, and look-ups of `a` and `b` find what they say.
 fn check_tree(rt: &impl Abort, alloc: Global, tree: &Tree, at: u64, rows: &[(&[u8], &[u8])]) {
     let range = tree.range(alloc, b"a", b"c", at).expect(rt, "memory");
     let range_at = range.at;
@@ -92,7 +92,7 @@ fn next_random(state: u64) -> u64 {
         .wrapping_add(1_442_695_040_888_963_407)
 }
 
-// What the last of these says of a key.
+// What the last entry of a key in this history says of it.
 fn last_of(history: &[(u16, Option<u8>)], key: u16) -> Option<u8> {
     let mut said = None;
     for (other, value) in history {
@@ -103,7 +103,7 @@ fn last_of(history: &[(u16, Option<u8>)], key: u16) -> Option<u8> {
     said
 }
 
-// Inserts random versions of few keys, and says what they were, in order.
+// Inserts random versions of few keys, and answers them in order.
 fn fill(rt: &impl Abort, alloc: Global, tree: &mut Tree) -> Vec<(u16, Option<u8>)>
     requires { AreBelow 0 (versions_in tree.old) }
 {
@@ -134,7 +134,7 @@ fn finds_last(tree: &Tree, history: &[(u16, Option<u8>)], key: u16, at: u64) -> 
     }
 }
 
-// Whether these are the keys that have a value by the history, with it.
+// Whether these are the keys that have a value by the history, each with its value.
 fn are_rows_of(rows: &Rows, history: &[(u16, Option<u8>)]) -> bool {
     let rows = rows.rows.as_slice();
     let mut passed = 0;
@@ -171,8 +171,8 @@ fn agrees_with_a_plain_list(rt: HostRuntime) {
     }
 }
 
-// The nodes of a batch with a record of each kind, with the sequences from `first` on. Their versions are those of the
-// example of this crate.
+// The nodes of a batch with a record of each kind, with sequences from `first` on. Their versions are those of this
+// crate's example.
 fn nodes_of_each_kind(rt: &impl Abort, alloc: Global, first: u64) -> Nodes
     requires { first ≤ 1000 }
 {
@@ -186,7 +186,8 @@ fn nodes_of_each_kind(rt: &impl Abort, alloc: Global, first: u64) -> Nodes
     nodes
 }
 
-// Whether the next node is of this key, and alone in a tree says this from the sequence on, and nothing before.
+// Whether the next node has this key, and, alone in a tree, gives it this value from the sequence on, and nothing
+// before.
 fn is_next(nodes: &mut Nodes, key: &[u8], value: Option<&[u8]>, sequence: u64) -> bool {
     let is_key = nodes.first_key() == Some(key);
     let Some(node) = nodes.pop() else {
@@ -198,7 +199,7 @@ fn is_next(nodes: &mut Nodes, key: &[u8], value: Option<&[u8]>, sequence: u64) -
     is_key && before.is_none() && tree.lookup(key, sequence) == value
 }
 
-// A part is of this member, and has the nodes of such batches, whose first sequences these are, and no more.
+// The part is this member's, and has the nodes of such batches, with these first sequences, and no others.
 fn check_part(rt: &impl Abort, part: Option<MemberNodes>, member: u32, firsts: &[u64]) {
     let part = part.expect(rt, "a part");
     let mut nodes = part.nodes.into_nodes();

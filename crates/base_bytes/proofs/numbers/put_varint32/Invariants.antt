@@ -2,7 +2,7 @@ use Rattle.std.proofs.Common.{◌≡◌, ◌<◌, ◌-◌, ◌^◌, ◌++◌, le
 use Rattle.model_base.specs.Varint.{varint_within, varint}
 use Rattle.base_bytes.proofs.numbers.put_varint32.Given as goal
 
--- the bytes so far, and the spelling of the rest in the bytes that are left
+-- the bytes so far and the spelling of what is left, in the bytes that are left, are the whole spelling
 abbrev pub invariant-loop-rest : goal.invariant-loop-rest
 invariant-loop-rest l = record {
   room : length l.spelling ≡ 5;

@@ -4,7 +4,7 @@ use Rattle.base_bytes.proofs.Spellings.{spelled_as}
 use Rattle.base_bytes.proofs.OneAnswer.{one_front, no_error, one_error}
 use Rattle.base_bytes.proofs.reading.get_varint32.Goals as goal
 
--- the bytes from a place on
+-- taking as many bytes from a place on as there are takes all of them
 from : (at : ℕ) (bytes : List ℕ) → take (length bytes - at) (drop at bytes) ≡ drop at bytes
 from at bytes = ap (λ (n : ℕ). take n (drop at bytes)) (sym (length-drop at bytes)) ∙ take-length (drop at bytes)
 

@@ -2,7 +2,8 @@ use Rattle.std.proofs.Common.{ℕ, ◌+◌, ◌*◌, ◌<◌, ◌≤◌, ◌^◌
 use Rattle.model_base.specs.Varint.{IsVarint, GoesOn}
 use Rattle.base_bytes.proofs.reading.long_varint32.Given as goal
 
--- Each byte so far says that another follows, and their low bits are n: where a spelling of m follows, they spell n and 2 ^ (7 * i) times m.
+-- Each byte so far says that another follows, and the low bits of these bytes make n: followed by a spelling of m,
+-- they spell n + 2 ^ (7 * i) * m.
 abbrev pub invariant-loop-i : goal.invariant-loop-i
 invariant-loop-i l = record {
   some : 1 ≤ l.i;

@@ -1,4 +1,4 @@
--- The lengths decide, or the bytes behind.
+-- The lengths decide, or the bytes after the front do.
 use Rattle.std.proofs.Common.{◌≡◌, ◌≤◌, ◌-◌, List, ℕ, length, take, drop, ap, ◌∙◌, arith}
 use Rattle.std.proofs.lemmas.Grind.{common_steps}
 use Rattle.model_base.specs.Map.{byte_order}

@@ -10,7 +10,7 @@ compare_exchange_as-requires g c =
     let r = c.requires in
     (search rules, (search rules, (r.cell, r.rule eq_numbers eq_same eq_here)))
 
--- what was found is what was looked for, or something else
+-- where the exchange succeeds, it found the numbers that it looked for, and else other numbers
 exchanged : (r : Result Numbers Numbers) (found new : Numbers) (then : Numbers → Numbers → Type 0) → MatchResult r (λ x. (eq_numbers x found ≡ true) × then x new) (λ x. (eq_numbers x found ≡ false) × then x x) → IfOk r (λ _. then found new)
 exchanged (Ok x) found new then h = subst (λ y. then y new) (eq_same x found h.0) h.1
 exchanged (Err x) found new then h = search

@@ -8,7 +8,7 @@ use Rattle.table_rule.specs.Histories.{map_of, map_after, versions_at}
 use Rattle.table_memory.specs.Meaning.{opening_of}
 use Rattle.engine_memory.proofs.opening.open_engine.Goals as goal
 
--- what was opened over the versions of a map has the map
+-- a table that was opened over the versions of a map has that map
 over : (opening : Opening) (base : List Version) (pairs : Pairs) → opening.base ≡ base → map_after base [] ≡ pairs → map_of opening.base ≡ pairs
 over opening base pairs is made = ap map_of (is ∙ sym (append-nil base)) ∙ made
 

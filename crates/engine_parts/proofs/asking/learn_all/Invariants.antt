@@ -1,4 +1,4 @@
--- The first have no note any more, and the pass has seen what they had seen.
+-- The first requests have no note any more, and the pass has seen what these notes show.
 use Rattle.std.proofs.Common.{◌≡◌, ◌≤◌, take, drop, length, ◌++◌}
 use Rattle.engine_controller.specs.Passes.{client_of, seen_by, IsPassOf}
 use Rattle.engine_parts.specs.Asking.{all_seen, HasLearned}

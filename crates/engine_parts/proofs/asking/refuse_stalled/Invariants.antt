@@ -1,4 +1,4 @@
--- Those taken so far are refused.
+-- The requests that were taken so far are refused.
 use Rattle.std.proofs.Common.{◌≡◌, ◌+◌, ◌++◌, ℕ, List, length, vec_capacity}
 use Rattle.std.specs.List.{AllZip}
 use Rattle.engine_controller.specs.Passes.{client_of, seen_by, IsPassOf}

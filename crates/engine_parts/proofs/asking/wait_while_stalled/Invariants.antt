@@ -1,4 +1,4 @@
--- So far the client only looked, and where the newest look told of no stop its group may go on.
+-- So far the client only looked, and where the newest look showed no stop, its group may go on.
 use Rattle.std.proofs.Common.{◌≡◌, false}
 use Rattle.engine_controller.specs.Looks.{look_of}
 use Rattle.engine_controller.specs.Passes.{client_of, seen_by, IsPassOf}

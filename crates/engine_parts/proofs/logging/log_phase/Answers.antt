@@ -8,7 +8,7 @@ use Rattle.table_tree.specs.Parts.{Members, group_of}
 use Rattle.engine_parts.proofs.logging.log_phase.Goals as goal
 use Rattle.engine_parts.specs.declared.requests.Request.{Request}
 use Rattle.engine_parts.specs.Handled.{commit_requests_of, handled_with, replies_of}
-use Rattle.engine_parts.specs.Numbering.{AreBeside, batches_of, others_in}
+use Rattle.engine_parts.specs.Numbering.{AreHelpers, batches_of, others_in}
 use Rattle.engine_parts.specs.Staged.{MayLaunch}
 use Rattle.engine_rule.specs.Plans.{batches_from, versions_from}
 use Rattle.engine_parts.proofs.Logged.{empty_list, head_is, layout_enough, layout_faulted, layout_room, layout_written, logs_on, no_versions, none_is, none_left, ok_is, pays_faulted, pays_written, same_length, some_of, some_versions, to_log, writes}
@@ -17,7 +17,7 @@ use Rattle.engine_parts.proofs.Sizes.{are_small, counts_reach}
 use Rattle.engine_parts.proofs.Staging.{HaveNoRuns, may_launch, no_runs, no_runs_failed, stays}
 use Rattle.engine_parts.proofs.Standing.{Stands, stands_dead, stands_failed, stands_written}
 
--- the log alone
+-- the law of the log alone
 abbrev our_log : Unit {0} → List (List MemberVersions) → Type 0
 our_log t u = Unit {0}
 
@@ -176,4 +176,4 @@ returns-clause-staged g c =
     )
 
 pub returns-clause-beside : goal.returns-clause-beside
-returns-clause-beside g c = subst (λ v. AreBeside c.args.apart (others_in c.args.requests.now.items) v.items) (sym c.answer_layout-2.ensures.taken.3) c.lay_out-end.ensures.beside
+returns-clause-beside g c = subst (λ v. AreHelpers c.args.apart (others_in c.args.requests.now.items) v.items) (sym c.answer_layout-2.ensures.taken.3) c.lay_out-end.ensures.beside

@@ -1,4 +1,4 @@
--- The answers so far, with those to the rest, are all.
+-- The answers so far, together with those to the rest, are all answers.
 use Rattle.std.proofs.Common.{◌≡◌, ◌+◌, ◌++◌, length, vec_capacity}
 use Rattle.engine_parts.proofs.numbering.answer_all.Given as goal
 use Rattle.engine_parts.specs.Numbering.{AreEnough, answers}

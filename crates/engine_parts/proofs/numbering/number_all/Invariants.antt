@@ -1,4 +1,4 @@
--- What is laid out so far, with what the rest will add, is all.
+-- What is laid out so far, together with what the rest will add, is the whole layout.
 use Rattle.std.proofs.Common.{◌≡◌, ◌+◌, ◌≤◌, List, ◌++◌, length, vec_capacity}
 use Rattle.model_base.specs.History.{max_sequence}
 use Rattle.table_rule.specs.declared.content.Version.{Version}

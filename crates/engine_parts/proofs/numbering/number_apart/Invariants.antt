@@ -1,4 +1,4 @@
--- What is laid out so far, with what the rest will add, is all.
+-- What is laid out so far, together with what the rest will add, is the whole layout.
 use Rattle.std.proofs.Common.{◌≡◌, ◌+◌, ◌≤◌, ◌++◌, length, vec_capacity}
 use Rattle.model_base.specs.History.{max_sequence}
 use Rattle.table_tree.specs.Parts.{group_of}
@@ -6,7 +6,7 @@ use Rattle.engine_parts.proofs.numbering.number_apart.Given as goal
 use Rattle.engine_parts.specs.Handled.{commit_requests_of}
 use Rattle.engine_parts.specs.Numbering.{batches_of, others_than, numberings_of}
 use Rattle.engine_rule.specs.Plans.{AreLawful, HaveOwnClients, last_with_all}
-use Rattle.engine_memtable.specs.Parts.{members_of}
+use Rattle.engine_rule.specs.Parts.{members_of}
 use Rattle.engine_stage_laws.specs.Served.{parts_from}
 use Rattle.engine_parts.proofs.Apart.{AreLeft}
 

@@ -4,7 +4,7 @@ use Rattle.engine_rule.specs.Consistent.{AreConsistent, IsConsistent, Standing}
 use Rattle.engine_rule.proofs.Steps.{consistent_first, consistent_accepted, consistent_held_up, consistent_with_fault, consistent_after_fault}
 use Rattle.engine_rule.proofs.groups.groups_stay_consistent.Goals as goal
 
--- it has this fault
+-- a consistent state, with its own fault given as `fault`
 with_its_fault : (settings : Settings) (s : Standing) (fault : Option ℕ) → IsConsistent settings s → s.fault ≡ fault
     → AreConsistent settings.start settings.clients settings.group_bytes s.asked s.commits s.last fault s.published s.calls
 with_its_fault settings s fault is same = subst (λ f. AreConsistent settings.start settings.clients settings.group_bytes s.asked s.commits s.last f s.published s.calls) same is

@@ -1,4 +1,4 @@
--- The map is that of the records before those that are left.
+-- The map has the changes of the records before those that are left.
 use Rattle.std.proofs.Common.{◌≡◌, List, ◌++◌}
 use Rattle.model_base.specs.Batch.{Record}
 use Rattle.model_base.specs.Map.{after_records}

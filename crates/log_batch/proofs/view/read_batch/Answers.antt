@@ -8,7 +8,7 @@ use Rattle.log_batch.proofs.view.read_batch.Goals as goal
 pub returns-then-bytes-lt-HEADER_LEN-clause-err : goal.returns-then-bytes-lt-HEADER_LEN-clause-err
 returns-then-bytes-lt-HEADER_LEN-clause-err c = no_header c.if-bytes-lt-HEADER_LEN.true
 
--- the bytes break off with the error that is passed on
+-- the bytes break off with the error that `read_batch` passes on
 breaks_off : (c : goal.After-from_residual) → IsBatchError c.args.bytes.now c.in_err-records.field-0.0
 breaks_off c =
     let broken = c.in_err-records.ensures.err in
@@ -27,7 +27,7 @@ returns-in_err-records-clause-refuses c = λ e wrong.
     let exit = err_from_is_err_and c.from_residual.result c.from_residual.ensures.1 in
     rw (exit.1, exit.2, one_batch_error c.args.bytes.now c.in_err-records.field-0.0 e (breaks_off c) wrong)
 
--- the count is another than the header says
+-- the count isn't the one that the header says
 miscounted : (c : goal.Then-found-from) → IsBatchError c.args.bytes.now (Count c.get_fixed32-said.result c.in_ok-records.found)
 miscounted c =
     let bytes = c.args.bytes.now in

@@ -6,7 +6,7 @@ use Rattle.model_base.specs.Checksum.{crc32c, masked}
 use Rattle.model_base.specs.Log.{Kind, kind_code, header_len}
 use Rattle.model_base.specs.Reading as reading
 use Rattle.log_block.specs.Headers.{summed}
-use Rattle.log_block.specs.Fragments.{StandsThere}
+use Rattle.log_block.specs.Fragments.{IsFragmentAt}
 use Rattle.log_block.proofs.Fields.{checksum_read, rest_is}
 use Rattle.log_block.proofs.fragments.read_checked.Goals as goal
 
@@ -20,14 +20,14 @@ part_is number bytes start end start_is end_is =
     let len : end - start ≡ reading.length_field bytes = omega (arith, start_is, end_is) in
     ap (λ (n : ℕ). take n (drop start bytes)) len ∙ ap (λ (n : ℕ). take (reading.length_field bytes) (drop n bytes)) start_is
 
--- the checksum that the code makes
+-- the checksum that the code computes is the one that the header should have
 own_is : (number : Option ℕ) (bytes : List ℕ) (start end own : ℕ) → start ≡ header_len number → end ≡ header_len number + reading.length_field bytes → own ≡ masked (crc32c (summed number (reading.type_field bytes) (slice_range bytes start end)))
     → own ≡ own_sum number bytes
 own_is number bytes start end own start_is end_is is = is ∙ ap (λ part. masked (crc32c (summed number (reading.type_field bytes) part))) (part_is number bytes start end start_is end_is)
 
--- the part stands in the block behind the header
+-- the part is in the block, right after the header
 there_in_block : (number : Option ℕ) (block : List ℕ) (at code start end : ℕ) (kind : Kind) (seen : reading.Seen) → code ≡ kind_code number kind → start ≡ header_len number → end ≡ header_len number + reading.length_field (drop at block) → at + end ≤ length block
-    → seen ≡ reading.fragment (record { kind = kind; part = reading.part_field number (drop at block) }) → StandsThere number block at code (at + start) (at + end) seen
+    → seen ≡ reading.fragment (record { kind = kind; part = reading.part_field number (drop at block) }) → IsFragmentAt number block at code (at + start) (at + end) seen
 there_in_block number block at code start end kind seen code_is start_is end_is there seen_is =
     let len : reading.length_field (drop at block) ≡ at + end - (at + start) = omega (arith, start_is, end_is) in
     record {

@@ -2,7 +2,7 @@ use Rattle.std.proofs.Common.{◌≡◌, ◌+◌, ◌-◌, ◌^◌, ◌<◌, ◌
 use Rattle.log_reader.specs.OnlyReads.{OnlyReads}
 use Rattle.log_reader.proofs.read_block.read_block.Given as goal
 
--- the first bytes of the block are read
+-- the first `len` bytes of the block are read
 abbrev pub invariant-loop-len : goal.invariant-loop-len
 invariant-loop-len g l = record {
   in_block : l.len ≤ length l.block;

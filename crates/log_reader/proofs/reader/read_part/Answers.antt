@@ -12,7 +12,7 @@ use Rattle.log_reader.proofs.FromDisk.{if_one, if_both}
 use Rattle.log_reader.proofs.OneMore.{ends_in_damage, ends_with_file}
 use Rattle.log_reader.proofs.reader.read_part.Goals as goal
 
--- what the reader sees next, of a disk that tells its content
+-- what the reader sees next, where the disk tells its content
 abbrev Looks : Option ℕ → Window → Window → Seen → Disk → Type 0
 Looks number old new s d = IsOn d.content old → SeesNext number d.content (offset_of old) new s
 

@@ -3,7 +3,7 @@ use Rattle.model_base.specs.Reading.{are_zeros}
 use Rattle.log_reader.specs.OnlyReads.{OnlyReads}
 use Rattle.log_recovery.proofs.modes.are_zeros_from.Given as goal
 
--- what was looked at so far are zeros
+-- all bytes that were looked at so far are zeros
 abbrev pub invariant-loop-len : goal.invariant-loop-len
 invariant-loop-len g l = record {
   after : l.fn.from ≤ l.at;

@@ -5,7 +5,7 @@ use Rattle.log_recovery.specs.Keeping.{KeepsFront}
 use Rattle.log_recovery.specs.Recovering.{IsNumbered}
 use Rattle.log_recovery.proofs.recovery.recover.Given as goal
 
--- the records in front of the place where the reader stands are kept
+-- the records before the reader's place are kept
 abbrev pub invariant-loop-start : goal.invariant-loop-start
 invariant-loop-start g l = record {
   place : l.kept.end ≡ l.log.place;

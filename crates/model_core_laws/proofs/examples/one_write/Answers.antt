@@ -1,4 +1,4 @@
--- The events are gone through by computing.
+-- The proof computes the states from event to event.
 use Rattle.std.proofs.Common.{refl}
 use Rattle.model_base.specs.Varint.{varint_within}
 use Rattle.model_core_laws.proofs.examples.one_write.Goals as goal

@@ -1,5 +1,5 @@
--- What each command's part promises is what is promised of the command. In the parts of other commands something else
--- is asked for.
+-- What each command's branch promises is what is promised of the command. In the branches of other commands something
+-- else is asked for.
 use Rattle.std.proofs.Common.{refl, sym, ◌∙◌}
 use Rattle.program_call.proofs.Invocation.{of_run, of_generate, of_recover, of_replay, is_run, is_generate, is_recover, is_replay, not_another}
 use Rattle.program_call.proofs.call.carry_out.Goals as goal
@@ -17,7 +17,7 @@ returns-in-Run-clause-run g c = λ wanted start mode asked.
       script = does.script;
       other_script = does.other_script;
       source_failed = λ four. let s = does.source four in record { failed = s.0; count = s.1.0; reached = s.1.1; said = s.1.2 };
-      source_stood = does.source_stood;
+      source_fault_is_told = does.source_fault_is_told;
       read_to_end = does.read_to_end;
       disk_untouched = does.disk_untouched;
       runs = does.runs;
@@ -48,8 +48,9 @@ returns-in-Recover-clause-recover g c = λ wanted mode asked.
       source_untouched = refl;
       as_before = does.disk_as_before;
       no_fault = does.no_fault;
-      disk_failed = does.disk_failed;
       sink_failed = does.sink_failed;
+      disk_failed = does.disk_failed;
+      fault_is_told = does.fault_is_told;
       recovered = does.recovered;
       recovered_prefix = does.recovered_prefix;
       refused = does.refused;
@@ -68,8 +69,9 @@ returns-in-Replay-clause-replay g c = λ wanted asked.
       disk_untouched = does.disk;
       schedule = does.schedule;
       other_schedule = does.other_schedule;
-      no_fault = does.no_fault;
       source_failed = λ four. let s = does.source four in record { failed = s.0; count = s.1.0; reached = s.1.1; said = s.1.2 };
+      source_fault_is_told = does.source_fault_is_told;
+      no_fault = does.no_fault;
       sink_failed = does.sink_failed;
       read_to_end = does.read_to_end;
       replayed = does.replayed;

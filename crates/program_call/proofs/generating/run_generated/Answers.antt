@@ -1,4 +1,4 @@
--- The run's promises, of the script that the seed makes. It has as many clients as are asked for, and its outcome's
+-- The run's promises, for the script that the seed makes. It has as many clients as are asked for, and its outcome's
 -- summary is that of all legal outcomes.
 use Rattle.std.proofs.Common.{◌≡◌, ℕ, [], length, refl, ap, subst, ◌∙◌, arith}
 use Rattle.std.proofs.lemmas.List.{length-map}
@@ -41,8 +41,8 @@ returns-clause-runs g c =
     runs_retold _ (IsGenerated c.args.seed c.args.clients c.args.batches) (λ s is. is ∙ c.in-Ok.ensures.ok) _ _ _ _ _ _ _ c.run_and_tell.ensures.runs
 
 pub returns-clause-completes : goal.returns-clause-completes
-returns-clause-completes g c = λ sink_stood disk_stood.
-    over_empty _ _ _ (completes _ _ _ _ _ _ _ _ c.run_and_tell.ensures.runs c.run_and_tell.ensures.status sink_stood disk_stood (λ at why damaged. damaged))
+returns-clause-completes g c = λ sink_stood no_disk_fault.
+    over_empty _ _ _ (completes _ _ _ _ _ _ _ _ c.run_and_tell.ensures.runs c.run_and_tell.ensures.status sink_stood no_disk_fault (λ at why damaged. damaged))
 
 pub returns-clause-one_summary : goal.returns-clause-one_summary
 returns-clause-one_summary g c = λ zero.

@@ -1,7 +1,7 @@
--- What stands printed, also where the disk failed, and that no device failed at status 0.
+-- What is printed, also where the disk failed, and what the devices have counted.
 use Rattle.std.proofs.Common.{ap, ◌∙◌, subst}
-use Rattle.program_call.specs.Texts.{Stood}
-use Rattle.program_call.proofs.Recoveries.{recovery_refused, recovery_damaged, recovery_whole, recovery_front, recovery_ended, none_counted}
+use Rattle.program_call.specs.Texts.{NoFault}
+use Rattle.program_call.proofs.Recoveries.{recovery_refused, recovery_damaged, recovery_whole, recovery_front, recovery_ended, fault_told, none_counted}
 use Rattle.program_call.proofs.recovering.recover_log.Goals as goal
 
 pub returns-clause-refused : goal.returns-clause-refused
@@ -12,12 +12,17 @@ returns-clause-refused g c =
     c.end_with.ensures.status c.recover_mode-found.ensures.error c.tell_recovery.ensures)
 
 pub returns-clause-no_fault : goal.returns-clause-no_fault
-returns-clause-no_fault g c = λ zero.
+returns-clause-no_fault g c =
+    none_counted (g.K.Sink.faults c.args.sink.now) (g.K.Sink.faults c.tell_recovery.new.sink) c.end_with.result.status (g.K.Sink.taken c.args.sink.now) (g.K.Sink.taken c.tell_recovery.new.sink)
+    c.recover_mode-found.result c.tell_recovery.result c.end_with.ensures.status c.tell_recovery.ensures
+
+pub returns-clause-fault_is_told : goal.returns-clause-fault_is_told
+returns-clause-fault_is_told g c = λ other.
     let disk = c.recover_mode-found.new.disk in
-    let counted = none_counted (g.D.Disk.faults c.args.disk) (g.D.Disk.faults disk) (g.K.Sink.faults c.args.sink.now) (g.K.Sink.faults c.tell_recovery.new.sink)
+    ap g.D.Disk.faults c.end_with.ensures.disk
+    ∙ fault_told c.args.mode (g.D.Disk.faults c.args.disk) (g.D.Disk.faults disk) (g.K.Sink.faults c.args.sink.now) (g.K.Sink.faults c.tell_recovery.new.sink)
     c.end_with.result.status (g.K.Sink.taken c.args.sink.now) (g.K.Sink.taken c.tell_recovery.new.sink) c.recover_mode-found.result c.tell_recovery.result
-    c.end_with.ensures.status c.recover_mode-found.ensures.worked c.tell_recovery.ensures zero in
-    (ap g.D.Disk.faults c.end_with.ensures.disk ∙ counted.0, counted.1)
+    c.end_with.ensures.status c.recover_mode-found.ensures.worked c.recover_mode-found.ensures.error c.tell_recovery.ensures other
 
 pub returns-clause-recovered : goal.returns-clause-recovered
 returns-clause-recovered g c =
@@ -35,8 +40,8 @@ returns-clause-damaged g c =
     (g.D.Disk.told c.args.disk) c.recover_mode-found.result c.tell_recovery.result c.end_with.ensures.status c.recover_mode-found.ensures.error c.recover_mode-found.ensures.damage c.tell_recovery.ensures
 
 pub returns-clause-completes : goal.returns-clause-completes
-returns-clause-completes g c = λ sink_stood disk_stood no_damage.
+returns-clause-completes g c = λ sink_stood no_disk_fault no_damage.
     let disk = c.recover_mode-found.new.disk in
-    let stood = subst (λ d. Stood (g.D.Disk.faults c.args.disk) (g.D.Disk.faults d)) c.end_with.ensures.disk disk_stood in
+    let stood = subst (λ d. NoFault (g.D.Disk.faults c.args.disk) (g.D.Disk.faults d)) c.end_with.ensures.disk no_disk_fault in
     recovery_ended c.args.number c.args.mode (g.D.Disk.faults c.args.disk) (g.D.Disk.faults disk) (g.K.Sink.faults c.args.sink.now) (g.K.Sink.faults c.tell_recovery.new.sink) c.end_with.result.status (g.K.Sink.taken c.args.sink.now) (g.K.Sink.taken c.tell_recovery.new.sink)
     (g.D.Disk.told c.args.disk) c.recover_mode-found.result c.tell_recovery.result c.end_with.ensures.status c.recover_mode-found.ensures.error c.recover_mode-found.ensures.damage c.tell_recovery.ensures sink_stood stood no_damage

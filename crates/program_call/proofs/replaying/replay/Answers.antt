@@ -1,11 +1,11 @@
--- What stands printed of a schedule, and where none was read.
+-- What is printed of a schedule, and where none was read.
 use Rattle.std.proofs.Common.{◌≡◌, inl, inr, Err, IfSome}
 use Rattle.model_core.specs.Schedule as model
 use Rattle.run_scripts.specs.Schedules.{schedule_of}
 use Rattle.run_scripts.specs.ReplayLanguage.{replay_grammar, event_words}
 use Rattle.program_call.specs.Reading.{IsScheduleError}
 use Rattle.program_call.proofs.ReplayEndings.{replays_front, replays_whole, replay_counted, replay_completes}
-use Rattle.program_call.proofs.Unread.{source_failed, fault_said, unread_schedule_completes, unread_is_not_run}
+use Rattle.program_call.proofs.Unread.{source_failed, fault_said, unread_stood, unread_schedule_completes, unread_is_not_run}
 use Rattle.program_call.proofs.replaying.replay.Goals as goal
 
 pub returns-in-Ok-clause-replayed_prefix : goal.returns-in-Ok-clause-replayed_prefix
@@ -21,11 +21,14 @@ returns-in-Ok-clause-replayed g c =
     c.end_with.ensures.status c.in-Ok.ensures.schedule.said c.replay_schedule-replayed.ensures c.tell_replay.ensures
 
 pub returns-in-Ok-clause-no_fault : goal.returns-in-Ok-clause-no_fault
-returns-in-Ok-clause-no_fault g c = λ zero. (
-  c.in-Ok.ensures.worked,
-  replay_counted c.replay_schedule-replayed.result (g.K.Sink.faults c.args.sink.now) (g.K.Sink.faults c.tell_replay.new.sink) c.end_with.result.status c.tell_replay.result
-      (g.K.Sink.taken c.args.sink.now) (g.K.Sink.taken c.tell_replay.new.sink) c.end_with.ensures.status c.tell_replay.ensures zero,
-)
+returns-in-Ok-clause-no_fault g c =
+    replay_counted c.replay_schedule-replayed.result (g.K.Sink.faults c.args.sink.now) (g.K.Sink.faults c.tell_replay.new.sink) c.end_with.result.status c.tell_replay.result
+    (g.K.Sink.taken c.args.sink.now) (g.K.Sink.taken c.tell_replay.new.sink) c.end_with.ensures.status c.tell_replay.ensures
+
+pub returns-in-Err-clause-source_fault_is_told : goal.returns-in-Err-clause-source_fault_is_told
+returns-in-Err-clause-source_fault_is_told g c =
+    unread_stood (g.S.Source.faults c.args.source.now) (g.S.Source.faults c.read_schedule.new.source) (g.K.Sink.faults c.args.sink.now) (g.K.Sink.faults c.tell_read_error.new.sink) c.end_with-in-Err.result.status
+    (g.K.Sink.taken c.args.sink.now) (g.K.Sink.taken c.tell_read_error.new.sink) c.tell_read_error.result c.end_with-in-Err.ensures.status c.in-Err.error c.in-Err.ensures.counted c.tell_read_error.ensures
 
 pub returns-in-Err-clause-source : goal.returns-in-Err-clause-source
 returns-in-Err-clause-source g c =
@@ -46,14 +49,14 @@ returns-in-Err-clause-schedule g c =
     c.in-Err.ensures.error c.tell_read_error.ensures
 
 pub returns-in-Ok-clause-completes : goal.returns-in-Ok-clause-completes
-returns-in-Ok-clause-completes g c = λ source_stood sink_stood.
+returns-in-Ok-clause-completes g c = λ source_fault_is_told sink_stood.
     replay_completes (g.S.Source.left c.args.source.now) c.replay_schedule-replayed.result (g.K.Sink.faults c.args.sink.now) (g.K.Sink.faults c.tell_replay.new.sink) c.end_with.result.status c.tell_replay.result
     (g.K.Sink.taken c.args.sink.now) (g.K.Sink.taken c.tell_replay.new.sink) c.end_with.ensures.status c.tell_replay.ensures sink_stood
 
 pub returns-in-Err-clause-completes : goal.returns-in-Err-clause-completes
-returns-in-Err-clause-completes g c = λ source_stood sink_stood.
+returns-in-Err-clause-completes g c = λ source_fault_is_told sink_stood.
     unread_schedule_completes (g.S.Source.left c.args.source.now) (g.S.Source.faults c.args.source.now) (g.S.Source.faults c.read_schedule.new.source) (g.K.Sink.faults c.args.sink.now) (g.K.Sink.faults c.tell_read_error.new.sink)
-    c.end_with-in-Err.result.status (g.K.Sink.taken c.args.sink.now) (g.K.Sink.taken c.tell_read_error.new.sink) c.tell_read_error.result c.end_with-in-Err.ensures.status c.in-Err.error c.in-Err.ensures.error c.tell_read_error.ensures source_stood
+    c.end_with-in-Err.result.status (g.K.Sink.taken c.args.sink.now) (g.K.Sink.taken c.tell_read_error.new.sink) c.tell_read_error.result c.end_with-in-Err.ensures.status c.in-Err.error c.in-Err.ensures.error c.tell_read_error.ensures source_fault_is_told
 
 pub returns-in-Err-clause-replayed : goal.returns-in-Err-clause-replayed
 returns-in-Err-clause-replayed g c = λ zero.

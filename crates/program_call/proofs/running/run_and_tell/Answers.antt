@@ -1,4 +1,4 @@
--- The run's end and what was told of it come to all that a run promises.
+-- The run's end, and what was printed of it, give all that a run promises.
 use Rattle.run_scripts.specs.Scripts.{commands_of}
 use Rattle.program_call.specs.Outcomes.{IsScript}
 use Rattle.program_call.proofs.Endings.{ended_so}

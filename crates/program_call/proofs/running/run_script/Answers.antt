@@ -1,4 +1,4 @@
--- The run's promises, of what the source says; and where no script was read, what stands then.
+-- The run's promises, for the script that the source has; and what is printed where no script was read.
 use Rattle.std.proofs.Common.{◌≡◌, ◌⊎◌, ℕ, List, length, Option, Some, None, Ok, Err, IfSome, refl, sym, subst}
 use Rattle.base_devices.specs.Disk.{Disk}
 use Rattle.model_base.specs.Script.{Script, script_of, whole_grammar}
@@ -8,7 +8,7 @@ use Rattle.program_call.specs.Reading.{IsScriptError}
 use Rattle.program_call.specs.Outcomes.{IsScript, SaysScript, observation_of}
 use Rattle.program_call.proofs.Endings.{unread}
 use Rattle.program_call.proofs.Runs.{runs_script, runs_retold, completes}
-use Rattle.program_call.proofs.Unread.{source_failed, fault_said, unread_completes}
+use Rattle.program_call.proofs.Unread.{source_failed, fault_said, unread_stood, unread_completes}
 use Rattle.program_call.proofs.running.run_script.Goals as goal
 
 says_it : (left : Option (List ℕ)) (this s : Script) → IfSome left (λ text. script_of whole_grammar text ≡ Ok this) → IsScript this s → SaysScript left s
@@ -27,8 +27,8 @@ returns-in-Ok-clause-runs g c =
     runs_retold (observation_of g.D.Disk g.K.Sink (IsScript script) form.Whole c.args.setup.options c.args.setup.start c.args.setup.mode c.args.disk c.run_and_tell.result.disk c.args.sink.now c.run_and_tell.new.sink) (SaysScript left) (λ s is. says_it left script s c.in-Ok.ensures.script.said is) _ _ _ _ _ _ _ c.run_and_tell.ensures.runs
 
 pub returns-in-Ok-clause-completes : goal.returns-in-Ok-clause-completes
-returns-in-Ok-clause-completes g c = λ source_stood sink_stood disk_stood no_damage.
-    under _ _ _ _ (completes _ _ _ _ _ _ _ _ c.run_and_tell.ensures.runs c.run_and_tell.ensures.status sink_stood disk_stood no_damage)
+returns-in-Ok-clause-completes g c = λ source_fault_is_told sink_stood no_disk_fault no_damage.
+    under _ _ _ _ (completes _ _ _ _ _ _ _ _ c.run_and_tell.ensures.runs c.run_and_tell.ensures.status sink_stood no_disk_fault no_damage)
 
 pub returns-in-Err-clause-source : goal.returns-in-Err-clause-source
 returns-in-Err-clause-source g c =
@@ -38,6 +38,11 @@ returns-in-Err-clause-source g c =
     source_failed (IsScriptError left failed fails) failed fails (λ count error. error) (g.K.Sink.taken c.args.sink.now) (g.K.Sink.taken c.tell_read_error.new.sink)
     (g.K.Sink.faults c.args.sink.now) (g.K.Sink.faults c.tell_read_error.new.sink) c.end_with.result.status c.tell_read_error.result c.end_with.ensures.status c.in-Err.why
     c.in-Err.ensures.error c.tell_read_error.ensures
+
+pub returns-in-Err-clause-source_fault_is_told : goal.returns-in-Err-clause-source_fault_is_told
+returns-in-Err-clause-source_fault_is_told g c =
+    unread_stood (g.S.Source.faults c.args.source.now) (g.S.Source.faults c.read_script.new.source) (g.K.Sink.faults c.args.sink.now) (g.K.Sink.faults c.tell_read_error.new.sink) c.end_with.result.status
+    (g.K.Sink.taken c.args.sink.now) (g.K.Sink.taken c.tell_read_error.new.sink) c.tell_read_error.result c.end_with.ensures.status c.in-Err.why c.in-Err.ensures.counted c.tell_read_error.ensures
 
 pub returns-in-Err-clause-script : goal.returns-in-Err-clause-script
 returns-in-Err-clause-script g c =
@@ -49,10 +54,10 @@ returns-in-Err-clause-script g c =
     c.in-Err.ensures.error c.tell_read_error.ensures
 
 pub returns-in-Err-clause-completes : goal.returns-in-Err-clause-completes
-returns-in-Err-clause-completes g c = λ source_stood sink_stood disk_stood no_damage.
+returns-in-Err-clause-completes g c = λ source_fault_is_told sink_stood no_disk_fault no_damage.
     unread_completes (g.S.Source.left c.args.source.now) (g.D.Disk.told c.args.disk) c.args.setup.start (g.S.Source.faults c.args.source.now) (g.S.Source.faults c.read_script.new.source)
     (g.K.Sink.faults c.args.sink.now) (g.K.Sink.faults c.tell_read_error.new.sink) c.end_with.result.status (g.K.Sink.taken c.args.sink.now) (g.K.Sink.taken c.tell_read_error.new.sink)
-    c.tell_read_error.result c.end_with.ensures.status c.in-Err.why c.in-Err.ensures.error c.tell_read_error.ensures source_stood
+    c.tell_read_error.result c.end_with.ensures.status c.in-Err.why c.in-Err.ensures.error c.tell_read_error.ensures source_fault_is_told
 
 pub returns-in-Err-clause-runs : goal.returns-in-Err-clause-runs
 returns-in-Err-clause-runs g c =
@@ -62,4 +67,4 @@ returns-in-Err-clause-runs g c =
     let says = SaysScript (g.S.Source.left c.args.source.now) in
     rw (c.end_with.ensures.status, c.end_with.ensures.disk) (runs_script g.D.Disk g.K.Sink says form.Whole c.args.setup.options c.args.setup.start c.args.setup.mode was was before after _
     (unread (observation_of g.D.Disk g.K.Sink says form.Whole c.args.setup.options c.args.setup.start c.args.setup.mode was was before after) (g.D.Disk.faults was) (g.D.Disk.faults was) (g.K.Sink.faults before) (g.K.Sink.faults after)
-    c.in-Err.why c.tell_read_error.result refl c.tell_read_error.ensures))
+    c.in-Err.why c.tell_read_error.result refl refl c.tell_read_error.ensures))

@@ -2,7 +2,7 @@ use Rattle.std.proofs.Common.{◌≡◌, ◌++◌, length}
 use Rattle.model_base.specs.Text.{hex}
 use Rattle.program_text.proofs.lines.put_hex.Given as goal
 
--- with the digits of the bytes that are left the text is whole
+-- with the digits of the bytes that are left the text would be whole
 abbrev pub invariant-loop-rest : goal.invariant-loop-rest
 invariant-loop-rest l = l.text ++ hex l.rest ≡ l.initial.text ++ hex l.bytes
 

@@ -3,6 +3,6 @@ use Rattle.std.specs.List.{enumerate_from}
 use Rattle.program_text.specs.ShownText.{client_lines}
 use Rattle.program_text.proofs.parts.put_clients.Given as goal
 
--- the sections of the clients so far stand behind the text
+-- the sections of the clients so far are appended to the text
 abbrev pub invariant-loop-before : goal.invariant-loop-before
 invariant-loop-before l = l.text ≡ l.initial.text ++ flat_map client_lines (take l.before (enumerate_from 1 l.transcripts))

@@ -2,7 +2,7 @@ use Rattle.std.proofs.Common.{◌<◌, length}
 use Rattle.program_text.proofs.Clients.{entry_more, item_more}
 use Rattle.program_text.proofs.parts.put_entries.Goals as goal
 
--- the next line stands behind those before
+-- the next line is appended after those before
 pub loop-entry-preserved : goal.loop-entry-preserved
 loop-entry-preserved c =
     let entries = c.args.entries.now in

@@ -1,7 +1,7 @@
 use Rattle.program_text.proofs.Clients.{entry_more, place_more}
 use Rattle.program_text.proofs.parts.put_history.Goals as goal
 
--- the next line stands behind those before
+-- the next line is appended after those before
 pub loop-at-preserved : goal.loop-at-preserved
 loop-at-preserved c =
     let history = c.args.history.now in

@@ -1,4 +1,4 @@
--- The parts behind each other.
+-- The parts one after another.
 use Rattle.std.proofs.Common.{◌∙◌}
 use Rattle.program_text.proofs.ShownRecovered.{recovered_shown}
 use Rattle.program_text.proofs.recovered.recovered_text.Goals as goal

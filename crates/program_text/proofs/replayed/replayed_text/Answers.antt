@@ -1,4 +1,4 @@
--- The parts behind each other.
+-- The parts one after another.
 use Rattle.std.proofs.Common.{◌∙◌}
 use Rattle.program_text.proofs.ReplayTexts.{replayed_shown}
 use Rattle.program_text.proofs.replayed.replayed_text.Goals as goal

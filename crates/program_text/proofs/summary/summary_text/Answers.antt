@@ -1,4 +1,4 @@
--- The lines behind each other.
+-- The lines one after another.
 use Rattle.std.proofs.Common.{◌≡◌, ◌∙◌, rules}
 use Rattle.program_text.proofs.Summaries.{shown_summary, summary_shown}
 use Rattle.program_text.proofs.summary.summary_text.Goals as goal

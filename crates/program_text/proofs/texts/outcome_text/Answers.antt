@@ -1,4 +1,4 @@
--- The parts behind each other.
+-- The parts one after another.
 use Rattle.std.proofs.Common.{◌∙◌}
 use Rattle.program_text.proofs.Shown.{outcome_shown}
 use Rattle.program_text.proofs.texts.outcome_text.Goals as goal

@@ -6,7 +6,7 @@ use Rattle.replay_core.specs.Shown.{shown_writer}
 use Rattle.replay_core.specs.Mirrors.{AreDone, IsClientOf}
 use Rattle.replay_core.proofs.leaving.note_group.Given as goal
 
--- those so far have left
+-- the writers so far have left
 abbrev pub invariant-loop-writer : goal.invariant-loop-writer
 invariant-loop-writer l = (vec_len l.done ≡ vec_len l.initial.done)
     × ((plans : List ClientPlan) (leaving : List core.Writer) → AreDone plans l.initial.done.items leaving → AllByRecursion (IsClientOf (length l.initial.done.items)) l.group

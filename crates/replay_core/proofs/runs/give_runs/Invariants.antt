@@ -7,7 +7,7 @@ use Rattle.replay_core.specs.Shown.{shown_entry}
 use Rattle.replay_core.specs.Runs.{GotRuns, IsCounted, without_answer}
 use Rattle.replay_core.proofs.runs.give_runs.Given as goal
 
--- those so far have got their runs, and the others are as they were
+-- the writers so far have got their runs, and the others are as they were
 abbrev pub invariant-loop-writer : goal.invariant-loop-writer
 invariant-loop-writer l = record {
   got : (plans : List ClientPlan) (s : core.State) → AllByRecursion (IsCounted plans) l.initial.group → s.entries ≡ map (shown_entry plans) l.initial.entries.items

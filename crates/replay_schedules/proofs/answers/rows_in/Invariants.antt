@@ -2,6 +2,6 @@ use Rattle.std.proofs.Common.{◌≡◌, ◌++◌}
 use Rattle.model_base.specs.Map.{rows_within}
 use Rattle.replay_schedules.proofs.answers.rows_in.Given as goal
 
--- with the rows of the pairs that are left they are those of all pairs
+-- the rows so far, with those of the pairs that are left, are the rows of all pairs
 abbrev pub invariant-loop-key : goal.invariant-loop-key
 invariant-loop-key l = l.rows ++ rows_within l.lo l.hi l.key-iterator ≡ rows_within l.lo l.hi l.pairs

@@ -1,4 +1,4 @@
--- The core shows what the machine came to.
+-- The core shows the state that the machine reached.
 use Rattle.std.proofs.Common.{◌≡◌, List, length, ap, sym, ◌∙◌, subst}
 use Rattle.std.specs.List.{AllByRecursion}
 use Rattle.run_scripts.specs.Schedules.{schedule_of}

@@ -3,7 +3,7 @@ use Rattle.replay_schedules.specs.Maps.{IsMapOf}
 use Rattle.replay_schedules.specs.Replaying.{InEachShown, replies_by}
 use Rattle.replay_schedules.proofs.replies.replies_of.Given as goal
 
--- with the replies to the commands that are left they are those to all
+-- the replies so far, with those to the commands that are left, are the replies to all commands
 abbrev pub invariant-loop-place : goal.invariant-loop-place
 invariant-loop-place l = record {
   reads : InEachShown l.core (λ s. IsMapOf s.entries l.reads);

@@ -1,4 +1,4 @@
--- The engine and its clients go to threads; and what the run came to over it is what it came to over the log.
+-- The engine and its clients may go to threads; and the result of the run over the engine is its result over the log.
 use denote.Exit.{yes}
 use denote.Param.{param}
 use denote.Param.Send.{param_send, arg_send}
@@ -10,7 +10,7 @@ use Rattle.log_writer.specs.declared.writer.LogWriter.{LogWriter}
 use Rattle.log_writer.specs.Words.{disk_of, fault_of}
 use Rattle.log_writer.specs.Written.{Wrote}
 use Rattle.engine_memory.proofs.Crossing.{client_send, engine_sync}
-use Rattle.run_execution.proofs.Openings.{found_as}
+use Rattle.run_execution.proofs.Openings.{found_as, no_fault_as}
 use Rattle.run_execution.proofs.RunEnds.{comes_to, settings_behind}
 use Rattle.run_execution.proofs.running.run_over.Goals as goal
 
@@ -58,4 +58,7 @@ returns-in-Ok-clause-time g c =
     rw c.end_run.ensures.disk (c.runs_leave_safe_logs.ensures.time opened.log options opened.map script faults ran comes).0
 
 pub returns-in-Err-clause-end : goal.returns-in-Err-clause-end
-returns-in-Err-clause-end g c = λ disk is. rw (c.into_disk.ensures, c.in-Err.ensures.err.0) (found_as c.args.setup.start is.before disk c.args.opened.log is.goes_on is.is_opened)
+returns-in-Err-clause-end g c = λ disk is.
+    let start = c.args.setup.start in
+    let log = c.args.opened.log in
+    rw (c.into_disk.ensures, c.in-Err.ensures.err.0) (found_as start is.before disk log is.goes_on is.is_opened, no_fault_as start is.before disk log is.is_opened)

@@ -5,7 +5,7 @@ use Rattle.model_base.specs.Script.{Script, with_section}
 use Rattle.run_scripts.specs.Scripts.{commands_of}
 use Rattle.run_scripts.proofs.parser.add_section.Goals as goal
 
--- the section of a client too many
+-- the section of one client too many
 one_too_many : (script : Script) (n : ℕ) → n ≡ length script + 1 → n ≡ MAX_CLIENTS + 1 → with_section MAX_CLIENTS script n ≡ Err Clients
 one_too_many script n next past = rw (sym next, past) refl
 

@@ -3,7 +3,7 @@ use Rattle.run_threads.specs.Answers.{records_in, accepted_in, ShowsAccepted, Ha
 use Rattle.run_threads.proofs.Going.{HaveGone}
 use Rattle.run_threads.proofs.client.run_client.Given as goal
 
--- the commands so far were answered, what the others add fits, and there is room for what they are told
+-- the commands so far were answered, what the others add fits, and there is room for their replies
 abbrev pub invariant-loop-command : goal.invariant-loop-command
 invariant-loop-command g l = record {
   belongs : g.E.Engine.belongs l.engine l.client;

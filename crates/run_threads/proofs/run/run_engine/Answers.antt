@@ -10,7 +10,7 @@ use Rattle.run_threads.proofs.NotRun.{handed_back, newcomers, log_by_no_call}
 use Rattle.run_threads.proofs.Whole.{as_many, number_at, makes_up, have_run, have_told}
 use Rattle.run_threads.proofs.run.run_engine.Goals as goal
 
--- there are as many as clients
+-- there are as many lists of batches as clients
 pub history_and_map-requires : goal.history_and_map-requires
 history_and_map-requires g c =
     let E = g.E.Engine in
@@ -18,7 +18,7 @@ history_and_map-requires g c =
     let as_accounts = as_many c.in-Ok.batches.items (map E.account clients) c.in-Ok.ensures.accepted in
     omega (arith, as_accounts, length-map clients E.account, c.run_clients-ran.ensures.ours.number_of, c.requires.script, c.requires.few)
 
--- all have run, and what they were told is put together
+-- all clients have run, and the outcome is put together
 pub returns : goal.returns
 returns g c =
     let E = g.E.Engine in
@@ -40,7 +40,7 @@ returns g c =
     c.in-Ok-history_and_map.history c.in-Ok-history_and_map.state (c.in-Ok-history_and_map.ensures.history trace.start trace.entries make)
     (c.in-Ok-history_and_map.ensures.state trace.start trace.entries make ∙ ap (λ (m : Pairs). map_over m trace.entries) (c.requires.opening ∙ sym closed.2.is_trace.opening))
 
--- all have run, and there was no memory to put it together
+-- all clients have run, and there was no memory to put the outcome together
 pub returns-in_default-history_and_map : goal.returns-in_default-history_and_map
 returns-in_default-history_and_map g c =
     let E = g.E.Engine in

@@ -1,4 +1,4 @@
--- The node goes down to the side where its key has its place, and the other side stays.
+-- The node goes down to the side where its key has its place, and the other side stays as it is.
 use Rattle.std.proofs.Common.{◌≡◌, ◌++◌, ◌∷◌, List, sym, ap, ◌∙◌, rules}
 use Rattle.std.specs.declared.cmp.Ordering.TheVariants.{Less, Equal, Greater}
 use Rattle.model_base.specs.Map.{byte_order}

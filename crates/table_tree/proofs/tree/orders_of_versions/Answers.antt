@@ -1,4 +1,4 @@
--- The versions by their sequences are such an order.
+-- The versions, sorted by their sequences, are such an order.
 use Rattle.table_tree.proofs.Orders.{order_up_to}
 use Rattle.table_tree.proofs.tree.orders_of_versions.Goals as goal
 

@@ -1,4 +1,4 @@
--- By computing.
+-- Both sides compute to the same parts.
 use Rattle.std.proofs.Common.{refl}
 use Rattle.tests_table.proofs.examples.parts_of_a_group.Goals as goal
 

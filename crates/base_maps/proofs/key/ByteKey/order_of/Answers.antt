@@ -1,4 +1,4 @@
--- The fronts decide, or are the same.
+-- Either the fronts decide, or they are the same.
 use Rattle.std.proofs.Common.{◌≡◌, List, ℕ, sym, ◌∙◌, ap, subst}
 use Rattle.std.proofs.lemmas.Bool.{false≢true}
 use Rattle.std.specs.Ordering.{is_ne}

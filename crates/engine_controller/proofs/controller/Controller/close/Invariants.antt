@@ -4,7 +4,7 @@ use Rattle.engine_controller.specs.Rule.{others}
 use Rattle.engine_controller.proofs.Closings.{observers_of}
 use Rattle.engine_controller.proofs.controller.Controller.close.Given as goal
 
--- the observers of the passes so far stand behind those who are no clients
+-- the observers of the passes so far come after the others' observer
 abbrev pub invariant-loop-pass : goal.invariant-loop-pass
 invariant-loop-pass g l =
     (l.rest.table_id ≡ l.cell.table.shared.table_id) × (cell_view l.rest ≡ others l.fn.self.clients ++ observers_of l.yielded) × (l.yielded ++ l.pass-iterator.rest.items ≡ l.fn.passes.clients.items)

@@ -11,7 +11,7 @@ use Rattle.engine_controller.proofs.Tellings.{sees_follows, follows_makes, made_
 use Rattle.engine_controller.proofs.Unchanged.{unslowed}
 use Rattle.engine_controller.proofs.controller.Controller.delay.Goals as goal
 
--- the moment that was picked is the one that the clock answered last
+-- the moment that was picked is the last one that the clock answered
 last_moment : (last : Option ℕ) → IfSome last (λ moment. moment ≡ unwrap_or last 0)
 last_moment None = tt
 last_moment (Some moment) = refl

@@ -5,7 +5,7 @@ use Rattle.engine_controller.specs.declared.pass.Pass.{Pass}
 use Rattle.engine_controller.specs.Rule.{others, client_view}
 use Rattle.engine_controller.proofs.controller.Controller.open.Given as goal
 
--- the passes so far are of the first clients, and the rest covers for all others
+-- the passes so far are those of the first clients, and the rest covers all others
 abbrev pub invariant-loop-known : goal.invariant-loop-known
 invariant-loop-known g l =
     (length l.passes.items ≡ l._known) × (l.rest.table_id ≡ l.cell.table.shared.table_id) × (cell_view l.rest ≡ others l._known)

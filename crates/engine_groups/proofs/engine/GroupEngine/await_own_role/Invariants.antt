@@ -1,4 +1,4 @@
--- The writer is in the list still, and its client's seat alone went on.
+-- The writer is still in the list, and only its client's seat has seen more.
 use Rattle.std.proofs.Common.{◌≡◌}
 use Rattle.table_rule.specs.Histories.{Begins}
 use Rattle.table_calls.specs.Account.{IsReady}

@@ -18,7 +18,7 @@ use Rattle.engine_groups.proofs.Finally.{ends_at, ends_with, one_place}
 use Rattle.engine_parts.proofs.Serves.{stands_by}
 use Rattle.table_rule.specs.declared.content.MemberVersions.{MemberVersions}
 
--- the log alone
+-- takes the place of a table's `our_turn`, where only the log matters
 abbrev our_log : Unit {0} → List (List MemberVersions) → Type 0
 our_log t u = Unit {0}
 

@@ -1,8 +1,8 @@
-use Rattle.std.proofs.Common.{◌≤◌, ◌≡◌, ◌+◌, ℕ, [], ◌∷◌, ◌++◌, map, None, length, inr, refl, sym, ap, ◌∙◌, subst, arith}
+use Rattle.std.proofs.Common.{◌≤◌, ◌≡◌, ◌+◌, ℕ, [], ◌∷◌, ◌++◌, map, None, length, inr, refl, sym, ap, ◌∙◌, subst}
 use Rattle.table_rule.specs.Histories.{Runs, last_of, versions_in}
 use Rattle.table_tree.specs.Parts.{group_of}
 use Rattle.table_tree.specs.declared.parts.MemberNodes.{MemberNodes}
-use Rattle.engine_memtable.specs.Parts.{HaveParts}
+use Rattle.engine_rule.specs.Parts.{HaveParts}
 use Rattle.line_rule.specs.Chain.{all_answers}
 use Rattle.line_rule.specs.Laws.{given_runs}
 use Rattle.line_rule.specs.Plays.{debt}
@@ -150,7 +150,7 @@ returns-clause-fits g c =
     left_client g.Versions.Table e r.0 r.1 r.2 own seen w c.args.leadership l _
     refl refl refl x.client.1 (x.client.0 ∙ (lead.client.0 ∙ (c.await_pipelined_role.ensures.client.0 ∙ c.exit_pipelined.ensures.client.0))) x.out.0 (gone.0 ∙ (λ i. l.told_is i ++ (own.asked, l.p) ∷ [])) lead.ours.0 lead.ours.2 lead.seen.0 refl (
       l.requests,
-      ((let k = c.exit_pipelined.new.replies.list.ok.0 in let none = ap length c.exit_pipelined.ensures.replies.0 in omega (arith, k, none)), c.exit_pipelined.ensures.replies.0, subst (λ (k : ℕ). n ≤ k) (sym c.exit_pipelined.ensures.replies.1) l.replies_room),
+      (c.exit_pipelined.new.replies.list.ok.0 ∙ ap length c.exit_pipelined.ensures.replies.0, c.exit_pipelined.ensures.replies.0, subst (λ (k : ℕ). n ≤ k) (sym c.exit_pipelined.ensures.replies.1) l.replies_room),
       x.room,
     )
     (roomy n _ (record { no_numberings = l.layout.no_numberings; no_batches = l.layout.no_batches; clients_are = lead.emptied.1 ∙ l.layout.clients_are; numberings = l.layout.numberings; batches = l.layout.batches; members = l.layout.members }) emptied)

@@ -11,7 +11,7 @@ use Rattle.engine_parts.specs.declared.requests.Request.{Request}
 use Rattle.engine_parts.specs.Handled.{seen_for}
 use Rattle.engine_parts.specs.Led.{IsLedGroup, LeadsBy}
 use Rattle.engine_parts.specs.Handled.{IsReplyAt}
-use Rattle.engine_parts.specs.Numbering.{AreBeside, others_in}
+use Rattle.engine_parts.specs.Numbering.{AreHelpers, others_in}
 use Rattle.engine_groups.proofs.Members.{are_members}
 use Rattle.engine_parts.proofs.Beside.{AreIn}
 use Rattle.engine_groups.proofs.Leads.{LogIn, asked_own, belongs_as, fresh_same, has_as, has_led, leads_by, noted_as, of_list, own_now, own_reply_at, shown_as, wanted_in}
@@ -21,7 +21,7 @@ use Rattle.engine_groups.proofs.engine.GroupEngine.lead.Goals as goal
 use Rattle.table_rule.specs.declared.content.MemberVersions.{MemberVersions}
 use Rattle.table_rule.specs.Histories.{Begins, last_of}
 use Rattle.table_tree.specs.Parts.{group_of}
-use Rattle.line_writers.specs.Roles.{asks}
+use Rattle.line_rule.specs.Members.{asks}
 use Rattle.engine_controller.specs.declared.pass.Pass.{Pass}
 use Rattle.engine_controller.specs.Passes.{seen_by_note}
 use Rattle.engine_rule.specs.Commits.{last_after_all}
@@ -35,12 +35,16 @@ use Rattle.engine_parts.proofs.Logged.{none_is}
 use Rattle.engine_parts.proofs.Standing.{history_end}
 use Rattle.engine_groups.proofs.Turning.{given_same, group_made, is_piped, single, stays_none, stays_some}
 
--- the log alone
+-- takes the place of a table's `our_turn`, where only the log matters
 abbrev our_log : Unit {0} → List (List MemberVersions) → Type 0
 our_log t u = Unit {0}
 
 abbrev as_is : List (List MemberVersions) → List (List MemberVersions)
 as_is u = u
+
+-- apart from the goal, in which a tactic would read all that is known there
+fits_in : (many n room : ℕ) → many ≤ n → n ≤ room → many ≤ room
+fits_in many n room few most = omega arith
 
 pub serve-leadership-requires-clause-served : goal.serve-leadership-requires-clause-served
 serve-leadership-requires-clause-served g c =
@@ -66,7 +70,7 @@ serve-leadership-requires-clause-served g c =
       notes = noted_as (about_of e.list).controller.value e.controller c.group.new.requests.list.items S.is_engine.controller c.group.ensures.lawful;
       few = few;
       no_replies = replies.1;
-      room = (let most = replies.2 in omega (arith, few, most));
+      room = fits_in _ n _ few replies.2;
     }
 
 pub leave-requires-clause-leaves : goal.leave-requires-clause-leaves
@@ -113,8 +117,8 @@ leave-requires-clause-leaves g c =
       kept = led.kept;
       last = led.number ∙ ap (λ (k : ℕ). last_run run_of k (L.1 ++ all)) start_is;
       own_now = own_now v.number own G.0 w.lists.replies.list.items t L.1 (answers_told v.writer) (L.2.1 ∙ S.number) G.2.4.1 L.3;
-      requests = ((let k = w.lists.requests.list.ok.0 in let none = ap length served.taken in omega (arith, k, none)), served.taken, subst (λ (k : ℕ). n ≤ k) (sym requests_room) S.can_lead.lists.0.2);
-      replies_few = (let len = w.lists.replies.list.ok.0 in omega (arith, few, l, len));
+      requests = (w.lists.requests.list.ok.0 ∙ ap length served.taken, served.taken, subst (λ (k : ℕ). n ≤ k) (sym requests_room) S.can_lead.lists.0.2);
+      replies_few = subst (λ (k : ℕ). k ≤ n) (sym (w.lists.replies.list.ok.0 ∙ l)) few;
       replies_room = subst (λ (k : ℕ). n ≤ k) (sym served.replies_room) S.can_lead.lists.1.2;
       room = subst (HasRoom n) (sym served.room_same) c.group.ensures.room.0;
       has_asked = asked_own v.number (answers_told v.writer) (answers_told v.writer ++ (own.asked, t.own_reply) ∷ []) own.asked t.own_reply (seen_by v.pass) (seen_by w.pass) served.known refl c.requires.has_asked served.delays own_at;
@@ -165,8 +169,8 @@ returns-in_default-clause-answered g c own' seen' chosen =
       kept = led.kept;
       last = led.number ∙ ap (λ (k : ℕ). last_run run_of k (L.1 ++ all)) start_is;
       own_now = own_now v.number own G.0 w.lists.replies.list.items t L.1 (answers_told v.writer) (L.2.1 ∙ S.number) G.2.4.1 L.3;
-      requests = ((let k = w.lists.requests.list.ok.0 in let none = ap length served.taken in omega (arith, k, none)), served.taken, subst (λ (k : ℕ). n ≤ k) (sym requests_room) S.can_lead.lists.0.2);
-      replies_few = (let len = w.lists.replies.list.ok.0 in omega (arith, few, l, len));
+      requests = (w.lists.requests.list.ok.0 ∙ ap length served.taken, served.taken, subst (λ (k : ℕ). n ≤ k) (sym requests_room) S.can_lead.lists.0.2);
+      replies_few = subst (λ (k : ℕ). k ≤ n) (sym (w.lists.replies.list.ok.0 ∙ l)) few;
       replies_room = subst (λ (k : ℕ). n ≤ k) (sym served.replies_room) S.can_lead.lists.1.2;
       room = subst (HasRoom n) (sym served.room_same) c.group.ensures.room.0;
       has_asked = asked_own v.number (answers_told v.writer) (answers_told v.writer ++ (own.asked, t.own_reply) ∷ []) own.asked t.own_reply (seen_by v.pass) (seen_by w.pass) served.known refl c.requires.has_asked served.delays own_at;
@@ -235,8 +239,8 @@ hand_on-requires-clause-leaves g c =
       kept = led.kept;
       last = led.number ∙ ap (λ (k : ℕ). last_run run_of k (L.1 ++ all)) start_is;
       own_now = own_now v.number own G.0 w.lists.replies.list.items t L.1 (answers_told v.writer) (L.2.1 ∙ S.number) G.2.4.1 L.3;
-      requests = ((let k = w.lists.requests.list.ok.0 in let none = ap length served.taken in omega (arith, k, none)), served.taken, subst (λ (k : ℕ). n ≤ k) (sym requests_room) S.can_lead.lists.0.2);
-      replies_few = (let len = w.lists.replies.list.ok.0 in omega (arith, few, l, len));
+      requests = (w.lists.requests.list.ok.0 ∙ ap length served.taken, served.taken, subst (λ (k : ℕ). n ≤ k) (sym requests_room) S.can_lead.lists.0.2);
+      replies_few = subst (λ (k : ℕ). k ≤ n) (sym (w.lists.replies.list.ok.0 ∙ l)) few;
       replies_room = subst (λ (k : ℕ). n ≤ k) (sym served.replies_room) S.can_lead.lists.1.2;
       room = subst (HasRoom n) (sym served.room_same) c.group.ensures.room.0;
       has_asked = asked_own v.number (answers_told v.writer) (answers_told v.writer ++ (own.asked, t.own_reply) ∷ []) own.asked t.own_reply (seen_by v.pass) (seen_by w.pass) served.known refl c.requires.has_asked served.delays own_at;
@@ -244,7 +248,7 @@ hand_on-requires-clause-leaves g c =
     let seat_number : v.number ≡ (g.Versions.Table.account w.seat).number = sym served.number ∙ sym served.seats.seat_number in
     let home = g.Versions.Table.opening e.table in
     let last_is : c.args.leadership.held.value.path.last ≡ last_after_all home.start (map commit_of L.1) = st.path.consistent.last_is ∙ ap (λ (k : ℕ). last_after_all k (map commit_of L.1)) E.start in
-    let beside = subst (λ (o : Option ℕ). IfSome o (λ _. AreBeside (is_none c.args.leadership.turn) (others_in c.group.new.requests.list.items) w.layout.members.items)) c.in-Some.is c.serve-leadership.ensures.beside in
+    let beside = subst (λ (o : Option ℕ). IfSome o (λ _. AreHelpers (is_none c.args.leadership.turn) (others_in c.group.new.requests.list.items) w.layout.members.items)) c.in-Some.is c.serve-leadership.ensures.beside in
     let hands : IsToHandOn g.Versions.Table e v.number v.start (answers_told v.writer) own L.1 w (record { held = leadership.held; turn = None; asked = leadership.asked }) c.in-Some.end = record {
       leaves = leaves;
       may = subst (λ (z : ℕ × ℕ × ℕ). MayLaunch z.0 z.1 z.2 c.in-Some.end w.layout.members.items (group_of parts)) (λ i. (seat_number i, sym E.clients i, last_is i)) may;
@@ -281,7 +285,7 @@ publish_alone-turn-requires-clause-may g c =
     let seat_number : v.number ≡ (g.Versions.Table.account w.seat).number = sym served.number ∙ sym served.seats.seat_number in
     let ends : last_of about.start st.published ≡ c.args.leadership.held.value.path.last = history_end our_log as_is tt about.opened.value about.start about.clients about.group_bytes (seen_by_note c.args.leadership.asked) c.args.leadership.held.value.path.log st.published c.args.leadership.held.value.path.last L.1 st.path in
     let last_is : c.args.leadership.held.value.path.last ≡ last_of home.start (g.Versions.Table.history c.in-Some-turn.turn) = sym ends ∙ (λ i. last_of (E.start i) (sym one.2 i)) in
-    let beside = subst (λ (o : Option ℕ). IfSome o (λ _. AreBeside (is_none c.args.leadership.turn) (others_in c.group.new.requests.list.items) w.layout.members.items)) c.in-Some.is c.serve-leadership.ensures.beside in
+    let beside = subst (λ (o : Option ℕ). IfSome o (λ _. AreHelpers (is_none c.args.leadership.turn) (others_in c.group.new.requests.list.items) w.layout.members.items)) c.in-Some.is c.serve-leadership.ensures.beside in
     let alone : w.layout.members.items ≡ [] = beside.alone (ap is_none (sym c.serve-leadership.ensures.turn ∙ c.in-Some-turn.is)) in
     subst (λ (z : ℕ × ℕ × ℕ × List ℕ). MayLaunch z.0 z.1 z.2 c.in-Some.end z.3 (group_of parts)) (λ i. (seat_number i, sym E.clients i, last_is i, alone i)) may
 
@@ -332,8 +336,8 @@ leave-requires-in-Some-turn-clause-leaves g c =
       kept = led.kept;
       last = led.number ∙ ap (λ (k : ℕ). last_run run_of k (L.1 ++ all)) start_is;
       own_now = own_now v.number own G.0 w.lists.replies.list.items t L.1 (answers_told v.writer) (L.2.1 ∙ S.number) G.2.4.1 L.3;
-      requests = ((let k = w.lists.requests.list.ok.0 in let none = ap length served.taken in omega (arith, k, none)), served.taken, subst (λ (k : ℕ). n ≤ k) (sym requests_room) S.can_lead.lists.0.2);
-      replies_few = (let len = w.lists.replies.list.ok.0 in omega (arith, few, l, len));
+      requests = (w.lists.requests.list.ok.0 ∙ ap length served.taken, served.taken, subst (λ (k : ℕ). n ≤ k) (sym requests_room) S.can_lead.lists.0.2);
+      replies_few = subst (λ (k : ℕ). k ≤ n) (sym (w.lists.replies.list.ok.0 ∙ l)) few;
       replies_room = subst (λ (k : ℕ). n ≤ k) (sym served.replies_room) S.can_lead.lists.1.2;
       room = subst (HasRoom n) (sym served.room_same) c.group.ensures.room.0;
       has_asked = asked_own v.number (answers_told v.writer) (answers_told v.writer ++ (own.asked, t.own_reply) ∷ []) own.asked t.own_reply (seen_by v.pass) (seen_by w.pass) served.known refl c.requires.has_asked served.delays own_at;
@@ -386,8 +390,8 @@ returns-in-None-clause-answered g c own' seen' chosen =
       kept = led.kept;
       last = led.number ∙ ap (λ (k : ℕ). last_run run_of k (L.1 ++ all)) start_is;
       own_now = own_now v.number own G.0 w.lists.replies.list.items t L.1 (answers_told v.writer) (L.2.1 ∙ S.number) G.2.4.1 L.3;
-      requests = ((let k = w.lists.requests.list.ok.0 in let none = ap length served.taken in omega (arith, k, none)), served.taken, subst (λ (k : ℕ). n ≤ k) (sym requests_room) S.can_lead.lists.0.2);
-      replies_few = (let len = w.lists.replies.list.ok.0 in omega (arith, few, l, len));
+      requests = (w.lists.requests.list.ok.0 ∙ ap length served.taken, served.taken, subst (λ (k : ℕ). n ≤ k) (sym requests_room) S.can_lead.lists.0.2);
+      replies_few = subst (λ (k : ℕ). k ≤ n) (sym (w.lists.replies.list.ok.0 ∙ l)) few;
       replies_room = subst (λ (k : ℕ). n ≤ k) (sym served.replies_room) S.can_lead.lists.1.2;
       room = subst (HasRoom n) (sym served.room_same) c.group.ensures.room.0;
       has_asked = asked_own v.number (answers_told v.writer) (answers_told v.writer ++ (own.asked, t.own_reply) ∷ []) own.asked t.own_reply (seen_by v.pass) (seen_by w.pass) served.known refl c.requires.has_asked served.delays own_at;
@@ -395,7 +399,7 @@ returns-in-None-clause-answered g c own' seen' chosen =
     let seat_number : v.number ≡ (g.Versions.Table.account w.seat).number = sym served.number ∙ sym served.seats.seat_number in
     let home = g.Versions.Table.opening e.table in
     let last_is : c.args.leadership.held.value.path.last ≡ last_after_all home.start (map commit_of L.1) = st.path.consistent.last_is ∙ ap (λ (k : ℕ). last_after_all k (map commit_of L.1)) E.start in
-    let beside = subst (λ (o : Option ℕ). IfSome o (λ _. AreBeside (is_none c.args.leadership.turn) (others_in c.group.new.requests.list.items) w.layout.members.items)) c.in-Some.is c.serve-leadership.ensures.beside in
+    let beside = subst (λ (o : Option ℕ). IfSome o (λ _. AreHelpers (is_none c.args.leadership.turn) (others_in c.group.new.requests.list.items) w.layout.members.items)) c.in-Some.is c.serve-leadership.ensures.beside in
     let hands : IsToHandOn g.Versions.Table e v.number v.start (answers_told v.writer) own L.1 w (record { held = leadership.held; turn = None; asked = leadership.asked }) c.in-Some.end = record {
       leaves = leaves;
       may = subst (λ (z : ℕ × ℕ × ℕ). MayLaunch z.0 z.1 z.2 c.in-Some.end w.layout.members.items (group_of parts)) (λ i. (seat_number i, sym E.clients i, last_is i)) may;
@@ -462,8 +466,8 @@ returns-in-Some-turn-clause-answered g c own' seen' chosen =
       kept = led.kept;
       last = led.number ∙ ap (λ (k : ℕ). last_run run_of k (L.1 ++ all)) start_is;
       own_now = own_now v.number own G.0 w.lists.replies.list.items t L.1 (answers_told v.writer) (L.2.1 ∙ S.number) G.2.4.1 L.3;
-      requests = ((let k = w.lists.requests.list.ok.0 in let none = ap length served.taken in omega (arith, k, none)), served.taken, subst (λ (k : ℕ). n ≤ k) (sym requests_room) S.can_lead.lists.0.2);
-      replies_few = (let len = w.lists.replies.list.ok.0 in omega (arith, few, l, len));
+      requests = (w.lists.requests.list.ok.0 ∙ ap length served.taken, served.taken, subst (λ (k : ℕ). n ≤ k) (sym requests_room) S.can_lead.lists.0.2);
+      replies_few = subst (λ (k : ℕ). k ≤ n) (sym (w.lists.replies.list.ok.0 ∙ l)) few;
       replies_room = subst (λ (k : ℕ). n ≤ k) (sym served.replies_room) S.can_lead.lists.1.2;
       room = subst (HasRoom n) (sym served.room_same) c.group.ensures.room.0;
       has_asked = asked_own v.number (answers_told v.writer) (answers_told v.writer ++ (own.asked, t.own_reply) ∷ []) own.asked t.own_reply (seen_by v.pass) (seen_by w.pass) served.known refl c.requires.has_asked served.delays own_at;

@@ -1,4 +1,4 @@
-use Rattle.std.proofs.Common.{◌≤◌, ℕ, [], ◌∷◌, ◌++◌, length, refl, sym, ap, ◌∙◌, subst, arith}
+use Rattle.std.proofs.Common.{◌≤◌, ℕ, [], ◌∷◌, ◌++◌, length, refl, sym, ap, ◌∙◌, subst}
 use Rattle.line_writers.specs.Seats.{bound_of, clients_of}
 use Rattle.engine_groups.proofs.LeftClients.{has_answered, left_client, roomy}
 use Rattle.engine_groups.proofs.engine.GroupEngine.leave.Goals as goal
@@ -17,7 +17,7 @@ returns-clause-fits g c =
     left_client g.Versions.Table e number start mine own seen w c.args.leadership l _
     refl refl refl x.out.0 x.client x.out.1 (out.0 ∙ (λ i. l.told_is i ++ (own.asked, l.p) ∷ [])) l.seats.seat l.seats.ready refl refl (
       l.requests,
-      ((let k = c.exit.new.replies.list.ok.0 in let none = ap length x.room.1 in omega (arith, k, none)), x.room.1, subst (λ (k : ℕ). n ≤ k) (sym x.replies_room) l.replies_room),
+      (c.exit.new.replies.list.ok.0 ∙ ap length x.room.1, x.room.1, subst (λ (k : ℕ). n ≤ k) (sym x.replies_room) l.replies_room),
       x.room.0,
     )
     (roomy n w.layout l.layout c.requires.parts)

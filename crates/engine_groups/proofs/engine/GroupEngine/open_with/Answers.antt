@@ -7,7 +7,7 @@ use Rattle.line_writers.specs.Seats.{clients_of}
 use Rattle.model_accounts.specs.Accounts.{newcomer}
 use Rattle.engine_controller.specs.Passes.{seen_by_note, IsNoteOf}
 use Rattle.engine_parts.specs.Handled.{AreHandled}
-use Rattle.engine_parts.specs.LogLaw.{LogStandsFor}
+use Rattle.engine_parts.specs.LogLaw.{LogCovers}
 use Rattle.engine_groups.specs.Law.{ServesIs, TurnIs}
 use Rattle.table_rule.specs.declared.content.MemberVersions.{MemberVersions}
 use Rattle.engine_parts.specs.Layout.{AreRoomy}
@@ -18,30 +18,44 @@ use Rattle.engine_groups.proofs.First.{back_first, kept_first, place_first, stan
 use Rattle.engine_groups.proofs.Seating.{seats_count, newcomer_at, are_ours, passes_at_start}
 use Rattle.engine_groups.proofs.engine.GroupEngine.open_with.Goals as goal
 
--- the log alone
+-- takes the place of a table's `our_turn`, where only the log matters
 abbrev our_log : Unit {0} → List (List MemberVersions) → Type 0
 our_log t u = Unit {0}
 
 abbrev as_is : List (List MemberVersions) → List (List MemberVersions)
 as_is u = u
 
+-- Numbers. A tactic reads all that is known where it is called, so these are apart from the goals that use them.
+
+low_enough : (n most k : ℕ) → k ≡ n → n ≤ most → k ≤ most
+low_enough n most k is few = omega arith
+
+not_none : (n k : ℕ) → k ≡ n → 0 < n → 0 < k
+not_none n k is some = omega arith
+
+few_enough : (n k : ℕ) → k ≡ n → n ≤ MAX_CLIENTS → k < 255
+few_enough n k is few = omega arith
+
+next_place : (i : ℕ) → 1 + i ≡ i + 1
+next_place i = omega arith
+
 pub overflow_cast-count : goal.overflow_cast-count
 overflow_cast-count g c =
     let n = seats_count g.Versions.Table c.args.table (g.Versions.Table.opening c.args.table).clients c.args.seats.clients c.requires.seats in
     let few = c.requires.clients.1 in let is = c.len-count.ensures in
-    let small : c.len-count.result ≤ MAX_CLIENTS = omega (arith, n, few, is) in
+    let small : c.len-count.result ≤ MAX_CLIENTS = low_enough (g.Versions.Table.opening c.args.table).clients MAX_CLIENTS c.len-count.result (is ∙ n) few in
     search (rules, small)
 
 pub first_note-requires : goal.first_note-requires
 first_note-requires g c =
     let made = c.requires.controller in let some = c.requires.clients.0 in let n = made.number in
-    record { passes = (passes_at_start c.args.controller 1 c.args.passes.clients.items made.each, omega (arith, some, n)) }
+    record { passes = (passes_at_start c.args.controller 1 c.args.passes.clients.items made.each, not_none (g.Versions.Table.opening c.args.table).clients _ n some) }
 
 pub open-requires-clause-clients : goal.open-requires-clause-clients
 open-requires-clause-clients g c =
     let n = seats_count g.Versions.Table c.args.table (g.Versions.Table.opening c.args.table).clients c.args.seats.clients c.requires.seats in
     let some = c.requires.clients.0 in let few = c.requires.clients.1 in let is = c.len-count.ensures in let same = c.start_with-start.ensures.list.0 in
-    (omega (arith, n, some, is, same), omega (arith, n, few, is, same))
+    (not_none (g.Versions.Table.opening c.args.table).clients _ (same ∙ (is ∙ n)) some, few_enough (g.Versions.Table.opening c.args.table).clients _ (same ∙ (is ∙ n)) few)
 
 pub open-requires-clause-log : goal.open-requires-clause-log
 open-requires-clause-log g c =
@@ -49,12 +63,12 @@ open-requires-clause-log g c =
     let first = c.groups_stay_consistent.ensures.first last about.clients about.group_bytes in let note = c.first_note.ensures.note in
     let fresh = stands_first our_log as_is tt c.args.held.value.path.log last about.clients about.group_bytes [] (seen_by_note c.first_note.result) first tt refl c.requires.log.0 note.1 in
     let t = turn_first g.Versions.Table c.args.table c.args.seats.turn c.requires.turn.0 c.requires.turn.1 c.part_turn-with_log.result.0 c.part_turn-with_log.result.1 c.args.pipelined c.part_turn-with_log.ensures.single c.part_turn-with_log.ensures.piped in
-    let opened = subst (λ z. LogStandsFor z last about.clients about.group_bytes (seen_by_note c.first_note.result) c.args.held.value.path.log [] last []) (sym (made.engine.2 ∙ ap (λ (h : Held _ _ _). h.path.log) c.deref.ensures)) fresh in
+    let opened = subst (λ z. LogCovers z last about.clients about.group_bytes (seen_by_note c.first_note.result) c.args.held.value.path.log [] last []) (sym (made.engine.2 ∙ ap (λ (h : Held _ _ _). h.path.log) c.deref.ensures)) fresh in
     let staged = subst (λ b. TurnIs g.Versions.Table c.args.table b [] c.part_turn-with_log.result.0) (sym made.numbers.3) t.0 in (
       record {
         note = subst (λ k. IsNoteOf k c.first_note.result) (sym made.engine.1) note.0;
         published = [];
-        path = subst (λ (z : ℕ × ℕ). LogStandsFor about.opened.value z.0 about.clients about.group_bytes (seen_by_note c.first_note.result) c.args.held.value.path.log [] z.1 []) (λ i. (sym made.numbers.0 i, sym c.requires.log.1 i)) opened;
+        path = subst (λ (z : ℕ × ℕ). LogCovers about.opened.value z.0 about.clients about.group_bytes (seen_by_note c.first_note.result) c.args.held.value.path.log [] z.1 []) (λ i. (sym made.numbers.0 i, sym c.requires.log.1 i)) opened;
         turn = subst (λ k. TurnIs g.Versions.Table k about.pipelined [] c.part_turn-with_log.result.0) (sym made.engine.0) staged;
       },
       subst (λ k. AreHandled about.controller.value about.opened.value k []) (sym made.numbers.0) (kept_first _ _ last about.clients about.group_bytes first),
@@ -84,7 +98,7 @@ seat_all-clients-requires-clause-engine g c =
         group_bytes = ap (λ a. a.group_bytes) about ∙ (made.numbers.2 ∙ sym (ok.5 ∙ made.list.3));
         pipelined = ap (λ a. a.pipelined) about ∙ (made.numbers.3 ∙ sym (ok.3 ∙ made.list.2));
         low = subst (λ k. k ≤ max_sequence) options.0 options.1;
-        few = (let small : (g.Versions.Table.opening c.args.table).clients < 255 = omega (arith, few) in subst (λ k. k < 255) (sym count) small);
+        few = few_enough (g.Versions.Table.opening c.args.table).clients (clients_of c.in-Ok.list) count few;
         batch_bytes = options.2;
         no_fault = ap (λ a. fault_of a.opened.value) about ∙ (ap fault_of (made.engine.2 ∙ ap (λ (h : Held _ _ _). h.path.log) c.deref.ensures) ∙ c.requires.log.0);
       },
@@ -182,5 +196,5 @@ returns-in-Ok-clause-clients g c =
 pub returns-in-Ok-clause-new : goal.returns-in-Ok-clause-new
 returns-in-Ok-clause-new g c i client at =
     let made = c.seat_all-clients.ensures.clients in
-    let place : 1 + i ≡ i + 1 = omega arith in
+    let place = next_place i in
     (newcomer_at g.Versions.Table _ 1 i c.seat_all-clients.result.clients.items client made.0 at).new ∙ (λ j. newcomer (sym c.requires.options.0 j) (map_at_opening g.Versions.Table c.args.table) (place j))

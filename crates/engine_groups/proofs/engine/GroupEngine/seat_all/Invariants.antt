@@ -1,5 +1,5 @@
--- The clients of the greatest numbers are made, and as many writers as have no client yet are left. Writers and clients
--- stand turned round.
+-- The clients with the greatest numbers are made, and the writers that have no client yet are left. Writers and clients
+-- are in reverse order.
 use Rattle.std.proofs.Common.{◌≡◌, ◌+◌, ◌≤◌, length, reverse, vec_capacity}
 use Rattle.line_writers.specs.Roles.{AreNew}
 use Rattle.line_writers.specs.Rooms.{AllReady}

@@ -1,4 +1,4 @@
-use Rattle.std.proofs.Common.{◌≡◌, ◌≤◌, ◌-◌, ℕ, Bool, IfSome, List, [], ◌∷◌, ◌++◌, length, refl, sym, ap, ◌∙◌, subst, take, drop, vec_capacity}
+use Rattle.std.proofs.Common.{◌≡◌, ◌≤◌, ◌<◌, ◌-◌, ℕ, Bool, IfSome, List, [], ◌∷◌, ◌++◌, length, refl, sym, ap, ◌∙◌, subst, take, drop, vec_capacity, arith}
 use Rattle.std.specs.List.{AllByRecursion, AllZip}
 use Rattle.model_base.specs.Controller.{ControllerCall, Look}
 use Rattle.model_base.specs.History.{max_sequence}
@@ -13,11 +13,11 @@ use Rattle.engine_parts.specs.declared.requests.Delay.{Delay}
 use Rattle.engine_parts.specs.declared.requests.Request.{Request}
 use Rattle.engine_parts.specs.declared.requests.Answer.{Answer}
 use Rattle.engine_parts.specs.Asking.{HasAskedFor, OnlyLooks, all_seen}
-use Rattle.engine_parts.specs.Handled.{HandsBack, InOrder, IsHeldUp, commit_requests_of, handled_with, seen_at}
-use Rattle.engine_parts.specs.LogLaw.{LogStandsFor, Past}
-use Rattle.engine_parts.specs.Led.{AreAlike, GoesOnWith, IsLedGroup}
-use Rattle.engine_parts.specs.Numbering.{AreBeside, others_in}
-use Rattle.engine_parts.specs.Staged.{published_with}
+use Rattle.engine_parts.specs.Handled.{HandsBack, InOrder, IsHeldUp, IsNoted, commit_requests_of, handled_with, seen_at}
+use Rattle.engine_parts.specs.LogLaw.{LogCovers, Past}
+use Rattle.engine_parts.specs.Led.{AreAlike, GoesOnWith, IsLedGroup, LeadsBy}
+use Rattle.engine_parts.specs.Numbering.{AreHelpers, others_in}
+use Rattle.engine_parts.specs.Staged.{IsStaged, published_with}
 use Rattle.engine_parts.specs.declared.logging.LogPath.{LogPath}
 use Rattle.engine_groups.specs.declared.leader.Held.{Held}
 use Rattle.engine_groups.proofs.Members.{beside_where, others_unnoted}
@@ -28,12 +28,116 @@ use Rattle.engine_groups.proofs.Turning.{is_none_by}
 use Rattle.engine_parts.proofs.Views.{unseen_commits}
 use Rattle.engine_groups.proofs.engine.GroupEngine.serve.Goals as goal
 
--- the log alone
+-- takes the place of a table's `our_turn`, where only the log matters
 abbrev our_log : Unit {0} → List (List MemberVersions) → Type 0
 our_log t u = Unit {0}
 
 abbrev as_is : List (List MemberVersions) → List (List MemberVersions)
 as_is u = u
+
+-- Numbers, and who leads. A tactic reads all that is known where it is called, so these are apart from the goals that
+-- use them.
+
+few_enough : (k m n : ℕ) → k ≡ m → m ≤ n → n < 255 → k < 255
+few_enough k m n is low few = omega arith
+
+low_enough : (k m n room : ℕ) → k ≡ m → m ≤ n → n ≤ room → k ≤ room
+low_enough k m n room is low fits = omega arith
+
+some_there : {A : Type 0} (xs rest : List A) (x : A) (len : ℕ) → len ≡ length xs → xs ≡ x ∷ rest → 0 < len
+some_there xs rest x len l is = let more = ap length is in omega (arith, l, more)
+
+leads_unnoted : (k : ℕ) (xs : List (ℕ × Request)) → LeadsBy k xs → LeadsBy k (all_seen xs)
+leads_unnoted k [] h = h
+leads_unnoted k (x ∷ xs) h = h
+
+pub ask-look-requires-clause-pass : goal.ask-look-requires-clause-pass
+ask-look-requires-clause-pass g c = c.requires.served.seats.pass
+
+pub ask-look-requires-clause-notes : goal.ask-look-requires-clause-notes
+ask-look-requires-clause-notes g c =
+    let S = c.requires.served in let e = c.args.self.now in (
+      subst (λ ctl. IsNoteOf ctl c.args.leadership.asked) S.seats.is_engine.controller c.requires.leadership.1.note,
+      subst (AllByRecursion (λ (x : ℕ × Request). IsNoted e.controller x.1)) (sym c.deref_mut-2.ensures.value) S.notes,
+    )
+
+pub ask-look-requires-clause-few : goal.ask-look-requires-clause-few
+ask-look-requires-clause-few g c =
+    let S = c.requires.served in
+    few_enough (length c.deref_mut-2.result.now) (length c.args.client.now.lists.requests.list.items) (clients_of c.args.self.now.list) (ap length c.deref_mut-2.ensures.value) S.few S.seats.is_engine.few
+
+pub index-requires : goal.index-requires
+index-requires g c =
+    let L = c.args.client.now.lists.requests.list in let led = c.requires.served.led in
+    some_there L.items led.rest led.first L.len L.ok.0 led.leads
+
+pub may_proceed-proceeds-requires : goal.may_proceed-proceeds-requires
+may_proceed-proceeds-requires g c = record { pass = c.ask-look.ensures.pass.0 }
+
+pub note-requires : goal.note-requires
+note-requires g c = record { own = c.may_proceed-proceeds.ensures.pass.0 }
+
+pub refuse_stalled-requires-clause-pass : goal.refuse_stalled-requires-clause-pass
+refuse_stalled-requires-clause-pass g c =
+    let N = c.note.ensures in let no = c.may_proceed-proceeds.ensures.refused c.if-not-proceeds.true in
+    (N.own.0, N.seen ∙ (no.2 ∙ sym (ap seen_by c.of.ensures)))
+
+pub refuse_stalled-requires-clause-empty : goal.refuse_stalled-requires-clause-empty
+refuse_stalled-requires-clause-empty g c = c.requires.served.no_replies
+
+pub returns-then-not-proceeds-clause-turn : goal.returns-then-not-proceeds-clause-turn
+returns-then-not-proceeds-clause-turn g c = refl
+
+pub log_phase-end-requires-clause-few : goal.log_phase-end-requires-clause-few
+log_phase-end-requires-clause-few g c =
+    let S = c.requires.served in let v = c.args.client.now in
+    let xs : List (ℕ × Request) = v.lists.requests.list.items in
+    let L = v.lists.requests.list in let new : List (ℕ × Request) = c.ask-look.new.requests in
+    let left : List (ℕ × Request) = take L.len (new ++ drop (length new) L.items) in
+    let left_is : left ≡ all_seen xs = put_back xs new L.len L.ok.0 (c.ask-look.ensures.requests ∙ ap all_seen c.deref_mut-2.ensures.value) in
+    few_enough (length left) (length xs) (clients_of c.args.self.now.list) (as_many xs left left_is) S.few S.seats.is_engine.few
+
+pub log_phase-end-requires-clause-leads : goal.log_phase-end-requires-clause-leads
+log_phase-end-requires-clause-leads g c =
+    let v = c.args.client.now in
+    let xs : List (ℕ × Request) = v.lists.requests.list.items in
+    let L = v.lists.requests.list in let new : List (ℕ × Request) = c.ask-look.new.requests in
+    let left : List (ℕ × Request) = take L.len (new ++ drop (length new) L.items) in
+    let left_is : left ≡ all_seen xs = put_back xs new L.len L.ok.0 (c.ask-look.ensures.requests ∙ ap all_seen c.deref_mut-2.ensures.value) in
+    subst (LeadsBy v.number) (sym left_is) (leads_unnoted v.number xs c.requires.served.leads)
+
+pub log_phase-end-requires-clause-layout : goal.log_phase-end-requires-clause-layout
+log_phase-end-requires-clause-layout g c =
+    let S = c.requires.served in let v = c.args.client.now in let n : ℕ = clients_of c.args.self.now.list in
+    let xs : List (ℕ × Request) = v.lists.requests.list.items in
+    let L = v.lists.requests.list in let new : List (ℕ × Request) = c.ask-look.new.requests in
+    let left : List (ℕ × Request) = take L.len (new ++ drop (length new) L.items) in
+    let left_is : left ≡ all_seen xs = put_back xs new L.len L.ok.0 (c.ask-look.ensures.requests ∙ ap all_seen c.deref_mut-2.ensures.value) in
+    let many = as_many xs left left_is in let Y = S.layout in (
+      (Y.clear.0, Y.clear.1, Y.clear.2, refl),
+      low_enough (length left) (length xs) n (vec_capacity v.layout.numberings) many S.few Y.numberings,
+      low_enough (length left) (length xs) n (vec_capacity v.layout.batches) many S.few Y.batches,
+      low_enough (length left) (length xs) n (vec_capacity v.layout.members) many S.few Y.members,
+    )
+
+pub log_phase-end-requires-clause-replies : goal.log_phase-end-requires-clause-replies
+log_phase-end-requires-clause-replies g c =
+    let S = c.requires.served in let v = c.args.client.now in
+    let xs : List (ℕ × Request) = v.lists.requests.list.items in
+    let L = v.lists.requests.list in let new : List (ℕ × Request) = c.ask-look.new.requests in
+    let left : List (ℕ × Request) = take L.len (new ++ drop (length new) L.items) in
+    let left_is : left ≡ all_seen xs = put_back xs new L.len L.ok.0 (c.ask-look.ensures.requests ∙ ap all_seen c.deref_mut-2.ensures.value) in
+    (S.no_replies, subst (λ (n : ℕ). n ≤ vec_capacity v.lists.replies.list) (sym (as_many xs left left_is)) S.room)
+
+pub returns-clause-turn : goal.returns-clause-turn
+returns-clause-turn g c = refl
+
+pub returns-clause-staged : goal.returns-clause-staged
+returns-clause-staged g c =
+    let v = c.args.client.now in let H = c.log_phase-end in
+    let path_is = ap (λ (h : Held _ _ _). h.path) c.deref_mut-3.ensures.value ∙ ap (λ (h : Held _ _ _). h.path) c.deref_mut.ensures.value in
+    subst (λ (z : ℕ × ℕ). IsStaged v.number z.0 z.1 H.new.path.last H.result H.new.layout.members.items H.new.layout.parts.parts H.new.replies.items)
+    (λ i. (c.requires.served.layout.clear.3 i, (path_is i).last)) H.ensures.staged
 
 pub returns-then-not-proceeds-clause-served : goal.returns-then-not-proceeds-clause-served
 returns-then-not-proceeds-clause-served g c =
@@ -102,7 +206,7 @@ returns-then-not-proceeds-clause-leadership g c hs st =
     record {
       turn = st.turn;
       note = subst (λ ctl. IsNoteOf ctl c.note.result) (sym q.is_engine.controller) N.note.0;
-      path = subst (λ (h : Held _ _ _). LogStandsFor about.opened.value about.start about.clients about.group_bytes (seen_by_note c.note.result) h.path.log st.published h.path.last (hs ++ handled_with xs ys)) (sym c.deref_mut.ensures.value)
+      path = subst (λ (h : Held _ _ _). LogCovers about.opened.value about.start about.clients about.group_bytes (seen_by_note c.note.result) h.path.log st.published h.path.last (hs ++ handled_with xs ys)) (sym c.deref_mut.ensures.value)
           (stands_by our_log as_is about.opened.value path.log st.published path.last tt tt about.start about.start about.clients about.clients about.group_bytes about.group_bytes known (seen_by_note c.note.result) (hs ++ handled_with xs ys) refl refl refl refl (sym (N.note.1 ∙ no.2))
           (stands_held_up our_log as_is about.opened.value path.log st.published path.last e.controller d n tt about.start about.clients about.group_bytes asked known hs xs ys zip is led (asked_is k was asked known xs n h about.group_bytes about.clients led S.leads) (asked_after k was asked known xs n h) no.1 may st.path));
     }
@@ -225,7 +329,7 @@ returns-clause-leadership g c hs st =
     let lets : LetsProceed k n known went S.led.first.1.options.no_slowdown = subst (λ (z : ℕ × Bool). LetsProceed z.0 n known went z.1) (λ i. (own i, sym flag i)) (P.proceeds c.if-not-proceeds.false) in
     let on : ProceedsWith (commit_requests_of left) n (seen_at d) went = subst (λ (z : List CommitRequest × List ControllerCall). ProceedsWith z.0 n z.1 went) (λ i. (sym alike i, sym is i)) (proceeds k n known went (bound_of e.list) (clients_of e.list) xs S.led S.leads P.looks.begins lets) in
     let clients_are : about.clients ≡ many = E.about_clients ∙ sym S.layout.clear.3 in
-    let before : LogStandsFor about.opened.value about.start many about.group_bytes asked path.log st.published path.last hs = stands_by our_log as_is about.opened.value path.log st.published path.last tt tt about.start about.start about.clients many about.group_bytes about.group_bytes asked asked hs refl refl clients_are refl refl st.path in
+    let before : LogCovers about.opened.value about.start many about.group_bytes asked path.log st.published path.last hs = stands_by our_log as_is about.opened.value path.log st.published path.last tt tt about.start about.start about.clients many about.group_bytes about.group_bytes asked asked hs refl refl clients_are refl refl st.path in
     let p = c.log_phase-end.new.path in
     let now = published_with c.log_phase-end.result c.log_phase-end.new.layout.parts.parts st.published in
     let past : Past _ = record {
@@ -238,8 +342,8 @@ returns-clause-leadership g c hs st =
     } in
     let goes_on : GoesOnWith about.group_bytes many asked left (seen_at d) went = record { led = led; numbers = n; comes_after = comes; asked_for = is_for; proceeds = on } in
     let path_is = ap (λ (h : Held _ _ _). h.path) c.deref_mut-3.ensures.value ∙ ap (λ (h : Held _ _ _). h.path) c.deref_mut.ensures.value in
-    let after = H.path past went goes_on (subst (λ (p : LogPath _ _). LogStandsFor about.opened.value about.start many about.group_bytes asked p.log st.published p.last hs) (sym path_is) before) in
-    let unnoted = subst (λ l. LogStandsFor about.opened.value about.start many about.group_bytes went p.log now p.last (hs ++ handled_with l ys)) left_is after in
+    let after = H.path past went goes_on (subst (λ (p : LogPath _ _). LogCovers about.opened.value about.start many about.group_bytes asked p.log st.published p.last hs) (sym path_is) before) in
+    let unnoted = subst (λ l. LogCovers about.opened.value about.start many about.group_bytes went p.log now p.last (hs ++ handled_with l ys)) left_is after in
     let as_was = stands_noted our_log as_is about.opened.value p.log now p.last tt about.start many about.group_bytes went hs xs ys unnoted in
     record {
       note = subst (λ ctl. IsNoteOf ctl c.note.result) (sym E.controller) N.note.0;
@@ -257,4 +361,4 @@ returns-clause-beside g c =
     let others = ap others_in left_is ∙ others_unnoted xs in
     let staged = is_none_by c.is_none.result c.args.leadership.turn c.is_none.ensures in
     let told = beside_where c.may_be_apart-apart.result c.is_none.result (others_in left) c.log_phase-end.new.layout.members.items c.log_phase-end.result c.may_be_apart-apart.ensures c.log_phase-end.ensures.beside in
-    subst (λ (z : Bool × List ℕ). IfSome c.log_phase-end.result (λ _. AreBeside z.0 z.1 c.log_phase-end.new.layout.members.items)) (λ i. (staged i, others i)) told
+    subst (λ (z : Bool × List ℕ). IfSome c.log_phase-end.result (λ _. AreHelpers z.0 z.1 c.log_phase-end.new.layout.members.items)) (λ i. (staged i, others i)) told

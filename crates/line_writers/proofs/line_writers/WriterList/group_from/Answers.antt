@@ -11,7 +11,8 @@ use Rattle.line_rule.specs.Rule.{asks_for, asks_picked}
 use Rattle.line_rule.specs.Plays.{At, AllBelow, lead_at_build}
 use Rattle.line_rule.proofs.Enters.{one_hold}
 use Rattle.line_rule.proofs.Leads.{one_fresh}
-use Rattle.line_writers.specs.Roles.{HasRead, Grouped, asks}
+use Rattle.line_rule.specs.Members.{asks}
+use Rattle.line_writers.specs.Roles.{HasRead, Grouped}
 use Rattle.line_writers.proofs.Surveys.{some_newest, length-pairs}
 use Rattle.line_writers.proofs.Gathers.{leader_last, within_of}
 use Rattle.line_writers.proofs.line_writers.WriterList.group_from.Goals as goal

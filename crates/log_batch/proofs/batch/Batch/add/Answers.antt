@@ -20,13 +20,13 @@ overflow_add-self c =
     let old = c.self.inside in
     omega (arith, small_count old.bytes old.sequence old.count old.holds, counts_once (record_of c.args.view), c.sequences_of.ensures)
 
--- the count with the record is that of the additions with it
+-- the new count is that of the additions with the record
 counted : (c : goal.After-overwrite) → c.self.inside.count + c.sequences_of.result ≡ count_of (c.self.inside.holds.records ++ record_of c.args.view ∷ [])
 counted c =
     let old = c.self.inside in
     ap (λ n. n + c.sequences_of.result) old.holds.count_is ∙ ap (λ n. count_of old.holds.records + n) c.sequences_of.ensures ∙ sym (count_of-added old.holds.records (record_of c.args.view))
 
--- the bytes that are written
+-- the bytes that are written are those of the batch with the record
 written : (c : goal.After-overwrite) → c.overwrite.new.self ≡ header c.self.inside.sequence (c.self.inside.count + c.sequences_of.result) ++ body (c.self.inside.holds.records ++ record_of c.args.view ∷ [])
 written c =
     let old = c.self.inside in

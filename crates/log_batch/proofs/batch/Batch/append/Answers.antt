@@ -19,13 +19,13 @@ overflow_add-self c =
     let old = c.self.inside in
     omega (arith, small_count old.bytes old.sequence old.count old.holds, c.size.ensures.limit, c.saturating_add-size.ensures, c.if-size-gt-MAX_SIZE.false, ap length c.bytes-body.ensures, ap (λ l. length (body l)) c.records-records.ensures.value, counts_no_more c.args.other.now.records, c.count.ensures)
 
--- the count with the records is that of the additions with them
+-- the new count is that of the additions with the records
 counted : (c : goal.After-overwrite) → c.self.inside.count + c.count.result ≡ count_of (c.self.inside.holds.records ++ c.args.other.now.records)
 counted c =
     let old = c.self.inside in
     ap (λ n. n + c.count.result) old.holds.count_is ∙ ap (λ n. count_of old.holds.records + n) c.count.ensures ∙ sym (count_of-appended old.holds.records c.args.other.now.records)
 
--- the bytes that are written
+-- the bytes that are written are those of the batch with the records
 written : (c : goal.After-overwrite) → c.overwrite.new.self ≡ header c.self.inside.sequence (c.self.inside.count + c.count.result) ++ body (c.self.inside.holds.records ++ c.args.other.now.records)
 written c =
     let old = c.self.inside in

@@ -1,4 +1,4 @@
--- The bytes behind the header are the batch's records.
+-- The bytes after the header are those of the batch's records.
 use Rattle.std.proofs.Common.{◌≡◌, ◌-◌, List, ℕ, length, take, drop, sym, ap, ◌∙◌, subst, arith}
 use Rattle.std.proofs.lemmas.Grind.{common_steps}
 use Rattle.log_batch.specs.Body.{IsBody}

@@ -1,4 +1,4 @@
--- Each record has a byte at least.
+-- Each record has at least one byte, so there are fewer than 2 ^ 64 records.
 use Rattle.std.proofs.Common.{◌≡◌, length, ap, arith}
 use Rattle.log_batch.specs.Body.{IsBody}
 use Rattle.log_batch.specs.OneBody.{same_records}

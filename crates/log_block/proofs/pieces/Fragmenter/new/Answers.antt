@@ -10,7 +10,7 @@ use Rattle.log_block.proofs.Laid.{whole_cover, whole_stand}
 use Rattle.log_block.proofs.Texts.{text_is}
 use Rattle.log_block.proofs.pieces.Fragmenter.new.Goals as goal
 
--- all that is to come from a first piece on
+-- the first piece and all pieces after it
 abbrev all_from : Option ℕ → Piece → ℕ → List Piece
 all_from number p len = cutting.still_to_come number (Some p) len
 
@@ -33,7 +33,7 @@ returns-clause-cut c = subst (λ (q : Piece). pieces.CoverRecord c.args.len 0 (a
 
 pub returns-clause-laid : goal.returns-clause-laid
 returns-clause-laid c =
-    subst (λ (q : Piece). pieces.StandInBlocks c.args.number c.args.block_offset (all_from c.args.number q c.args.len)) (sym c.first_piece.ensures) (whole_stand c.args.number c.args.block_offset c.args.len c.requires)
+    subst (λ (q : Piece). pieces.LieInBlocks c.args.number c.args.block_offset (all_from c.args.number q c.args.len)) (sym c.first_piece.ensures) (whole_stand c.args.number c.args.block_offset c.args.len c.requires)
 
 pub returns-clause-bound : goal.returns-clause-bound
 returns-clause-bound c =

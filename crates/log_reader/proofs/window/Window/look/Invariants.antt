@@ -1,14 +1,14 @@
 use Rattle.std.proofs.Common.{◌≡◌, ◌-◌, ◌^◌, ◌≤◌, IfSome}
 use Rattle.log_reader.specs.OnlyReads.{OnlyReads}
-use Rattle.log_reader.specs.Blocks.{Reaches}
+use Rattle.log_reader.specs.Blocks.{SeesSameFrom}
 use Rattle.log_reader.specs.Windows.{IsSound, IsOn, offset_of}
 use Rattle.log_reader.proofs.window.Window.look.Given as goal
 
--- from where the reader stands it sees the same next as from where it stood
+-- from its place now the reader sees the same next as from its place at the call
 abbrev pub invariant-loop-self : goal.invariant-loop-self
 invariant-loop-self g l = record {
   sound : IsSound l.self;
-  on : IfSome (g.D.Disk.told l.fn.disk) (λ d. IsOn d.content l.fn.self → IsOn d.content l.self × Reaches l.fn.number d.content (offset_of l.fn.self) (offset_of l.self));
+  on : IfSome (g.D.Disk.told l.fn.disk) (λ d. IsOn d.content l.fn.self → IsOn d.content l.self × SeesSameFrom l.fn.number d.content (offset_of l.fn.self) (offset_of l.self));
   forward : offset_of l.fn.self ≤ offset_of l.self;
   worked : g.D.Disk.faults l.disk ≡ g.D.Disk.faults l.fn.disk;
   disk : OnlyReads g.D.Disk l.fn.disk l.disk;

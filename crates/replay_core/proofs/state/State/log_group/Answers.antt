@@ -14,6 +14,7 @@ use Rattle.replay_core.proofs.HandRuns.{log_group_is, hand_got, none_shown, some
 use Rattle.replay_core.proofs.OrdinalLemmas.{counts_after, rest_is}
 use Rattle.replay_core.proofs.RunLemmas.{append_none}
 use Rattle.replay_core.proofs.state.State.log_group.Goals as goal
+use Rattle.model_base.specs.History.{last_sequence}
 
 pub returns-then-not-has_built-clause-steps : goal.returns-then-not-has_built-clause-steps
 returns-then-not-has_built-clause-steps c = λ o s is_core m.
@@ -71,7 +72,7 @@ returns-then-given-eq0-clause-steps c = λ o s is_core m.
       leaving = m.leaving;
       entries = append_none s.entries ∙ ap (λ xs. s.entries ++ xs) (sym none) ∙ sym got.listed;
       groups = m.groups;
-      assigned = sym (got.reached ∙ ap (core.last_entry s.assigned) none);
+      assigned = sym (got.reached ∙ ap (last_sequence s.assigned) none);
       log_failed = m.log_failed;
       last = m.last;
       room = record {

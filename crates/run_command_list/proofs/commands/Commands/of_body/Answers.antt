@@ -1,4 +1,4 @@
--- Each command has a byte at least.
+-- Each command has at least one byte.
 use Rattle.std.proofs.Common.{◌≡◌, length, ap, arith}
 use Rattle.run_command_list.specs.Contents.{AreCommands}
 use Rattle.run_command_list.specs.OneList.{same_commands}

@@ -2,7 +2,7 @@ use Rattle.std.proofs.Common.{◌-◌, ◌≤◌}
 use Rattle.run_command_list.proofs.Steps.{Walked}
 use Rattle.run_command_list.proofs.words.Words.split.Given as goal
 
--- the bytes are so many words, and then the rest
+-- the bytes are `found` words, and then the rest
 abbrev pub invariant-loop-found : goal.invariant-loop-found
 invariant-loop-found l = record {
   walked : Walked l.bytes l.rest l.found;

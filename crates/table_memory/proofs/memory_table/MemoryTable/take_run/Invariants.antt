@@ -3,7 +3,7 @@ use Rattle.table_rule.specs.Steps.{AreOfShard}
 use Rattle.table_memory.specs.Meaning.{opening_of}
 use Rattle.table_memory.proofs.memory_table.MemoryTable.take_run.Given as goal
 
--- what is taken stands before what is left
+-- the nodes were those that are taken, and then those that are left
 abbrev pub invariant-loop-nodes : goal.invariant-loop-nodes
 invariant-loop-nodes l = (l.fn.nodes ≡ reverse l.turned ++ l.nodes) × AreOfShard (opening_of l.self).shards l.shard (reverse l.turned)
 

@@ -1,7 +1,7 @@
 use Rattle.std.proofs.Common.{ℕ, ◌+◌, ◌++◌, length, ap, ◌∙◌, arith}
 use Rattle.table_rule.specs.declared.view.Opening.{Opening}
 use Rattle.table_rule.specs.declared.view.Stage.TheVariants.{Idle, Resting}
-use Rattle.table_rule.specs.Seats.{all_but_first, first_only}
+use Rattle.model_base.specs.Halves.{all_but_first, first_only}
 use Rattle.table_rule.specs.Steps.{IsWithTurn}
 use Rattle.table_steps.proofs.Keyed.{shards_of}
 use Rattle.table_rule.proofs.Launching.{launches}

@@ -1,4 +1,4 @@
--- A version of a sequence that is new to its key is new, and comes to those that are there.
+-- A version whose sequence is new to its key is new, and is added to those that are there.
 use Rattle.std.proofs.Common.{sym, subst}
 use Rattle.table_rule.specs.Steps.{Adds}
 use Rattle.table_tree.specs.Shapes.{versions_in}

@@ -1,4 +1,4 @@
--- Those counted, and what is left of the chain.
+-- The nodes that are counted, and those that are left, are all of them.
 use Rattle.std.proofs.Common.{◌≡◌, ◌+◌, length}
 use Rattle.table_tree.proofs.node.Nodes.len.Given as goal
 

@@ -1,4 +1,4 @@
--- The nodes so far, turned, stand before what is left to make.
+-- The nodes so far, reversed, come before those that are left to make.
 use Rattle.std.proofs.Common.{◌≡◌, ◌++◌, reverse}
 use Rattle.table_tree.specs.Batches.{new_versions}
 use Rattle.table_tree.proofs.node.Nodes.make.Given as goal

@@ -1,4 +1,4 @@
--- Those that are left, turned and numbered, stand before those that are numbered.
+-- The nodes that are left, reversed and numbered, come before those that are numbered.
 use Rattle.std.proofs.Common.{◌≡◌, ◌+◌, ◌++◌, length, reverse}
 use Rattle.table_tree.specs.Batches.{number_from}
 use Rattle.table_tree.proofs.node.Nodes.number.Given as goal

@@ -1,4 +1,4 @@
--- What is left, turned, stands before what was turned.
+-- The nodes that are left, reversed, come before those that were moved.
 use Rattle.std.proofs.Common.{◌≡◌, ◌++◌, length, reverse}
 use Rattle.table_tree.proofs.node.Nodes.push_all_front.Given as goal
 

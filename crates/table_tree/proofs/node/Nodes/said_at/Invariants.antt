@@ -1,4 +1,4 @@
--- Those passed are above the sequence.
+-- The nodes that were passed are above the sequence.
 use Rattle.std.proofs.Common.{◌≡◌}
 use Rattle.table_tree.specs.Newest.{first_up_to}
 use Rattle.table_tree.proofs.node.Nodes.said_at.Given as goal

@@ -1,4 +1,4 @@
--- Those that were taken out, turned, stand before the others.
+-- The nodes that were taken out, reversed, come before the others.
 use Rattle.std.proofs.Common.{◌≡◌, ◌++◌, length, reverse}
 use Rattle.table_rule.specs.declared.content.Version.{Version}
 use Rattle.table_tree.specs.Chains.{insert_older}

@@ -56,7 +56,7 @@ returns-then-not-is_below t c =
     let e = only_left range.lo.now range.hi.now c.args.self.now n.left n.right (chain_of n) is c.requires high in
     subst (λ (l : List Chain). length l < 2 ^ 64 → c.count_within-then-not-is_below.result ≡ length l) e c.count_within-then-not-is_below.ensures
 
--- sums that stop at the greatest number are sums, where that is large enough
+-- saturating sums are plain sums, where the plain sum isn't above the greatest number
 both_counted : (a b p q x m : ℕ) → (a < 2 ^ 64 → p ≡ a) → (b < 2 ^ 64 → q ≡ b) → x ≡ min (p + 1) 18446744073709551615 → m ≡ min (x + q) 18446744073709551615
     → a + suc b < 2 ^ 64 → m ≡ a + suc b
 both_counted a b p q x m f g x_is m_is few =

@@ -1,4 +1,4 @@
--- The others stay.
+-- The other parts stay.
 use Rattle.std.proofs.Common.{◌<◌, length, arith}
 use Rattle.table_tree.proofs.Members.{room_without, first_and_rest}
 use Rattle.table_tree.proofs.parts.Parts.pop.Goals as goal

@@ -1,4 +1,4 @@
--- Those counted, and the versions of the parts that are left.
+-- The versions that are counted, and those of the parts that are left, are all of them.
 use Rattle.std.proofs.Common.{◌≡◌, ◌+◌, length, drop}
 use Rattle.table_rule.specs.Histories.{versions_in}
 use Rattle.table_tree.specs.Parts.{group_of}

@@ -1,4 +1,4 @@
--- No versions are in order.
+-- An empty list of versions is in order.
 use Rattle.std.specs.List.Sorted.{IsStrictlySortedBy}
 use Rattle.table_tree.proofs.tree.Tree.new.Goals as goal
 

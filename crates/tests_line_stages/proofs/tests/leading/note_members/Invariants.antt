@@ -1,7 +1,8 @@
 use Rattle.std.proofs.Common.{◌≡◌, ℕ, ◌+◌, List, vec_len, vec_capacity}
 use Rattle.line_rule.specs.declared.view.QueuedWriter.{QueuedWriter}
 use Rattle.line_rule.specs.Chain.{heads, Within}
-use Rattle.line_writers.specs.Roles.{pays, AreMembers}
+use Rattle.line_rule.specs.Members.{pays}
+use Rattle.line_writers.specs.Roles.{AreMembers}
 use Rattle.tests_line.specs.declared.counter.CountRequest.{CountRequest}
 use Rattle.tests_line.specs.declared.counter.CountReply.{CountReply}
 use Rattle.tests_line_stages.proofs.tests.leading.note_members.Given as goal

@@ -1,4 +1,4 @@
--- The group goes behind the sequence 7, and has three versions.
+-- The group follows the sequence 7, and has three versions.
 use Rattle.std.proofs.Common.{◌≡◌, ◌<◌, List, length, sym, ap, ◌∙◌, subst, arith}
 use Rattle.table_rule.specs.declared.content.MemberVersions.{MemberVersions}
 use Rattle.table_rule.specs.declared.view.Opening.{Opening}

@@ -1,4 +1,4 @@
--- The clients go to threads, which share the table.
+-- Each client moves to a thread of its own, and the threads share the table.
 use mathlib.Core.List.{[], ◌∷◌}
 use Rattle.std.proofs.Common.{sym, subst}
 use mir.Syntax.{erased}
@@ -21,7 +21,7 @@ player_fields = (seat_field_send, (search (sendable, crosses, turn_field_send) d
 player_send : IsSend player.the_row
 player_send = let C = player.the_type in recorded_send player.the_field.row C.D C.to C.to_one (struct_send (shape C) player_fields)
 
--- threads may share a closure of three captures where they may share those
+-- threads may share a closure with three captures where they may share each of the three
 closure_sync : (A B C : RattleType) → IsSync A → IsSync B → IsSync C → IsSync (Tuple (A ∷ B ∷ C ∷ []))
 closure_sync A B C a b c =
     let T = tuple_type (A ∷ B ∷ C ∷ []) in

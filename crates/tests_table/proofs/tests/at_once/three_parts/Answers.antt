@@ -1,4 +1,4 @@
--- The first part is that of client 1.
+-- The first part is client 1's.
 use Rattle.std.proofs.Common.{refl, rules}
 use Rattle.table_rule.specs.declared.content.MemberVersions.{MemberVersions}
 use Rattle.tests_table.proofs.tests.at_once.three_parts.Goals as goal

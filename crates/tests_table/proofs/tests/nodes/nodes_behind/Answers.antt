@@ -1,4 +1,5 @@
--- A batch makes a node for each record that counts, and their sequences are one run. Its count is a u32.
+-- A batch makes a node for each record that counts, and the nodes' sequences are one run. The batch's count is a
+-- `u32`.
 use Rattle.std.proofs.Common.{◌≡◌, ◌+◌, length, reverse, ◌∙◌, sym, ap, subst, arith}
 use Rattle.table_rule.specs.Batches.{new_versions}
 use Rattle.table_rule.specs.Histories.{Runs}

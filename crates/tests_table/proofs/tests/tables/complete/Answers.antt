@@ -1,4 +1,4 @@
--- The part is that of the launched group, and whether it is the last to finish is what the count says.
+-- The part is one of the launched group, and the count says whether it is the last to finish.
 use Rattle.std.proofs.Common.{◌∙◌, subst}
 use Rattle.table_calls.specs.declared.finished.Finished.{Finished}
 use Rattle.table_calls.specs.Account.{Counts}

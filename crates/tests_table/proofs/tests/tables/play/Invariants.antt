@@ -1,4 +1,4 @@
--- Between two rounds no group is launched, and what is published ends at the last sequence.
+-- Between two rounds no group is launched, and the last published sequence is `last`.
 use Rattle.std.proofs.Common.{◌≡◌}
 use Rattle.table_rule.specs.Histories.{last_of}
 use Rattle.table_steps.specs.Accounts.{history_of}

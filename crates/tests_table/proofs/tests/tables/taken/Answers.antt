@@ -1,4 +1,4 @@
--- What is taken off a list's end was in it, and what is left too.
+-- The seat that is taken off the list's end was in the list, and so were those that are left.
 use Rattle.std.proofs.Common.{◌≡◌, Some, rules}
 use Rattle.tests_table.proofs.Popped.{popped_in, rest_in}
 use Rattle.tests_table.proofs.tests.tables.taken.Goals as goal

@@ -1,4 +1,4 @@
--- The group has one part, so that the last sequence rises by the number of its nodes.
+-- The group has one part, so the last sequence rises by the number of that part's nodes.
 use Rattle.std.proofs.Common.{◌≡◌, ◌≢◌, ◌<◌, ◌≤◌, [], ◌∷◌, ◌++◌, List, length, sym, ap, ◌∙◌, subst, arith, append-nil, rules}
 use Rattle.table_rule.specs.declared.content.MemberVersions.{MemberVersions}
 use Rattle.table_rule.specs.declared.content.Version.{Version}
@@ -23,7 +23,7 @@ launch-requires-clause-next g c =
     let members : Members z.clients (own ∷ []) = (omega arith, two, tt, tt) in
     (subst (Runs (last_of z.start (history_of c.args.turn))) whole (subst (λ n. Runs n c.args.nodes) (sym c.requires.last.0) c.requires.nodes.0), subst (λ (l : List Version). 0 < length l) whole count, subst (Members z.clients) (sym alone) members)
 
--- who launched has no part to take
+-- the client that launched the group has no part to take
 pub await_published-requires-clause-idle : goal.await_published-requires-clause-idle
 await_published-requires-clause-idle g c =
     let own : MemberVersions = record { member = 2; versions = c.args.nodes } in

@@ -1,4 +1,4 @@
--- The version is above all others.
+-- The version's sequence is above all others in the tree.
 use Rattle.std.proofs.Common.{◌≡◌, ◌+◌, List, ◌∷◌, sym, subst, ap, ◌∙◌}
 use Rattle.table_rule.specs.declared.content.Version.{Version}
 use Rattle.table_tree.specs.Nodes.{version_of}

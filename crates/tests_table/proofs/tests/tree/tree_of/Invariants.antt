@@ -1,4 +1,4 @@
--- The versions so far have the sequences so far.
+-- The versions so far have sequences below the next one.
 use Rattle.std.proofs.Common.{◌+◌}
 use Rattle.table_tree.specs.Versions.{AreBelow}
 use Rattle.table_tree.specs.Shapes.{versions_in}
