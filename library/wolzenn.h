@@ -157,10 +157,11 @@ uint32_t wz_reader_record(wz_handle *handle, uint8_t *buffer, size_t buffer_len)
 /* ---- recovering a log ---- */
 
 /* Recovers a log: the batches before the first place that can't be read, or where a record is no batch or its
-   sequences don't rise. Runs of sequences may leave gaps; a batch none of whose records counts is kept whatever its
-   sequence. WZ_DONE: *summary says what was recovered, and the handle holds the pairs of key and value. They are those
-   of this log alone, over an empty map: a deletion leaves no pair, also of a key that a database has in its tables or
-   its other logs. A caller who needs deletions reads record by record. A log may be resumed at summary->kept.
+   sequences don't rise or are too high. Runs of sequences may leave gaps; a batch none of whose records counts is kept
+   whatever its sequence. WZ_DONE: *summary says what was recovered, and the handle holds the pairs of key and value.
+   They are those of this log alone, over an empty map: a deletion leaves no pair, also of a key that a database has in
+   its tables or its other logs. A caller who needs deletions reads record by record. A log may be resumed at
+   summary->kept.
    WZ_DAMAGE: the mode doesn't accept the end; summary->end says where and why, and the rest of *summary is 0.
    WZ_RANGE: there is no such mode. WZ_NO_MEMORY. At any answer but WZ_DONE the handle holds nothing. */
 uint32_t wz_recover(wz_handle *handle, uint32_t number, uint32_t mode, const uint8_t *log, size_t log_len,

@@ -11,7 +11,6 @@
 #include <cstdlib>
 #include <fstream>
 #include <iostream>
-#include <iterator>
 #include <string>
 
 // A handle that is closed where its scope ends. It is neither copied nor moved.
@@ -62,8 +61,11 @@ static std::string reason(const wz_end& end) {
 
 int main(int argc, char** argv) {
     std::ifstream file(argc > 1 ? argv[1] : "", std::ios::binary);
-    if (!file) return std::cerr << "recover_log: the log can't be read\n", 2;
-    const std::string log((std::istreambuf_iterator<char>(file)), std::istreambuf_iterator<char>());
+    std::string log;
+    char piece[65536];
+    while (file.read(piece, sizeof piece) || file.gcount() > 0) log.append(piece, file.gcount());
+    // A read that fails isn't the end: what was read before it is no whole log.
+    if (!file.eof()) return std::cerr << "recover_log: the log can't be read\n", 2;
     uint32_t number = argc > 2 ? static_cast<uint32_t>(std::strtoul(argv[2], nullptr, 10)) : 0;
     std::string word = argc > 3 ? argv[3] : "point";
     uint32_t mode = word == "absolute" ? WZ_ABSOLUTE : word == "tail" ? WZ_TAIL : WZ_POINT;

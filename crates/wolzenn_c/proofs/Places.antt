@@ -7,37 +7,34 @@ use Rattle.model_base.specs.declared.batch.BatchError.{BatchError}
 use Rattle.model_base.specs.Batch.{Record, IsReadable, NoRecord, record_bytes, varstring}
 use Rattle.log_batch.proofs.OneAnswer.{from_place}
 use Rattle.wolzenn_c.specs.declared.batch_bytes.WzOp.{WzOp}
-use Rattle.wolzenn_c.specs.BatchBytes.{StandsAt, Shows, IsRecordBetween}
+use Rattle.wolzenn_c.specs.BatchBytes.{IsAt, Shows, IsRecordBetween}
 
--- a string after a front and before a rest, which also lies between two other places
-stands_between : (front s rest : List ℕ) (from to : ℕ) → from ≤ length front → length front + length s ≤ to
-    → StandsAt (front ++ (s ++ rest)) from to (length front) (length s) s
-stands_between front s rest from to after before =
+-- a string after a front, which ends with the string's length, and before a rest
+is_after : (front s rest : List ℕ) (start : ℕ) → length front ≡ start + length (varint (length s))
+    → IsAt (front ++ (s ++ rest)) start (length front) (length s) s
+is_after front s rest start after =
     let as_long : length front + length s - length front ≡ length s = omega arith in
     record {
       len_is = refl;
-      behind_from = after;
-      before_to = before;
+      after_length = after;
       there = ap (λ (n : ℕ). take n (drop (length front) (front ++ (s ++ rest)))) as_long
           ∙ ap (λ (l : List ℕ). take (length s) l) (drop-append_seam front (s ++ rest)) ∙ take-append_seam s rest;
     }
 
-stands : (bytes front s rest : List ℕ) (from to place : ℕ) → bytes ≡ front ++ (s ++ rest) → place ≡ length front
-    → from ≤ place → place + length s ≤ to → StandsAt bytes from to place (length s) s
-stands bytes front s rest from to place is at after before =
-    rw (is, at) (stands_between front s rest from to (omega (arith, after, at)) (omega (arith, before, at)))
+is_at : (bytes front s rest : List ℕ) (start place : ℕ) → bytes ≡ front ++ (s ++ rest) → place ≡ length front
+    → place ≡ start + length (varint (length s)) → IsAt bytes start place (length s) s
+is_at bytes front s rest start place is at after = rw (is, at) (is_after front s rest start (sym at ∙ after))
 
 -- the key of a record of one string, which ends where the record ends
 pub key_alone : (front key rest : List ℕ) (tag end place : ℕ) → end ≡ length (front ++ (tag ∷ (varstring key ++ []))) → place + length key ≡ end
-    → StandsAt (front ++ (tag ∷ (varstring key ++ [])) ++ rest) (length front) end place (length key) key
+    → IsAt (front ++ (tag ∷ (varstring key ++ [])) ++ rest) (length front + 1) place (length key) key
 key_alone front key rest tag end place is at =
     let v = varint (length key) in
     let bytes = front ++ (tag ∷ (varstring key ++ [])) ++ rest in
     let split : bytes ≡ (front ++ (tag ∷ v)) ++ (key ++ rest) = simp (append_assoc, append-nil) refl in
     let place_is : place ≡ length (front ++ (tag ∷ v)) =
     omega (arith, length-append front (tag ∷ (varstring key ++ [])), length-append front (tag ∷ v), length-append (varstring key) [], length-append v key) in
-    let after : length front ≤ place = omega (arith, place_is, length-append front (tag ∷ v)) in
-    stands bytes (front ++ (tag ∷ v)) key rest (length front) end place split place_is after (omega (arith, at))
+    is_at bytes (front ++ (tag ∷ v)) key rest (length front + 1) place split place_is (omega (arith, place_is, length-append front (tag ∷ v)))
 
 -- how far a record of two strings reaches
 pair_end : (front key s : List ℕ) (tag end : ℕ) → end ≡ length (front ++ (tag ∷ (varstring key ++ (varstring s ++ []))))
@@ -56,32 +53,33 @@ pair_end front key s tag end is =
 -- the key of a record of two strings
 pub key_before : (front key s rest : List ℕ) (tag end place : ℕ) → end ≡ length (front ++ (tag ∷ (varstring key ++ (varstring s ++ []))))
     → place ≡ end - length s - length (varint (length s)) - length key
-    → StandsAt (front ++ (tag ∷ (varstring key ++ (varstring s ++ []))) ++ rest) (length front) end place (length key) key
+    → IsAt (front ++ (tag ∷ (varstring key ++ (varstring s ++ []))) ++ rest) (length front + 1) place (length key) key
 key_before front key s rest tag end place is at =
     let v = varint (length key) in
     let bytes = front ++ (tag ∷ (varstring key ++ (varstring s ++ []))) ++ rest in
     let all = pair_end front key s tag end is in
     let split : bytes ≡ (front ++ (tag ∷ v)) ++ (key ++ ((varstring s ++ []) ++ rest)) = simp (append_assoc, append-nil) refl in
     let place_is : place ≡ length (front ++ (tag ∷ v)) = omega (arith, all, at, length-append front (tag ∷ v)) in
-    stands bytes (front ++ (tag ∷ v)) key ((varstring s ++ []) ++ rest) (length front) end place split place_is (omega (arith, all, at)) (omega (arith, all, at))
+    is_at bytes (front ++ (tag ∷ v)) key ((varstring s ++ []) ++ rest) (length front + 1) place split place_is (omega (arith, all, at))
 
 -- and its value
-pub value_behind : (front key s rest : List ℕ) (tag end place : ℕ) → end ≡ length (front ++ (tag ∷ (varstring key ++ (varstring s ++ [])))) → place ≡ end - length s
-    → StandsAt (front ++ (tag ∷ (varstring key ++ (varstring s ++ []))) ++ rest) (length front) end place (length s) s
-value_behind front key s rest tag end place is at =
+pub value_behind : (front key s rest : List ℕ) (tag end start place : ℕ) → end ≡ length (front ++ (tag ∷ (varstring key ++ (varstring s ++ []))))
+    → place ≡ end - length s → start ≡ end - length s - length (varint (length s)) - length key + length key
+    → IsAt (front ++ (tag ∷ (varstring key ++ (varstring s ++ []))) ++ rest) start place (length s) s
+value_behind front key s rest tag end start place is at begins =
     let before = front ++ (tag ∷ (varstring key ++ varint (length s))) in
     let bytes = front ++ (tag ∷ (varstring key ++ (varstring s ++ []))) ++ rest in
     let all = pair_end front key s tag end is in
     let split : bytes ≡ before ++ (s ++ rest) = simp (append_assoc, append-nil) refl in
     let place_is : place ≡ length before =
     omega (arith, all, at, length-append front (tag ∷ (varstring key ++ varint (length s))), length-append (varstring key) (varint (length s)), length-append (varint (length key)) key) in
-    stands bytes before s rest (length front) end place split place_is (omega (arith, all, at)) (omega (arith, all, at))
+    is_at bytes before s rest start place split place_is (omega (arith, all, at, begins))
 
 -- The record that the bytes begin with, from a place on, is the next one, and its operation shows it.
 pub next_is : (bytes : List ℕ) (place : ℕ) (r : Record) (rest : List ℕ) (op : WzOp) → place ≤ length bytes → IsReadable r
     → take (length bytes - place) (drop place bytes) ≡ record_bytes r ++ rest
     → ((front behind : List ℕ) → length bytes - length rest ≡ length (front ++ record_bytes r)
-    → Shows (front ++ record_bytes r ++ behind) (length front) (length bytes - length rest) op r)
+    → Shows (front ++ record_bytes r ++ behind) (length front) op r)
     → IsRecordBetween bytes place (length bytes - length rest) op
 next_is bytes place r rest op inside readable is shown =
     let front = take place bytes ++ record_bytes r in
@@ -95,8 +93,8 @@ next_is bytes place r rest op inside readable is shown =
       spelled = from ∙ ap (λ (l : List ℕ). record_bytes r ++ l) (sym behind);
       within = omega arith;
       shown = let at : length (take place bytes) ≡ place = omega (arith, inside, ap length (take-append-drop place bytes), length-append (take place bytes) (drop place bytes), length-drop place bytes) in
-          let P : List ℕ → Type 0 = λ l. Shows l place (length bytes - length rest) op r in
-          let Q : ℕ → Type 0 = λ n. Shows (front ++ rest) n (length bytes - length rest) op r in
+          let P : List ℕ → Type 0 = λ l. Shows l place op r in
+          let Q : ℕ → Type 0 = λ n. Shows (front ++ rest) n op r in
           subst P (sym all) (subst Q at (shown (take place bytes) rest end));
     }
 

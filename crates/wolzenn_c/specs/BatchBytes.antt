@@ -1,5 +1,6 @@
 -- What C learns of a batch's bytes.
 use Rattle.std.specs.Prelude.{◌≡◌, ◌≤◌, ℕ, ◌+◌, List, ◌++◌, length, drop, slice_range, Option, Some, None, MatchOption}
+use Rattle.model_base.specs.Varint.{varint}
 use Rattle.model_base.specs.declared.batch.BatchError.{BatchError}
 use Rattle.model_base.specs.declared.batch.BatchError.TheVariants as error
 use Rattle.model_base.specs.declared.log.EndReason.{EndReason}
@@ -14,11 +15,11 @@ reason_of error.BadVarint = ends.BadVarint
 reason_of (error.Tag tag) = ends.Tag tag
 reason_of (error.Count said found) = ends.Count said found
 
--- The string is in the bytes at this place, has this length, and lies between the places `from` and `to`.
-pub record StandsAt (bytes : List ℕ) (from to place len : ℕ) (string : List ℕ) : Type 0 where
+-- The string is in the bytes at this place, and has this length. It comes right after the varint of its length, which
+-- begins at `start`.
+pub record IsAt (bytes : List ℕ) (start place len : ℕ) (string : List ℕ) : Type 0 where
   pub len_is : len ≡ length string
-  pub behind_from : from ≤ place
-  pub before_to : place + len ≤ to
+  pub after_length : place ≡ start + length (varint (length string))
   pub there : slice_range bytes place (place + len) ≡ string
 
 -- A record's key. For log data it is the whole data.
@@ -35,13 +36,14 @@ value_of (deletion key) = None
 value_of (single_deletion key) = None
 value_of (log_data blob) = None
 
--- The operation shows the record that lies between two places of the bytes: its tag, and where its strings are. Where
--- the record has no value, the value's place and length are 0.
-pub record Shows (bytes : List ℕ) (from to : ℕ) (op : WzOp) (r : Record) : Type 0 where
+-- The operation shows the record that begins at a place of the bytes: its tag, and where its strings are. The key's
+-- length comes after the tag, and the value's after the key. Where the record has no value, the value's place and
+-- length are 0.
+pub record Shows (bytes : List ℕ) (from : ℕ) (op : WzOp) (r : Record) : Type 0 where
   pub kind : op.kind ≡ tag_of r
-  pub key_stands : StandsAt bytes from to op.key_at op.key_len (key_of r)
-  pub value_stands : MatchOption (value_of r) ((op.value_at ≡ 0) × (op.value_len ≡ 0))
-      (StandsAt bytes from to op.value_at op.value_len)
+  pub key : IsAt bytes (from + 1) op.key_at op.key_len (key_of r)
+  pub value : MatchOption (value_of r) ((op.value_at ≡ 0) × (op.value_len ≡ 0))
+      (IsAt bytes (op.key_at + op.key_len) op.value_at op.value_len)
 
 -- Between the two places of the bytes there is a record, which the operation shows.
 pub record IsRecordBetween (bytes : List ℕ) (from to : ℕ) (op : WzOp) : Type 0 where
@@ -49,4 +51,4 @@ pub record IsRecordBetween (bytes : List ℕ) (from to : ℕ) (op : WzOp) : Type
   pub readable : IsReadable found
   pub spelled : drop from bytes ≡ record_bytes found ++ drop to bytes
   pub within : to ≤ length bytes
-  pub shown : Shows bytes from to op found
+  pub shown : Shows bytes from op found

@@ -126,7 +126,7 @@ fn op_of(view: RecordView<'_>, end: usize) -> WzOp
     requires { length (record_bytes (record_of view)) ≤ end }
     ensures { let spelling = record_bytes (record_of view.entry) in
         (front rest : List ℕ) → end ≡ length (front ++ spelling)
-        → Shows (front ++ spelling ++ rest) (length front) end result (record_of view.entry) }
+        → Shows (front ++ spelling ++ rest) (length front) result (record_of view.entry) }
 {
     match view {
         RecordView::Value { key, value } => {

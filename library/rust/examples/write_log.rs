@@ -3,7 +3,8 @@
 //!     write_log LOG [NUMBER]
 //!
 //! Each record is safe once the file is synced, which this program does itself. Where LOG exists, the log is resumed:
-//! what it recovers is kept, and the rest is cut off.
+//! what it recovers is kept, and the rest is cut off. Where nothing of it would be kept, as with a wrong NUMBER, it is
+//! left as it is.
 
 use std::error::Error;
 use std::fs::{File, OpenOptions};
@@ -29,7 +30,11 @@ fn main() -> Result<(), Box<dyn Error>> {
 
     // Where the log is new, nothing is recovered, and it begins at 0.
     let mut file = OpenOptions::new().read(true).write(true).create(true).truncate(false).open(&path)?;
-    let recovery = recover(&std::fs::read(&path)?, number, Mode::Tail)?;
+    let found = std::fs::read(&path)?;
+    let recovery = recover(&found, number, Mode::Tail)?;
+    if recovery.kept() == 0 && !found.is_empty() {
+        return Err(format!("nothing of {path} would be kept: end {}", recovery.end()).into());
+    }
     file.set_len(recovery.kept())?;
     file.sync_all()?;
     // Syncs the file's entry in its folder, which the file's own sync doesn't make safe.

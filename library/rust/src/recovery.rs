@@ -24,7 +24,8 @@ pub struct Recovery {
 }
 
 /// Recovers a log with this number, if it has one: the batches before the first place that can't be read, or where a
-/// record is no batch or its sequences don't rise. `Error::Damage` where the mode doesn't accept the end.
+/// record is no batch or its sequences don't rise or are too high. `Error::Damage` where the mode doesn't accept the
+/// end.
 pub fn recover(log: &[u8], number: Option<NonZeroU32>, mode: Mode) -> Result<Recovery, Error> {
     let (held, summary) = Handle::recovery(log, number, mode)?;
     Ok(Recovery { held, summary })
