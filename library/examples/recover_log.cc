@@ -59,13 +59,19 @@ static std::string reason(const wz_end& end) {
     return found;
 }
 
-int main(int argc, char** argv) {
-    std::ifstream file(argc > 1 ? argv[1] : "", std::ios::binary);
-    std::string log;
+// Adds all that a file has to a string, and says whether it could be read. A read that fails isn't the file's end: what
+// was read before it is no whole log.
+static bool read_file(const char* path, std::string& content) {
+    std::ifstream file(path, std::ios::binary);
     char piece[65536];
-    while (file.read(piece, sizeof piece) || file.gcount() > 0) log.append(piece, file.gcount());
-    // A read that fails isn't the end: what was read before it is no whole log.
-    if (!file.eof()) return std::cerr << "recover_log: the log can't be read\n", 2;
+    while (file.read(piece, sizeof piece) || file.gcount() > 0) content.append(piece, file.gcount());
+    return file.eof();
+}
+
+int main(int argc, char** argv) {
+    std::string content;
+    if (!read_file(argc > 1 ? argv[1] : "", content)) return std::cerr << "recover_log: the log can't be read\n", 2;
+    const std::string& log = content;
     uint32_t number = argc > 2 ? static_cast<uint32_t>(std::strtoul(argv[2], nullptr, 10)) : 0;
     std::string word = argc > 3 ? argv[3] : "point";
     uint32_t mode = word == "absolute" ? WZ_ABSOLUTE : word == "tail" ? WZ_TAIL : WZ_POINT;
