@@ -18,7 +18,8 @@ use Rattle.run_outcome.specs.declared.log_start.LogStart.TheVariants.{New}
 use Rattle.run_outcome.specs.Running.{Execution, Before, GoesOnFrom, IsRunOf, HasRun, LeavesSafeLog, IsAsFound, IsReached}
 use Rattle.run_execution.specs.declared.end.RunEnd.{RunEnd}
 use Rattle.run_execution.specs.declared.end.RunEnd.TheVariants as end
-use Rattle.run_execution.specs.Ends.{HasOutcome, EndsOn, IsAccepted, IsDamaged, Ran, execution_on}
+use Rattle.log_writer.specs.Opening.{LeavesAsBefore}
+use Rattle.run_execution.specs.Ends.{HasOutcome, EndsOn, IsAccepted, IsDamaged, Ran, LeavesAsFound, execution_on}
 use Rattle.program_text.specs.Refusals.{damage, not_empty, disk_fault}
 use Rattle.program_call.specs.declared.reading.ReadError.{ReadError}
 use Rattle.program_call.specs.declared.reading.ReadError.TheVariants as read
@@ -26,8 +27,9 @@ use Rattle.program_call.specs.declared.report.Form.{Form}
 use Rattle.program_call.specs.declared.report.Status.{Status}
 use Rattle.program_call.specs.declared.report.Status.TheVariants as status
 use Rattle.program_call.specs.Texts.{SaysTo}
-use Rattle.program_call.specs.Reports.{Refuses, PrintsRefusal, EndsWithOutcome, TellsEnd, TellsReadError, text_of, code}
+use Rattle.program_call.specs.Reports.{SaysNothing, Refuses, PrintsRefusal, EndsWithOutcome, TellsEnd, TellsReadError, text_of, code}
 use Rattle.program_call.specs.Outcomes.{Observation, observation_of, IsScript, RanScript, RanWhole, DiskFailed, RanToSinkFault, RanOutOfMemory, MetDamage}
+use Rattle.program_call.proofs.Leaving.{as_found}
 use Rattle.program_call.proofs.Memory.{all_whole, short_of}
 
 abbrev either : Bool → Type 0 → Type 0 → Type 0
@@ -54,6 +56,10 @@ module _ (seen : Observation) (failed fails kf kfs : ℕ) where
     pub accepted : IsAccepted seen.start seen.mode seen.opened
     pub rose : Rose kf kfs
 
+  pub record AtMemory : Type 0 where
+    pub told : RanOutOfMemory seen failed fails
+    pub stood : kfs ≡ kf
+
   pub record AtNotEmpty : Type 0 where
     pub plain : seen.start ≡ New
     pub len : ℕ
@@ -61,6 +67,7 @@ module _ (seen : Observation) (failed fails kf kfs : ℕ) where
     pub of_disk : IfSome seen.opened (λ d. length d.content ≡ len)
     pub says : SaysTo seen.before seen.after (not_empty len) kf kfs
     pub as_before : seen.ended ≡ seen.opened
+    pub crash : seen.leaves_as_before
     pub stood : fails ≡ failed
 
   pub record AtDamage : Type 0 where
@@ -69,21 +76,23 @@ module _ (seen : Observation) (failed fails kf kfs : ℕ) where
 
   -- nothing is said of a status with which no run ends
   abbrev pub AtStatus : ℕ → Type 0
-  AtStatus n = either (eqb n 0) AtWhole (either (eqb n 3) AtFault (either (eqb n 5) AtSinkFault (either (eqb n 6) (RanOutOfMemory seen failed fails) (either (eqb n 7) AtNotEmpty (either (eqb n 8) AtDamage ⊤)))))
+  AtStatus n = either (eqb n 0) AtWhole (either (eqb n 3) AtFault (either (eqb n 5) AtSinkFault (either (eqb n 6) AtMemory (either (eqb n 7) AtNotEmpty (either (eqb n 8) AtDamage ⊤)))))
 
   -- there was no memory, and nothing was run or printed
-  pub nothing : (given : Status) → given ≡ status.Memory → IsAsFound seen.start seen.opened seen.ended → fails ≡ failed → seen.after ≡ seen.before → AtStatus (code given)
-  nothing given is found stood quiet = subst (λ s. AtStatus (code s)) (sym is) (inl (record { untouched = found; counted = stood; silent = quiet }))
+  pub nothing : (given : Status) → SaysNothing seen.before seen.after kf kfs given → IsAsFound seen.start seen.opened seen.ended → seen.leaves_as_found → fails ≡ failed → AtStatus (code given)
+  nothing given says found crash stood =
+      let there : AtMemory = record { told = inl (record { untouched = found; crash = crash; counted = stood; silent = says.1 }); stood = says.2 } in
+      subst (λ s. AtStatus (code s)) (sym says.0) there
 
   -- a refusal was printed, or there was no memory for its text
-  refused : (text : List ℕ) (wanted given : Status) → AtStatus (code wanted) → seen.ended ≡ seen.opened → fails ≡ failed → Refuses seen.before seen.after kf kfs text wanted given → AtStatus (code given)
-  refused text wanted given there same stood (inl said) = subst (λ s. AtStatus (code s)) (sym said.0) there
-  refused text wanted given there same stood (inr none) = nothing given none.0 (inl same) stood none.1
+  refused : (text : List ℕ) (wanted given : Status) → AtStatus (code wanted) → seen.ended ≡ seen.opened → seen.leaves_as_found → fails ≡ failed → Refuses seen.before seen.after kf kfs text wanted given → AtStatus (code given)
+  refused text wanted given there same crash stood (inl said) = subst (λ s. AtStatus (code s)) (sym said.0) there
+  refused text wanted given there same crash stood (inr none) = nothing given none (inl same) crash stood
 
-  pub unread : (why : ReadError) (given : Status) → seen.ended ≡ seen.opened → fails ≡ failed → TellsReadError seen.before seen.after kf kfs why given → AtStatus (code given)
-  unread (read.Fault count) given same stood tells = subst (λ s. AtStatus (code s)) (sym tells.0) tt
-  unread (read.Script line kind) given same stood tells = refused _ status.Script given tt same stood tells
-  unread read.NoMemory given same stood tells = nothing given tells.0 (inl same) stood tells.1
+  pub unread : (why : ReadError) (given : Status) → seen.ended ≡ seen.opened → seen.leaves_as_found → fails ≡ failed → TellsReadError seen.before seen.after kf kfs why given → AtStatus (code given)
+  unread (read.Fault count) given same crash stood tells = subst (λ s. AtStatus (code s)) (sym tells.0) tt
+  unread (read.Script line kind) given same crash stood tells = refused _ status.Script given tt same crash stood tells
+  unread read.NoMemory given same crash stood tells = nothing given tells (inl same) crash stood
 
 -- A call that should run this script: `here` is what the devices tell of it.
 module _ {D K : Type 0} (disk : disk.Ghosts D) (sink : sink.Ghosts K) (options : Options) (start : LogStart) (mode : Mode) (script : Script) (form : Form) (opened ended : D) (before after : K) where
@@ -120,28 +129,28 @@ module _ {D K : Type 0} (disk : disk.Ghosts D) (sink : sink.Ghosts K) (options :
   abbrev At : ℕ → Type 0
   At n = AtStatus here failed fails kf kfs n
 
-  disk_refused : (count : ℕ) (given : Status) → IsAsFound start old new → IsReached failed count fails → PrintsRefusal sold snew kf kfs (disk_fault count) status.Disk given → At (code given)
-  disk_refused count given found reached said =
+  disk_refused : (count : ℕ) (given : Status) → IsAsFound start old new → IsReached failed count fails → LeavesAsFound disk start opened ended → PrintsRefusal sold snew kf kfs (disk_fault count) status.Disk given → At (code given)
+  disk_refused count given found reached crash said =
       let there : AtFault here failed fails kf kfs = record {
-        told = inl (record { script = script; said = refl; count = count; reached = reached; untouched = found; refused = said.1 });
+        told = inl (record { script = script; said = refl; count = count; reached = reached; untouched = found; crash = crash; refused = said.1 });
         rose = le_trans reached.0 reached.1;
       } in
       subst (λ s. At (code s)) (sym said.0) there
 
-  has_bytes : (len : ℕ) (given : Status) → start ≡ New → 0 < len → IfSome old (λ d. length d.content ≡ len) → new ≡ old → fails ≡ failed → Refuses sold snew kf kfs (not_empty len) status.NotEmpty given → At (code given)
-  has_bytes len given plain some is same stood (inl said) =
-      let there : AtNotEmpty here failed fails kf kfs = record { plain = plain; len = len; some = some; of_disk = is; says = said.1; as_before = same; stood = stood } in
+  has_bytes : (len : ℕ) (given : Status) → start ≡ New → 0 < len → IfSome old (λ d. length d.content ≡ len) → new ≡ old → fails ≡ failed → LeavesAsBefore disk opened ended → Refuses sold snew kf kfs (not_empty len) status.NotEmpty given → At (code given)
+  has_bytes len given plain some is same stood crash (inl said) =
+      let there : AtNotEmpty here failed fails kf kfs = record { plain = plain; len = len; some = some; of_disk = is; says = said.1; as_before = same; crash = crash; stood = stood } in
       subst (λ s. At (code s)) (sym said.0) there
-  has_bytes len given plain some is same stood (inr none) = nothing here failed fails kf kfs given none.0 (inl same) stood none.1
+  has_bytes len given plain some is same stood crash (inr none) = nothing here failed fails kf kfs given none (inl same) (as_found disk start opened ended crash) stood
 
-  is_damaged : (at : ℕ) (why : EndReason) (given : Status) → IsDamaged start mode old at why → new ≡ old → fails ≡ failed → Refuses sold snew kf kfs (damage at why) status.Damage given → At (code given)
-  is_damaged at why given damaged same stood (inl said) =
+  is_damaged : (at : ℕ) (why : EndReason) (given : Status) → IsDamaged start mode old at why → new ≡ old → fails ≡ failed → LeavesAsBefore disk opened ended → Refuses sold snew kf kfs (damage at why) status.Damage given → At (code given)
+  is_damaged at why given damaged same stood crash (inl said) =
       let there : AtDamage here failed fails kf kfs = record {
-        met = record { at = at; why = why; damaged = damaged; untouched = same; refused = said.1 };
+        met = record { at = at; why = why; damaged = damaged; untouched = same; crash = crash; refused = said.1 };
         stood = stood;
       } in
       subst (λ s. At (code s)) (sym said.0) there
-  is_damaged at why given damaged same stood (inr none) = nothing here failed fails kf kfs given none.0 (inl same) stood none.1
+  is_damaged at why given damaged same stood crash (inr none) = nothing here failed fails kf kfs given none (inl same) (as_found disk start opened ended crash) stood
 
   found_empty : (from : Before) (was is : Option Disk) (o : calls.Outcome) (run : IsRunOf (execution from) o) → Told was is (LeavesSafeLog (execution from) o run) → start ≡ New → IfSome was (λ d. d.content ≡ [])
   found_empty from None is o run log plain = tt
@@ -179,7 +188,7 @@ module _ {D K : Type 0} (disk : disk.Ghosts D) (sink : sink.Ghosts K) (options :
   ran_so from goes_on accepted shown ran status.Disk so =
       let fault : IsSome ran.outcome.fault = subst IsSome (sym ran.shows.fault) so.1 in
       record {
-        told = inr (record { outcome = ran.outcome; ran = ran_script from goes_on shown ran; printed = so.0; fault = fault });
+        told = inr (record { outcome = ran.outcome; ran = ran_script from goes_on shown ran; printed = so.0; fault = fault; sink_counted = so.2 });
         rose = rose_so ran.outcome.fault fault ran.run.legal.fault;
       }
   ran_so from goes_on accepted shown ran status.Sink so = record {
@@ -188,14 +197,20 @@ module _ {D K : Type 0} (disk : disk.Ghosts D) (sink : sink.Ghosts K) (options :
     accepted = accepted;
     rose = so.0;
   }
-  ran_so from goes_on accepted shown ran status.Memory (inl none) = inr (inl (record { outcome = ran.outcome; ran = ran_script from goes_on shown ran; silent = none }))
-  ran_so from goes_on accepted shown ran status.Memory (inr so) = inr (inr (record {
-    outcome = ran.outcome;
-    ran = ran_script from goes_on shown ran;
-    printed = so.0;
-    no_fault = ran.shows.fault ∙ so.1;
-    short = short_of shown ran.outcome ran.shows so.2;
-  }))
+  ran_so from goes_on accepted shown ran status.Memory (inl none, stood) = record {
+    told = inr (inl (record { outcome = ran.outcome; ran = ran_script from goes_on shown ran; silent = none }));
+    stood = stood;
+  }
+  ran_so from goes_on accepted shown ran status.Memory (inr so, stood) = record {
+    told = inr (inr (record {
+      outcome = ran.outcome;
+      ran = ran_script from goes_on shown ran;
+      printed = so.0;
+      no_fault = ran.shows.fault ∙ so.1;
+      short = short_of shown ran.outcome ran.shows so.2;
+    }));
+    stood = stood;
+  }
   ran_so from goes_on accepted shown ran other so = absurd so
 
   no_outcome : (from : Before) → GoesOnFrom start old from → (ran : HasOutcome (execution from) old new) → RanScript here ran.outcome
@@ -209,13 +224,13 @@ module _ {D K : Type 0} (disk : disk.Ghosts D) (sink : sink.Ghosts K) (options :
   }
 
   pub ended_so : (e : RunEnd) (given : Status) → EndsOn disk options start mode script opened ended e → (Ran e → IsAccepted start mode old) → TellsEnd form sold snew kf kfs e given → At (code given)
-  ended_so (end.DiskFault count) given ends accepted tells = disk_refused count given ends.0 ends.1 tells
-  ended_so (end.NotEmpty len) given ends accepted tells = has_bytes len given ends.0 ends.1 ends.2 ends.3 ends.4 tells
-  ended_so (end.Damage at why) given ends accepted tells = is_damaged at why given ends.0 ends.1 ends.2 tells
-  ended_so end.NoMemory given ends accepted tells = nothing here failed fails kf kfs given tells.0 ends.0 ends.1 tells.1
+  ended_so (end.DiskFault count) given ends accepted tells = disk_refused count given ends.0 ends.1 ends.2 tells
+  ended_so (end.NotEmpty len) given ends accepted tells = has_bytes len given ends.0 ends.1 ends.2 ends.3 ends.4 ends.5 tells
+  ended_so (end.Damage at why) given ends accepted tells = is_damaged at why given ends.0 ends.1 ends.2 ends.3 tells
+  ended_so end.NoMemory given ends accepted tells = nothing here failed fails kf kfs given tells ends.0 ends.2 ends.1
   ended_so end.NoOutcome given (from, goes_on, has) accepted tells =
       let ran : RanScript here has.outcome = no_outcome from goes_on has in
-      subst (λ s. At (code s)) (sym tells.0) (inr (inl (record { outcome = has.outcome; ran = ran; silent = tells.1 })))
+      subst (λ s. At (code s)) (sym tells.0) (record { told = inr (inl (record { outcome = has.outcome; ran = ran; silent = tells.1 })); stood = tells.2 })
   ended_so (end.Ran shown) given (from, goes_on, ran) accepted tells =
       let legal = ran.run.legal in
       let begun = ran.run.trace.start in

@@ -2,6 +2,7 @@ mod Refusing
 mod Unread
 mod Invocation
 mod Memory
+mod Leaving
 mod Endings
 mod Runs
 mod WholeTexts

@@ -1,24 +1,22 @@
 -- There was no memory to read the words: nothing was done and nothing printed.
-use Rattle.std.proofs.Common.{◌≡◌, ◌⊎◌, inl, inr, ℕ, List, Option, Some, None, IfSome, refl, sym, subst, arith}
+use Rattle.std.proofs.Common.{◌≡◌, ◌⊎◌, inl, inr, ℕ, List, Option, Some, None, IfSome, refl, arith}
 use Rattle.base_devices.specs.Disk.{Disk}
 use Rattle.base_devices.specs.declared.source.Source as source
 use Rattle.base_devices.specs.declared.disk.Disk as disk
 use Rattle.base_devices.specs.declared.sink.Sink as sink
-use Rattle.model_base.specs.Script.{Script}
 use Rattle.model_base.specs.declared.options.Options.{Options}
 use Rattle.log_recovery.specs.declared.modes.Mode.{Mode}
 use Rattle.log_recovery.specs.declared.modes.Mode.TheVariants.{Point}
+use Rattle.log_writer.specs.Opening.{LeavesAsBefore}
 use Rattle.replay_core.specs.declared.state.CoreOptions.{CoreOptions}
 use Rattle.run_outcome.specs.declared.log_start.LogStart.{LogStart}
 use Rattle.run_outcome.specs.declared.log_start.LogStart.TheVariants.{New}
-use Rattle.program_call.specs.declared.report.Form.{Form}
 use Rattle.program_call.specs.declared.report.Form.TheVariants as form
 use Rattle.program_call.specs.Asking.{usual_options}
-use Rattle.program_call.specs.Outcomes.{observation_of, SaysScript, IsGenerated}
+use Rattle.program_call.specs.Outcomes.{SaysScript, IsGenerated}
 use Rattle.program_call.specs.Recovers.{WhereAllTold, Recovers, RecoversFront}
-use Rattle.program_call.specs.Answers.{RunsScript, AnswersRun, AnswersGenerate, AnswersRecover, AnswersReplay}
-use Rattle.program_call.proofs.Endings.{AtStatus}
-use Rattle.program_call.proofs.Runs.{runs_script}
+use Rattle.program_call.specs.Answers.{AnswersRun, AnswersGenerate, AnswersRecover, AnswersReplay}
+use Rattle.program_call.proofs.Runs.{runs_none}
 
 if_some : {T : Type 0} (P : T → Type 0) (o : Option T) → ((x : T) → P x) → IfSome o P
 if_some P None all = tt
@@ -40,14 +38,8 @@ no_text n six (inl e) = omega (arith, six, e)
 no_text n six (inr e) = omega (arith, six, e)
 
 module _ {S D K : Type 0} (source : source.Ghosts S) (disk : disk.Ghosts D) (sink : sink.Ghosts K) (had : S) (opened : D) (before : K) (n : ℕ) (six : n ≡ 6) where
-  runs_none : (says : Script → Type 0) (form : Form) (options : Options) (start : LogStart) (mode : Mode) → RunsScript disk sink (observation_of disk sink says form options start mode opened opened before before) opened opened before before n
-  runs_none says form options start mode =
-      let At : ℕ → Type 0 = λ m. AtStatus (observation_of disk sink says form options start mode opened opened before before) (disk.faults opened) (disk.faults opened) (sink.faults before) (sink.faults before) m in
-      let none : At 6 = inl (record { untouched = inl refl; counted = refl; silent = refl }) in
-      runs_script disk sink says form options start mode opened opened before before n (subst At (sym six) none)
-
-  pub none_run : (options : Options) (start : LogStart) (mode : Mode) → AnswersRun source disk sink had had opened opened before before options start mode n
-  none_run options start mode = record {
+  pub none_run : LeavesAsBefore disk opened opened → (options : Options) (start : LogStart) (mode : Mode) → AnswersRun source disk sink had had opened opened before before options start mode n
+  none_run leaves options start mode = record {
     other = (omega (arith, six), λ e. omega (arith, six, e));
     script = λ e. absurd (omega (arith, six, e));
     other_script = λ e. absurd (e six);
@@ -55,25 +47,26 @@ module _ {S D K : Type 0} (source : source.Ghosts S) (disk : disk.Ghosts D) (sin
     source_fault_is_told = λ other. refl;
     read_to_end = λ e. absurd (no_device n six e);
     disk_untouched = λ e. refl;
-    runs = runs_none (SaysScript (source.left had)) form.Whole options start mode;
+    runs = runs_none disk sink (SaysScript (source.left had)) form.Whole options start mode opened before leaves n six;
     completes = λ a b c no_damage. if_some _ (source.left had) (λ text. if_some _ (disk.told opened) (λ d script said fit. inr six));
   }
 
-  pub none_generated : (seed clients batches : ℕ) → AnswersGenerate source disk sink had had opened opened before before seed clients batches n
-  none_generated seed clients batches = record {
+  pub none_generated : LeavesAsBefore disk opened opened → (seed clients batches : ℕ) → AnswersGenerate source disk sink had had opened opened before before seed clients batches n
+  none_generated leaves seed clients batches = record {
     one = inr (inr (inr (inl six)));
     source_untouched = refl;
-    runs = runs_none (IsGenerated seed clients batches) form.Summary usual_options New Point;
+    runs = runs_none disk sink (IsGenerated seed clients batches) form.Summary usual_options New Point opened before leaves n six;
     completes = λ a b. if_some _ (disk.told opened) (λ d none. inr six);
     one_summary = λ e. absurd (omega (arith, six, e));
   }
 
-  pub none_recovered : (number : Option ℕ) (mode : Mode) → AnswersRecover source disk sink had had opened opened before before number mode n
-  none_recovered number mode = record {
+  pub none_recovered : LeavesAsBefore disk opened opened → (number : Option ℕ) (mode : Mode) → AnswersRecover source disk sink had had opened opened before before number mode n
+  none_recovered leaves number mode = record {
     one = inr (inr (inr (inl six)));
     source_untouched = refl;
     as_before = refl;
-    no_fault = λ e. absurd (omega (arith, six, e));
+    crash = leaves;
+    no_fault = λ either. refl;
     sink_failed = λ e. absurd (omega (arith, six, e));
     disk_failed = λ e. absurd (omega (arith, six, e));
     fault_is_told = λ other. refl;
@@ -93,7 +86,7 @@ module _ {S D K : Type 0} (source : source.Ghosts S) (disk : disk.Ghosts D) (sin
     other_schedule = λ e. absurd (e six);
     source_failed = λ e. absurd (omega (arith, six, e));
     source_fault_is_told = λ other. refl;
-    no_fault = λ e. absurd (omega (arith, six, e));
+    no_fault = λ either. refl;
     sink_failed = λ e. absurd (omega (arith, six, e));
     read_to_end = λ e. absurd (no_text n six e);
     replayed = λ e. absurd (omega (arith, six, e));

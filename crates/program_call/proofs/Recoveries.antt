@@ -41,16 +41,16 @@ fault_told mode failed fails kf kfs n sold snew (Err (none.Fault count)) given i
 fault_told mode failed fails kf kfs n sold snew (Err none.NoMemory) given is worked error tells other = error
 fault_told mode failed fails kf kfs n sold snew (Err (none.Damage at why)) given is worked error tells other = error.0
 
--- at 0 the sink has counted no fault
-pub none_counted : (kf kfs n : ℕ) (sold snew : Option (List ℕ)) (found : Result Recovered RecoverError) (given : Status) → n ≡ code given → TellsRecovery sold snew kf kfs found given → n ≡ 0 → kfs ≡ kf
-none_counted kf kfs n sold snew (Ok shown) status.Done is tells zero = tells.3
-none_counted kf kfs n sold snew (Ok shown) status.Sink is tells zero = absurd (omega (arith, is, zero))
-none_counted kf kfs n sold snew (Ok shown) status.Memory is tells zero = absurd (omega (arith, is, zero))
-none_counted kf kfs n sold snew (Ok shown) other is tells zero = absurd tells
-none_counted kf kfs n sold snew (Err (none.Fault count)) given is tells zero = absurd (let a : n ≡ 3 = is ∙ ap code tells.0 in omega (arith, a, zero))
-none_counted kf kfs n sold snew (Err none.NoMemory) given is tells zero = absurd (let a : n ≡ 6 = is ∙ ap code tells.0 in omega (arith, a, zero))
-none_counted kf kfs n sold snew (Err (none.Damage at why)) given is tells zero =
-    ⊎_elim (λ said. absurd (let a = said.0 in omega (arith, a, zero))) (λ lacks. absurd (let a = lacks.0 in omega (arith, a, zero))) (refused_as sold snew kf kfs _ _ given n is tells)
+-- at 0 and at 6 the sink has counted no fault
+pub none_counted : (kf kfs n : ℕ) (sold snew : Option (List ℕ)) (found : Result Recovered RecoverError) (given : Status) → n ≡ code given → TellsRecovery sold snew kf kfs found given → (n ≡ 0) ⊎ (n ≡ 6) → kfs ≡ kf
+none_counted kf kfs n sold snew (Ok shown) status.Done is tells at = tells.3
+none_counted kf kfs n sold snew (Ok shown) status.Sink is tells at = absurd (⊎_elim (λ e. omega (arith, is, e)) (λ e. omega (arith, is, e)) at)
+none_counted kf kfs n sold snew (Ok shown) status.Memory is tells at = tells.1
+none_counted kf kfs n sold snew (Ok shown) other is tells at = absurd tells
+none_counted kf kfs n sold snew (Err (none.Fault count)) given is tells at = absurd (let a : n ≡ 3 = is ∙ ap code tells.0 in ⊎_elim (λ e. omega (arith, a, e)) (λ e. omega (arith, a, e)) at)
+none_counted kf kfs n sold snew (Err none.NoMemory) given is tells at = tells.2
+none_counted kf kfs n sold snew (Err (none.Damage place why)) given is tells at =
+    ⊎_elim (λ said. absurd (let a = said.0 in ⊎_elim (λ e. omega (arith, a, e)) (λ e. omega (arith, a, e)) at)) (λ lacks. lacks.2) (refused_as sold snew kf kfs _ _ given n is tells)
 
 -- the end of what is recovered is one that the mode accepts
 accepted_end : (number : Option ℕ) (mode : Mode) (file : List ℕ) (shown : Recovered) (has : HasRecovered number file shown) → Accepts number mode file shown.end.at shown.end.why → Accepts number mode file has.recovered.at has.recovered.why

@@ -1,5 +1,5 @@
 -- What is printed of a schedule.
-use Rattle.std.proofs.Common.{◌≡◌, ◌⊎◌, inl, inr, ℕ, List, Option, Some, None, Result, Ok, Err, IfSome, ap, ◌∙◌, subst, arith}
+use Rattle.std.proofs.Common.{◌≡◌, ◌⊎◌, inl, inr, ⊎_elim, ℕ, List, Option, Some, None, Result, Ok, Err, IfSome, ap, ◌∙◌, subst, arith}
 use Rattle.std.specs.Prelude.{IfOk, take}
 use Rattle.std.specs.Io.KnownBytes.{Appends}
 use Rattle.model_base.specs.declared.memory.NoMemory.{NoMemory}
@@ -28,12 +28,13 @@ replays_whole options s (Ok shown) kf kfs n status.Done text sold snew is said s
 replays_whole options s (Ok shown) kf kfs n given text sold snew is said shows tells zero = absurd (omega (arith, is, zero))
 replays_whole options s (Err why) kf kfs n given text sold snew is said shows tells zero = absurd (let a : n ≡ 6 = is ∙ ap code tells.0 in omega (arith, a, zero))
 
-pub replay_counted : (found : Result Replayed NoMemory) (kf kfs n : ℕ) (given : Status) (sold snew : Option (List ℕ)) → n ≡ code given → TellsReplay sold snew kf kfs found given → n ≡ 0 → kfs ≡ kf
-replay_counted (Ok shown) kf kfs n status.Done sold snew is tells zero = tells.3
-replay_counted (Ok shown) kf kfs n status.Sink sold snew is tells zero = absurd (omega (arith, is, zero))
-replay_counted (Ok shown) kf kfs n status.Memory sold snew is tells zero = absurd (omega (arith, is, zero))
-replay_counted (Ok shown) kf kfs n other sold snew is tells zero = absurd tells
-replay_counted (Err why) kf kfs n given sold snew is tells zero = absurd (let a : n ≡ 6 = is ∙ ap code tells.0 in omega (arith, a, zero))
+-- at 0 and at 6 the sink has counted no fault
+pub replay_counted : (found : Result Replayed NoMemory) (kf kfs n : ℕ) (given : Status) (sold snew : Option (List ℕ)) → n ≡ code given → TellsReplay sold snew kf kfs found given → (n ≡ 0) ⊎ (n ≡ 6) → kfs ≡ kf
+replay_counted (Ok shown) kf kfs n status.Done sold snew is tells at = tells.3
+replay_counted (Ok shown) kf kfs n status.Sink sold snew is tells at = absurd (⊎_elim (λ e. omega (arith, is, e)) (λ e. omega (arith, is, e)) at)
+replay_counted (Ok shown) kf kfs n status.Memory sold snew is tells at = tells.1
+replay_counted (Ok shown) kf kfs n other sold snew is tells at = absurd tells
+replay_counted (Err why) kf kfs n given sold snew is tells at = tells.2
 
 -- where the sink didn't fail, a replay ended well or ran out of memory
 replay_ended : (found : Result Replayed NoMemory) (kf kfs n : ℕ) (given : Status) (sold snew : Option (List ℕ)) → n ≡ code given → TellsReplay sold snew kf kfs found given → NoFault kf kfs → (n ≡ 0) ⊎ (n ≡ 6)

@@ -1,5 +1,5 @@
 -- What a run of a script promises, put together from what is known at its status.
-use Rattle.std.proofs.Common.{◌≡◌, ◌≢◌, ◌⊎◌, inl, inr, ℕ, ◌<◌, List, [], length, Option, Some, None, IfSome, ap, subst, arith}
+use Rattle.std.proofs.Common.{◌≡◌, ◌≢◌, ◌⊎◌, inl, inr, ℕ, ◌<◌, List, [], length, Option, Some, None, IfSome, refl, ap, sym, subst, arith}
 use Rattle.base_devices.specs.declared.disk.Disk as disk
 use Rattle.base_devices.specs.declared.sink.Sink as sink
 use Rattle.base_devices.specs.Disk.{Disk}
@@ -7,14 +7,17 @@ use Rattle.model_base.specs.Calls as calls
 use Rattle.model_base.specs.Script.{Script}
 use Rattle.model_base.specs.declared.options.Options.{Options}
 use Rattle.log_recovery.specs.declared.modes.Mode.{Mode}
+use Rattle.log_writer.specs.Opening.{LeavesAsBefore}
 use Rattle.run_outcome.specs.declared.log_start.LogStart.{LogStart}
 use Rattle.run_outcome.specs.declared.log_start.LogStart.TheVariants.{New}
 use Rattle.program_call.specs.declared.report.Form.{Form}
+use Rattle.program_call.specs.declared.report.Status.TheVariants as status
 use Rattle.program_call.specs.Texts.{NoFault}
 use Rattle.program_call.specs.Outcomes.{Observation, observation_of, RanScript, RanWhole, DiskFailed, RanOutOfMemory}
 use Rattle.program_call.specs.Answers.{MeetsNoDamage, RunsScript}
 use Rattle.run_execution.specs.Ends.{IsAccepted}
-use Rattle.program_call.proofs.Endings.{AtStatus, AtWhole, AtFault, AtSinkFault, AtNotEmpty, AtDamage}
+use Rattle.program_call.proofs.Leaving.{as_found}
+use Rattle.program_call.proofs.Endings.{AtStatus, AtWhole, AtFault, AtSinkFault, AtMemory, AtNotEmpty, AtDamage, nothing}
 
 not_some : (xs : List ℕ) → xs ≡ [] → 0 < length xs → ⊥
 not_some xs e some = let a : length xs ≡ 0 = ap length e in omega (arith, a, some)
@@ -36,6 +39,9 @@ module _ {D K : Type 0} (disk : disk.Ghosts D) (sink : sink.Ghosts K) (seen : Ob
 
   at_sink_fault : (n : ℕ) → At n → n ≡ 5 → AtSinkFault seen (disk.faults opened) (disk.faults ended) (sink.faults before) (sink.faults after)
   at_sink_fault n at is = subst At is at
+
+  at_memory : (n : ℕ) → At n → n ≡ 6 → AtMemory seen (disk.faults opened) (disk.faults ended) (sink.faults before) (sink.faults after)
+  at_memory n at is = subst At is at
 
   at_not_empty : (n : ℕ) → At n → n ≡ 7 → AtNotEmpty seen (disk.faults opened) (disk.faults ended) (sink.faults before) (sink.faults after)
   at_not_empty n at is = subst At is at
@@ -59,10 +65,12 @@ runs_script disk sink says form options start mode opened ended before after n a
     let seen : Observation = observation_of disk sink says form options start mode opened ended before after in
     record {
       no_fault = λ e. let whole = at_whole disk sink seen opened ended before after n at e in (whole.disk, whole.sink);
+      no_sink_fault = λ e. (at_memory disk sink seen opened ended before after n at e).stood;
       disk_failed = λ e. (at_fault disk sink seen opened ended before after n at e).rose;
       sink_failed = λ e. (at_sink_fault disk sink seen opened ended before after n at e).rose;
       not_empty = λ e. let told = at_not_empty disk sink seen opened ended before after n at e in (told.plain, told.len, told.some, told.of_disk, told.says);
       as_before = λ e. (at_not_empty disk sink seen opened ended before after n at e).as_before;
+      crash = λ e. (at_not_empty disk sink seen opened ended before after n at e).crash;
       empty = λ plain. empty_so (disk.told opened) n (λ e. (at_whole disk sink seen opened ended before after n at e).empty plain) (λ e. (at_sink_fault disk sink seen opened ended before after n at e).empty plain);
       damaged = λ e. (at_damage disk sink seen opened ended before after n at e).met;
       accepted = λ e. at_accepted disk sink seen opened ended before after n at e;
@@ -70,8 +78,17 @@ runs_script disk sink says form options start mode opened ended before after n a
       ran = λ e. (at_whole disk sink seen opened ended before after n at e).whole;
       ran_to_fault = λ e. (at_fault disk sink seen opened ended before after n at e).told;
       ran_to_sink_fault = λ e. (at_sink_fault disk sink seen opened ended before after n at e).front;
-      out_of_memory = λ e. subst (λ m. AtStatus seen (disk.faults opened) (disk.faults ended) (sink.faults before) (sink.faults after) m) e at;
+      out_of_memory = λ e. (at_memory disk sink seen opened ended before after n at e).told;
     }
+
+-- all that is promised holds where there was no memory and nothing was done
+pub runs_none : {D K : Type 0} (disk : disk.Ghosts D) (sink : sink.Ghosts K) (says : Script → Type 0) (form : Form) (options : Options) (start : LogStart) (mode : Mode) (opened : D) (before : K) → LeavesAsBefore disk opened opened → (n : ℕ) → n ≡ 6
+    → RunsScript disk sink (observation_of disk sink says form options start mode opened opened before before) opened opened before before n
+runs_none disk sink says form options start mode opened before leaves n six =
+    let seen : Observation = observation_of disk sink says form options start mode opened opened before before in
+    let At : ℕ → Type 0 = λ m. AtStatus seen (disk.faults opened) (disk.faults opened) (sink.faults before) (sink.faults before) m in
+    let none : At 6 = nothing seen (disk.faults opened) (disk.faults opened) (sink.faults before) (sink.faults before) status.Memory (refl, refl, refl) (inl refl) (as_found disk start opened opened leaves) refl in
+    runs_script disk sink says form options start mode opened opened before before n (subst At (sym six) none)
 
 -- an empty log isn't refused, and neither is one that is written over or goes on
 not_refused : (start : LogStart) (found len : ℕ) → start ≡ New → 0 < len → found ≡ len → (found ≡ 0) ⊎ (start ≢ New) → ⊥
@@ -105,7 +122,7 @@ over_empty (Some d) A B ends = λ none. ends (inl none)
 -- If what a call says of a script gives a further statement, this one holds of the script that was run.
 module _ (seen : Observation) (says : Script → Type 0) (tells : (s : Script) → seen.says s → says s) where
   abbrev retold : Observation
-  retold = record { says = says; form = seen.form; start = seen.start; mode = seen.mode; before = seen.before; after = seen.after; opened = seen.opened; ended = seen.ended; execution = seen.execution }
+  retold = record seen { says = says }
 
   ran_script : (o : calls.Outcome) → RanScript seen o → RanScript retold o
   ran_script o ran = record {
@@ -127,12 +144,13 @@ module _ (seen : Observation) (says : Script → Type 0) (tells : (s : Script) �
     count = r.count;
     reached = r.reached;
     untouched = r.untouched;
+    crash = r.crash;
     refused = r.refused;
   })
-  disk_failed failed fails kf kfs (inr r) = inr (record { outcome = r.outcome; ran = ran_script r.outcome r.ran; printed = r.printed; fault = r.fault })
+  disk_failed failed fails kf kfs (inr r) = inr (record { outcome = r.outcome; ran = ran_script r.outcome r.ran; printed = r.printed; fault = r.fault; sink_counted = r.sink_counted })
 
   ran_out : (failed fails : ℕ) → RanOutOfMemory seen failed fails → RanOutOfMemory retold failed fails
-  ran_out failed fails (inl r) = inl (record { untouched = r.untouched; counted = r.counted; silent = r.silent })
+  ran_out failed fails (inl r) = inl (record { untouched = r.untouched; crash = r.crash; counted = r.counted; silent = r.silent })
   ran_out failed fails (inr (inl r)) = inr (inl (record { outcome = r.outcome; ran = ran_script r.outcome r.ran; silent = r.silent }))
   ran_out failed fails (inr (inr r)) = inr (inr (record { outcome = r.outcome; ran = ran_script r.outcome r.ran; printed = r.printed; no_fault = r.no_fault; short = r.short }))
 
@@ -140,12 +158,14 @@ module _ (seen : Observation) (says : Script → Type 0) (tells : (s : Script) �
       → RunsScript disk sink retold opened ended before after n
   runs_retold disk sink opened ended before after n runs = record {
     no_fault = runs.no_fault;
+    no_sink_fault = runs.no_sink_fault;
     disk_failed = runs.disk_failed;
     sink_failed = runs.sink_failed;
     not_empty = runs.not_empty;
     as_before = runs.as_before;
+    crash = runs.crash;
     empty = runs.empty;
-    damaged = λ e. let met = runs.damaged e in record { at = met.at; why = met.why; damaged = met.damaged; untouched = met.untouched; refused = met.refused };
+    damaged = λ e. let met = runs.damaged e in record { at = met.at; why = met.why; damaged = met.damaged; untouched = met.untouched; crash = met.crash; refused = met.refused };
     accepted = runs.accepted;
     no_disk_fault = runs.no_disk_fault;
     ran = λ e. ran_whole (runs.ran e);

@@ -45,6 +45,13 @@ unread_stood failed fails kf kfs n sold snew given is (read.Fault count) stood t
 unread_stood failed fails kf kfs n sold snew given is (read.Script line kind) stood tells other = stood
 unread_stood failed fails kf kfs n sold snew given is read.NoMemory stood tells other = stood
 
+-- at 0 and at 6 the sink has counted no fault
+pub unread_counted : (kf kfs n : ℕ) (sold snew : Option (List ℕ)) (given : Status) → n ≡ code given → (why : ReadError) → TellsReadError sold snew kf kfs why given → (n ≡ 0) ⊎ (n ≡ 6) → kfs ≡ kf
+unread_counted kf kfs n sold snew given is (read.Fault count) tells at = absurd (let a : n ≡ 4 = is ∙ ap code tells.0 in ⊎_elim (λ e. omega (arith, a, e)) (λ e. omega (arith, a, e)) at)
+unread_counted kf kfs n sold snew given is (read.Script line kind) tells at =
+    ⊎_elim (λ said. absurd (let a = said.0 in ⊎_elim (λ e. omega (arith, a, e)) (λ e. omega (arith, a, e)) at)) (λ lacks. lacks.2) (refused_as sold snew kf kfs _ _ given n is tells)
+unread_counted kf kfs n sold snew given is read.NoMemory tells at = tells.2
+
 -- where the source didn't fail and the text is a script, it was left unread only because there was no memory
 pub unread_completes : (left : Option (List ℕ)) (told : Option Disk) (start : LogStart) (failed fails kf kfs n : ℕ) (sold snew : Option (List ℕ)) (given : Status) → n ≡ code given → (why : ReadError)
     → IsScriptError left failed fails why → TellsReadError sold snew kf kfs why given → NoFault failed fails

@@ -19,6 +19,7 @@ use Rattle.program_text.specs.Refusals.{damage, usage, script_fault, source_faul
 use Rattle.run_outcome.specs.declared.log_start.LogStart.{LogStart}
 use Rattle.run_outcome.specs.declared.log_start.LogStart.TheVariants.{New, Behind}
 use Rattle.run_outcome.specs.Running.{IsReached}
+use Rattle.log_writer.specs.Opening.{LeavesAsBefore}
 use Rattle.run_laws.specs.Summaries.{summary_of}
 use Rattle.run_execution.specs.Ends.{IsAccepted, IsDamaged}
 use Rattle.program_call.specs.declared.report.Form.TheVariants as form
@@ -36,16 +37,18 @@ MeetsNoDamage start mode told = (at : ℕ) (why : EndReason) → IsDamaged start
 module _ {D K : Type 0} (disk : disk.Ghosts D) (sink : sink.Ghosts K) (seen : Observation) (opened ended : D)
     (before after : K) (status : ℕ) where
   pub record RunsScript : Type 0 where
-    -- 0: no device failed. 3, 5: one did.
+    -- 0: no device failed. 3, 5: one did. 6: the sink has counted no fault.
     pub no_fault : status ≡ 0 → (disk.faults ended ≡ disk.faults opened) × (sink.faults after ≡ sink.faults before)
+    pub no_sink_fault : status ≡ 6 → sink.faults after ≡ sink.faults before
     pub disk_failed : status ≡ 3 → Rose (disk.faults opened) (disk.faults ended)
     pub sink_failed : status ≡ 5 → Rose (sink.faults before) (sink.faults after)
-    -- 7: The log should be a new one, but isn't empty, and stays as it was. Over such a log no other status comes,
-    -- except where the disk failed or there was no memory.
+    -- 7: The log should be a new one, but isn't empty, and stays as it was; a crash leaves no less. Over such a log no
+    -- other status comes, except where the disk failed or there was no memory.
     pub not_empty : status ≡ 7 → (seen.start ≡ New) × (len : ℕ) × (0 < len)
         × IfSome (disk.told opened) (λ d. length d.content ≡ len)
         × SaysTo (sink.taken before) (sink.taken after) (not_empty len) (sink.faults before) (sink.faults after)
     pub as_before : status ≡ 7 → disk.told ended ≡ disk.told opened
+    pub crash : status ≡ 7 → LeavesAsBefore disk opened ended
     pub empty : seen.start ≡ New
         → IfSome (disk.told opened) (λ d. 0 < length d.content → (status ≢ 0) × (status ≢ 5))
     -- 8: The log should go on, but the mode doesn't accept where its recovery ends. The log stays as it was. At 0 and
@@ -82,11 +85,11 @@ module _ {S D K : Type 0} (source : source.Ghosts S) (disk : disk.Ghosts D) (sin
     pub reached : IsReached (source.faults had) count (source.faults has)
     pub said : Says (source_fault count)
 
-  -- The words aren't lawful: 1, or 6 and nothing is printed. No device but the sink was touched.
+  -- The words aren't lawful: 1, or 6 and the sink isn't touched. No other device was touched.
   pub record AnswersNothing (status : ℕ) : Type 0 where
     pub one : (status ≡ 1) ⊎ (status ≡ 6)
     pub said : status ≡ 1 → Says usage
-    pub silent : status ≡ 6 → sink.taken after ≡ sink.taken before
+    pub silent : status ≡ 6 → after ≡ before
     pub source_untouched : has ≡ had
     pub disk_untouched : ended ≡ opened
 
@@ -132,13 +135,14 @@ module _ {S D K : Type 0} (source : source.Ghosts S) (disk : disk.Ghosts D) (sin
         → Appends (sink.taken before) (sink.taken after) (summary_of (script_of_seed seed clients batches))
 
   -- `recover`: what the log recovers, read with this number or with none, is printed, whatever its bytes are, if the
-  -- mode accepts its end, and nothing else is touched
+  -- mode accepts its end. The disk is as before, and a crash leaves no less. Nothing else is touched.
   pub record AnswersRecover (number : Option ℕ) (mode : Mode) (status : ℕ) : Type 0 where
     pub one : (status ≡ 0) ⊎ (status ≡ 3) ⊎ (status ≡ 5) ⊎ (status ≡ 6) ⊎ (status ≡ 8)
     pub source_untouched : has ≡ had
     pub as_before : disk.told ended ≡ disk.told opened
-    -- 0: the sink has counted no fault. 5: it failed.
-    pub no_fault : status ≡ 0 → sink.faults after ≡ sink.faults before
+    pub crash : LeavesAsBefore disk opened ended
+    -- 0, 6: the sink has counted no fault. 5: it failed.
+    pub no_fault : (status ≡ 0) ⊎ (status ≡ 6) → sink.faults after ≡ sink.faults before
     pub sink_failed : status ≡ 5 → Rose (sink.faults before) (sink.faults after)
     -- 3: the disk failed. At each other status it has counted no fault.
     pub disk_failed : status ≡ 3 → Rose (disk.faults opened) (disk.faults ended)
@@ -168,8 +172,8 @@ module _ {S D K : Type 0} (source : source.Ghosts S) (disk : disk.Ghosts D) (sin
     -- 4: the source failed. At each other status it has counted no fault.
     pub source_failed : status ≡ 4 → SourceFailed
     pub source_fault_is_told : status ≢ 4 → source.faults has ≡ source.faults had
-    -- 0: the sink has counted no fault. 5: it failed.
-    pub no_fault : status ≡ 0 → sink.faults after ≡ sink.faults before
+    -- 0, 6: the sink has counted no fault. 5: it failed.
+    pub no_fault : (status ≡ 0) ⊎ (status ≡ 6) → sink.faults after ≡ sink.faults before
     pub sink_failed : status ≡ 5 → Rose (sink.faults before) (sink.faults after)
     pub read_to_end : (status ≡ 0) ⊎ (status ≡ 5) → IfSome (source.left has) (λ left. left ≡ [])
     pub replayed : status ≡ 0 → Replays options (source.left had) (sink.taken before) (sink.taken after)

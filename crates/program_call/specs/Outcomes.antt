@@ -17,7 +17,8 @@ use Rattle.log_recovery.specs.declared.modes.Mode.{Mode}
 use Rattle.run_outcome.specs.declared.log_start.LogStart.{LogStart}
 use Rattle.run_outcome.specs.Running.{Execution, Before, GoesOnFrom, IsRunOf, LeavesSafeLog, IsAsFound, IsReached}
 use Rattle.model_runs.specs.Refusals.{AreRefusedForThemselves}
-use Rattle.run_execution.specs.Ends.{IsDamaged, execution_on}
+use Rattle.log_writer.specs.Opening.{LeavesAsBefore}
+use Rattle.run_execution.specs.Ends.{IsDamaged, LeavesAsFound, execution_on}
 use Rattle.program_text.specs.Refusals.{damage, disk_fault}
 use Rattle.program_call.specs.declared.report.Form.{Form}
 use Rattle.program_call.specs.Reports.{text_of}
@@ -39,7 +40,8 @@ RefusesForThemselves o = o.fault ≡ None → AllByRecursion AreRefusedForThemse
 
 -- What is known of a call: which script it should run, how it prints the outcome, how it should open the log, which
 -- ends the log's recovery should accept, what the devices tell of the call, where they do, and the execution there of
--- a script that goes on from something
+-- a script that goes on from something. Then what is said of a crash at any moment of the call: that it leaves only
+-- what it might have left before, or what `LeavesAsFound` lets it leave where nothing is run.
 pub record Observation : Type 1 where
   pub says : Script → Type 0
   pub form : Form
@@ -52,6 +54,8 @@ pub record Observation : Type 1 where
   pub opened : Option Disk
   pub ended : Option Disk
   pub execution : Script → Before → Execution
+  pub leaves_as_before : Type 0
+  pub leaves_as_found : Type 0
 
 abbrev pub observation_of : {D K : Type 0} → disk.Ghosts D → sink.Ghosts K → (Script → Type 0) → Form → Options
     → LogStart → Mode → D → D → K → K → Observation
@@ -65,6 +69,8 @@ observation_of disk sink says form options start mode opened ended before after 
   opened = disk.told opened;
   ended = disk.told ended;
   execution = λ script from. execution_on disk options start from script opened ended;
+  leaves_as_before = LeavesAsBefore disk opened ended;
+  leaves_as_found = LeavesAsFound disk start opened ended;
 }
 
 -- the script is that of the text, if the text is told
@@ -107,25 +113,29 @@ module _ (seen : Observation) where
     pub no_fault : outcome.fault ≡ None
     pub whole : AllByRecursion NoneWithoutMemory outcome.transcripts
 
-  -- status 3, where the log was opened: the outcome was printed, and a write of the log failed
-  pub record RanToFault : Type 0 where
+  -- Status 3, where the log was opened: the outcome was printed, and a write of the log failed. The sink has counted
+  -- no fault.
+  pub record RanToFault (sink_failed sink_fails : ℕ) : Type 0 where
     pub outcome : calls.Outcome
     pub ran : RanScript outcome
     pub printed : Appends seen.before seen.after (text_of seen.form outcome)
     pub fault : IsSome outcome.fault
+    pub sink_counted : sink_fails ≡ sink_failed
 
-  -- status 3, where the log wasn't opened: the disk is as it was found
+  -- status 3, where the log wasn't opened: the disk is as it was found, and a crash leaves no less
   pub record DiskRefused (failed fails sink_failed sink_fails : ℕ) : Type 0 where
     pub script : Script
     pub said : seen.says script
     pub count : ℕ
     pub reached : IsReached failed count fails
     pub untouched : IsAsFound seen.start seen.opened seen.ended
+    pub crash : seen.leaves_as_found
     pub refused : SaysTo seen.before seen.after (disk_fault count) sink_failed sink_fails
 
   -- status 3, in either case
   abbrev pub DiskFailed : ℕ → ℕ → ℕ → ℕ → Type 0
-  DiskFailed failed fails sink_failed sink_fails = DiskRefused failed fails sink_failed sink_fails ⊎ RanToFault
+  DiskFailed failed fails sink_failed sink_fails =
+      DiskRefused failed fails sink_failed sink_fails ⊎ RanToFault sink_failed sink_fails
 
   -- status 5: the sink took a prefix of the outcome's text
   pub record RanToSinkFault : Type 0 where
@@ -139,11 +149,14 @@ module _ (seen : Observation) where
     pub why : EndReason
     pub damaged : IsDamaged seen.start seen.mode seen.opened at why
     pub untouched : seen.ended ≡ seen.opened
+    pub crash : seen.leaves_as_before
     pub refused : SaysTo seen.before seen.after (damage at why) sink_failed sink_fails
 
-  -- status 6: nothing was run or printed. The disk is as it was found, and has counted no fault.
+  -- Status 6: nothing was run or printed. The disk is as it was found, and has counted no fault. A crash leaves no
+  -- less.
   pub record RanNothing (failed fails : ℕ) : Type 0 where
     pub untouched : IsAsFound seen.start seen.opened seen.ended
+    pub crash : seen.leaves_as_found
     pub counted : fails ≡ failed
     pub silent : seen.after ≡ seen.before
 

@@ -34,28 +34,33 @@ use Rattle.program_text.specs.Refusals.{damage, script_fault, source_fault, disk
 abbrev pub PrintsRefusal : Option (List ℕ) → Option (List ℕ) → ℕ → ℕ → List ℕ → Status → Status → Type 0
 PrintsRefusal old new failed fails text wanted given = (given ≡ wanted) × SaysTo old new text failed fails
 
--- the refusal's text was printed, or there was no memory for it and nothing was printed
+-- There was no memory for a text. Nothing was printed, and the sink has counted no fault.
+abbrev pub SaysNothing : Option (List ℕ) → Option (List ℕ) → ℕ → ℕ → Status → Type 0
+SaysNothing old new failed fails given = (given ≡ status.Memory) × (new ≡ old) × (fails ≡ failed)
+
+-- the refusal's text was printed, or there was no memory for it
 abbrev pub Refuses : Option (List ℕ) → Option (List ℕ) → ℕ → ℕ → List ℕ → Status → Status → Type 0
 Refuses old new failed fails text wanted given =
-    PrintsRefusal old new failed fails text wanted given ⊎ ((given ≡ status.Memory) × (new ≡ old))
+    PrintsRefusal old new failed fails text wanted given ⊎ SaysNothing old new failed fails given
 
 abbrev pub TellsReadError : Option (List ℕ) → Option (List ℕ) → ℕ → ℕ → ReadError → Status → Type 0
 TellsReadError old new failed fails (read.Fault count) given =
     PrintsRefusal old new failed fails (source_fault count) status.Source given
 TellsReadError old new failed fails (read.Script line kind) given =
     Refuses old new failed fails (script_fault (record { line = line; kind = kind })) status.Script given
-TellsReadError old new failed fails read.NoMemory given = (given ≡ status.Memory) × (new ≡ old)
+TellsReadError old new failed fails read.NoMemory given = SaysNothing old new failed fails given
 
--- The status of an outcome's text. At 0 the sink counted no fault; at 5 it failed, and took a prefix of the text; at 3
--- the log has a fault; at 6 there was no memory for the text, or for a client
+-- The status of an outcome's text. At 5 the sink failed, and took a prefix of the text; else it has counted no fault.
+-- At 3 the log has a fault; at 6 there was no memory for the text, or for a client.
 abbrev pub EndsWithOutcome : Option (List ℕ) → Option (List ℕ) → ℕ → ℕ → Outcome Pairs → List ℕ → Status → Type 0
 EndsWithOutcome old new failed fails shown text status.Done = Appends old new text × (shown.fault ≡ None)
     × (ran_short shown ≡ false) × (fails ≡ failed)
 EndsWithOutcome old new failed fails shown text status.Disk = Appends old new text × IsSome shown.fault
+    × (fails ≡ failed)
 EndsWithOutcome old new failed fails shown text status.Sink = Rose failed fails × (n : ℕ)
     × Appends old new (take n text)
-EndsWithOutcome old new failed fails shown text status.Memory = (new ≡ old)
-    ⊎ (Appends old new text × (shown.fault ≡ None) × (ran_short shown ≡ true))
+EndsWithOutcome old new failed fails shown text status.Memory = ((new ≡ old)
+    ⊎ (Appends old new text × (shown.fault ≡ None) × (ran_short shown ≡ true))) × (fails ≡ failed)
 EndsWithOutcome old new failed fails shown text other = ⊥
 
 -- the status of an outcome that was printed whole
@@ -79,28 +84,28 @@ TellsEnd form old new failed fails (end.NotEmpty len) given =
     Refuses old new failed fails (not_empty len) status.NotEmpty given
 TellsEnd form old new failed fails (end.Damage at why) given =
     Refuses old new failed fails (damage at why) status.Damage given
-TellsEnd form old new failed fails end.NoMemory given = (given ≡ status.Memory) × (new ≡ old)
-TellsEnd form old new failed fails end.NoOutcome given = (given ≡ status.Memory) × (new ≡ old)
+TellsEnd form old new failed fails end.NoMemory given = SaysNothing old new failed fails given
+TellsEnd form old new failed fails end.NoOutcome given = SaysNothing old new failed fails given
 TellsEnd form old new failed fails (end.Ran shown) given = TellsOutcome form old new failed fails shown given
 
 -- the text is that of whatever recovery the values show
 abbrev pub IsTextOf : Recovered → List ℕ → Type 0
 IsTextOf shown text = (r : recovery.Recovered) → ShowsRecovered shown r → text ≡ model.recovered_text r
 
--- The status of a recovery's text. At 0 the sink counted no fault; at 5 it failed, and took a prefix of the text; at 6
--- there was no memory for the text.
+-- The status of a recovery's text. At 5 the sink failed, and took a prefix of the text; else it has counted no fault.
+-- At 6 there was no memory for the text.
 abbrev pub EndsWithRecovery : Option (List ℕ) → Option (List ℕ) → ℕ → ℕ → Recovered → Status → Type 0
 EndsWithRecovery old new failed fails shown status.Done = (text : List ℕ) × IsTextOf shown text × Appends old new text
     × (fails ≡ failed)
 EndsWithRecovery old new failed fails shown status.Sink = Rose failed fails × (text : List ℕ) × IsTextOf shown text
     × (n : ℕ) × Appends old new (take n text)
-EndsWithRecovery old new failed fails shown status.Memory = new ≡ old
+EndsWithRecovery old new failed fails shown status.Memory = (new ≡ old) × (fails ≡ failed)
 EndsWithRecovery old new failed fails shown other = ⊥
 
 abbrev pub TellsRecoverError : Option (List ℕ) → Option (List ℕ) → ℕ → ℕ → RecoverError → Status → Type 0
 TellsRecoverError old new failed fails (none.Fault count) given =
     PrintsRefusal old new failed fails (disk_fault count) status.Disk given
-TellsRecoverError old new failed fails none.NoMemory given = (given ≡ status.Memory) × (new ≡ old)
+TellsRecoverError old new failed fails none.NoMemory given = SaysNothing old new failed fails given
 TellsRecoverError old new failed fails (none.Damage at why) given =
     Refuses old new failed fails (damage at why) status.Damage given
 
@@ -112,20 +117,20 @@ TellsRecovery old new failed fails (Err why) given = TellsRecoverError old new f
 abbrev pub IsReplayText : Replayed → List ℕ → Type 0
 IsReplayText shown text = (r : core.Replayed) → ShowsReplayed shown r → text ≡ replay_text r
 
--- The status of a schedule's text. At 0 the sink counted no fault; at 5 it failed, and took a prefix of the text; at 6
--- there was no memory for the text.
+-- The status of a schedule's text. At 5 the sink failed, and took a prefix of the text; else it has counted no fault.
+-- At 6 there was no memory for the text.
 abbrev pub EndsWithReplay : Option (List ℕ) → Option (List ℕ) → ℕ → ℕ → Replayed → Status → Type 0
 EndsWithReplay old new failed fails shown status.Done = (text : List ℕ) × IsReplayText shown text × Appends old new text
     × (fails ≡ failed)
 EndsWithReplay old new failed fails shown status.Sink = Rose failed fails × (text : List ℕ) × IsReplayText shown text
     × (n : ℕ) × Appends old new (take n text)
-EndsWithReplay old new failed fails shown status.Memory = new ≡ old
+EndsWithReplay old new failed fails shown status.Memory = (new ≡ old) × (fails ≡ failed)
 EndsWithReplay old new failed fails shown other = ⊥
 
 -- the status of a schedule's text, or there was no memory for the result itself
 abbrev pub TellsReplay : Option (List ℕ) → Option (List ℕ) → ℕ → ℕ → Result Replayed NoMemory → Status → Type 0
 TellsReplay old new failed fails (Ok shown) given = EndsWithReplay old new failed fails shown given
-TellsReplay old new failed fails (Err why) given = (given ≡ status.Memory) × (new ≡ old)
+TellsReplay old new failed fails (Err why) given = SaysNothing old new failed fails given
 
 -- a status's number
 abbrev pub code : Status → ℕ

@@ -2,6 +2,7 @@
 
 ghost use Rattle.std.specs.Prelude.{◌≡◌, ◌≢◌, ◌⊎◌, ℕ};
 ghost use Rattle.model_base.specs.Counts.{Rose};
+ghost use Rattle.log_writer.specs.Opening.{LeavesAsBefore};
 ghost use Rattle.model_base.specs.declared.log.EndReason.{EndReason};
 ghost use Rattle.program_text.specs.Refusals.{damage, disk_fault};
 ghost use Rattle.run_outcome.specs.declared.log_start.LogStart.TheVariants.{Behind};
@@ -27,11 +28,12 @@ pub fn recover_log<D: Disk, K: Sink>(
 ) -> Ended<D>
     ensures status { (result.status ≡ 0) ⊎ (result.status ≡ 3) ⊎ (result.status ≡ 5) ⊎ (result.status ≡ 6)
         ⊎ (result.status ≡ 8) }
-    ensures no_fault { result.status ≡ 0 → K.faults sink.new ≡ K.faults sink.old }
+    ensures no_fault { (result.status ≡ 0) ⊎ (result.status ≡ 6) → K.faults sink.new ≡ K.faults sink.old }
     ensures sink_failed { result.status ≡ 5 → Rose (K.faults sink.old) (K.faults sink.new) }
     ensures disk_failed { result.status ≡ 3 → Rose (D.faults disk) (D.faults result.disk) }
     ensures fault_is_told { result.status ≢ 3 → D.faults result.disk ≡ D.faults disk }
     ensures disk_as_before { D.told result.disk ≡ D.told disk }
+    ensures crash { LeavesAsBefore ⟦<D as Disk>⟧ disk result.disk }
     ensures recovered { WhereAllTold (K.taken sink.old) (K.taken sink.new) (D.told disk)
         (λ before after d. result.status ≡ 0 → Recovers number mode before after d.content) }
     ensures recovered_prefix { WhereAllTold (K.taken sink.old) (K.taken sink.new) (D.told disk)

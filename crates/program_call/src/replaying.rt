@@ -41,7 +41,7 @@ pub fn replay<S: Source, D, K: Sink>(
         × ((count : _) × IsReached (S.faults source.old) count (S.faults source.new)
         × SaysTo (K.taken sink.old) (K.taken sink.new) (source_fault count) (K.faults sink.old) (K.faults sink.new)) }
     ensures source_fault_is_told { result.status ≢ 4 → S.faults source.new ≡ S.faults source.old }
-    ensures no_fault { result.status ≡ 0 → K.faults sink.new ≡ K.faults sink.old }
+    ensures no_fault { (result.status ≡ 0) ⊎ (result.status ≡ 6) → K.faults sink.new ≡ K.faults sink.old }
     ensures sink_failed { result.status ≡ 5 → Rose (K.faults sink.old) (K.faults sink.new) }
     ensures read_to_end { (result.status ≡ 0) ⊎ (result.status ≡ 5)
         → IfSome (S.left source.new) (λ left. left ≡ []) }

@@ -8,7 +8,7 @@ ghost use Rattle.model_base.specs.History.{IsHistory};
 ghost use Rattle.run_outcome.specs.Shows.{ShowsOutcome};
 ghost use Rattle.program_call.specs.Texts.{SaysTo};
 ghost use Rattle.program_call.specs.Reports as reports;
-ghost use Rattle.program_call.specs.Reports.{TellsReadError, TellsEnd, TellsOutcome, TellsRecovery, TellsRecoverError, EndsWithRecovery, TellsReplay, EndsWithReplay, ran_status};
+ghost use Rattle.program_call.specs.Reports.{SaysNothing, TellsReadError, TellsEnd, TellsOutcome, TellsRecovery, TellsRecoverError, EndsWithRecovery, TellsReplay, EndsWithReplay, ran_status};
 
 use crate::reading::ReadError;
 use base_bytes::Bytes;
@@ -60,7 +60,8 @@ pub fn refuse<K: Sink>(sink: &mut K, text: &[u8])
 fn refuse_with<K: Sink>(sink: &mut K, text: Result<Bytes, NoMemory>, status: Status) -> Status
     ensures made { IfOk text (λ t. (result ≡ status) × SaysTo (K.taken sink.old) (K.taken sink.new) t
         (K.faults sink.old) (K.faults sink.new)) }
-    ensures none { OnErr text ((result ≡ Status.Memory) × (K.taken sink.new ≡ K.taken sink.old)) }
+    ensures none { OnErr text (SaysNothing (K.taken sink.old) (K.taken sink.new) (K.faults sink.old)
+        (K.faults sink.new) result) }
 {
     match text {
         Ok(text) => {

@@ -1,7 +1,7 @@
 -- How the log of a run was opened, or why it was not.
 use Rattle.std.proofs.Common.{◌≡◌, ◌⊎◌, inl, inr, ⊎_elim, ℕ, ◌≤◌, List, [], length, take, map, IfSome, Option, Some, None, refl, ap, sym, ◌∙◌, subst, arith}
 use Rattle.std.specs.Prelude.{⊤}
-use Rattle.base_devices.specs.Disk.{Disk, Told, all_safe, rewound}
+use Rattle.base_devices.specs.Disk.{Disk, IsImage, Told, TimePasses, IsOnlyNow, all_safe, rewound}
 use Rattle.base_devices.specs.declared.disk.Disk.{Ghosts}
 use Rattle.model_base.specs.Log.{Beginning, new_log, SpellsWhole}
 use Rattle.model_base.specs.Recovery.{Recovered, IsRecovered, logged_bytes}
@@ -12,13 +12,13 @@ use Rattle.log_writer.specs.declared.errors.OpenError.{OpenError}
 use Rattle.log_writer.specs.declared.errors.OpenError.TheVariants.{Fault, NotEmpty, NoMemory}
 use Rattle.log_writer.specs.declared.writer.LogWriter.{LogWriter}
 use Rattle.log_writer.specs.Words.{disk_of, fault_of}
-use Rattle.log_writer.specs.Opening.{HasOpened, HasReused, HasResumed, HasBegun, IsCauseOver, IsOpenError, IsReuseError}
-use Rattle.log_writer.proofs.Putting.{told_so}
+use Rattle.log_writer.specs.Opening.{HasOpened, HasReused, HasResumed, HasBegun, LeavesAsBefore, IsCause, CountStands, IsCauseOver, IsOpenError, IsReuseError}
+use Rattle.log_writer.proofs.Putting.{told_so, leaves_time}
 use Rattle.run_outcome.specs.declared.log_start.LogStart.{LogStart}
 use Rattle.run_outcome.specs.declared.log_start.LogStart.TheVariants.{New, Over, Behind}
 use Rattle.run_outcome.specs.Running.{Before, nothing, number_in, RecoversTo, GoesOnFrom, beginning_of, begun_on, RecoversKept, IfGoesOn, IsOpened, IsAsFound, GoesOn}
 use Rattle.log_recovery.specs.declared.modes.Mode.{Mode}
-use Rattle.run_execution.specs.Ends.{HasOpenedAs, IsOpenedFor, IsRefused, end_of}
+use Rattle.run_execution.specs.Ends.{HasOpenedAs, IsOpenedFor, LeavesAsFound, IsRefused, end_of}
 use Rattle.run_execution.proofs.SafeLogs.{KeepsBatches, keeps_none}
 
 -- what holds of any content holds of what a disk tells
@@ -44,6 +44,15 @@ kept_safe None None kept told same = tt
 kept_safe None (Some y) kept told same = told
 kept_safe (Some x) None kept told same = told
 kept_safe (Some x) (Some y) kept told same = told ∙ ap all_safe same
+
+-- since this very moment a crash might have left nothing of the disk but what it may leave now
+abbrev pub OnlyNow : {D : Type 0} → Ghosts D → D → Type 0
+OnlyNow ghosts disk = IsOnlyNow (ghosts.told disk) (ghosts.from disk) (ghosts.moment disk) (ghosts.since disk)
+
+-- while a disk is only looked at, a crash leaves what it might have left before
+pub leaves_looked : {D : Type 0} (ghosts : Ghosts D) (old new : D) → OnlyNow ghosts old → ghosts.told new ≡ ghosts.told old → TimePasses ghosts.told ghosts.moment ghosts.from ghosts.since old new → LeavesAsBefore ghosts old new
+leaves_looked ghosts old new only same time =
+    leaves_time ghosts old new (λ image. IfSome (ghosts.told old) (λ d. IsImage d image)) only time (λ image is. is) (λ image is. subst (λ (t : Option Disk). IfSome t (λ d. IsImage d image)) same is)
 
 -- What a run goes on from
 
@@ -126,6 +135,12 @@ module _ {D : Type 0} {ghosts : Ghosts D} where
   time_as (Over n) before disk log has_opened = let crash = has_opened.crash in record { later = crash.later; forgets = crash.forgets }
   time_as (Behind number) before disk log has_opened = let crash = (has_opened.0).crash in record { later = crash.later; forgets = crash.forgets }
 
+  -- and a crash leaves no less of it
+  pub crash_as : (start : LogStart) (before : Before) (disk : D) (log : LogWriter D ghosts) → OnlyNow ghosts disk → GoesOnFrom start (ghosts.told disk) before → HasOpenedAs start before disk log → LeavesAsFound ghosts start disk (disk_of log)
+  crash_as New before disk log only goes has_opened = leaves_looked ghosts disk (disk_of log) only (has_opened.looked_at).same (has_opened.looked_at).time
+  crash_as (Over n) before disk log only goes has_opened = has_opened.crash
+  crash_as (Behind number) before disk log only goes has_opened = inr (before, goes, (has_opened.0).crash)
+
   -- The log was opened for a run that goes on from nothing.
   pub opened_new : (disk : D) (log : LogWriter D ghosts) → HasOpened disk log → IsOpenedFor ghosts New disk (record { log = log; map = []; last = 0 })
   opened_new disk log has_opened = record { before = nothing; goes_on = refl; is_opened = has_opened; map = refl; last = refl; none = λ e. refl }
@@ -143,10 +158,19 @@ as_found start before (Some x) None R goes to told = absurd told
 as_found start before (Some x) (Some y) R goes to told = ⊎_elim (λ same. inl (ap (λ (d : Disk). Some d) same)) (λ r. inr (before, goes, to x y r)) told
 
 module _ {D : Type 0} (ghosts : Ghosts D) (disk now : D) where
-  pub refused_new : (mode : Mode) (why : OpenError) → IsOpenError ghosts disk now why → IsRefused ghosts New mode disk now (end_of why)
-  refused_new mode (Fault count) error = let cause = error.cause in let now_is = cause.1 in (inl (error.looked_at).same, (cause.0, omega (arith, now_is)))
-  refused_new mode (NotEmpty len) error = let cause = error.cause in (refl, cause.0, cause.1, (error.looked_at).same, error.no_fault)
-  refused_new mode NoMemory error = (inl (error.looked_at).same, error.no_fault)
+  pub refused_new : (mode : Mode) (why : OpenError) → OnlyNow ghosts disk → IsOpenError ghosts disk now why → IsRefused ghosts New mode disk now (end_of why)
+  refused_new mode why only error = by_cause why error.cause error.no_fault
+    where
+      same : ghosts.told now ≡ ghosts.told disk
+      same = (error.looked_at).same
+
+      crash : LeavesAsBefore ghosts disk now
+      crash = leaves_looked ghosts disk now only same (error.looked_at).time
+
+      by_cause : (why : OpenError) → IsCause ghosts disk now why → CountStands ghosts disk now why → IsRefused ghosts New mode disk now (end_of why)
+      by_cause (Fault count) cause stands = let now_is = cause.1 in (inl same, (cause.0, omega (arith, now_is)), crash)
+      by_cause (NotEmpty len) cause stands = (refl, cause.0, cause.1, same, stands, crash)
+      by_cause NoMemory cause stands = (inl same, stands, crash)
 
   pub refused_over : (n : ℕ) (mode : Mode) (why : OpenError) → IsReuseError ghosts disk now why → IsRefused ghosts (Over n) mode disk now (end_of why)
   refused_over n mode why error = by_cause why error.cause
@@ -155,9 +179,9 @@ module _ {D : Type 0} (ghosts : Ghosts D) (disk now : D) where
       found = as_found (Over n) nothing (ghosts.told disk) (ghosts.told now) (λ x y. y ≡ rewound x) refl (λ x y e. e) error.told
 
       by_cause : (why : OpenError) → IsCauseOver ghosts disk now why → IsRefused ghosts (Over n) mode disk now (end_of why)
-      by_cause (Fault count) cause = let now_is = cause.1 in (found, (cause.0, omega (arith, now_is)))
+      by_cause (Fault count) cause = let now_is = cause.1 in (found, (cause.0, omega (arith, now_is)), error.crash)
       by_cause (NotEmpty len) cause = absurd cause
-      by_cause NoMemory cause = (found, ap ghosts.faults cause)
+      by_cause NoMemory cause = (found, ap ghosts.faults cause, error.crash)
 
   pub time_new : (why : OpenError) → IsOpenError ghosts disk now why → GoesOn ghosts.moment ghosts.from disk now
   time_new why error = let time = (error.looked_at).time in record { later = time.later; forgets = time.forgets }

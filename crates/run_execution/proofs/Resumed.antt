@@ -1,7 +1,7 @@
 -- A log that goes on after what is recovered of it.
-use Rattle.std.proofs.Common.{◌≡◌, ◌⊎◌, inl, ℕ, ◌≤◌, List, length, take, map, replicate, IfSome, Option, Some, None, ap, sym, ◌∙◌, subst, arith, length-take}
+use Rattle.std.proofs.Common.{◌≡◌, ◌⊎◌, inl, inr, ℕ, ◌≤◌, List, length, take, map, replicate, IfSome, Option, Some, None, ap, sym, ◌∙◌, subst, arith, length-take}
 use Rattle.std.proofs.lemmas.List.{length-replicate}
-use Rattle.base_devices.specs.Disk.{Disk, IsImage, Told, TimePasses, all_safe, cut_at}
+use Rattle.base_devices.specs.Disk.{Disk, Told, TimePasses, all_safe, cut_at}
 use Rattle.base_devices.specs.declared.disk.Disk.{Ghosts}
 use Rattle.model_base.specs.Counts.{Rose}
 use Rattle.model_base.specs.Log.{SpellsWhole}
@@ -14,13 +14,13 @@ use Rattle.log_writer.specs.declared.errors.OpenError.{OpenError}
 use Rattle.log_writer.specs.declared.errors.OpenError.TheVariants.{Fault, NotEmpty, NoMemory}
 use Rattle.log_writer.specs.declared.writer.LogWriter.{LogWriter}
 use Rattle.log_writer.specs.Words.{disk_of}
-use Rattle.log_writer.specs.Opening.{MayBeLeftOf, SpellsInFront, HasResumed, IsCauseOver, IsResumeError}
-use Rattle.log_writer.proofs.Putting.{leaves_more, leaves_time}
-use Rattle.log_writer.proofs.Beginning.{left_of_self}
+use Rattle.log_writer.specs.Opening.{MayBeLeftOf, LeavesOf, SpellsInFront, HasResumed, IsCauseOver, IsResumeError}
+use Rattle.log_writer.proofs.Putting.{leaves_more}
+use Rattle.log_writer.proofs.Beginning.{leaves_before_of}
 use Rattle.run_outcome.specs.declared.log_start.LogStart.TheVariants.{Behind}
 use Rattle.run_outcome.specs.Running.{Before, GoesOnFrom, IsAsFound, GoesOn}
-use Rattle.run_execution.specs.Ends.{HasAcceptedEnd, HasOpenedAs, IsRefused, end_of}
-use Rattle.run_execution.proofs.Openings.{as_found}
+use Rattle.run_execution.specs.Ends.{HasAcceptedEnd, HasOpenedAs, LeavesAsFound, IsRefused, end_of}
+use Rattle.run_execution.proofs.Openings.{OnlyNow, leaves_looked, as_found}
 
 -- What is recovered, and the bytes that are kept. Where the disk doesn't tell them, as many zeros take their place.
 
@@ -72,42 +72,46 @@ module _ (number : Option ℕ) (shown : Recovered) where
           record { within = within d has; records = records; spelled = subst (λ (n : ℕ). SpellsWhole number (take n d.content) records) (sym (has.shows).kept) keeps.spelled }
 
   module _ {D : Type 0} (ghosts : Ghosts D) (disk read : D) (same : ghosts.told read ≡ ghosts.told disk) (time : TimePasses ghosts.told ghosts.moment ghosts.from ghosts.since disk read) (no_fault : ghosts.faults read ≡ ghosts.faults disk) (has : IsRecoveredOf (ghosts.told disk)) where
-    -- A log that goes on over a disk that was read goes on over the disk as it was before it was read.
-    read_first : (log : LogWriter D ghosts) → ((image : List ℕ) → ghosts.from disk ≤ ghosts.moment disk → ghosts.since disk (ghosts.moment disk) image → IfSome (ghosts.told disk) (λ d. IsImage d image))
-        → HasResumed read shown.kept number log → HasResumed disk shown.kept number log
-    read_first log only resumed =
+    -- What a crash leaves of a disk that was read, it leaves of the disk as it was before it was read.
+    leaves_first : (now : D) → OnlyNow ghosts disk → LeavesOf ghosts read now shown.kept → LeavesOf ghosts disk now shown.kept
+    leaves_first now only leaves =
         let kept : ℕ = shown.kept in
-        let left : List ℕ → Type 0 = MayBeLeftOf (ghosts.told disk) kept in
+        leaves_more ghosts.moment ghosts.from ghosts.since (MayBeLeftOf (ghosts.told disk) kept) (MayBeLeftOf (ghosts.told read) kept) disk read now
+        (leaves_before_of ghosts disk read kept (leaves_looked ghosts disk read only same time)) leaves (λ image may. subst (λ (t : Option Disk). MayBeLeftOf t kept image) same may)
+
+    -- A log that goes on over a disk that was read goes on over the disk as it was before it was read.
+    read_first : (log : LogWriter D ghosts) → OnlyNow ghosts disk → HasResumed read shown.kept number log → HasResumed disk shown.kept number log
+    read_first log only resumed =
         record {
-          told = subst (λ (t : Option Disk). Told t (ghosts.told (disk_of log)) (λ x y. y ≡ all_safe (take kept x.content))) same resumed.told;
+          told = subst (λ (t : Option Disk). Told t (ghosts.told (disk_of log)) (λ x y. y ≡ all_safe (take shown.kept x.content))) same resumed.told;
           number_is = resumed.number_is;
           len = resumed.len;
           fault = resumed.fault;
           no_fault = resumed.no_fault ∙ no_fault;
-          crash = leaves_more ghosts.moment ghosts.from ghosts.since left (MayBeLeftOf (ghosts.told read) kept) disk read (disk_of log)
-              (leaves_time ghosts disk read left only time (left_of_self (ghosts.told disk) kept) (λ image is. left_of_self (ghosts.told disk) kept image (subst (λ (t : Option Disk). IfSome t (λ d. IsImage d image)) same is)))
-              resumed.crash (λ image may. subst (λ (t : Option Disk). MayBeLeftOf t kept image) same may);
+          crash = leaves_first (disk_of log) only resumed.crash;
         }
 
-    pub opened_behind : (log : LogWriter D ghosts) → ((image : List ℕ) → ghosts.from disk ≤ ghosts.moment disk → ghosts.since disk (ghosts.moment disk) image → IfSome (ghosts.told disk) (λ d. IsImage d image))
-        → HasResumed read shown.kept number log → HasOpenedAs (Behind number) (before_of (ghosts.told disk) shown) disk log
+    pub opened_behind : (log : LogWriter D ghosts) → OnlyNow ghosts disk → HasResumed read shown.kept number log → HasOpenedAs (Behind number) (before_of (ghosts.told disk) shown) disk log
     opened_behind log only resumed =
         (subst (λ (n : ℕ). HasResumed disk n number log) (sym (kept_len (ghosts.told disk) has)) (read_first log only resumed), kept_there (ghosts.told disk) has)
 
     -- and where the log was not opened, why
     module _ (now : D) where
-      pub refused_behind : (mode : Mode) (why : OpenError) → IsResumeError ghosts read now shown.kept why → IsRefused ghosts (Behind number) mode disk now (end_of why)
-      refused_behind mode why error = by_cause why error.cause
+      pub refused_behind : (mode : Mode) (why : OpenError) → OnlyNow ghosts disk → IsResumeError ghosts read now shown.kept why → IsRefused ghosts (Behind number) mode disk now (end_of why)
+      refused_behind mode why only error = by_cause why error.cause
         where
           found : IsAsFound (Behind number) (ghosts.told disk) (ghosts.told now)
           found = as_found (Behind number) (before_of (ghosts.told disk) shown) (ghosts.told disk) (ghosts.told now) (λ x y. y ≡ cut_at shown.kept x) (goes_behind (ghosts.told disk) has)
               (λ x y e. inl (e ∙ ap (λ (n : ℕ). cut_at n x) (sym (kept_len (ghosts.told disk) has))))
               (subst (λ (t : Option Disk). Told t (ghosts.told now) (λ x y. (y ≡ x) ⊎ (y ≡ cut_at shown.kept x))) same error.told)
 
+          crash : LeavesAsFound ghosts (Behind number) disk now
+          crash = inr (before_of (ghosts.told disk) shown, goes_behind (ghosts.told disk) has, subst (λ (n : ℕ). LeavesOf ghosts disk now n) (sym (kept_len (ghosts.told disk) has)) (leaves_first now only error.crash))
+
           by_cause : (why : OpenError) → IsCauseOver ghosts read now why → IsRefused ghosts (Behind number) mode disk now (end_of why)
-          by_cause (Fault count) cause = let now_is = cause.1 in (found, (subst (λ (n : ℕ). Rose n count) no_fault cause.0, omega (arith, now_is)))
+          by_cause (Fault count) cause = let now_is = cause.1 in (found, (subst (λ (n : ℕ). Rose n count) no_fault cause.0, omega (arith, now_is)), crash)
           by_cause (NotEmpty len) cause = absurd cause
-          by_cause NoMemory cause = (found, ap ghosts.faults cause ∙ no_fault)
+          by_cause NoMemory cause = (found, ap ghosts.faults cause ∙ no_fault, crash)
 
       pub time_behind : (why : OpenError) → IsResumeError ghosts read now shown.kept why → GoesOn ghosts.moment ghosts.from disk now
       time_behind why error =

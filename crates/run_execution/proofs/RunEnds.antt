@@ -31,7 +31,7 @@ use Rattle.run_execution.specs.declared.end.RunEnd.TheVariants.{NoMemory}
 use Rattle.log_recovery.specs.declared.modes.Mode.{Mode}
 use Rattle.run_execution.specs.Ends.{HasOutcome, HasOpenedAs, IsOpenedFor, IsRefused, options_behind, execution_on, EndsOn, end_of_run}
 use Rattle.run_execution.proofs.LegalRuns.{small_entries, refused_for_themselves}
-use Rattle.run_execution.proofs.Openings.{ImageLaw, keeps_as, recovers_as, content_as, empty_as, found_as, no_fault_as}
+use Rattle.run_execution.proofs.Openings.{OnlyNow, ImageLaw, keeps_as, recovers_as, content_as, empty_as, found_as, no_fault_as, crash_as}
 use Rattle.run_execution.proofs.SafeLogs.{len_is, safe_log, left_since, kept_left, held_images, is_written, goes_on, later}
 
 -- the same result for equal settings, scripts and calls
@@ -145,11 +145,13 @@ module _ {D : Type 0} {ghosts : Ghosts D} where
             }
 
     -- how the run ends, from its result
-    pub is_end : (mode : Mode) (ran : ClientsEnd (LogWriter D ghosts)) → ComesTo settings script (Wrote opened) fault_of (λ l. ghosts.faults (disk_of l)) ran
+    pub is_end : (mode : Mode) → OnlyNow ghosts disk → (ran : ClientsEnd (LogWriter D ghosts)) → ComesTo settings script (Wrote opened) fault_of (λ l. ghosts.faults (disk_of l)) ran
         → EndsOn ghosts options start mode script disk (disk_of (log_of ran)) (end_of_run ran)
-    is_end mode (NotRun log) wrote = subst (λ (l : LogWriter D ghosts). IsRefused ghosts start mode disk (disk_of l) NoMemory) (sym (not_written opened [] log wrote refl)) (found_as start before disk opened goes has_opened, no_fault_as start before disk opened has_opened)
-    is_end mode (Untold log last) ran = (before, goes, has_outcome log last ran)
-    is_end mode (Told log last transcripts history state) told = (before, goes, has_run log last transcripts history state told.0 told.1)
+    is_end mode only (NotRun log) wrote =
+        subst (λ (l : LogWriter D ghosts). IsRefused ghosts start mode disk (disk_of l) NoMemory) (sym (not_written opened [] log wrote refl))
+        (found_as start before disk opened goes has_opened, no_fault_as start before disk opened has_opened, crash_as start before disk opened only goes has_opened)
+    is_end mode only (Untold log last) ran = (before, goes, has_outcome log last ran)
+    is_end mode only (Told log last transcripts history state) told = (before, goes, has_run log last transcripts history state told.0 told.1)
 
   -- the disk's time has gone on, and its count of faults hasn't fallen, whether calls wrote the log or none did
   abbrev WentOn : LogWriter D ghosts → LogWriter D ghosts → Type 0

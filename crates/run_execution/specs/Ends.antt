@@ -1,5 +1,5 @@
 -- How a run ends, and what is true then.
-use Rattle.std.specs.Prelude.{◌≡◌, ◌≢◌, ◌<◌, ℕ, max, List, [], length, take, Option, None, IfSome, ⊤}
+use Rattle.std.specs.Prelude.{◌≡◌, ◌≢◌, ◌⊎◌, ◌<◌, ℕ, max, List, [], length, take, Option, None, IfSome, ⊤}
 use Rattle.std.specs.List.{AllByRecursion}
 use Rattle.base_devices.specs.Disk.{Disk, Told}
 use Rattle.base_devices.specs.declared.disk.Disk.{Ghosts}
@@ -21,7 +21,7 @@ use Rattle.log_writer.specs.declared.errors.OpenError.{OpenError}
 use Rattle.log_writer.specs.declared.errors.OpenError.TheVariants as why
 use Rattle.log_writer.specs.declared.writer.LogWriter.{LogWriter}
 use Rattle.log_writer.specs.Words.{disk_of, len_of, fault_of}
-use Rattle.log_writer.specs.Opening.{HasOpened, HasReused, HasResumed}
+use Rattle.log_writer.specs.Opening.{HasOpened, HasReused, HasResumed, LeavesOf, LeavesAsBefore}
 use Rattle.log_writer.specs.Written.{IsWrittenFrom, IsLeftSince, Wrote}
 use Rattle.run_threads.specs.declared.run.ClientsEnd.{ClientsEnd}
 use Rattle.run_threads.specs.declared.run.ClientsEnd.TheVariants as clients
@@ -127,19 +127,29 @@ Ran end.NoMemory = ⊥
 Ran end.NoOutcome = ⊤
 Ran (end.Ran shown) = ⊤
 
+-- What a crash may leave at any moment of a call in which nothing was run: only what it might have left before. Where
+-- the log should go on, the bytes that it doesn't keep may have been taken off; of what was safe, those that it keeps
+-- are still certain to stay.
+abbrev pub LeavesAsFound : {D : Type 0} → Ghosts D → LogStart → D → D → Type 0
+LeavesAsFound ghosts New old new = LeavesAsBefore ghosts old new
+LeavesAsFound ghosts (Over number) old new = LeavesAsBefore ghosts old new
+LeavesAsFound ghosts (Behind number) old new = LeavesAsBefore ghosts old new
+    ⊎ ((before : Before) × GoesOnFrom (Behind number) (ghosts.told old) before
+    × LeavesOf ghosts old new (length before.kept))
+
 module _ {D : Type 0} (ghosts : Ghosts D) (start : LogStart) (mode : Mode) (old new : D) where
-  -- The log was not opened, or no client ran, and the run's end says why. The disk is as it was found. Its count of
-  -- faults is as before, unless the end is a fault.
+  -- The log was not opened, or no client ran, and the run's end says why. The disk is as it was found, and a crash
+  -- leaves no less. Its count of faults is as before, unless the end is a fault.
   abbrev pub IsRefused : RunEnd → Type 0
   IsRefused (end.DiskFault count) = IsAsFound start (ghosts.told old) (ghosts.told new)
-      × IsReached (ghosts.faults old) count (ghosts.faults new)
+      × IsReached (ghosts.faults old) count (ghosts.faults new) × LeavesAsFound ghosts start old new
   IsRefused (end.NotEmpty len) = (start ≡ New) × (0 < len)
       × IfSome (ghosts.told old) (λ d. length d.content ≡ len)
-      × (ghosts.told new ≡ ghosts.told old) × (ghosts.faults new ≡ ghosts.faults old)
+      × (ghosts.told new ≡ ghosts.told old) × (ghosts.faults new ≡ ghosts.faults old) × LeavesAsBefore ghosts old new
   IsRefused (end.Damage at why) = IsDamaged start mode (ghosts.told old) at why
-      × (ghosts.told new ≡ ghosts.told old) × (ghosts.faults new ≡ ghosts.faults old)
+      × (ghosts.told new ≡ ghosts.told old) × (ghosts.faults new ≡ ghosts.faults old) × LeavesAsBefore ghosts old new
   IsRefused end.NoMemory = IsAsFound start (ghosts.told old) (ghosts.told new)
-      × (ghosts.faults new ≡ ghosts.faults old)
+      × (ghosts.faults new ≡ ghosts.faults old) × LeavesAsFound ghosts start old new
   IsRefused end.NoOutcome = ⊥
   IsRefused (end.Ran shown) = ⊥
 

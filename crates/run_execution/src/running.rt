@@ -89,15 +89,13 @@ fn run_over<
         last: options.last.max(last),
         ..options
     };
+    runs_leave_safe_logs::<D>();
     match open_engine(
         host.alloc, log, clock, clients, last, &map, shared, options, shards, pipelined,
     ) {
-        Ok((engine, clients)) => {
-            runs_leave_safe_logs::<D>();
-            end_run(run_engine(
-                host.rt, host.alloc, engine, clients, map, commands, host.gate,
-            ))
-        }
+        Ok((engine, clients)) => end_run(run_engine(
+            host.rt, host.alloc, engine, clients, map, commands, host.gate,
+        )),
         Err((log, _clock, _gate)) => (log.into_disk(), RunEnd::NoMemory),
     }
 }

@@ -47,6 +47,7 @@ returns-in-Recover-clause-recover g c = λ wanted mode asked.
       one = does.status;
       source_untouched = refl;
       as_before = does.disk_as_before;
+      crash = does.crash;
       no_fault = does.no_fault;
       sink_failed = does.sink_failed;
       disk_failed = does.disk_failed;

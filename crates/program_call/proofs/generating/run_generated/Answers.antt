@@ -14,9 +14,13 @@ use Rattle.run_scripts.specs.declared.script.Script.{Script}
 use Rattle.run_scripts.specs.Scripts.{commands_of}
 use Rattle.run_outcome.specs.Running.{Before, nothing}
 use Rattle.run_execution.specs.Ends.{options_behind}
+use Rattle.run_outcome.specs.declared.log_start.LogStart.TheVariants.{New}
+use Rattle.log_recovery.specs.declared.modes.Mode.TheVariants.{Point}
+use Rattle.log_writer.proofs.Beginning.{leaves_before}
+use Rattle.program_call.specs.declared.report.Form.TheVariants as form
 use Rattle.program_call.specs.Asking.{usual_options}
 use Rattle.program_call.specs.Outcomes.{IsGenerated}
-use Rattle.program_call.proofs.Runs.{runs_retold, completes, over_empty}
+use Rattle.program_call.proofs.Runs.{runs_none, runs_retold, completes, over_empty}
 use Rattle.program_call.proofs.generating.run_generated.Goals as goal
 
 has_clients : (script : Script) (seed clients batches : ℕ) → commands_of script ≡ script_of_seed seed clients batches → length script.clients.items ≡ clients
@@ -35,6 +39,14 @@ pub run_and_tell-requires-clause-clients : goal.run_and_tell-requires-clause-cli
 run_and_tell-requires-clause-clients g c κs within =
     let count = has_clients c.in-Ok.script c.args.seed c.args.clients c.args.batches c.in-Ok.ensures.ok in
     (omega (arith, count), omega (arith, count))
+
+-- The disk's laws hold wherever a thread may run, and so in this one.
+pub returns-in_default-clause-runs : goal.returns-in_default-clause-runs
+returns-in_default-clause-runs g c =
+    let disk = c.args.disk in
+    let laws = g.met.D.Disk g.world.𝓛 g.world.𝓜 g.world.𝓡 ((λ s x. x), (λ x. x), (λ x. x), λ x. x) in
+    rw c.end_with.ensures.disk (runs_none g.D.Disk g.K.Sink (IsGenerated c.args.seed c.args.clients c.args.batches) form.Summary usual_options New Point disk c.args.sink.now
+    (leaves_before g.D.Disk disk (laws.only_now disk)) _ c.end_with.ensures.status)
 
 pub returns-clause-runs : goal.returns-clause-runs
 returns-clause-runs g c =

@@ -1,6 +1,7 @@
--- What is printed, also where the disk failed, and what the devices have counted.
+-- What is printed, also where the disk failed, what the devices have counted, and what a crash leaves.
 use Rattle.std.proofs.Common.{ap, ◌∙◌, subst}
 use Rattle.program_call.specs.Texts.{NoFault}
+use Rattle.program_call.proofs.Leaving.{leaves_read}
 use Rattle.program_call.proofs.Recoveries.{recovery_refused, recovery_damaged, recovery_whole, recovery_front, recovery_ended, fault_told, none_counted}
 use Rattle.program_call.proofs.recovering.recover_log.Goals as goal
 
@@ -15,6 +16,11 @@ pub returns-clause-no_fault : goal.returns-clause-no_fault
 returns-clause-no_fault g c =
     none_counted (g.K.Sink.faults c.args.sink.now) (g.K.Sink.faults c.tell_recovery.new.sink) c.end_with.result.status (g.K.Sink.taken c.args.sink.now) (g.K.Sink.taken c.tell_recovery.new.sink)
     c.recover_mode-found.result c.tell_recovery.result c.end_with.ensures.status c.tell_recovery.ensures
+
+pub returns-clause-crash : goal.returns-clause-crash
+returns-clause-crash g c =
+    let reads = c.recover_mode-found.ensures.disk in
+    rw c.end_with.ensures.disk (leaves_read g.D.Disk c.args.disk c.recover_mode-found.new.disk (g.met.D.Disk.only_now c.args.disk) reads.same reads.time)
 
 pub returns-clause-fault_is_told : goal.returns-clause-fault_is_told
 returns-clause-fault_is_told g c = λ other.

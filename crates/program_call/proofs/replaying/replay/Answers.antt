@@ -5,7 +5,7 @@ use Rattle.run_scripts.specs.Schedules.{schedule_of}
 use Rattle.run_scripts.specs.ReplayLanguage.{replay_grammar, event_words}
 use Rattle.program_call.specs.Reading.{IsScheduleError}
 use Rattle.program_call.proofs.ReplayEndings.{replays_front, replays_whole, replay_counted, replay_completes}
-use Rattle.program_call.proofs.Unread.{source_failed, fault_said, unread_stood, unread_schedule_completes, unread_is_not_run}
+use Rattle.program_call.proofs.Unread.{source_failed, fault_said, unread_stood, unread_counted, unread_schedule_completes, unread_is_not_run}
 use Rattle.program_call.proofs.replaying.replay.Goals as goal
 
 pub returns-in-Ok-clause-replayed_prefix : goal.returns-in-Ok-clause-replayed_prefix
@@ -24,6 +24,11 @@ pub returns-in-Ok-clause-no_fault : goal.returns-in-Ok-clause-no_fault
 returns-in-Ok-clause-no_fault g c =
     replay_counted c.replay_schedule-replayed.result (g.K.Sink.faults c.args.sink.now) (g.K.Sink.faults c.tell_replay.new.sink) c.end_with.result.status c.tell_replay.result
     (g.K.Sink.taken c.args.sink.now) (g.K.Sink.taken c.tell_replay.new.sink) c.end_with.ensures.status c.tell_replay.ensures
+
+pub returns-in-Err-clause-no_fault : goal.returns-in-Err-clause-no_fault
+returns-in-Err-clause-no_fault g c =
+    unread_counted (g.K.Sink.faults c.args.sink.now) (g.K.Sink.faults c.tell_read_error.new.sink) c.end_with-in-Err.result.status (g.K.Sink.taken c.args.sink.now) (g.K.Sink.taken c.tell_read_error.new.sink)
+    c.tell_read_error.result c.end_with-in-Err.ensures.status c.in-Err.error c.tell_read_error.ensures
 
 pub returns-in-Err-clause-source_fault_is_told : goal.returns-in-Err-clause-source_fault_is_told
 returns-in-Err-clause-source_fault_is_told g c =

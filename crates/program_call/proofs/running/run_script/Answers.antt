@@ -3,9 +3,11 @@ use Rattle.std.proofs.Common.{◌≡◌, ◌⊎◌, ℕ, List, length, Option, S
 use Rattle.base_devices.specs.Disk.{Disk}
 use Rattle.model_base.specs.Script.{Script, script_of, whole_grammar}
 use Rattle.run_scripts.specs.Scripts.{commands_of}
+use Rattle.log_writer.proofs.Beginning.{leaves_before}
 use Rattle.program_call.specs.declared.report.Form.TheVariants as form
 use Rattle.program_call.specs.Reading.{IsScriptError}
 use Rattle.program_call.specs.Outcomes.{IsScript, SaysScript, observation_of}
+use Rattle.program_call.proofs.Leaving.{as_found}
 use Rattle.program_call.proofs.Endings.{unread}
 use Rattle.program_call.proofs.Runs.{runs_script, runs_retold, completes}
 use Rattle.program_call.proofs.Unread.{source_failed, fault_said, unread_stood, unread_completes}
@@ -24,7 +26,12 @@ pub returns-in-Ok-clause-runs : goal.returns-in-Ok-clause-runs
 returns-in-Ok-clause-runs g c =
     let left = g.S.Source.left c.args.source.now in
     let script = commands_of c.in-Ok.script in
-    runs_retold (observation_of g.D.Disk g.K.Sink (IsScript script) form.Whole c.args.setup.options c.args.setup.start c.args.setup.mode c.args.disk c.run_and_tell.result.disk c.args.sink.now c.run_and_tell.new.sink) (SaysScript left) (λ s is. says_it left script s c.in-Ok.ensures.script.said is) _ _ _ _ _ _ _ c.run_and_tell.ensures.runs
+    let was = c.args.disk in
+    let disk = c.run_and_tell.result.disk in
+    let before = c.args.sink.now in
+    let after = c.run_and_tell.new.sink in
+    runs_retold (observation_of g.D.Disk g.K.Sink (IsScript script) form.Whole c.args.setup.options c.args.setup.start c.args.setup.mode was disk before after) (SaysScript left) (λ s is. says_it left script s c.in-Ok.ensures.script.said is)
+    g.D.Disk g.K.Sink was disk before after c.run_and_tell.result.status c.run_and_tell.ensures.runs
 
 pub returns-in-Ok-clause-completes : goal.returns-in-Ok-clause-completes
 returns-in-Ok-clause-completes g c = λ source_fault_is_told sink_stood no_disk_fault no_damage.
@@ -59,12 +66,16 @@ returns-in-Err-clause-completes g c = λ source_fault_is_told sink_stood no_disk
     (g.K.Sink.faults c.args.sink.now) (g.K.Sink.faults c.tell_read_error.new.sink) c.end_with.result.status (g.K.Sink.taken c.args.sink.now) (g.K.Sink.taken c.tell_read_error.new.sink)
     c.tell_read_error.result c.end_with.ensures.status c.in-Err.why c.in-Err.ensures.error c.tell_read_error.ensures source_fault_is_told
 
+-- The disk's laws hold wherever a thread may run, and so in this one.
 pub returns-in-Err-clause-runs : goal.returns-in-Err-clause-runs
 returns-in-Err-clause-runs g c =
     let was = c.args.disk in
     let before = c.args.sink.now in
     let after = c.tell_read_error.new.sink in
     let says = SaysScript (g.S.Source.left c.args.source.now) in
-    rw (c.end_with.ensures.status, c.end_with.ensures.disk) (runs_script g.D.Disk g.K.Sink says form.Whole c.args.setup.options c.args.setup.start c.args.setup.mode was was before after _
-    (unread (observation_of g.D.Disk g.K.Sink says form.Whole c.args.setup.options c.args.setup.start c.args.setup.mode was was before after) (g.D.Disk.faults was) (g.D.Disk.faults was) (g.K.Sink.faults before) (g.K.Sink.faults after)
-    c.in-Err.why c.tell_read_error.result refl refl c.tell_read_error.ensures))
+    let start = c.args.setup.start in
+    let laws = g.met.D.Disk g.world.𝓛 g.world.𝓜 g.world.𝓡 ((λ s x. x), (λ x. x), (λ x. x), λ x. x) in
+    let crash = as_found g.D.Disk start was was (leaves_before g.D.Disk was (laws.only_now was)) in
+    rw (c.end_with.ensures.status, c.end_with.ensures.disk) (runs_script g.D.Disk g.K.Sink says form.Whole c.args.setup.options start c.args.setup.mode was was before after _
+    (unread (observation_of g.D.Disk g.K.Sink says form.Whole c.args.setup.options start c.args.setup.mode was was before after) (g.D.Disk.faults was) (g.D.Disk.faults was) (g.K.Sink.faults before) (g.K.Sink.faults after)
+    c.in-Err.why c.tell_read_error.result refl crash refl c.tell_read_error.ensures))

@@ -8,9 +8,9 @@ use Rattle.model_base.specs.Settings.{settings_of}
 use Rattle.run_scripts.specs.Scripts.{commands_of}
 use Rattle.log_writer.specs.declared.writer.LogWriter.{LogWriter}
 use Rattle.log_writer.specs.Words.{disk_of, fault_of}
-use Rattle.log_writer.specs.Written.{Wrote}
+use Rattle.log_writer.specs.Written.{Wrote, no_call}
+use Rattle.run_threads.specs.declared.run.ClientsEnd.TheVariants.{NotRun}
 use Rattle.engine_memory.proofs.Crossing.{client_send, engine_sync}
-use Rattle.run_execution.proofs.Openings.{found_as, no_fault_as}
 use Rattle.run_execution.proofs.RunEnds.{comes_to, settings_behind}
 use Rattle.run_execution.proofs.running.run_over.Goals as goal
 
@@ -59,6 +59,7 @@ returns-in-Ok-clause-time g c =
 
 pub returns-in-Err-clause-end : goal.returns-in-Err-clause-end
 returns-in-Err-clause-end g c = λ disk is.
-    let start = c.args.setup.start in
     let log = c.args.opened.log in
-    rw (c.into_disk.ensures, c.in-Err.ensures.err.0) (found_as start is.before disk log is.goes_on is.is_opened, no_fault_as start is.before disk log is.is_opened)
+    let script = commands_of c.args.script.now in
+    rw (c.into_disk.ensures, c.in-Err.ensures.err.0)
+    (c.runs_leave_safe_logs.ensures.ends disk log c.args.setup.options c.args.setup.start c.args.setup.mode is.before script (NotRun log) is.goes_on is.is_opened (omega (arith, c.requires.clients)) c.requires.options.1 no_call)

@@ -1,0 +1,22 @@
+-- What a crash leaves where nothing was run.
+use Rattle.std.proofs.Common.{◌≡◌, inl, Option, IfSome, subst}
+use Rattle.base_devices.specs.Disk.{Disk, IsImage, IsOnlyNow, TimePasses}
+use Rattle.base_devices.specs.declared.disk.Disk.{Ghosts}
+use Rattle.log_writer.specs.Opening.{LeavesAsBefore}
+use Rattle.log_writer.proofs.Putting.{leaves_time}
+use Rattle.run_outcome.specs.declared.log_start.LogStart.{LogStart}
+use Rattle.run_outcome.specs.declared.log_start.LogStart.TheVariants.{New, Over, Behind}
+use Rattle.run_execution.specs.Ends.{LeavesAsFound}
+
+-- what it might have left before is let in, whichever way the log should be opened
+pub as_found : {D : Type 0} (ghosts : Ghosts D) (start : LogStart) (old new : D) → LeavesAsBefore ghosts old new → LeavesAsFound ghosts start old new
+as_found ghosts New old new leaves = leaves
+as_found ghosts (Over number) old new leaves = leaves
+as_found ghosts (Behind number) old new leaves = inl leaves
+
+-- of a disk that was only read it leaves what it might have left before
+pub leaves_read : {D : Type 0} (ghosts : Ghosts D) (old new : D) → IsOnlyNow (ghosts.told old) (ghosts.from old) (ghosts.moment old) (ghosts.since old) → ghosts.told new ≡ ghosts.told old
+    → TimePasses ghosts.told ghosts.moment ghosts.from ghosts.since old new → LeavesAsBefore ghosts old new
+leaves_read ghosts old new only same time =
+    leaves_time ghosts old new (λ image. IfSome (ghosts.told old) (λ d. IsImage d image)) only time (λ image is. is)
+    (λ image is. subst (λ (told : Option Disk). IfSome told (λ d. IsImage d image)) same is)
