@@ -9,12 +9,9 @@ import os
 import shutil
 import subprocess
 
-from outcomes import BUILT, wanted
+from outcomes import BUILT, LIMIT, wanted
 
 SOURCE = os.path.join(os.path.dirname(os.path.realpath(__file__)), "calls.c")
-
-# How many seconds a run may take: many clients may take long where other programs have the processors.
-LIMIT = 300
 
 
 class Program:

@@ -22,6 +22,9 @@ ROOT = os.path.dirname(os.path.dirname(os.path.realpath(__file__)))
 BUILT = os.environ.get("WRITEPATH", os.path.join(ROOT, "crates/writepath/out/writepath"))
 KEYS = ["a", "b", "c", "d", "e"]
 
+# How many seconds a run may take: many clients may take long where other programs have the processors.
+LIMIT = 300
+
 
 class Wrong(Exception):
     """An outcome that is not as it should be."""
