@@ -115,6 +115,7 @@ impl<
             gate: _,
             alloc: _,
             batch_bytes: _,
+            yields: _,
         } = self;
         let Clients {
             mut clients,

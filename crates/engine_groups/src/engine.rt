@@ -2,6 +2,7 @@
 
 use crate::leader::{Leadership, Right};
 use base_devices::Disk;
+use base_waiting::Bell;
 use engine_controller::{Controller, Others, Pass};
 use engine_parts::{Envelope, Layout, SealedAnswer, SealedRequest};
 use line_writers::{Lists, Writer, WriterList};
@@ -23,6 +24,8 @@ pub struct GroupEngine<Device: Disk, Versions: Table<Nodes, Parts>, Time, Watch>
     pub(crate) gate: Watch,
     pub(crate) alloc: Global,
     pub(crate) batch_bytes: u64,
+    /// It learns whether yields are slow that a leader makes before its group is synced. Nobody sleeps on it.
+    pub(crate) yields: Bell,
 }
 
 /// A client of the engine.

@@ -19,6 +19,7 @@ use crate::engine::{ClosingRoom, EngineClient, GroupEngine};
 use crate::laws;
 use crate::leader::{EngineAtOpening, Held, Leadership, Right, one_turn};
 use base_devices::{Clock, Disk};
+use base_waiting::Bell;
 use engine_calls::{Clients, Gate};
 use engine_controller::{Controller, Note, Pass, Passes};
 use engine_parts::{Envelope, Layout, LogPath, SealedAnswer, SealedRequest};
@@ -312,6 +313,7 @@ impl<
                     gate,
                     alloc,
                     batch_bytes: options.batch_bytes,
+                    yields: Bell::new(),
                 };
                 engine.gate.opened(engine.table.locks());
                 let clients = engine.seat_all(

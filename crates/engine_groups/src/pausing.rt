@@ -5,25 +5,34 @@ ghost use Rattle.line_writers.specs.Seats.{Belongs, IsUnchanged};
 use crate::engine::GroupEngine;
 use crate::leader::{Leadership, Right};
 use base_devices::{Clock, Disk};
+use base_waiting::{Bell, Pauses};
 use crossbeam_utils::Backoff;
 use engine_calls::Gate;
 use engine_parts::{SealedAnswer, SealedRequest};
 use line_writers::Writer;
+use std::rt;
+use std::sync::Wait;
 use table_calls::Table;
 use table_tree::{Nodes, Parts};
 
-/// How many times a leader pauses before it closes a group that must be synced.
-const PAUSES: u32 = 12;
+/// How many times a leader yields before it closes a group that must be synced.
+const YIELDS: u32 = 5;
+
+/// How many pauses of a wait on a bell go up to its first yield; the others spin.
+const PAUSES_TO_YIELD: u32 = 8;
 
 /// How many times at most a leader pauses while groups before its own are on their way into the table.
 const PAUSES_BEHIND: u32 = 200;
 
-/// Pauses `PAUSES` times.
-fn pause_for_sync() {
-    let backoff = Backoff::new();
+/// Spins and yields `YIELDS` times. Where other programs want the processors a yield may take as long as many syncs:
+/// then the bell learns so, and there are no yields for a while.
+fn pause_for_sync<R: Wait + rt::Clock>(rt: &R, yields: &Bell) {
     // A pause changes nothing.
-    for _ in 0..PAUSES {
-        backoff.snooze();
+    for _ in 0..YIELDS {
+        let pauses = Pauses::new();
+        for _ in 0..PAUSES_TO_YIELD {
+            yields.pause(rt, &pauses);
+        }
     }
 }
 
@@ -37,8 +46,9 @@ impl<
     /// that got their replies a moment ago may come: a sync takes no longer for more batches. Where there are two
     /// stages, the leader also pauses while groups before its own are on their way into the table, since its group
     /// would have to wait for them.
-    pub(crate) fn let_others_link(
+    pub(crate) fn let_others_link<R: Wait + rt::Clock>(
         &self,
+        rt: &R,
         writer: &mut Writer<
             SealedRequest,
             SealedAnswer,
@@ -52,7 +62,7 @@ impl<
         ensures { IsUnchanged writer.new writer.old }
     {
         if sync {
-            pause_for_sync();
+            pause_for_sync(rt, &self.yields);
         }
         if staged {
             self.pause_behind(writer);

@@ -153,7 +153,7 @@ impl<
                 let staged = leadership.turn.is_none();
                 // A sync takes no longer for more batches, and those of the previous group's clients may be on their
                 // way.
-                self.let_others_link(&mut client.writer, item.options.sync, staged);
+                self.let_others_link(rt, &mut client.writer, item.options.sync, staged);
                 self.lead(rt, client, leadership)
             }
         }
