@@ -6,7 +6,6 @@ use crate::engine::GroupEngine;
 use crate::leader::{Leadership, Right};
 use base_devices::{Clock, Disk};
 use base_waiting::{Bell, Pauses};
-use crossbeam_utils::Backoff;
 use engine_calls::Gate;
 use engine_parts::{SealedAnswer, SealedRequest};
 use line_writers::Writer;
@@ -22,17 +21,22 @@ const YIELDS: u32 = 5;
 const PAUSES_TO_YIELD: u32 = 8;
 
 /// How many times at most a leader pauses while groups before its own are on their way into the table.
-const PAUSES_BEHIND: u32 = 200;
+const PAUSES_BEHIND: u32 = 30;
 
 /// Spins and yields `YIELDS` times. Where other programs want the processors a yield may take as long as many syncs:
 /// then the bell learns so, and there are no yields for a while.
 fn pause_for_sync<R: Wait + rt::Clock>(rt: &R, yields: &Bell) {
     // A pause changes nothing.
     for _ in 0..YIELDS {
-        let pauses = Pauses::new();
-        for _ in 0..PAUSES_TO_YIELD {
-            yields.pause(rt, &pauses);
-        }
+        spin_and_yield(rt, yields);
+    }
+}
+
+/// Spins, and yields where yields are quick, as far as the bell has learned.
+fn spin_and_yield<R: Wait + rt::Clock>(rt: &R, yields: &Bell) {
+    let pauses = Pauses::new();
+    for _ in 0..PAUSES_TO_YIELD {
+        yields.pause(rt, &pauses);
     }
 }
 
@@ -65,13 +69,14 @@ impl<
             pause_for_sync(rt, &self.yields);
         }
         if staged {
-            self.pause_behind(writer);
+            self.pause_behind(rt, writer);
         }
     }
 
     /// Pauses while a group is in the second list, at most `PAUSES_BEHIND` times.
-    fn pause_behind(
+    fn pause_behind<R: Wait + rt::Clock>(
         &self,
+        rt: &R,
         writer: &mut Writer<
             SealedRequest,
             SealedAnswer,
@@ -82,13 +87,12 @@ impl<
         requires { Belongs self.now.list writer.old }
         ensures { IsUnchanged writer.new writer.old }
     {
-        let backoff = Backoff::new();
         // A look changes nothing: the writer is where it was.
         for _ in 0..PAUSES_BEHIND {
             if !self.list.has_groups(writer) {
                 return;
             }
-            backoff.snooze();
+            spin_and_yield(rt, &self.yields);
         }
     }
 }
