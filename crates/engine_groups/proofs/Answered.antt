@@ -138,7 +138,7 @@ pub record Concludes {D : Type 0} {ghosts : Ghosts D} (opened : LogWriter D ghos
 
 module _ {C D : Type 0} {ghosts : Ghosts D} (controller : Controller C) (opened : LogWriter D ghosts) (start : ℕ) (opening : Pairs) (k : ℕ) (settings : Settings) (q : Request) (p : Answer) (mine : List (Request × Answer)) (handled : List (Handling Request Answer)) (kept : AreHandled controller opened start handled) (own : of k handled ≡ mine ++ (q, p) ∷ []) (seen now : List (List MemberVersions)) (sees : Begins seen now)
     (known after : List ControllerCall) (more : SeesMore k known after) (noted_known : noted_in q.note ≡ known) (sees_note : IfSome p.note (λ (n : Note). IsPrefix (seen_by_note n) after))
-    (passed : early_refusal settings.batch_bytes (holds_stop (tokens_of k known)) q.batch.records q.options ≡ None) (above : IsAbove (last_of start seen) p.answer) where
+    (passed : early_refusal settings.batch_bytes (holds_stop (tokens_of k known)) q.batch.records q.options ≡ None) (free : holds_stop (tokens_of k known) ≡ false) (above : IsAbove (last_of start seen) p.answer) where
   is : commits_of k (map commit_of handled) ≡ own_commits k mine ++ commit k q p ∷ []
   is = commits_told k handled ∙ (ap (own_commits k) own ∙ own_more k mine q p)
 
@@ -153,7 +153,7 @@ module _ {C D : Type 0} {ghosts : Ghosts D} (controller : Controller C) (opened 
 
   pub answered_ok : (r : Receipt) → p.answer ≡ Ok r → r.group_last ≤ last_of start now → Wrote settings old q.batch.records q.options r.run.first r.group_last new
   answered_ok r ok reached = subst (Wrote settings old q.batch.records q.options r.run.first r.group_last) new_is
-      (wrote start opening k (own_commits k mine) (commit k q p) seen now sees known after more (map commit_of handled) kept.answered is settings r.run.first r.group_last (ap answer_in ok) passed (subst (IsAbove (last_of start seen)) ok above) reached)
+      (wrote start opening k (own_commits k mine) (commit k q p) seen now sees known after more free (map commit_of handled) kept.answered is settings r.run.first r.group_last (ap answer_in ok) passed (subst (IsAbove (last_of start seen)) ok above) reached)
 
   -- the client has seen the note of a reply, and with it the delay that the note shows
   noted_after : (note : Option Note) → IfSome note (λ (n : Note). IsNoteOf controller n × (seen_by_note n ≡ seen_for p)) → IfSome note (λ (n : Note). IsPrefix (seen_by_note n) after) → (n : Note) → note ≡ Some n → IsPrefix (seen_for p) after
@@ -162,9 +162,9 @@ module _ {C D : Type 0} {ghosts : Ghosts D} (controller : Controller C) (opened 
 
   refused_by : (why : Refusal) (e : Refused) → e.why ≡ why → p.answer ≡ Err e → IsLate why → IsRefused old q.batch.records q.options why new
   refused_by (LogFault n) e is_why err late = subst (IsRefused old q.batch.records q.options (LogFault n)) new_is
-      (refused_failed start opening k (own_commits k mine) (commit k q p) seen now sees known after more n (ap answer_in err ∙ ap answer_of_refusal is_why))
+      (refused_failed start opening k (own_commits k mine) (commit k q p) seen now sees known after more free n (ap answer_in err ∙ ap answer_of_refusal is_why))
   refused_by (SequenceFull l) e is_why err late = subst (IsRefused old q.batch.records q.options (SequenceFull l)) new_is
-      (refused_full start opening k (own_commits k mine) (commit k q p) seen now sees known after more (map commit_of handled) kept.answered is l (ap answer_in err ∙ ap answer_of_refusal is_why) (subst (IsAbove (last_of start seen)) err above l is_why))
+      (refused_full start opening k (own_commits k mine) (commit k q p) seen now sees known after more free (map commit_of handled) kept.answered is l (ap answer_in err ∙ ap answer_of_refusal is_why) (subst (IsAbove (last_of start seen)) err above l is_why))
   refused_by (Incomplete s d w) e is_why err late =
       let numbers : Look = record { stops = s; delays = d; wait = w } in
       let told : answer_in p.answer ≡ held_up numbers = ap answer_in err ∙ ap answer_of_refusal is_why in
@@ -174,7 +174,7 @@ module _ {C D : Type 0} {ghosts : Ghosts D} (controller : Controller C) (opened 
       let front = noted_after p.note shows.note sees_note h.2.0 h.2.1 in
       let later = later_in (seen_for p) after front (length (noted_in q.note)) (length (seen_for p) - 1) (record { client = delayed.by; action = delay delayed.now delayed.bytes; told = Some numbers }) delayed.is_later in
       subst (IsRefused old q.batch.records q.options (Incomplete s d w)) new_is
-      (refused_held_up start opening k (own_commits k mine) (commit k q p) seen now sees known after more numbers delayed.by delayed.now delayed.bytes told h.0 h.1
+      (refused_held_up start opening k (own_commits k mine) (commit k q p) seen now sees known after more free numbers delayed.by delayed.now delayed.bytes told h.0 h.1
       (subst (λ (l : List ControllerCall). IsLater after (length l) (length (seen_for p) - 1) (record { client = delayed.by; action = delay delayed.now delayed.bytes; told = Some numbers })) noted_known later))
   refused_by Empty e is_why err late = absurd late
   refused_by (TooLarge size) e is_why err late = absurd late

@@ -15,6 +15,7 @@ use Rattle.model_base.specs.Trace.{Settings}
 use Rattle.model_base.specs.Outcomes.{entries_of_client}
 use Rattle.model_base.specs.Progress.{early_refusal}
 use Rattle.model_base.specs.Replies.{AreFullBelow, AreUpTo, IsFullBelow, IsLater}
+use Rattle.model_base.proofs.Runs.{not_kept_out}
 use Rattle.table_rule.specs.declared.content.MemberVersions.{MemberVersions}
 use Rattle.table_rule.specs.Histories.{Begins, last_of as last_of_groups}
 use Rattle.model_accounts.specs.Accounts.{Account, IsRefused, Wrote}
@@ -187,7 +188,8 @@ ends_same old c v is none = ends_as old c v is ∙ (ap (λ l. ends_of old ++ l) 
 mine_same : (k : ℕ) (old : List Commit) (c : Commit) (v : Answer) → c.answer ≡ v → entry_with k (mine_after k [] old) c v ≡ [] → mine_after k [] (old ++ c ∷ []) ≡ mine_after k [] old
 mine_same k old c v is none = mine_more k [] old c ∙ (ap (λ w. mine_after k [] old ++ entry_with k (mine_after k [] old) c w) is ∙ (ap (λ es. mine_after k [] old ++ es) none ∙ append-nil (mine_after k [] old)))
 
-module _ (start : ℕ) (opening : Pairs) (k : ℕ) (old : List Commit) (c : Commit) (before after : List (List MemberVersions)) (sees : Begins before after) (known now : List ControllerCall) (more : SeesMore k known now) where
+module _ (start : ℕ) (opening : Pairs) (k : ℕ) (old : List Commit) (c : Commit) (before after : List (List MemberVersions)) (sees : Begins before after) (known now : List ControllerCall) (more : SeesMore k known now)
+    (free : holds_stop (tokens_of k known) ≡ false) where
   abbrev was : Account
   was = account_of start opening k old before known
 
@@ -203,6 +205,7 @@ module _ (start : ℕ) (opening : Pairs) (k : ℕ) (old : List Commit) (c : Comm
   refused_held_up numbers by moment bytes held_is impatient hold later = record {
     status = Some (slowed (place_of c));
     may = (impatient, hold, (by, moment, bytes, later, slice_get_within now (place_of c) (record { client = by; action = delay moment bytes; told = Some numbers }) later.there));
+    kept_out = not_kept_out (tokens_of k known) (slowed (place_of c)) free;
     number = refl;
     mine = mine_same k old c (held_up numbers) held_is refl;
     ends = ends_same old c (held_up numbers) held_is refl;
@@ -215,6 +218,7 @@ module _ (start : ℕ) (opening : Pairs) (k : ℕ) (old : List Commit) (c : Comm
   refused_failed n failed_is = record {
     status = Some (faulted n);
     may = refl;
+    kept_out = not_kept_out (tokens_of k known) (faulted n) free;
     number = refl;
     mine = mine_same k old c (failed n) failed_is refl;
     ends = ends_same old c (failed n) failed_is refl;
@@ -237,6 +241,7 @@ module _ (start : ℕ) (opening : Pairs) (k : ℕ) (old : List Commit) (c : Comm
           seen = saw;
           some = v.1;
           passed = passed;
+          free = free;
           above = above;
           behind = subst (λ n. AreFullBelow n (map attempt_of old)) (sym v.2) (are_full_below start k cs old c right is);
           alive = is_alive start k cs old c right is v.0;
@@ -257,6 +262,7 @@ module _ (start : ℕ) (opening : Pairs) (k : ℕ) (old : List Commit) (c : Comm
             subst (λ m. AreFullBelow (m + 1) (map attempt_of old)) (sym v.1) (are_full_below start k cs old c right is),
             subst (λ m. max_sequence < m + count_of c.records) (sym v.1) v.2,
           );
+          kept_out = not_kept_out (tokens_of k known) (full l) free;
           number = refl;
           mine = mine_same k old c (no_room l) full_is refl;
           ends = ends_same old c (no_room l) full_is refl;
@@ -267,12 +273,13 @@ module _ (start : ℕ) (opening : Pairs) (k : ℕ) (old : List Commit) (c : Comm
 
 -- a client that looked itself made no commit of the batch, and has its refusal from the look
 pub refused_looked : (start : ℕ) (opening : Pairs) (k : ℕ) (own : List Commit) (records : List Record) (how : WriteOptions) (before after : List (List MemberVersions)) (known now : List ControllerCall) (numbers : Look) → Begins before after
-    → EndsWith k known look (Some numbers) now → how.no_slowdown ≡ true → HoldUp numbers
+    → holds_stop (tokens_of k known) ≡ true → EndsWith k known look (Some numbers) now → how.no_slowdown ≡ true → HoldUp numbers
     → IsRefused (account_of start opening k own before known) records how (no.Incomplete numbers.stops numbers.delays numbers.wait) (account_of start opening k own after now)
-refused_looked start opening k own records how before after known now numbers sees ends impatient hold =
+refused_looked start opening k own records how before after known now numbers sees stopping ends impatient hold =
     let last = ends_last k known look (Some numbers) now ends in record {
       status = None;
-      may = (impatient, hold, (last.place, k, last.is_later, slice_get_within now last.place (record { client = k; action = look; told = Some numbers }) last.is_later.there));
+      may = (impatient, hold, (last.place, last.is_later, slice_get_within now last.place (record { client = k; action = look; told = Some numbers }) last.is_later.there));
+      kept_out = record { own = λ held. refl; only = λ none. stopping };
       number = refl;
       mine = refl;
       ends = refl;

@@ -1,5 +1,5 @@
 -- What commits make: the entries of the one history, their versions, and each client's account.
-use Rattle.std.specs.Prelude.{◌≡◌, ℕ, ◌+◌, ◌≤◌, List, [], ◌∷◌, ◌++◌, flat_map, map, None}
+use Rattle.std.specs.Prelude.{◌≡◌, ℕ, ◌+◌, ◌≤◌, false, List, [], ◌∷◌, ◌++◌, flat_map, map, None}
 use Rattle.std.specs.List.{AllByRecursion}
 use mathlib.Core.List.{IsPrefix}
 use Rattle.model_base.specs.declared.write.Refusal.{Refusal}
@@ -7,7 +7,7 @@ use Rattle.model_base.specs.Map.{Pairs}
 use Rattle.model_base.specs.History.{Entry}
 use Rattle.model_base.specs.Attempts.{Attempt, WriteStatus, succeeded, slowed, faulted, full}
 use Rattle.model_base.specs.Controller.{ControllerCall}
-use Rattle.model_base.specs.Tokens.{tokens_of}
+use Rattle.model_base.specs.Tokens.{tokens_of, holds_stop}
 use Rattle.model_base.specs.Outcomes.{entries_of_client}
 use Rattle.model_base.specs.Progress.{next_entry}
 use Rattle.model_base.specs.Trace.{Trace}
@@ -141,6 +141,10 @@ account_with k c = account_of k.start k.opening k.client (k.own ++ c ∷ []) k.a
 -- what the client had seen went on, while it took no token and gave none back
 abbrev pub HasSeenMore : ClientCall → Type 0
 HasSeenMore k = Begins k.before k.after × SeesMore k.client k.known k.now
+
+-- the client held no stop token
+abbrev pub IsFree : ClientCall → Type 0
+IsFree k = holds_stop (tokens_of k.client k.known) ≡ false
 
 -- all these commits have right answers, and this one is the client's newest
 abbrev pub IsNewest : ClientCall → List Commit → Commit → Type 0

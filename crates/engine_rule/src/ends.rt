@@ -20,7 +20,7 @@ ghost use Rattle.model_runs.specs.Written.{WritesLog, IsSyncedBy};
 ghost use Rattle.engine_controller.specs.Passes.{EndsWith};
 ghost use Rattle.engine_rule.specs.Commits.{Commit, accepted, held_up, failed, no_room, last_after_all, AreAnswered, commits_of};
 ghost use Rattle.engine_rule.specs.Asked.{place_of};
-ghost use Rattle.engine_rule.specs.Entries.{trace_of, entries_of, versions_made, account_of, ClientCall, account_before, account_with, HasSeenMore, IsNewest, EndsRefused, AreCallsOf};
+ghost use Rattle.engine_rule.specs.Entries.{trace_of, entries_of, versions_made, account_of, ClientCall, account_before, account_with, HasSeenMore, IsFree, IsNewest, EndsRefused, AreCallsOf};
 ghost use Rattle.engine_rule.specs.LogCalls.{WroteParts};
 ghost use Rattle.engine_rule.specs.Consistent.{Standing, IsConsistent, AreAccountsOf};
 
@@ -33,29 +33,30 @@ pub fn numbers_of_commits()
         → last ≤ max_sequence → last_after_all last commits ≤ max_sequence }
 {}
 
-/// Where all answers are right, the newest answer to a client gives its account an accepted batch, once the client has
-/// seen the batch's whole group, or a refusal. It doesn't matter which answers the others got, or what more the client
-/// has seen since of what is published and of the controller.
+/// Where all answers are right, the newest answer to a client that holds no stop token gives its account an accepted
+/// batch, once the client has seen the batch's whole group, or a refusal. It doesn't matter which answers the others
+/// got, or what more the client has seen since of what is published and of the controller.
 pub fn accounts_of_the_commits()
     ensures wrote { (settings : Settings) (k : ClientCall) (commits : List Commit) (c : Commit) (first group_last : ℕ)
-        → IsNewest k commits c → HasSeenMore k → c.answer ≡ accepted first group_last
+        → IsNewest k commits c → HasSeenMore k → IsFree k → c.answer ≡ accepted first group_last
         → early_refusal settings.batch_bytes (holds_stop (tokens_of k.client k.known)) c.records c.options ≡ None
         → last_of k.start k.before < first → group_last ≤ last_of k.start k.after
         → Wrote settings (account_before k) c.records c.options first group_last (account_with k c) }
     // where writes are held up, or the log failed, nothing needs to be known of the other answers
-    ensures held_up { (k : ClientCall) (c : Commit) (numbers : Look) (by moment bytes : ℕ) → HasSeenMore k
-        → c.answer ≡ held_up numbers → c.options.no_slowdown ≡ true → HoldUp numbers
+    ensures held_up { (k : ClientCall) (c : Commit) (numbers : Look) (by moment bytes : ℕ)
+        → HasSeenMore k → IsFree k → c.answer ≡ held_up numbers → c.options.no_slowdown ≡ true → HoldUp numbers
         → IsLater k.now (length k.known) (place_of c)
         (record { client = by; action = delay moment bytes; told = Some numbers })
         → EndsRefused k c (Incomplete numbers.stops numbers.delays numbers.wait) }
-    ensures failed { (k : ClientCall) (c : Commit) (count : ℕ) → HasSeenMore k → c.answer ≡ failed count
-        → EndsRefused k c (LogFault count) }
+    ensures failed { (k : ClientCall) (c : Commit) (count : ℕ) → HasSeenMore k → IsFree k
+        → c.answer ≡ failed count → EndsRefused k c (LogFault count) }
     ensures full { (k : ClientCall) (commits : List Commit) (c : Commit) (last : ℕ) → IsNewest k commits c
-        → HasSeenMore k → c.answer ≡ no_room last → last_of k.start k.before ≤ last
+        → HasSeenMore k → IsFree k → c.answer ≡ no_room last → last_of k.start k.before ≤ last
         → EndsRefused k c (SequenceFull last) }
-    // a client that looked itself, and then made no commit of the batch
+    // a client that holds a stop token looked itself, and then made no commit of the batch
     ensures looked { (k : ClientCall) (records : List Record) (how : WriteOptions) (numbers : Look)
-        → Begins k.before k.after → EndsWith k.client k.known look (Some numbers) k.now → how.no_slowdown ≡ true
+        → Begins k.before k.after → holds_stop (tokens_of k.client k.known) ≡ true
+        → EndsWith k.client k.known look (Some numbers) k.now → how.no_slowdown ≡ true
         → HoldUp numbers → IsRefused (account_before k) records how
         (Incomplete numbers.stops numbers.delays numbers.wait)
         (account_of k.start k.opening k.client k.own k.after k.now) }
@@ -78,6 +79,7 @@ pub fn closings()
         → RoseInRun settings ended s.fault → (groups : List Group)
         × IsClosing settings ended (trace_of settings.start settings.opening s.commits history) groups accounts s.last
         s.fault }
+    // The calls that wrote the history and no others: so no batch is written twice, or apart from its group.
     ensures log { (settings : Settings) (s : Standing) (history : List ControllerCall) (accounts : List Account)
         → IsConsistent settings s → AreAccountsOf settings s history accounts
         → WritesLog settings.group_bytes (λ (made : List GroupCall). made ≡ s.calls)

@@ -24,6 +24,11 @@ ReadsPrefix number records file P = (found : List (List ℕ)) → IsRead number 
 abbrev pub BeginsWith : List ℕ → List ℕ → Type 0
 BeginsWith t image = (length t ≤ length image) × (take (length t) image ≡ t)
 
+-- Up to this place the content is a front of the text, as far as that place.
+pub record HoldsFront (text : List ℕ) (place : ℕ) (content : List ℕ) : Type 0 where
+  pub within : place ≤ length text
+  pub same : take place content ≡ take place text
+
 -- the records are these batches, whose runs rise
 abbrev pub AreTheseBatches : List (List ℕ) → List Logged → Type 0
 AreTheseBatches records batches = (map logged_bytes batches ≡ records)

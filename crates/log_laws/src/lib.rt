@@ -43,6 +43,8 @@ pub fn a_front()
 
 /// So each image recovers a prefix of all that was to be written, and is read as one, unless by chance.
 pub fn a_prefix()
+    // "By chance" is the premise on chance: each fragment with a right checksum, and with the log's number where it has
+    // one, is one that was to be written at that place.
     ensures recovered { (number : Option ℕ) (image whole : List ℕ) (records : List (List ℕ))
         → SpellsWhole number whole records → NoChance number image whole
         → RecoversPrefix number records image (λ n. ⊤) }
@@ -54,6 +56,7 @@ pub fn a_prefix()
 /// From an image that begins with the synced bytes (`whole`) a reader gets at least as many records as these bytes
 /// spell. Recovery keeps at least as many, if those are batches whose runs rise.
 pub fn the_synced()
+    // No premise on chance is needed for what was synced.
     ensures recovered { (number : Option ℕ) (image whole : List ℕ) (synced : List (List ℕ)) (batches : List Logged)
         (r : Recovered) → IsRecovered number image r → BeginsWith whole image → SpellsWhole number whole synced
         → AreTheseBatches synced batches → length batches ≤ length r.batches }

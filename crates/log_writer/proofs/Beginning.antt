@@ -3,14 +3,14 @@ use Rattle.std.proofs.Common.{◌≡◌, ◌⊎◌, inl, inr, ⊎_elim, ℕ, ◌
 use Rattle.std.proofs.Math.Seq.{take-take}
 use Rattle.std.proofs.lemmas.List.{take_all}
 use Rattle.std.specs.Result.{IsErr}
-use Rattle.base_devices.specs.Disk.{Disk, IsDisk, IsImage, all_safe, rewound, Rewound, cut_at, Cut, made_safe, Synced, Told, TimePasses, LeavesOnly}
+use Rattle.base_devices.specs.Disk.{Disk, IsDisk, IsImage, all_safe, rewound, Rewound, cut_at, Cut, made_safe, Synced, Told, TimePasses}
 use Rattle.base_devices.specs.Faults.{HasCause}
 use Rattle.base_devices.specs.declared.disk.Disk.{Ghosts}
 use Rattle.model_base.specs.Log.{Beginning, new_log}
 use Rattle.log_writer.specs.declared.writer.LogWriter.{LogWriter}
 use Rattle.log_writer.specs.Words.{disk_of}
 use Rattle.log_writer.specs.Opening.{MayBeLeftOf, SpellsInFront, LeavesOf, LeavesAsBefore, HasOpened, HasReused, HasResumed, HasKeptBytes, HasBegun, Keeps}
-use Rattle.log_writer.proofs.Putting.{told_more, told_so, told_is, leaves_so, leaves_more, leaves_time, more_cause}
+use Rattle.log_writer.proofs.Putting.{told_so, leaves_so, leaves_more, leaves_time, more_cause}
 use Rattle.log_writer.proofs.Surviving.{Laws}
 
 -- An image of a disk that has as much safe as the first one, and no greater reach, may be left of the first one.

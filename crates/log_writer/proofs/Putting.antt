@@ -1,13 +1,14 @@
 -- Bytes put at the place of a disk, and more bytes after them.
-use Rattle.std.proofs.Common.{◌≡◌, inl, inr, ⊎_elim, ℕ, ◌+◌, ◌≤◌, Bool, true, false, List, [], ◌++◌, length, take, drop, min, Option, Some, None, Result, Ok, Err, MatchResult, IfSome, refl, sym, ◌∙◌, ap, subst, arith, append_assoc, length-append, length-take, length-drop, add-zero}
+use Rattle.std.proofs.Common.{◌≡◌, inl, inr, ⊎_elim, ℕ, ◌+◌, ◌≤◌, Bool, true, false, List, [], ◌++◌, length, take, drop, Option, Some, None, Result, Ok, Err, MatchResult, IfSome, refl, sym, ◌∙◌, ap, subst, arith, append_assoc, length-append, length-take, add-zero}
 use Rattle.std.proofs.Math.Seq.{take-take, take-append_seam, drop-append-add}
+use lib.Seq.{take-append-add}
 use Rattle.std.proofs.lemmas.List.{take-append-le, take-append-drop, drop-drop, append-nil}
 use Rattle.std.specs.Result.{IsErr}
 use Rattle.base_devices.specs.Disk.{Disk, IsDisk, IsImage, put_at, Appended, GrowsBy, Synced, Told, TimePasses, LeavesOnly}
 use Rattle.base_devices.specs.Faults.{HasCause}
 use Rattle.base_devices.specs.declared.disk.Disk.{Ghosts}
-use Rattle.log_writer.specs.Crashes.{safe_len, KeepsSafe, KeepsWhatWasSafe, reach_with, IsLeft, MayBeLeft}
-use Rattle.log_writer.specs.Puts.{IsSynced, StandPut, StaysInFront, ArePut, Puts}
+use Rattle.log_writer.specs.Crashes.{safe_len, KeepsSafe, reach_with, MayBeLeft}
+use Rattle.log_writer.specs.Puts.{IsSynced, StandPut, StaysInFront, IsPutInPart, ArePut, Puts}
 
 -- what relates the first of three disks to the last, from what relates the first to the second, and that to the last
 pub told_more : {R S Q : Disk → Disk → Type 0} (a b c : Option Disk) → Told a b R → Told b c S → ((x y z : Disk) → R x y → S y z → Q x z) → Told a c Q
@@ -196,7 +197,36 @@ more_put x y z xs ys sync (Ok t) is first second = record {
     by_sync : (sync : Bool) → IsSynced sync y z → IsSynced sync x z
     by_sync true all = all
     by_sync false safe = omega (arith, safe, first.place, first.synced)
-more_put x y z xs ys sync (Err e) is first second = stays_more x y z (put_stays x y xs false is first) second
+more_put x y z xs ys sync (Err e) is first second = record {
+  stays = stays_more x y z (put_stays x y xs false is first) second.stays;
+  some = length xs + second.some;
+  few = omega (arith, second.few, length-append xs ys);
+  moved = omega (arith, first.place, second.moved);
+  part =
+      let front : List ℕ = take x.place x.content in
+      let there : take y.place y.content ≡ front ++ xs = ap (take y.place) first.content ∙ (ap (λ (n : ℕ). take n (put_at x.place xs x.content)) first.place ∙ put_there x.place xs x.content is.placed) in
+      second.part ∙ (ap (λ (l : List ℕ). l ++ take second.some ys) there ∙ (append_assoc front xs (take second.some ys) ∙ ap (λ (l : List ℕ). front ++ l) (sym (take-append-add xs ys second.some))));
+}
+
+-- so is some of the bytes and more
+more_part : (x y : Disk) (xs ys : List ℕ) → IsPutInPart x y xs → IsPutInPart x y (xs ++ ys)
+more_part x y xs ys put = record {
+  stays = put.stays;
+  some = put.some;
+  few = omega (arith, put.few, length-append xs ys);
+  moved = put.moved;
+  part = put.part ∙ ap (λ (l : List ℕ). take x.place x.content ++ l) (sym (take-append-le put.some xs ys put.few));
+}
+
+-- where nothing is put, and the place stays
+none_put : (x y : Disk) (bytes : List ℕ) → StaysInFront x y → y.place ≡ x.place → IsPutInPart x y bytes
+none_put x y bytes stays same = record {
+  stays = stays;
+  some = 0;
+  few = omega arith;
+  moved = omega (arith, same);
+  part = ap (λ (n : ℕ). take n y.content) same ∙ (stays.content ∙ sym (append-nil (take x.place x.content)));
+}
 
 more_counted : {T E : Type 0} (added_a added_b added_c : ℕ) (xs ys : List ℕ) (r : Result T E) → added_b ≡ added_a + length xs
     → MatchResult r (λ _. added_c ≡ added_b + length ys) (λ _. added_b ≤ added_c) → MatchResult r (λ _. added_c ≡ added_a + length (xs ++ ys)) (λ _. added_a ≤ added_c)
@@ -228,7 +258,7 @@ puts_more ghosts a b c xs ys sync s r is first second = record {
 pub puts_cut : {D T U E F : Type 0} (ghosts : Ghosts D) (a b : D) (xs ys : List ℕ) (sync : Bool) (e : E) (r : Result U F) → IsErr r → Puts {T = T} ghosts a b xs false (Err e) → Puts ghosts a b (xs ++ ys) sync r
 puts_cut ghosts a b xs ys sync e (Ok t) failed first = absurd (cc)
 puts_cut ghosts a b xs ys sync e (Err f) failed first = record {
-  are_put = first.are_put;
+  are_put = told_so (ghosts.told a) (ghosts.told b) first.are_put (λ x y p. more_part x y xs ys p);
   counted = first.counted;
   cause = record { later = (first.cause).later; failed = (first.cause).failed; worked = tt };
   reached = told_so (ghosts.told a) (ghosts.told b) first.reached (λ x y r. omega (arith, r, length-append xs ys));
@@ -273,11 +303,11 @@ puts_synced ghosts a b c xs sync s r is first second = subst (λ (l : List ℕ).
 -- an append puts its bytes
 appended_put : {T E : Type 0} (x y : Disk) (bytes : List ℕ) (r : Result T E) → Appended x y bytes r → ArePut x y bytes false r
 appended_put x y bytes (Ok t) app = record { content = app.content; place = app.place; synced = omega (arith, app.synced) }
-appended_put x y bytes (Err e) app = let same : y.place ≡ x.place = app.place in record { content = app.content; place = omega (arith, same); synced = omega (arith, app.synced) }
+appended_put x y bytes (Err e) app = let same : y.place ≡ x.place = app.place in none_put x y bytes (record { content = app.content; place = omega (arith, same); synced = omega (arith, app.synced) }) same
 
 appended_stays : {T E : Type 0} (x y : Disk) (bytes : List ℕ) (r : Result T E) → IsDisk x → Appended x y bytes r → StaysInFront x y
 appended_stays {E = E} x y bytes (Ok t) is app = put_stays x y bytes false is (appended_put {E = E} x y bytes (Ok t) app)
-appended_stays {T = T} x y bytes (Err e) is app = appended_put {T = T} x y bytes (Err e) app
+appended_stays {T = T} x y bytes (Err e) is app = let put : IsPutInPart x y bytes = appended_put {T = T} x y bytes (Err e) app in put.stays
 
 appended_left : {T E : Type 0} (a b : Option Disk) (bytes : List ℕ) (r : Result T E) (image : List ℕ) → IfSome a IsDisk → Told a b (λ x y. Appended x y bytes r) → IfSome b (λ d. IsImage d image) → MayBeLeft a (length bytes) image
 appended_left None b bytes r image is app of_new = tt
@@ -312,11 +342,11 @@ synced_put x y (Ok t) e = subst (λ (d : Disk). StandPut x d [] true) (sym e) (r
   place = sym (add-zero x.place);
   synced = record { synced = refl; reach = refl };
 })
-synced_put x y (Err f) e = subst (StaysInFront x) (sym e) (stays_self x)
+synced_put x y (Err f) e = subst (λ (d : Disk). IsPutInPart x d []) (sym e) (none_put x x [] (stays_self x) refl)
 
 synced_stays : {T E : Type 0} (x y : Disk) (r : Result T E) → IsDisk x → Synced x y r → StaysInFront x y
 synced_stays {E = E} x y (Ok t) is e = put_stays x y [] true is (synced_put {E = E} x y (Ok t) e)
-synced_stays {T = T} x y (Err f) is e = synced_put {T = T} x y (Err f) e
+synced_stays {T = T} x y (Err f) is e = let put : IsPutInPart x y [] = synced_put {T = T} x y (Err f) e in put.stays
 
 synced_reach : {T E : Type 0} (x y : Disk) (r : Result T E) → IsDisk x → Synced x y r → y.reach ≤ reach_with x 0
 synced_reach x y (Ok t) is e = let reach : y.reach ≡ length x.content = ap (λ (d : Disk). d.reach) e in omega (arith, reach, is.within)

@@ -1,24 +1,32 @@
 -- What a log is after calls of `add_group`.
-use Rattle.std.proofs.Common.{◌≡◌, ℕ, ◌+◌, ◌≤◌, Bool, true, false, List, [], ◌∷◌, ◌++◌, length, take, drop, Option, Some, None, IfSome, MatchOption, refl, sym, ◌∙◌, ap, subst, arith, append_assoc, length-append, length-take, add-zero}
+use Rattle.std.proofs.Common.{◌≡◌, ℕ, ◌+◌, ◌≤◌, Bool, true, false, List, [], ◌∷◌, ◌++◌, length, take, drop, Option, Some, None, IfSome, MatchOption, refl, sym, ◌∙◌, ap, subst, arith, length-append, length-take}
 use Rattle.std.proofs.Math.Seq.{drop-append-add, take-append_seam}
 use Rattle.std.proofs.lemmas.List.{take-append-le, take-append-drop, take_all, append-nil, drop-drop}
+use lib.Seq.{take-append-add}
 use Rattle.base_devices.specs.Disk.{Disk, IsDisk, put_at, Told}
 use Rattle.base_devices.specs.declared.disk.Disk.{Ghosts}
 use Rattle.model_base.specs.Log.{record_text, Beginning, text_after}
-use Rattle.log_laws.specs.Prefixes.{BeginsWith}
+use Rattle.log_laws.specs.Prefixes.{BeginsWith, HoldsFront}
 use Rattle.log_writer.specs.declared.writer.LogWriter.{LogWriter}
 use Rattle.log_writer.specs.Crashes.{safe_len}
-use Rattle.log_writer.specs.Puts.{IsSynced, StandPut, StaysInFront, ArePut}
+use Rattle.log_writer.specs.Puts.{IsSynced, StandPut, StaysInFront, IsPutInPart, ArePut}
 use Rattle.log_writer.specs.Words.{disk_of, number_of, len_of, fault_of}
 use Rattle.log_writer.specs.Opening.{HasKeptBytes, HasBegun}
 use Rattle.log_writer.specs.Adding.{GroupCall, record_of_call, answer_of, Grows, Stops, Adds}
 use Rattle.log_writer.specs.Written.{Wrote, no_call, one_more, IsWritten, if_worked, first_fault, written_by, HaveSynced, HoldsCalls, IsTextOver, Stands}
-use Rattle.log_writer.proofs.Calls.{first_more, written_more, written_len, none_more, synced_more, synced_all}
+use Rattle.log_writer.proofs.Calls.{first_more, written_more, begun_more, written_len, none_more, synced_more, synced_all}
 use Rattle.log_writer.proofs.Keeping.{after_more, after_none, after_shorter}
-use Rattle.log_writer.proofs.Putting.{told_more, told_so, put_len, put_there}
+use Rattle.log_writer.proofs.Putting.{put_len, put_there}
 
 pub len_after : (b : Beginning) (xs ys : List (List ℕ)) → xs ≡ ys → length (text_after b xs) ≡ length (text_after b ys)
 len_after b xs ys e = ap (λ (l : List (List ℕ)). length (text_after b l)) e
+
+-- content that begins with a whole text, at whose end the place is
+front_of_whole : (t : List ℕ) (place : ℕ) (content : List ℕ) → place ≡ length t → BeginsWith t content → HoldsFront t place content
+front_of_whole t place content end begins = record {
+  within = omega (arith, end);
+  same = ap (λ (n : ℕ). take n content) end ∙ (begins.1 ∙ sym (take_all place t (omega (arith, end))));
+}
 
 -- A record is put where the text of what was written ends.
 module _ (b : Beginning) (x y : Disk) (calls : List GroupCall) (c : GroupCall) (len safe : ℕ) (is : IsDisk x) (is_none : first_fault calls ≡ None) (len_is : len ≡ length (text_after b (written_by calls))) (holds : HoldsCalls b x calls safe) where
@@ -63,6 +71,7 @@ module _ (b : Beginning) (x y : Disk) (calls : List GroupCall) (c : GroupCall) (
       content = subst (λ (l : List (List ℕ)). BeginsWith (text_after b l) y.content) (sym written) begins;
       behind = omega (arith, put.place, text_len, len_after b (written_by (calls ++ c ∷ [])) records written);
       place = λ none. put.place ∙ (sym text_len ∙ sym (len_after b (written_by (calls ++ c ∷ [])) records written));
+      front = subst (λ (l : List (List ℕ)). HoldsFront (text_after b l) y.place y.content) (sym (begun_more calls c is_none)) (front_of_whole (text_after b records) y.place y.content (put.place ∙ sym text_len) begins);
       some = omega (arith, some, ap length written);
       synced = subst (λ (l : List (List ℕ)). length (text_after b (take n l)) ≤ y.synced) (sym written) synced;
       have_synced = have;
@@ -83,8 +92,19 @@ module _ (b : Beginning) (x y : Disk) (calls : List GroupCall) (c : GroupCall) (
               (synced_more calls c safe holds.have_synced (λ ok asked. let wrong : true ≡ false = sym asked ∙ e in cc)),
         )
 
-  part_put : (count : ℕ) → c.failed ≡ Some count → StaysInFront x y → HoldsCalls b y (calls ++ c ∷ []) safe
-  part_put count failed stays =
+  -- and with the call of which only a front of the record is put
+  part_front : IsPutInPart x y bytes → HoldsFront (text_after b records) y.place y.content
+  part_front put =
+      let before : List ℕ = take x.place x.content in
+      let len : length before + put.some ≡ y.place = omega (arith, length-take x.place x.content, is.placed, put.moved) in
+      record {
+        within = omega (arith, text_len, put.moved, put.few);
+        same = put.part ∙ (sym (take-append-add before bytes put.some) ∙ (ap (λ (n : ℕ). take n (before ++ bytes)) len ∙ ap (take y.place) (sym text_is)));
+      }
+
+  part_put : (count : ℕ) → c.failed ≡ Some count → IsPutInPart x y bytes → HoldsCalls b y (calls ++ c ∷ []) safe
+  part_put count failed put =
+      let stays : StaysInFront x y = put.stays in
       let written : written_by (calls ++ c ∷ []) ≡ written_by calls = written_more calls c is_none ∙ (ap (λ (f : Option ℕ). written_by calls ++ if_worked f (record_of_call c ∷ []) []) failed ∙ append-nil (written_by calls)) in
       let t : List ℕ = text_after b (written_by calls) in
       let there : take x.place y.content ≡ t = stays.content ∙ front in
@@ -94,6 +114,7 @@ module _ (b : Beginning) (x y : Disk) (calls : List GroupCall) (c : GroupCall) (
         content = subst (λ (l : List (List ℕ)). BeginsWith (text_after b l) y.content) (sym written) before;
         behind = omega (arith, stays.place, n_is, len_after b (written_by (calls ++ c ∷ [])) (written_by calls) written);
         place = λ none. let wrong : ◌≡◌ {A = Option ℕ} None (Some count) = sym none ∙ (first_more calls c is_none ∙ failed) in absurd (cc);
+        front = subst (λ (l : List (List ℕ)). HoldsFront (text_after b l) y.place y.content) (sym (begun_more calls c is_none)) (part_front put);
         some = omega (arith, holds.some, ap length written);
         synced = subst (λ (l : List (List ℕ)). length (text_after b (take safe l)) ≤ y.synced) (sym written) (still_safe stays.synced);
         have_synced = synced_more calls c safe holds.have_synced (λ ok asked. let wrong : ◌≡◌ {A = Option ℕ} None (Some count) = sym ok ∙ failed in cc);
@@ -119,6 +140,7 @@ stays b d calls c count safe dead failed holds =
       content = subst (λ (l : List (List ℕ)). BeginsWith (text_after b l) d.content) (sym same.written) holds.content;
       behind = omega (arith, holds.behind, len_after b (written_by (calls ++ c ∷ [])) (written_by calls) same.written);
       place = λ none. let wrong : ◌≡◌ {A = Option ℕ} None (Some count) = sym none ∙ (same.fault ∙ dead) in absurd (cc);
+      front = subst (λ (l : List (List ℕ)). HoldsFront (text_after b l) d.place d.content) (sym same.begun) holds.front;
       some = omega (arith, holds.some, ap length same.written);
       synced = subst (λ (l : List (List ℕ)). length (text_after b (take safe l)) ≤ d.synced) (sym same.written) holds.synced;
       have_synced = synced_more calls c safe holds.have_synced (λ ok asked. let wrong : ◌≡◌ {A = Option ℕ} None (Some count) = sym ok ∙ failed in cc);
@@ -200,6 +222,7 @@ told_first b (Some x) (Some y) behind =
         content = kept_in_front b x y behind;
         behind = omega (arith, behind.place, same);
         place = λ none. behind.place ∙ sym same;
+        front = front_of_whole (text_after b []) y.place y.content (behind.place ∙ sym same) (kept_in_front b x y behind);
         some = omega arith;
         synced = omega (arith, behind.safe, same);
         have_synced = tt;

@@ -19,7 +19,7 @@ use Rattle.log_writer.proofs.Putting.{told_more, told_is, leaves_so, leaves_more
 
 put_stays_so : {T E : Type 0} (x y : Disk) (bytes : List ℕ) (sync : Bool) (r : Result T E) → IsDisk x → ArePut x y bytes sync r → StaysInFront x y
 put_stays_so x y bytes sync (Ok t) is put = put_stays x y bytes sync is put
-put_stays_so x y bytes sync (Err e) is put = put
+put_stays_so x y bytes sync (Err e) is put = put.stays
 
 told_none : (a : Option Disk) → Told a a StaysInFront
 told_none None = tt

@@ -1,5 +1,5 @@
 -- What it does to a disk to put bytes at its place, and perhaps to sync them.
-use Rattle.std.specs.Prelude.{◌≡◌, ℕ, ◌+◌, ◌≤◌, Bool, true, false, List, length, take, Result, MatchResult}
+use Rattle.std.specs.Prelude.{◌≡◌, ℕ, ◌+◌, ◌≤◌, Bool, true, false, List, ◌++◌, length, take, Result, MatchResult}
 use Rattle.base_devices.specs.Disk.{Disk, IsAllSafe, put_at, Told, LeavesOnly}
 use Rattle.base_devices.specs.Faults.{HasCause}
 use Rattle.base_devices.specs.declared.disk.Disk.{Ghosts}
@@ -23,10 +23,19 @@ pub record StaysInFront (before after : Disk) : Type 0 where
   pub place : before.place ≤ after.place
   pub synced : safe_len before ≤ after.synced
 
--- The bytes are put; or where that failed, nothing in front of the place has changed.
+-- Where putting failed, some of the bytes are put: as many as the place has moved on by. What is behind the place is left
+-- to the disk, whose call failed.
+pub record IsPutInPart (before after : Disk) (bytes : List ℕ) : Type 0 where
+  pub stays : StaysInFront before after
+  pub some : ℕ
+  pub few : some ≤ length bytes
+  pub moved : after.place ≡ before.place + some
+  pub part : take after.place after.content ≡ take before.place before.content ++ take some bytes
+
+-- The bytes are put; or where that failed, some of them, and nothing in front of the place has changed.
 abbrev pub ArePut : {T E : Type 0} → Disk → Disk → List ℕ → Bool → Result T E → Type 0
 ArePut before after bytes sync result =
-    MatchResult result (λ _. StandPut before after bytes sync) (λ _. StaysInFront before after)
+    MatchResult result (λ _. StandPut before after bytes sync) (λ _. IsPutInPart before after bytes)
 
 pub record Puts {D T E : Type 0} (ghosts : Ghosts D) (old new : D) (bytes : List ℕ) (sync : Bool) (result : Result T E)
     : Type 0 where

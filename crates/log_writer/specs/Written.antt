@@ -6,7 +6,7 @@ use Rattle.base_devices.specs.Disk.{Disk}
 use Rattle.base_devices.specs.declared.disk.Disk.{Ghosts}
 use Rattle.model_base.specs.Counts.{Rose}
 use Rattle.model_base.specs.Log.{Beginning, text_after}
-use Rattle.log_laws.specs.Prefixes.{BeginsWith}
+use Rattle.log_laws.specs.Prefixes.{BeginsWith, HoldsFront}
 use Rattle.log_writer.specs.declared.writer.LogWriter.{LogWriter}
 use Rattle.log_writer.specs.Words.{disk_of, number_of, len_of, fault_of}
 use Rattle.log_writer.specs.Crashes.{HoldsUpTo}
@@ -75,12 +75,13 @@ HoldsSynced b reached calls image = (k : ℕ) (c : GroupCall) → slice_get call
     → c.sync ≡ true → HoldsUpTo reached (text_after b (take (k + 1) (written_by calls))) image
 
 -- The disk's content begins with the text of all that was written. Its place is at the end of this text, or, once a
--- call has failed, there or after it. The first `safe` records are safe, and those that were to be synced are among
--- them.
+-- call has failed, there or after it; and up to its place the disk holds this text and a front of that of the record
+-- whose call failed. The first `safe` records are safe, and those that were to be synced are among them.
 pub record HoldsCalls (b : Beginning) (d : Disk) (calls : List GroupCall) (safe : ℕ) : Type 0 where
   pub content : BeginsWith (text_after b (written_by calls)) d.content
   pub behind : length (text_after b (written_by calls)) ≤ d.place
   pub place : first_fault calls ≡ None → d.place ≡ length (text_after b (written_by calls))
+  pub front : HoldsFront (text_after b (begun_by calls)) d.place d.content
   pub some : safe ≤ length (written_by calls)
   pub synced : length (text_after b (take safe (written_by calls))) ≤ d.synced
   pub have_synced : HaveSynced calls safe

@@ -75,6 +75,7 @@ module _ (settings : Settings) (v : Account) (pending : List Record) where
           above = (let a = wrote.above in omega (arith, low, a));
           behind = wrote.behind;
           alive = wrote.alive;
+          free = wrote.free;
           after = stands_by w [] (max shown last) _ _ _ wrote.mine wrote.asked wrote.attempts;
         }),
       ))
@@ -92,8 +93,9 @@ module _ (settings : Settings) (v : Account) (pending : List Record) where
             omega (arith, rises, low),
             λ trace is_history saw. subst (Committed trace how (refused why) (progress_at v pending shown) (progress_at w pending shown)) (sym e) (
               r.status,
-              refuse_in w.seen.controller_calls trace.controller_calls saw.controller_calls (progress_at v pending (last_seen v.seen)) shown (length w.seen.controller_calls) low how why r.status r.may,
+              refuse_in w.seen.controller_calls trace.controller_calls saw.controller_calls v.number (progress_at v pending (last_seen v.seen)) shown (length w.seen.controller_calls) low how why r.status r.may,
               stands_by w pending shown _ _ _ r.mine r.asked r.attempts,
+              r.kept_out,
             ),
           ))
       by_check (Some early) e s =

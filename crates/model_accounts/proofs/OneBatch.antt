@@ -52,6 +52,7 @@ wrote = record {
   seen = record { start = refl; opening = refl; published = (after.seen.published, refl); controller_calls = (after.seen.controller_calls, refl) };
   some = lit≤ tt;
   passed = refl;
+  free = refl;
   above = lit≤ tt;
   behind = tt;
   alive = refl;

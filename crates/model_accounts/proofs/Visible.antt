@@ -34,19 +34,19 @@ record Moves (p : Progress) (c : Command) (r : Reply) (q : Progress) : Type 0 wh
 same_both : (p : Progress) (c : Command) (r : Reply) (q : Progress) → added_by p.pending c r ≡ p.pending → q.pending ≡ p.pending → q.attempts ≡ p.attempts → Moves p c r q
 same_both p c r q none a b = record { pending = a ∙ sym none; hands = inl b }
 
-refusal_tells : (controller_calls : List ControllerCall) (p : Progress) (knows : ℕ) (how : WriteOptions) (why : Refusal) (status : WriteStatus)
-    → MayRefuse controller_calls p knows how why (Some status) → Tells status p.pending (refused why)
-refusal_tells controller_calls p knows how (no.Incomplete a b c) (slowed place) s = (a, b, c, refl)
-refusal_tells controller_calls p knows how (no.Incomplete a b c) succeeded s = absurd s.2
-refusal_tells controller_calls p knows how (no.Incomplete a b c) (faulted n) s = absurd s.2
-refusal_tells controller_calls p knows how (no.Incomplete a b c) (full n) s = absurd s.2
-refusal_tells controller_calls p knows how (no.LogFault n) status s = let is : status ≡ faulted n = cc s in subst (λ f. Tells f p.pending (refused (no.LogFault n))) (sym is) refl
-refusal_tells controller_calls p knows how (no.SequenceFull n) status s = let is : status ≡ full n = cc (s.0) in subst (λ f. Tells f p.pending (refused (no.SequenceFull n))) (sym is) refl
-refusal_tells controller_calls p knows how no.Empty status s = absurd s
-refusal_tells controller_calls p knows how (no.TooLarge n) status s = absurd s
-refusal_tells controller_calls p knows how no.SyncWithoutLog status s = absurd s
-refusal_tells controller_calls p knows how no.SelfStop status s = absurd s
-refusal_tells controller_calls p knows how no.NoMemory status s = absurd s
+refusal_tells : (controller_calls : List ControllerCall) (client : ℕ) (p : Progress) (knows : ℕ) (how : WriteOptions) (why : Refusal) (status : WriteStatus)
+    → MayRefuse controller_calls client p knows how why (Some status) → Tells status p.pending (refused why)
+refusal_tells controller_calls client p knows how (no.Incomplete a b c) (slowed place) s = (a, b, c, refl)
+refusal_tells controller_calls client p knows how (no.Incomplete a b c) succeeded s = absurd s.2
+refusal_tells controller_calls client p knows how (no.Incomplete a b c) (faulted n) s = absurd s.2
+refusal_tells controller_calls client p knows how (no.Incomplete a b c) (full n) s = absurd s.2
+refusal_tells controller_calls client p knows how (no.LogFault n) status s = let is : status ≡ faulted n = cc s in subst (λ f. Tells f p.pending (refused (no.LogFault n))) (sym is) refl
+refusal_tells controller_calls client p knows how (no.SequenceFull n) status s = let is : status ≡ full n = cc (s.0) in subst (λ f. Tells f p.pending (refused (no.SequenceFull n))) (sym is) refl
+refusal_tells controller_calls client p knows how no.Empty status s = absurd s
+refusal_tells controller_calls client p knows how (no.TooLarge n) status s = absurd s
+refusal_tells controller_calls client p knows how no.SyncWithoutLog status s = absurd s
+refusal_tells controller_calls client p knows how no.SelfStop status s = absurd s
+refusal_tells controller_calls client p knows how no.NoMemory status s = absurd s
 
 commit_moves : (trace : Trace) (client : ℕ) (p : Progress) (how : WriteOptions) (r : Reply) (q : Progress) (o : Option Refusal)
     → MatchOption o (IsAttempted trace client p how r q) (λ why. (r ≡ refused why) × Stays p q) → Moves p (commit how) r q
@@ -56,12 +56,12 @@ commit_moves trace client p how (accepted a b records) q None s = record {
 }
 commit_moves trace client p how (refused why) q None s = by_status s.0 s.1 s.2
   where
-    by_status : (status : Option WriteStatus) → MayRefuse trace.controller_calls p q.known how why status
+    by_status : (status : Option WriteStatus) → MayRefuse trace.controller_calls client p q.known how why status
         → q ≡ record p { attempts = with_attempt p.attempts p.pending how status; known = q.known } → Moves p (commit how) (refused why) q
     by_status None may e = same_both p (commit how) (refused why) q refl (ap (λ (x : Progress). x.pending) e) (ap (λ (x : Progress). x.attempts) e)
     by_status (Some status) may e = record {
       pending = ap (λ (x : Progress). x.pending) e;
-      hands = inr (how, status, refl, ap (λ (x : Progress). x.attempts) e, refusal_tells trace.controller_calls p q.known how why status may);
+      hands = inr (how, status, refl, ap (λ (x : Progress). x.attempts) e, refusal_tells trace.controller_calls client p q.known how why status may);
     }
 commit_moves trace client p how _ q None s = absurd s
 commit_moves trace client p how r q (Some why) s =

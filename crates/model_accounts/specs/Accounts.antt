@@ -11,7 +11,7 @@ use Rattle.model_base.specs.Tokens.{holds_stop, given_back}
 use Rattle.model_base.specs.Trace.{Settings}
 use Rattle.model_base.specs.Attempts.{Attempt, WriteStatus, succeeded, with_attempt, knows_log_failed}
 use Rattle.model_base.specs.Progress.{Progress, next_entry, early_refusal}
-use Rattle.model_base.specs.Replies.{IsLater, AreFullBelow, MayRefuse}
+use Rattle.model_base.specs.Replies.{IsLater, AreFullBelow, MayRefuse, IsKeptOut}
 use Rattle.model_accounts.specs.Sights.{Sight, unseen, last_seen, map_seen, Sees}
 
 -- One client: its accepted batches, for each of them the last sequence of its group, its calls of the controller that
@@ -55,9 +55,10 @@ pub record Keeps (v w : Account) : Type 0 where
   pub attempts : w.attempts ≡ v.attempts
   pub seen : Sees v.seen w.seen
 
--- A batch was accepted: one entry more. It had passed the early checks, and the client didn't know of a fault of the
--- log. Its run is above all that the client had seen published, and above each sequence after which there was no room
--- for an earlier batch of this client. The client has now seen the batch's group published, up to the group's end.
+-- A batch was accepted: one entry more. It had passed the early checks, and the client held no stop token and didn't
+-- know of a fault of the log. Its run is above all that the client had seen published, and above each sequence after
+-- which there was no room for an earlier batch of this client. The client has now seen the batch's group published, up
+-- to the group's end.
 pub record Wrote (settings : Settings) (v : Account) (records : List Record) (how : WriteOptions) (first group_last : ℕ)
     (w : Account) : Type 0 where
   pub number : w.number ≡ v.number
@@ -68,19 +69,22 @@ pub record Wrote (settings : Settings) (v : Account) (records : List Record) (ho
   pub seen : Sees v.seen w.seen
   pub some : 1 ≤ count_of records
   pub passed : early_refusal settings.batch_bytes (holds_stop v.asked) records how ≡ None
+  pub free : holds_stop v.asked ≡ false
   pub above : last_seen v.seen < first
   pub behind : AreFullBelow first v.attempts
   pub alive : knows_log_failed v.attempts ≡ false
   pub within : first + count_of records ≤ group_last + 1
   pub reached : group_last ≤ last_seen w.seen
 
--- a commit that passed the early checks was refused, and its batch has no run
+-- A commit that passed the early checks was refused, and its batch has no run. It was in no group exactly if the client
+-- held a stop token.
 pub record IsRefused (v : Account) (records : List Record) (how : WriteOptions) (why : Refusal)
     (w : Account) : Type 0 where
   pub status : Option WriteStatus
-  pub may : MayRefuse w.seen.controller_calls (progress_at v records (last_seen v.seen))
+  pub may : MayRefuse w.seen.controller_calls v.number (progress_at v records (last_seen v.seen))
       (length w.seen.controller_calls)
       how why status
+  pub kept_out : IsKeptOut v.asked status
   pub number : w.number ≡ v.number
   pub mine : w.mine ≡ v.mine
   pub ends : w.ends ≡ v.ends

@@ -37,6 +37,7 @@ pub fn sights_of_the_table()
 pub fn sights_of_traces()
     ensures ends { (sight : Sight) (trace : Trace) → IsHistory trace.start trace.entries → (saw : Saw sight trace)
         → last_seen sight ≡ last_sequence trace.start saw.entries }
+    // What is read is read of the map that the run began with, and of all that was seen published.
     ensures map { (sight : Sight) (trace : Trace) → IsHistory trace.start trace.entries → (saw : Saw sight trace)
         → map_seen sight ≡ map_over trace.opening saw.entries }
 {}

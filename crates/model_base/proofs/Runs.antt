@@ -1,5 +1,5 @@
 -- Runs of calls: what holds in a trace holds in a longer one; and one more call.
-use Rattle.std.proofs.Common.{◌≡◌, ℕ, ◌≤◌, Option, Some, None, List, [], ◌∷◌, ◌++◌, MatchOption, refl, ap, sym, ◌∙◌, subst, arith, append_assoc}
+use Rattle.std.proofs.Common.{◌≡◌, ℕ, ◌≤◌, false, Option, Some, None, List, [], ◌∷◌, ◌++◌, MatchOption, refl, ap, sym, ◌∙◌, subst, arith, append_assoc}
 use mathlib.Core.List.{IsPrefix}
 use Rattle.model_base.specs.declared.write.WriteOptions.{WriteOptions}
 use Rattle.model_base.specs.declared.write.Refusal.{Refusal}
@@ -11,7 +11,7 @@ use Rattle.model_base.specs.Trace.{Trace, Begins, Settings}
 use Rattle.model_base.specs.Attempts.{WriteStatus, succeeded, slowed, faulted, full}
 use Rattle.model_base.specs.Tokens.{holds_stop}
 use Rattle.model_base.specs.Progress.{Progress, fresh, early_refusal}
-use Rattle.model_base.specs.Replies.{IsLater, IsTold, MayRefuse, IsAttempted, ReadsAt, IsDone, Gets, GetsMany, Scans, Stops, Unstops, Slows, Unslows, Replies, Stays}
+use Rattle.model_base.specs.Replies.{IsLater, IsTold, MayRefuse, IsKeptOut, IsAttempted, ReadsAt, IsDone, Gets, GetsMany, Scans, Stops, Unstops, Slows, Unslows, Replies, Stays}
 use Rattle.model_base.specs.Runs.{Step, Run, IsTranscript, whole, cut_off}
 use Rattle.model_base.specs.Calls.{Command, add, clear, commit, get, many, scan, stop, unstop, slow, unslow, Reply, accepted, refused, found, found_each, rows, done, held, not_held, Call}
 use Rattle.model_base.proofs.Prefixes.{prefix_at, prefix_length}
@@ -21,24 +21,28 @@ use Rattle.model_base.proofs.Prefixes.{prefix_at, prefix_length}
 pub later_in : (xs ys : List ControllerCall) → IsPrefix xs ys → (known place : ℕ) (t : ControllerCall) → IsLater xs known place t → IsLater ys known place t
 later_in xs ys p known place t s = record { later = s.later; there = prefix_at xs ys p place t s.there }
 
-told_in : (xs ys : List ControllerCall) → IsPrefix xs ys → (knew knows : ℕ) (numbers : Look) (status : Option WriteStatus) → IsTold xs knew knows numbers status → IsTold ys knew knows numbers status
-told_in xs ys p knew knows numbers None s = (s.0, s.1, later_in xs ys p knew s.0 _ s.2, s.3)
-told_in xs ys p knew knows numbers (Some (slowed place)) s = (s.0, s.1, s.2, later_in xs ys p knew place _ s.3, s.4)
-told_in xs ys p knew knows numbers (Some succeeded) s = absurd s
-told_in xs ys p knew knows numbers (Some (faulted c)) s = absurd s
-told_in xs ys p knew knows numbers (Some (full l)) s = absurd s
+told_in : (xs ys : List ControllerCall) → IsPrefix xs ys → (client knew knows : ℕ) (numbers : Look) (status : Option WriteStatus) → IsTold xs client knew knows numbers status → IsTold ys client knew knows numbers status
+told_in xs ys p client knew knows numbers None s = (s.0, later_in xs ys p knew s.0 _ s.1, s.2)
+told_in xs ys p client knew knows numbers (Some (slowed place)) s = (s.0, s.1, s.2, later_in xs ys p knew place _ s.3, s.4)
+told_in xs ys p client knew knows numbers (Some succeeded) s = absurd s
+told_in xs ys p client knew knows numbers (Some (faulted c)) s = absurd s
+told_in xs ys p client knew knows numbers (Some (full l)) s = absurd s
 
 -- a refusal that is right stays so in the longer history, even for a client that was shown less
-pub refuse_in : (xs ys : List ControllerCall) → IsPrefix xs ys → (p : Progress) (shown knows : ℕ) → shown ≤ p.seen_up_to → (how : WriteOptions) (why : Refusal) (status : Option WriteStatus)
-    → MayRefuse xs p knows how why status → MayRefuse ys (record p { seen_up_to = shown }) knows how why status
-refuse_in xs ys pre p shown knows low how (no.Incomplete a b c) status s = (s.0, s.1, told_in xs ys pre p.known knows _ status s.2)
-refuse_in xs ys pre p shown knows low how (no.LogFault c) status s = s
-refuse_in xs ys pre p shown knows low how (no.SequenceFull l) status s = (s.0, s.1, (let seen = s.2 in omega (arith, low, seen)), s.3, s.4, s.5)
-refuse_in xs ys pre p shown knows low how no.Empty status s = s
-refuse_in xs ys pre p shown knows low how (no.TooLarge n) status s = s
-refuse_in xs ys pre p shown knows low how no.SyncWithoutLog status s = s
-refuse_in xs ys pre p shown knows low how no.SelfStop status s = s
-refuse_in xs ys pre p shown knows low how no.NoMemory status s = s
+pub refuse_in : (xs ys : List ControllerCall) → IsPrefix xs ys → (client : ℕ) (p : Progress) (shown knows : ℕ) → shown ≤ p.seen_up_to → (how : WriteOptions) (why : Refusal) (status : Option WriteStatus)
+    → MayRefuse xs client p knows how why status → MayRefuse ys client (record p { seen_up_to = shown }) knows how why status
+refuse_in xs ys pre client p shown knows low how (no.Incomplete a b c) status s = (s.0, s.1, told_in xs ys pre client p.known knows _ status s.2)
+refuse_in xs ys pre client p shown knows low how (no.LogFault c) status s = s
+refuse_in xs ys pre client p shown knows low how (no.SequenceFull l) status s = (s.0, s.1, (let seen = s.2 in omega (arith, low, seen)), s.3, s.4, s.5)
+refuse_in xs ys pre client p shown knows low how no.Empty status s = s
+refuse_in xs ys pre client p shown knows low how (no.TooLarge n) status s = s
+refuse_in xs ys pre client p shown knows low how no.SyncWithoutLog status s = s
+refuse_in xs ys pre client p shown knows low how no.SelfStop status s = s
+refuse_in xs ys pre client p shown knows low how no.NoMemory status s = s
+
+-- a commit of a client that holds no stop token is in a group
+pub not_kept_out : (asked : List Action) (status : WriteStatus) → holds_stop asked ≡ false → IsKeptOut asked (Some status)
+not_kept_out asked status free = record { own = λ stopping. absurd (cc (free, stopping)); only = λ none. absurd (cc none) }
 
 -- what follows where there is no early refusal
 in_none : {A : Type 0} (X Y : Type 0) (Q : A → Type 0) (o : Option A) → (X → Y) → MatchOption o X Q → MatchOption o Y Q
@@ -48,7 +52,7 @@ in_none X Y Q (Some a) f s = s
 module _ (v w : Trace) (b : Begins v w) where
   attempted_in : (client : ℕ) (p : Progress) (how : WriteOptions) (r : Reply) (q : Progress) → IsAttempted v client p how r q → IsAttempted w client p how r q
   attempted_in client p how (accepted x y rs) q s = s
-  attempted_in client p how (refused why) q s = (s.0, refuse_in v.controller_calls w.controller_calls b.controller_calls p p.seen_up_to q.known (omega arith) how why s.0 s.1, s.2)
+  attempted_in client p how (refused why) q s = (s.0, refuse_in v.controller_calls w.controller_calls b.controller_calls client p p.seen_up_to q.known (omega arith) how why s.0 s.1, s.2, s.3)
   attempted_in client p how _ q s = absurd s
 
   reads_in : (p : Progress) (at : ℕ) (answers : Pairs → Type 0) (q : Progress) → ReadsAt v p at answers q → ReadsAt w p at answers q

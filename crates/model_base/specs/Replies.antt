@@ -22,18 +22,18 @@ pub record IsLater (controller_calls : List ControllerCall) (known place : ℕ) 
   pub later : known ≤ place
   pub there : slice_get controller_calls place ≡ Some call
 
--- The numbers are the answer of a look, or of the delay that was asked for the commit's group. That call comes after
--- all that the client knew before its commit, and the client knows of it once the commit returns. Which group it was
--- for isn't in the controller's history: the groups of an outcome say so.
-abbrev pub IsTold : List ControllerCall → ℕ → ℕ → Look → Option WriteStatus → Type 0
-IsTold controller_calls knew knows numbers None = (place : ℕ) × (by : ℕ)
-    × IsLater controller_calls knew place (record { client = by; action = controller.look; told = Some numbers })
+-- The numbers are the answer of a look of the client's own, or of the delay that was asked for the commit's group. That
+-- call comes after all that the client knew before its commit, and the client knows of it once the commit returns. Which
+-- group it was for isn't in the controller's history: the groups of an outcome say so.
+abbrev pub IsTold : List ControllerCall → ℕ → ℕ → ℕ → Look → Option WriteStatus → Type 0
+IsTold controller_calls client knew knows numbers None = (place : ℕ)
+    × IsLater controller_calls knew place (record { client = client; action = controller.look; told = Some numbers })
     × (place < knows)
-IsTold controller_calls knew knows numbers (Some (slowed place)) = (by : ℕ) × (now : ℕ) × (bytes : ℕ)
+IsTold controller_calls client knew knows numbers (Some (slowed place)) = (by : ℕ) × (now : ℕ) × (bytes : ℕ)
     × IsLater controller_calls knew place
     (record { client = by; action = controller.delay now bytes; told = Some numbers })
     × (place < knows)
-IsTold controller_calls knew knows numbers (Some other) = ⊥
+IsTold controller_calls client knew knows numbers (Some other) = ⊥
 
 -- no accepted batch ends above this sequence
 abbrev pub AreUpTo : List Entry → ℕ → Type 0
@@ -52,19 +52,24 @@ AreFullBelow sequence attempts = AllByRecursion (λ (h : Attempt). IsFullBelow s
 -- Why a commit of a client with this progress may be refused, after the early checks. `knows` is how much of the
 -- controller's history the client knows afterwards, and `status` how the commit ended in its group, if a leader took it
 -- into one.
-abbrev pub MayRefuse : List ControllerCall → Progress → ℕ → WriteOptions → Refusal → Option WriteStatus → Type 0
-MayRefuse controller_calls p knows how (no.Incomplete stops delays wait) status =
+abbrev pub MayRefuse : List ControllerCall → ℕ → Progress → ℕ → WriteOptions → Refusal → Option WriteStatus → Type 0
+MayRefuse controller_calls client p knows how (no.Incomplete stops delays wait) status =
     (how.no_slowdown ≡ true) × HoldUp (record { stops = stops; delays = delays; wait = wait })
-    × IsTold controller_calls p.known knows (record { stops = stops; delays = delays; wait = wait }) status
-MayRefuse controller_calls p knows how (no.LogFault count) status = status ≡ Some (faulted count)
-MayRefuse controller_calls p knows how (no.SequenceFull last) status =
+    × IsTold controller_calls client p.known knows (record { stops = stops; delays = delays; wait = wait }) status
+MayRefuse controller_calls client p knows how (no.LogFault count) status = status ≡ Some (faulted count)
+MayRefuse controller_calls client p knows how (no.SequenceFull last) status =
     (status ≡ Some (full last)) × (knows_log_failed p.attempts ≡ false) × (p.seen_up_to ≤ last) × AreUpTo p.mine last
     × AreFullBelow (last + 1) p.attempts × (max_sequence < last + count_of p.pending)
-MayRefuse controller_calls p knows how no.Empty status = ⊥
-MayRefuse controller_calls p knows how (no.TooLarge size) status = ⊥
-MayRefuse controller_calls p knows how no.SyncWithoutLog status = ⊥
-MayRefuse controller_calls p knows how no.SelfStop status = ⊥
-MayRefuse controller_calls p knows how no.NoMemory status = ⊥
+MayRefuse controller_calls client p knows how no.Empty status = ⊥
+MayRefuse controller_calls client p knows how (no.TooLarge size) status = ⊥
+MayRefuse controller_calls client p knows how no.SyncWithoutLog status = ⊥
+MayRefuse controller_calls client p knows how no.SelfStop status = ⊥
+MayRefuse controller_calls client p knows how no.NoMemory status = ⊥
+
+-- A commit is in no group exactly if its client holds a stop token.
+pub record IsKeptOut (asked : List Action) (status : Option WriteStatus) : Type 0 where
+  pub own : holds_stop asked ≡ true → status ≡ None
+  pub only : status ≡ None → holds_stop asked ≡ true
 
 -- Each command
 
@@ -81,7 +86,8 @@ Clears p quiet q = q ≡ record p { pending = []; known = q.known }
 Clears p other q = ⊥
 
 -- The batch got the run that was replied, and is the client's next entry. The run is above all that the client was
--- shown, and above each sequence after which there was no room for an earlier batch of this client.
+-- shown, and above each sequence after which there was no room for an earlier batch of this client. The client doesn't
+-- know of a fault of the log, and holds no stop token.
 pub record IsAccepted (client : ℕ) (p : Progress) (how : WriteOptions) (first last : ℕ) (records : List Record)
     (q : Progress) : Type 0 where
   pub batch : records ≡ p.pending
@@ -89,6 +95,7 @@ pub record IsAccepted (client : ℕ) (p : Progress) (how : WriteOptions) (first 
   pub above : p.seen_up_to < first
   pub behind : AreFullBelow first p.attempts
   pub alive : knows_log_failed p.attempts ≡ false
+  pub free : holds_stop p.asked ≡ false
   pub after : q ≡ record p {
     pending = [];
     mine = p.mine ++ next_entry client p.mine how first p.pending ∷ [];
@@ -101,8 +108,9 @@ pub record IsAccepted (client : ℕ) (p : Progress) (how : WriteOptions) (first 
 abbrev pub IsAttempted : Trace → ℕ → Progress → WriteOptions → Reply → Progress → Type 0
 IsAttempted trace client p how (accepted first last records) q = IsAccepted client p how first last records q
 IsAttempted trace client p how (refused why) q =
-    (status : Option WriteStatus) × MayRefuse trace.controller_calls p q.known how why status
+    (status : Option WriteStatus) × MayRefuse trace.controller_calls client p q.known how why status
     × (q ≡ record p { attempts = with_attempt p.attempts p.pending how status; known = q.known })
+    × IsKeptOut p.asked status
 IsAttempted trace client p how other q = ⊥
 
 abbrev pub Commits : Settings → Trace → ℕ → Progress → WriteOptions → Reply → Progress → Type 0

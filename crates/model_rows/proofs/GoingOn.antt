@@ -45,7 +45,7 @@ transcript = record {
       quietly begun_before behind seen_before _ _ begun refl refl refl,
       (
         taken,
-        quietly begun_before behind begun _ _ taken (record { batch = refl; run = refl; above = lit≤ tt; behind = tt; alive = refl; after = refl }) refl refl,
+        quietly begun_before behind begun _ _ taken (record { batch = refl; run = refl; above = lit≤ tt; behind = tt; alive = refl; free = refl; after = refl }) refl refl,
         refl,
       ),
     ),

@@ -9,6 +9,7 @@ use Rattle.model_base.specs.Groups.{Group}
 use Rattle.model_base.specs.Progress.{Progress, fresh}
 use Rattle.model_base.specs.Runs.{whole, commands_of}
 use Rattle.model_base.specs.Outcomes.{IsLegal, IsLegalTranscript}
+use Rattle.model_base.proofs.Runs.{not_kept_out}
 use Rattle.model_rows.specs.Examples.{put_a1, put_b2, plain}
 use Rattle.model_rows.specs.Runs.{entry_at, one_client, one_script, one_calls, one_commit, refused_calls, refused_commit, failing_script, failing_calls, failed_write}
 use Rattle.model_rows.proofs.Alone.{each_one, quietly, added, took, fell, shown}
@@ -61,7 +62,7 @@ accepted_transcript = record {
     quietly one_client one_batch fresh _ _ begun refl refl refl,
     (
       taken_once,
-      quietly one_client one_batch begun _ _ taken_once (record { batch = refl; run = refl; above = lit≤ tt; behind = tt; alive = refl; after = refl }) refl refl,
+      quietly one_client one_batch begun _ _ taken_once (record { batch = refl; run = refl; above = lit≤ tt; behind = tt; alive = refl; free = refl; after = refl }) refl refl,
       (
         seen_once,
         quietly one_client one_batch taken_once _ _ seen_once (record { front = entry_at 1 1 put_a1 ∷ []; is_front = record { rest = []; split = refl; ends = refl }; not_below = lit≤ tt; answer = refl; after = refl }) refl refl,
@@ -115,7 +116,7 @@ refused_transcript = record {
     quietly one_client no_batch fresh _ _ begun refl refl refl,
     (
       fell_first,
-      quietly one_client no_batch begun _ _ fell_first (Some (faulted 1), refl, refl) refl refl,
+      quietly one_client no_batch begun _ _ fell_first (Some (faulted 1), refl, refl, not_kept_out [] (faulted 1) refl) refl refl,
       (
         fell_first,
         quietly one_client no_batch fell_first _ _ fell_first (record { front = []; is_front = record { rest = []; split = refl; ends = refl }; not_below = lit≤ tt; answer = refl; after = refl }) refl refl,
@@ -178,16 +179,16 @@ failing_transcript = record {
     quietly one_client one_of_three fresh _ _ begun refl refl refl,
     (
       taken_once,
-      quietly one_client one_of_three begun _ _ taken_once (record { batch = refl; run = refl; above = lit≤ tt; behind = tt; alive = refl; after = refl }) refl refl,
+      quietly one_client one_of_three begun _ _ taken_once (record { batch = refl; run = refl; above = lit≤ tt; behind = tt; alive = refl; free = refl; after = refl }) refl refl,
       (
         begun_again,
         quietly one_client one_of_three taken_once _ _ begun_again refl refl refl,
         (
           fell_once,
-          quietly one_client one_of_three begun_again _ _ fell_once (Some (faulted 1), refl, refl) refl refl,
+          quietly one_client one_of_three begun_again _ _ fell_once (Some (faulted 1), refl, refl, not_kept_out [] (faulted 1) refl) refl refl,
           (
             fell_twice,
-            quietly one_client one_of_three fell_once _ _ fell_twice (Some (faulted 1), refl, refl) refl refl,
+            quietly one_client one_of_three fell_once _ _ fell_twice (Some (faulted 1), refl, refl, not_kept_out [] (faulted 1) refl) refl refl,
             (
               seen_at_last,
               quietly one_client one_of_three fell_twice _ _ seen_at_last (record { front = entry_at 1 1 put_a1 ∷ []; is_front = record { rest = []; split = refl; ends = refl }; not_below = lit≤ tt; answer = refl; after = refl }) refl refl,

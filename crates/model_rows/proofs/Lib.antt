@@ -5,6 +5,7 @@ pub mod LaterStop
 pub mod Legal
 pub mod NoLook
 pub mod OwnGroups
+pub mod OwnStop
 pub mod Stale
 pub mod Steps
 pub mod Waits

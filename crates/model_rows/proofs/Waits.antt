@@ -65,7 +65,7 @@ waiting_transcript = record {
     record { replies = refl; rises = lit≤ tt; within = lit≤ tt },
     (
       took 1 1 begun,
-      record { replies = record { batch = refl; run = refl; above = lit≤ tt; behind = tt; alive = refl; after = refl }; rises = lit≤ tt; within = lit≤ tt },
+      record { replies = record { batch = refl; run = refl; above = lit≤ tt; behind = tt; alive = refl; free = refl; after = refl }; rises = lit≤ tt; within = lit≤ tt },
       refl,
     ),
   );

@@ -4,7 +4,7 @@ use Rattle.model_base.specs.declared.limits.TheConstants.{MAX_SIZE}
 use Rattle.model_base.specs.declared.history.Flag.TheVariants.{Log}
 use Rattle.model_base.specs.declared.write.Refusal.TheVariants as no
 use Rattle.model_base.specs.Batch.{Record, value}
-use Rattle.model_base.specs.Calls.{Command, add, clear, commit, get, stop, unstop, quiet, accepted, refused, found, done, Call, Outcome}
+use Rattle.model_base.specs.Calls.{Command, add, clear, commit, get, stop, unstop, Reply, quiet, accepted, refused, found, done, Call, Outcome}
 use Rattle.model_base.specs.Controller as controller
 use Rattle.model_base.specs.Controller.{ControllerCall}
 use Rattle.model_base.specs.History.{Entry}
@@ -21,6 +21,10 @@ two_clients = record one_client { clients = 2 }
 -- one client, and two sequences left
 abbrev pub nearly_full : Settings
 nearly_full = record one_client { start = 72057594037927933 }
+
+-- one client, and no sequences left
+abbrev pub used_up : Settings
+used_up = record one_client { start = 72057594037927935 }
 
 -- one client, over one batch that was recovered: `a 1` at the sequence 1
 abbrev pub begun_before : Settings
@@ -197,6 +201,38 @@ later_stop_calls =
 
 abbrev pub refused_by_a_later_stop : Outcome
 refused_by_a_later_stop = record refused_commit { transcripts = later_stop_calls ∷ []; fault = None }
+
+-- `stop`, `put a 1`, `commit noslow`, `unstop`
+abbrev pub own_stop_script : List (List Command)
+own_stop_script = (stop ∷ add put_a1 ∷ commit noslow ∷ unstop ∷ []) ∷ []
+
+-- The client takes a stop token, its commit gets this reply, and it gives the token back.
+abbrev pub own_stop_calls : Reply → List Call
+own_stop_calls reply =
+    record { command = stop; reply = done } ∷ adds put_a1 ∷ record { command = commit noslow; reply = reply }
+    ∷ record { command = unstop; reply = done } ∷ []
+
+-- The commit is refused because of the client's own stop.
+abbrev pub refused_in_its_own_stop : Outcome
+refused_in_its_own_stop = record refused_commit {
+  transcripts = own_stop_calls (refused (no.Incomplete 1 0 0)) ∷ [];
+  fault = None;
+}
+
+-- The commit is accepted all the same.
+abbrev pub accepted_in_its_own_stop : Outcome
+accepted_in_its_own_stop = record one_commit { transcripts = own_stop_calls (accepted 1 1 (put_a1 ∷ [])) ∷ [] }
+
+-- It meets a fault of the log.
+abbrev pub failed_in_its_own_stop : Outcome
+failed_in_its_own_stop = record refused_commit { transcripts = own_stop_calls (refused (no.LogFault 1)) ∷ [] }
+
+-- It finds no sequences left.
+abbrev pub full_in_its_own_stop : Outcome
+full_in_its_own_stop = record refused_in_its_own_stop {
+  transcripts = own_stop_calls (refused (no.SequenceFull 72057594037927935)) ∷ [];
+  last = 72057594037927935;
+}
 
 -- `put a 1`, `put b 2`, `commit`, `clear`, `put a 1`, `commit`
 abbrev pub filling_script : List (List Command)

@@ -22,8 +22,9 @@ pub use histories::{flags_of_commits, logs_of_histories, maps_of_batches};
 pub use logs::{end_of_block, log_of_one_batch, long_records, record_of_no_bytes};
 pub use numbered_logs::{log_over_an_older_one, numbered_log_of_one_batch, numbered_log_recovered};
 pub use outcomes::{
-    failed_write, lower_than_full, one_commit, read_ahead, refused_by_a_later_stop, refused_commit,
-    run_below_what_was_read, stale_read, waited_out, went_on, written_while_stopped,
+    committed_in_its_own_stop, failed_write, lower_than_full, one_commit, read_ahead,
+    refused_by_a_later_stop, refused_commit, run_below_what_was_read, stale_read, waited_out,
+    went_on, written_while_stopped,
 };
 pub use recoveries::{empty_log_recovered, two_batches_recovered};
 pub use scripts::{

@@ -4,7 +4,7 @@ ghost use Rattle.std.specs.Prelude.{◌≡◌, ℕ, List, []};
 ghost use Rattle.model_base.specs.Attempts.{Attempt};
 ghost use Rattle.model_base.specs.Trace.{Trace};
 ghost use Rattle.model_base.specs.Outcomes.{IsLegal, IsLegalIn};
-ghost use Rattle.model_rows.specs.Runs.{one_client, two_clients, nearly_full, one_script, one_commit, refused_commit, failing_script, failed_write, stale_script, stale_read, early_script, read_ahead, crossing_script, run_below_what_was_read, later_stop_script, refused_by_a_later_stop, filling_script, lower_than_full, begun_before, going_on_script, went_on, waiting_script, waited_out, told_of_a_stop};
+ghost use Rattle.model_rows.specs.Runs.{one_client, two_clients, nearly_full, used_up, one_script, one_commit, refused_commit, failing_script, failed_write, stale_script, stale_read, early_script, read_ahead, crossing_script, run_below_what_was_read, later_stop_script, refused_by_a_later_stop, own_stop_script, refused_in_its_own_stop, accepted_in_its_own_stop, failed_in_its_own_stop, full_in_its_own_stop, filling_script, lower_than_full, begun_before, going_on_script, went_on, waiting_script, waited_out, told_of_a_stop};
 
 /// A batch is accepted and then read.
 pub fn one_commit()
@@ -50,6 +50,15 @@ pub fn run_below_what_was_read()
 pub fn refused_by_a_later_stop()
     ensures not_legal { (ended : ℕ)
         → IsLegal one_client ended later_stop_script refused_by_a_later_stop → ⊥ }
+{}
+
+/// A commit that may not wait, of a client that holds a stop token, is refused by a look of the client. That it is
+/// accepted is legal in no trace, nor that it meets a fault of the log, or finds no sequences left.
+pub fn committed_in_its_own_stop()
+    ensures legal { IsLegal one_client 0 own_stop_script refused_in_its_own_stop }
+    ensures not_accepted { (ended : ℕ) → IsLegal one_client ended own_stop_script accepted_in_its_own_stop → ⊥ }
+    ensures not_failed { (ended : ℕ) → IsLegal one_client ended own_stop_script failed_in_its_own_stop → ⊥ }
+    ensures not_full { (ended : ℕ) → IsLegal used_up ended own_stop_script full_in_its_own_stop → ⊥ }
 {}
 
 /// A commit that is accepted at the sequence after which an earlier one found no room is legal in no trace.

@@ -42,9 +42,9 @@ nothing_before holds =
     let byte : Some 0 ≡ Some 17 = ap (λ (l : List ℕ). slice_get l 4) found in
     absurd (cc byte)
 
-pub synced_at_the_end : (group_bytes : ℕ) (attempts : List (List Attempt)) (o : Outcome)
-    → IsCrashSafe group_bytes attempts o new_log two_groups [] text_of_both in_two_records [] 0 (λ image. image ≡ zeros 25) (λ before after image. ⊥) (λ image. image ≡ text_of_both) → ⊥
-synced_at_the_end group_bytes attempts o safe = nothing_before (safe.held (zeros 25) refl)
+pub synced_at_the_end : (group_bytes : ℕ) (attempts : List (List Attempt)) (o : Outcome) (place : ℕ)
+    → IsCrashSafe group_bytes attempts o new_log two_groups [] text_of_both place in_two_records [] 0 (λ image. image ≡ zeros 25) (λ before after image. ⊥) (λ image. image ≡ text_of_both) → ⊥
+synced_at_the_end group_bytes attempts o place safe = nothing_before (safe.held (zeros 25) refl)
 
 -- the same with a header of eleven bytes
 pub synced_late_over_old_bytes : KeepsSynced over_old_bytes two_groups in_two_records nothing_written → ⊥

@@ -14,7 +14,7 @@ use Rattle.model_base.specs.Outcomes.{IsLegalIn}
 use Rattle.model_base.specs.LogContents.{GroupCall, record_of_call, records_of, IsLogOf}
 pub use Rattle.model_base.specs.LogContents.{HoldsUpTo}
 use Rattle.model_base.specs.Recovery.{NoChance}
-use Rattle.log_laws.specs.Prefixes.{RecoversPrefix, BeginsWith}
+use Rattle.log_laws.specs.Prefixes.{RecoversPrefix, BeginsWith, HoldsFront}
 use Rattle.model_runs.specs.Lost.{IsLostGroup}
 use Rattle.model_runs.specs.Written.{WritesLog}
 
@@ -83,7 +83,7 @@ module _ (group_bytes : ℕ) (attempts : List (List Attempt)) (o : Outcome) wher
     pub same : x ≡ group_record (o.last + 1) batches
 
   module _ (b : Beginning) (groups : List (List Entry)) where
-    -- An image that a crash leaves (`left`) recovers a prefix of these records, unless by chance: those that the log
+    -- An image that may be found (`left`) recovers a prefix of these records, unless by chance: those that the log
     -- kept, those of the groups, and perhaps the failed one. `enough` says how many must be found, given how many were
     -- kept.
     abbrev pub LeavesPrefix : (List ℕ → Type 0) → (ℕ → ℕ → Type 0) → Type 0
@@ -92,17 +92,26 @@ module _ (group_bytes : ℕ) (attempts : List (List Attempt)) (o : Outcome) wher
         → (kept : List (List ℕ)) → SpellsWhole b.number b.kept kept
         → RecoversPrefix b.number (kept ++ with_failed_record (records_of groups) x) image (enough (length kept))
 
-    -- What the disk holds at the end. If no call failed, that is the log's text over what was there when the log began.
-    -- Otherwise the failed call's record is named; any bytes may come after the log. And what a crash leaves: at some
+    -- The write of the record x failed. Up to the disk's place, which is at the log's end or after it, the disk holds
+    -- the log's text and a front of that record's text, and nothing that nobody wrote. What is after the place was left
+    -- by the disk's own call, which failed.
+    pub record HoldsFailedWrite (x : List ℕ) (place : ℕ) (content : List ℕ) : Type 0 where
+      pub failed : IsFailedWrite x
+      pub behind : o.log_len ≤ place
+      pub front : HoldsFront (text_after b (records_of groups ++ x ∷ [])) place content
+
+    -- What the disk holds at the end, and its place there. If no call failed, it holds the log's text over what was
+    -- there when the log began. Otherwise the failed call's record is named, of which a front may come after the log.
+    -- And what is recovered: of any bytes, whatever becomes of the file (`any_moment`); of what a crash leaves at some
     -- moment of the run (`any`); once some calls have returned (`since`; if these are none, once the log has begun);
     -- and at the end (`now`), where all that was synced is found. This holds for each record that may be the failed
     -- one, and the one that was tried is among these. So nobody can choose a record whose premise excludes an image.
-    pub record IsCrashSafe (begun content : List ℕ) (made lost : List GroupCall) (reached : ℕ)
+    pub record IsCrashSafe (begun content : List ℕ) (place : ℕ) (made lost : List GroupCall) (reached : ℕ)
         (any : List ℕ → Type 0) (since : List GroupCall → List GroupCall → List ℕ → Type 0) (now : List ℕ → Type 0)
         : Type 0 where
       pub failed : MatchOption o.fault (content ≡ over (text_after b (records_of groups)) begun) (λ count.
-          (x : List ℕ) × (failed_record lost ≡ Some x) × IsFailedWrite x)
-      pub any_moment : LeavesPrefix any (λ kept n. ⊤)
+          (x : List ℕ) × (failed_record lost ≡ Some x) × HoldsFailedWrite x place content)
+      pub any_moment : LeavesPrefix (λ image. ⊤) (λ kept n. ⊤)
       pub held : (image : List ℕ) → any image → HoldsSynced b groups reached image
       pub kept : (image : List ℕ) → since [] made image → BeginsWith b.kept image
       pub kept_since : KeepsSynced b groups made since
@@ -123,8 +132,8 @@ pub record IsRun (settings : Settings) (ended : ℕ) (script : List (List Comman
 -- what the log of a run holds, and what a crash leaves of it
 pub record IsSafe {settings : Settings} {ended : ℕ} {script : List (List Command)} {b : Beginning}
     {wrote : List GroupCall → Type 0} {o : Outcome} (run : IsRun settings ended script b wrote o)
-    (begun content : List ℕ) (reached : ℕ) (any : List ℕ → Type 0)
+    (begun content : List ℕ) (place reached : ℕ) (any : List ℕ → Type 0)
     (since : List GroupCall → List GroupCall → List ℕ → Type 0) (now : List ℕ → Type 0) : Type 0 where
   pub log : IsLogOf b o content run.writes.parts
-  pub crash : IsCrashSafe settings.group_bytes run.attempts o b run.writes.parts begun content
+  pub crash : IsCrashSafe settings.group_bytes run.attempts o b run.writes.parts begun content place
       (run.writes.calls ++ run.writes.lost) run.writes.lost reached any since now

@@ -20,8 +20,8 @@ pub fn synced_before_the_next_group()
     // unless an image could be as long before the run.
     ensures reached_before { HoldsSynced new_log two_groups 25 (zeros 25) }
     // So a run that may leave such an image isn't safe, even if all is synced at its end: it synced only at its end.
-    ensures synced_at_the_end { (group_bytes : ℕ) (attempts : List (List Attempt)) (o : Outcome)
-        → IsCrashSafe group_bytes attempts o new_log two_groups [] text_of_both in_two_records [] 0
+    ensures synced_at_the_end { (group_bytes : ℕ) (attempts : List (List Attempt)) (o : Outcome) (place : ℕ)
+        → IsCrashSafe group_bytes attempts o new_log two_groups [] text_of_both place in_two_records [] 0
         (λ image. image ≡ zeros 25) (λ before after image. ⊥) (λ image. image ≡ text_of_both) → ⊥ }
     // Over old bytes an image is as long as they are from the first moment on. There too a run isn't safe if it leaves
     // them as they are after the first call has returned.

@@ -8,6 +8,7 @@ use Rattle.model_base.specs.Counts.{Rose}
 use Rattle.model_base.specs.Calls as calls
 use Rattle.model_base.specs.History.{IsHistory}
 use Rattle.model_base.specs.Map.{Pairs}
+use Rattle.model_base.specs.Outcomes.{IsLegal}
 use Rattle.model_base.specs.Script.{Script}
 use Rattle.run_outcome.specs.declared.outcome.Outcome.{Outcome}
 use Rattle.model_base.specs.declared.log.EndReason.{EndReason}
@@ -15,11 +16,11 @@ use Rattle.model_base.specs.declared.options.Options.{Options}
 use Rattle.log_recovery.specs.declared.modes.Mode.{Mode}
 use Rattle.run_outcome.specs.declared.log_start.LogStart.{LogStart}
 use Rattle.run_outcome.specs.declared.log_start.LogStart.TheVariants.{New}
-use Rattle.run_outcome.specs.Running.{Execution, Before, GoesOnFrom, IsRunOf, HasRun, LeavesSafeLog, IsAsFound, IsReached}
+use Rattle.run_outcome.specs.Running.{Execution, Before, GoesOnFrom, IsRunOf, HasRun, LeavesSafeLog, IsReached}
 use Rattle.run_execution.specs.declared.end.RunEnd.{RunEnd}
 use Rattle.run_execution.specs.declared.end.RunEnd.TheVariants as end
 use Rattle.log_writer.specs.Opening.{LeavesAsBefore}
-use Rattle.run_execution.specs.Ends.{HasOutcome, EndsOn, IsAccepted, IsDamaged, Ran, LeavesAsFound, execution_on}
+use Rattle.run_execution.specs.Ends.{HasOutcome, EndsOn, IsAccepted, IsDamaged, IsLeftAlone, Ran, LeavesAlone, execution_on}
 use Rattle.program_text.specs.Refusals.{damage, not_empty, disk_fault}
 use Rattle.program_call.specs.declared.reading.ReadError.{ReadError}
 use Rattle.program_call.specs.declared.reading.ReadError.TheVariants as read
@@ -28,8 +29,8 @@ use Rattle.program_call.specs.declared.report.Status.{Status}
 use Rattle.program_call.specs.declared.report.Status.TheVariants as status
 use Rattle.program_call.specs.Texts.{SaysTo}
 use Rattle.program_call.specs.Reports.{SaysNothing, Refuses, PrintsRefusal, EndsWithOutcome, TellsEnd, TellsReadError, text_of, code}
-use Rattle.program_call.specs.Outcomes.{Observation, observation_of, IsScript, RanScript, RanWhole, DiskFailed, RanToSinkFault, RanOutOfMemory, MetDamage}
-use Rattle.program_call.proofs.Leaving.{as_found}
+use Rattle.program_call.specs.Outcomes.{Observation, observation_of, IsScript, RanScript, RanWhole, DiskFailed, RanToSinkFault, RanOutOfMemory, MetDamage, AcceptsCommits}
+use Rattle.program_call.proofs.Leaving.{left_alone}
 use Rattle.program_call.proofs.Memory.{all_whole, short_of}
 
 abbrev either : Bool → Type 0 → Type 0 → Type 0
@@ -42,7 +43,6 @@ module _ (seen : Observation) (failed fails kf kfs : ℕ) where
   pub record AtWhole : Type 0 where
     pub whole : RanWhole seen
     pub empty : seen.start ≡ New → IfSome seen.opened (λ d. d.content ≡ [])
-    pub accepted : IsAccepted seen.start seen.mode seen.opened
     pub disk : fails ≡ failed
     pub sink : kfs ≡ kf
 
@@ -53,7 +53,6 @@ module _ (seen : Observation) (failed fails kf kfs : ℕ) where
   pub record AtSinkFault : Type 0 where
     pub front : RanToSinkFault seen
     pub empty : seen.start ≡ New → IfSome seen.opened (λ d. d.content ≡ [])
-    pub accepted : IsAccepted seen.start seen.mode seen.opened
     pub rose : Rose kf kfs
 
   pub record AtMemory : Type 0 where
@@ -79,17 +78,17 @@ module _ (seen : Observation) (failed fails kf kfs : ℕ) where
   AtStatus n = either (eqb n 0) AtWhole (either (eqb n 3) AtFault (either (eqb n 5) AtSinkFault (either (eqb n 6) AtMemory (either (eqb n 7) AtNotEmpty (either (eqb n 8) AtDamage ⊤)))))
 
   -- there was no memory, and nothing was run or printed
-  pub nothing : (given : Status) → SaysNothing seen.before seen.after kf kfs given → IsAsFound seen.start seen.opened seen.ended → seen.leaves_as_found → fails ≡ failed → AtStatus (code given)
+  pub nothing : (given : Status) → SaysNothing seen.before seen.after kf kfs given → IsLeftAlone seen.start seen.mode seen.opened seen.ended → seen.leaves_alone → fails ≡ failed → AtStatus (code given)
   nothing given says found crash stood =
       let there : AtMemory = record { told = inl (record { untouched = found; crash = crash; counted = stood; silent = says.1 }); stood = says.2 } in
       subst (λ s. AtStatus (code s)) (sym says.0) there
 
   -- a refusal was printed, or there was no memory for its text
-  refused : (text : List ℕ) (wanted given : Status) → AtStatus (code wanted) → seen.ended ≡ seen.opened → seen.leaves_as_found → fails ≡ failed → Refuses seen.before seen.after kf kfs text wanted given → AtStatus (code given)
+  refused : (text : List ℕ) (wanted given : Status) → AtStatus (code wanted) → seen.ended ≡ seen.opened → seen.leaves_alone → fails ≡ failed → Refuses seen.before seen.after kf kfs text wanted given → AtStatus (code given)
   refused text wanted given there same crash stood (inl said) = subst (λ s. AtStatus (code s)) (sym said.0) there
   refused text wanted given there same crash stood (inr none) = nothing given none (inl same) crash stood
 
-  pub unread : (why : ReadError) (given : Status) → seen.ended ≡ seen.opened → seen.leaves_as_found → fails ≡ failed → TellsReadError seen.before seen.after kf kfs why given → AtStatus (code given)
+  pub unread : (why : ReadError) (given : Status) → seen.ended ≡ seen.opened → seen.leaves_alone → fails ≡ failed → TellsReadError seen.before seen.after kf kfs why given → AtStatus (code given)
   unread (read.Fault count) given same crash stood tells = subst (λ s. AtStatus (code s)) (sym tells.0) tt
   unread (read.Script line kind) given same crash stood tells = refused _ status.Script given tt same crash stood tells
   unread read.NoMemory given same crash stood tells = nothing given tells (inl same) crash stood
@@ -129,7 +128,7 @@ module _ {D K : Type 0} (disk : disk.Ghosts D) (sink : sink.Ghosts K) (options :
   abbrev At : ℕ → Type 0
   At n = AtStatus here failed fails kf kfs n
 
-  disk_refused : (count : ℕ) (given : Status) → IsAsFound start old new → IsReached failed count fails → LeavesAsFound disk start opened ended → PrintsRefusal sold snew kf kfs (disk_fault count) status.Disk given → At (code given)
+  disk_refused : (count : ℕ) (given : Status) → IsLeftAlone start mode old new → IsReached failed count fails → LeavesAlone disk start mode opened ended → PrintsRefusal sold snew kf kfs (disk_fault count) status.Disk given → At (code given)
   disk_refused count given found reached crash said =
       let there : AtFault here failed fails kf kfs = record {
         told = inl (record { script = script; said = refl; count = count; reached = reached; untouched = found; crash = crash; refused = said.1 });
@@ -141,7 +140,7 @@ module _ {D K : Type 0} (disk : disk.Ghosts D) (sink : sink.Ghosts K) (options :
   has_bytes len given plain some is same stood crash (inl said) =
       let there : AtNotEmpty here failed fails kf kfs = record { plain = plain; len = len; some = some; of_disk = is; says = said.1; as_before = same; crash = crash; stood = stood } in
       subst (λ s. At (code s)) (sym said.0) there
-  has_bytes len given plain some is same stood crash (inr none) = nothing here failed fails kf kfs given none (inl same) (as_found disk start opened ended crash) stood
+  has_bytes len given plain some is same stood crash (inr none) = nothing here failed fails kf kfs given none (inl same) (left_alone disk start mode opened ended crash) stood
 
   is_damaged : (at : ℕ) (why : EndReason) (given : Status) → IsDamaged start mode old at why → new ≡ old → fails ≡ failed → LeavesAsBefore disk opened ended → Refuses sold snew kf kfs (damage at why) status.Damage given → At (code given)
   is_damaged at why given damaged same stood crash (inl said) =
@@ -150,7 +149,7 @@ module _ {D K : Type 0} (disk : disk.Ghosts D) (sink : sink.Ghosts K) (options :
         stood = stood;
       } in
       subst (λ s. At (code s)) (sym said.0) there
-  is_damaged at why given damaged same stood crash (inr none) = nothing here failed fails kf kfs given none (inl same) (as_found disk start opened ended crash) stood
+  is_damaged at why given damaged same stood crash (inr none) = nothing here failed fails kf kfs given none (inl same) (left_alone disk start mode opened ended crash) stood
 
   found_empty : (from : Before) (was is : Option Disk) (o : calls.Outcome) (run : IsRunOf (execution from) o) → Told was is (LeavesSafeLog (execution from) o run) → start ≡ New → IfSome was (λ d. d.content ≡ [])
   found_empty from None is o run log plain = tt
@@ -161,78 +160,87 @@ module _ {D K : Type 0} (disk : disk.Ghosts D) (sink : sink.Ghosts K) (options :
   rose_so (Some count) some both = le_trans both.0 both.1
   rose_so None some both = absurd (cc some)
 
-  ran_script : (from : Before) → GoesOnFrom start old from → (shown : Outcome Pairs) (ran : HasRun (execution from) old new shown) → RanScript here ran.outcome
-  ran_script from goes_on shown ran = record {
+  -- the law by which commits are accepted
+  abbrev Law : Type 0
+  Law = (from : Before) (o : calls.Outcome) → IsLegal (execution from).settings fails script o → AcceptsCommits (execution from).settings script o
+
+  accepts_so : Law → (from : Before) (o : calls.Outcome) → IsRunOf (execution from) o → AcceptsCommits (execution from).settings script o
+  accepts_so law from o run = law from o (record { trace = run.trace; attempts = run.attempts; legal = run.legal })
+
+  ran_script : Law → (from : Before) → GoesOnFrom start old from → IsAccepted start mode old → (shown : Outcome Pairs) (ran : HasRun (execution from) old new shown) → RanScript here ran.outcome
+  ran_script law from goes_on accepted shown ran = record {
     script = script;
     said = refl;
+    accepted = accepted;
     before = from;
     goes_on = goes_on;
     is_outcome = record { run = ran.run; counted = λ alive. ran.counted (sym ran.shows.fault ∙ alive); log = ran.log };
     refusals = λ alive. ran.refusals (sym ran.shows.fault ∙ alive);
+    accepts = accepts_so law from ran.outcome ran.run;
   }
 
-  ran_so : (from : Before) → GoesOnFrom start old from → IsAccepted start mode old → (shown : Outcome Pairs) (ran : HasRun (execution from) old new shown) (given : Status) → EndsWithOutcome sold snew kf kfs shown (text_of form ran.outcome) given → At (code given)
-  ran_so from goes_on accepted shown ran status.Done so = record {
+  ran_so : Law → (from : Before) → GoesOnFrom start old from → IsAccepted start mode old → (shown : Outcome Pairs) (ran : HasRun (execution from) old new shown) (given : Status) → EndsWithOutcome sold snew kf kfs shown (text_of form ran.outcome) given → At (code given)
+  ran_so law from goes_on accepted shown ran status.Done so = record {
     whole = record {
       outcome = ran.outcome;
-      ran = ran_script from goes_on shown ran;
+      ran = ran_script law from goes_on accepted shown ran;
       printed = so.0;
       no_fault = ran.shows.fault ∙ so.1;
       whole = all_whole shown.transcripts.items ran.outcome.transcripts ran.shows.transcripts so.2;
     };
     empty = found_empty from old new ran.outcome ran.run ran.log;
-    accepted = accepted;
     disk = ran.counted so.1;
     sink = so.3;
   }
-  ran_so from goes_on accepted shown ran status.Disk so =
+  ran_so law from goes_on accepted shown ran status.Disk so =
       let fault : IsSome ran.outcome.fault = subst IsSome (sym ran.shows.fault) so.1 in
       record {
-        told = inr (record { outcome = ran.outcome; ran = ran_script from goes_on shown ran; printed = so.0; fault = fault; sink_counted = so.2 });
+        told = inr (record { outcome = ran.outcome; ran = ran_script law from goes_on accepted shown ran; printed = so.0; fault = fault; sink_counted = so.2 });
         rose = rose_so ran.outcome.fault fault ran.run.legal.fault;
       }
-  ran_so from goes_on accepted shown ran status.Sink so = record {
-    front = record { outcome = ran.outcome; ran = ran_script from goes_on shown ran; printed = (so.1, so.2) };
+  ran_so law from goes_on accepted shown ran status.Sink so = record {
+    front = record { outcome = ran.outcome; ran = ran_script law from goes_on accepted shown ran; printed = (so.1, so.2) };
     empty = found_empty from old new ran.outcome ran.run ran.log;
-    accepted = accepted;
     rose = so.0;
   }
-  ran_so from goes_on accepted shown ran status.Memory (inl none, stood) = record {
-    told = inr (inl (record { outcome = ran.outcome; ran = ran_script from goes_on shown ran; silent = none }));
+  ran_so law from goes_on accepted shown ran status.Memory (inl none, stood) = record {
+    told = inr (inl (record { outcome = ran.outcome; ran = ran_script law from goes_on accepted shown ran; silent = none }));
     stood = stood;
   }
-  ran_so from goes_on accepted shown ran status.Memory (inr so, stood) = record {
+  ran_so law from goes_on accepted shown ran status.Memory (inr so, stood) = record {
     told = inr (inr (record {
       outcome = ran.outcome;
-      ran = ran_script from goes_on shown ran;
+      ran = ran_script law from goes_on accepted shown ran;
       printed = so.0;
       no_fault = ran.shows.fault ∙ so.1;
       short = short_of shown ran.outcome ran.shows so.2;
     }));
     stood = stood;
   }
-  ran_so from goes_on accepted shown ran other so = absurd so
+  ran_so law from goes_on accepted shown ran other so = absurd so
 
-  no_outcome : (from : Before) → GoesOnFrom start old from → (ran : HasOutcome (execution from) old new) → RanScript here ran.outcome
-  no_outcome from goes_on ran = record {
+  no_outcome : Law → (from : Before) → GoesOnFrom start old from → IsAccepted start mode old → (ran : HasOutcome (execution from) old new) → RanScript here ran.outcome
+  no_outcome law from goes_on accepted ran = record {
     script = script;
     said = refl;
+    accepted = accepted;
     before = from;
     goes_on = goes_on;
     is_outcome = record { run = ran.run; counted = ran.counted; log = ran.log };
     refusals = ran.refusals;
+    accepts = accepts_so law from ran.outcome ran.run;
   }
 
-  pub ended_so : (e : RunEnd) (given : Status) → EndsOn disk options start mode script opened ended e → (Ran e → IsAccepted start mode old) → TellsEnd form sold snew kf kfs e given → At (code given)
-  ended_so (end.DiskFault count) given ends accepted tells = disk_refused count given ends.0 ends.1 ends.2 tells
-  ended_so (end.NotEmpty len) given ends accepted tells = has_bytes len given ends.0 ends.1 ends.2 ends.3 ends.4 ends.5 tells
-  ended_so (end.Damage at why) given ends accepted tells = is_damaged at why given ends.0 ends.1 ends.2 ends.3 tells
-  ended_so end.NoMemory given ends accepted tells = nothing here failed fails kf kfs given tells ends.0 ends.2 ends.1
-  ended_so end.NoOutcome given (from, goes_on, has) accepted tells =
-      let ran : RanScript here has.outcome = no_outcome from goes_on has in
+  pub ended_so : Law → (e : RunEnd) (given : Status) → EndsOn disk options start mode script opened ended e → (Ran e → IsAccepted start mode old) → TellsEnd form sold snew kf kfs e given → At (code given)
+  ended_so law (end.DiskFault count) given ends accepted tells = disk_refused count given ends.0 ends.1 ends.2 tells
+  ended_so law (end.NotEmpty len) given ends accepted tells = has_bytes len given ends.0 ends.1 ends.2 ends.3 ends.4 ends.5 tells
+  ended_so law (end.Damage at why) given ends accepted tells = is_damaged at why given ends.0 ends.1 ends.2 ends.3 tells
+  ended_so law end.NoMemory given ends accepted tells = nothing here failed fails kf kfs given tells ends.0 ends.2 ends.1
+  ended_so law end.NoOutcome given (from, goes_on, has) accepted tells =
+      let ran : RanScript here has.outcome = no_outcome law from goes_on (accepted tt) has in
       subst (λ s. At (code s)) (sym tells.0) (record { told = inr (inl (record { outcome = has.outcome; ran = ran; silent = tells.1 })); stood = tells.2 })
-  ended_so (end.Ran shown) given (from, goes_on, ran) accepted tells =
+  ended_so law (end.Ran shown) given (from, goes_on, ran) accepted tells =
       let legal = ran.run.legal in
       let begun = ran.run.trace.start in
       let history : IsHistory begun ran.outcome.history = subst (λ entries. IsHistory begun entries) (sym legal.history) legal.is_trace.entries in
-      ran_so from goes_on (accepted tt) shown ran given (tells ran.outcome begun history ran.shows)
+      ran_so law from goes_on (accepted tt) shown ran given (tells ran.outcome begun history ran.shows)

@@ -2,17 +2,18 @@
 use Rattle.std.proofs.Common.{◌≡◌, inl, Option, IfSome, subst}
 use Rattle.base_devices.specs.Disk.{Disk, IsImage, IsOnlyNow, TimePasses}
 use Rattle.base_devices.specs.declared.disk.Disk.{Ghosts}
+use Rattle.log_recovery.specs.declared.modes.Mode.{Mode}
 use Rattle.log_writer.specs.Opening.{LeavesAsBefore}
 use Rattle.log_writer.proofs.Putting.{leaves_time}
 use Rattle.run_outcome.specs.declared.log_start.LogStart.{LogStart}
 use Rattle.run_outcome.specs.declared.log_start.LogStart.TheVariants.{New, Over, Behind}
-use Rattle.run_execution.specs.Ends.{LeavesAsFound}
+use Rattle.run_execution.specs.Ends.{LeavesAlone}
 
 -- what it might have left before is let in, whichever way the log should be opened
-pub as_found : {D : Type 0} (ghosts : Ghosts D) (start : LogStart) (old new : D) → LeavesAsBefore ghosts old new → LeavesAsFound ghosts start old new
-as_found ghosts New old new leaves = leaves
-as_found ghosts (Over number) old new leaves = leaves
-as_found ghosts (Behind number) old new leaves = inl leaves
+pub left_alone : {D : Type 0} (ghosts : Ghosts D) (start : LogStart) (mode : Mode) (old new : D) → LeavesAsBefore ghosts old new → LeavesAlone ghosts start mode old new
+left_alone ghosts New mode old new leaves = leaves
+left_alone ghosts (Over number) mode old new leaves = leaves
+left_alone ghosts (Behind number) mode old new leaves = inl leaves
 
 -- of a disk that was only read it leaves what it might have left before
 pub leaves_read : {D : Type 0} (ghosts : Ghosts D) (old new : D) → IsOnlyNow (ghosts.told old) (ghosts.from old) (ghosts.moment old) (ghosts.since old) → ghosts.told new ≡ ghosts.told old

@@ -47,6 +47,7 @@ module _ {S D K : Type 0} (source : source.Ghosts S) (disk : disk.Ghosts D) (sin
     source_fault_is_told = λ other. refl;
     read_to_end = λ e. absurd (no_device n six e);
     disk_untouched = λ e. refl;
+    no_script = if_some _ (source.left had) (λ text f other. refl);
     runs = runs_none disk sink (SaysScript (source.left had)) form.Whole options start mode opened before leaves n six;
     completes = λ a b c no_damage. if_some _ (source.left had) (λ text. if_some _ (disk.told opened) (λ d script said fit. inr six));
   }

@@ -15,8 +15,7 @@ use Rattle.program_call.specs.declared.report.Status.TheVariants as status
 use Rattle.program_call.specs.Texts.{NoFault}
 use Rattle.program_call.specs.Outcomes.{Observation, observation_of, RanScript, RanWhole, DiskFailed, RanOutOfMemory}
 use Rattle.program_call.specs.Answers.{MeetsNoDamage, RunsScript}
-use Rattle.run_execution.specs.Ends.{IsAccepted}
-use Rattle.program_call.proofs.Leaving.{as_found}
+use Rattle.program_call.proofs.Leaving.{left_alone}
 use Rattle.program_call.proofs.Endings.{AtStatus, AtWhole, AtFault, AtSinkFault, AtMemory, AtNotEmpty, AtDamage, nothing}
 
 not_some : (xs : List ℕ) → xs ≡ [] → 0 < length xs → ⊥
@@ -53,10 +52,6 @@ module _ {D K : Type 0} (disk : disk.Ghosts D) (sink : sink.Ghosts K) (seen : Ob
   at_refusal n at (inl is) = (at_not_empty n at is).stood
   at_refusal n at (inr is) = (at_damage n at is).stood
 
-  at_accepted : (n : ℕ) → At n → (n ≡ 0) ⊎ (n ≡ 5) → IsAccepted seen.start seen.mode seen.opened
-  at_accepted n at (inl is) = (at_whole n at is).accepted
-  at_accepted n at (inr is) = (at_sink_fault n at is).accepted
-
 -- what is known at the status gives all that is promised
 pub runs_script : {D K : Type 0} (disk : disk.Ghosts D) (sink : sink.Ghosts K) (says : Script → Type 0) (form : Form) (options : Options) (start : LogStart) (mode : Mode) (opened ended : D) (before after : K) (n : ℕ)
     → AtStatus (observation_of disk sink says form options start mode opened ended before after) (disk.faults opened) (disk.faults ended) (sink.faults before) (sink.faults after) n
@@ -73,7 +68,6 @@ runs_script disk sink says form options start mode opened ended before after n a
       crash = λ e. (at_not_empty disk sink seen opened ended before after n at e).crash;
       empty = λ plain. empty_so (disk.told opened) n (λ e. (at_whole disk sink seen opened ended before after n at e).empty plain) (λ e. (at_sink_fault disk sink seen opened ended before after n at e).empty plain);
       damaged = λ e. (at_damage disk sink seen opened ended before after n at e).met;
-      accepted = λ e. at_accepted disk sink seen opened ended before after n at e;
       no_disk_fault = λ e. at_refusal disk sink seen opened ended before after n at e;
       ran = λ e. (at_whole disk sink seen opened ended before after n at e).whole;
       ran_to_fault = λ e. (at_fault disk sink seen opened ended before after n at e).told;
@@ -87,7 +81,7 @@ pub runs_none : {D K : Type 0} (disk : disk.Ghosts D) (sink : sink.Ghosts K) (sa
 runs_none disk sink says form options start mode opened before leaves n six =
     let seen : Observation = observation_of disk sink says form options start mode opened opened before before in
     let At : ℕ → Type 0 = λ m. AtStatus seen (disk.faults opened) (disk.faults opened) (sink.faults before) (sink.faults before) m in
-    let none : At 6 = nothing seen (disk.faults opened) (disk.faults opened) (sink.faults before) (sink.faults before) status.Memory (refl, refl, refl) (inl refl) (as_found disk start opened opened leaves) refl in
+    let none : At 6 = nothing seen (disk.faults opened) (disk.faults opened) (sink.faults before) (sink.faults before) status.Memory (refl, refl, refl) (inl refl) (left_alone disk start mode opened opened leaves) refl in
     runs_script disk sink says form options start mode opened opened before before n (subst At (sym six) none)
 
 -- an empty log isn't refused, and neither is one that is written over or goes on
@@ -128,10 +122,12 @@ module _ (seen : Observation) (says : Script → Type 0) (tells : (s : Script) �
   ran_script o ran = record {
     script = ran.script;
     said = tells ran.script ran.said;
+    accepted = ran.accepted;
     before = ran.before;
     goes_on = ran.goes_on;
     is_outcome = ran.is_outcome;
     refusals = ran.refusals;
+    accepts = ran.accepts;
   }
 
   ran_whole : RanWhole seen → RanWhole retold
@@ -166,7 +162,6 @@ module _ (seen : Observation) (says : Script → Type 0) (tells : (s : Script) �
     crash = runs.crash;
     empty = runs.empty;
     damaged = λ e. let met = runs.damaged e in record { at = met.at; why = met.why; damaged = met.damaged; untouched = met.untouched; crash = met.crash; refused = met.refused };
-    accepted = runs.accepted;
     no_disk_fault = runs.no_disk_fault;
     ran = λ e. ran_whole (runs.ran e);
     ran_to_fault = λ e. disk_failed _ _ _ _ (runs.ran_to_fault e);

@@ -1,5 +1,5 @@
 -- No script was read, or no schedule: what is printed then, also where the source failed.
-use Rattle.std.proofs.Common.{◌≡◌, ◌≢◌, ◌⊎◌, inl, inr, ⊎_elim, ℕ, List, length, Option, Some, None, Ok, IfSome, le_trans, ap, ◌∙◌, arith}
+use Rattle.std.proofs.Common.{◌≡◌, ◌≢◌, ◌⊎◌, inl, inr, ⊎_elim, ℕ, List, length, Option, Some, None, Ok, Err, IfSome, le_trans, ap, ◌∙◌, arith}
 use Rattle.base_devices.specs.Disk.{Disk}
 use Rattle.model_base.specs.Counts.{Rose}
 use Rattle.model_base.specs.Script.{Script, Fault, script_of, whole_grammar}
@@ -17,6 +17,17 @@ use Rattle.program_call.specs.Reading.{IsScriptError, IsScheduleError, CountStay
 use Rattle.program_call.specs.Texts.{SaysTo, NoFault}
 use Rattle.program_call.specs.Reports.{code, TellsReadError}
 use Rattle.program_call.proofs.Refusing.{refused_as}
+
+-- where the text is a script, nothing needs to hold of one that isn't
+pub is_script : (left : Option (List ℕ)) (script : Script) (Untouched : Type 0) → IfSome left (λ text. script_of whole_grammar text ≡ Ok script)
+    → IfSome left (λ text. (f : Fault) → script_of whole_grammar text ≡ Err f → Untouched)
+is_script None script Untouched said = tt
+is_script (Some text) script Untouched said = λ f other. absurd (cc (said, other))
+
+-- where nothing was touched, nothing was touched because of a text that is no script
+pub left_untouched : (left : Option (List ℕ)) (Untouched : Type 0) → Untouched → IfSome left (λ text. (f : Fault) → script_of whole_grammar text ≡ Err f → Untouched)
+left_untouched None Untouched is = tt
+left_untouched (Some text) Untouched is = λ f other. is
 
 -- at 4 the source failed, and a refusal that says so was printed, if `Why` gives that the fault's count was reached in
 -- the call

@@ -21,7 +21,7 @@ use Rattle.run_outcome.specs.declared.log_start.LogStart.TheVariants.{New, Behin
 use Rattle.run_outcome.specs.Running.{IsReached}
 use Rattle.log_writer.specs.Opening.{LeavesAsBefore}
 use Rattle.run_laws.specs.Summaries.{summary_of}
-use Rattle.run_execution.specs.Ends.{IsAccepted, IsDamaged}
+use Rattle.run_execution.specs.Ends.{IsDamaged}
 use Rattle.program_call.specs.declared.report.Form.TheVariants as form
 use Rattle.program_call.specs.Asking.{usual_options}
 use Rattle.program_call.specs.Outcomes.{Observation, observation_of, SaysScript, IsGenerated, RanWhole, DiskFailed, RanToSinkFault, RanOutOfMemory, MetDamage}
@@ -29,7 +29,7 @@ use Rattle.program_call.specs.Recovers.{WhereAllTold, Recovers, RecoversFront}
 use Rattle.program_call.specs.Replays.{Replays, ReplaysFront}
 use Rattle.program_call.specs.Texts.{NoFault, SaysTo}
 
--- the log doesn't go on, or the mode accepts where its recovery ends
+-- the log isn't resumed, or the mode accepts where its recovery ends
 abbrev pub MeetsNoDamage : LogStart → Mode → Option Disk → Type 0
 MeetsNoDamage start mode told = (at : ℕ) (why : EndReason) → IsDamaged start mode told at why → ⊥
 
@@ -51,17 +51,17 @@ module _ {D K : Type 0} (disk : disk.Ghosts D) (sink : sink.Ghosts K) (seen : Ob
     pub crash : status ≡ 7 → LeavesAsBefore disk opened ended
     pub empty : seen.start ≡ New
         → IfSome (disk.told opened) (λ d. 0 < length d.content → (status ≢ 0) × (status ≢ 5))
-    -- 8: The log should go on, but the mode doesn't accept where its recovery ends. The log stays as it was. At 0 and
-    -- 5 the mode accepted that end.
+    -- 8: The log should be resumed, but the mode doesn't accept where its recovery ends. The log stays as it was. A
+    -- script is run only where the mode accepts that end (`accepted` of `RanScript`), and what isn't run leaves the log
+    -- alone.
     pub damaged : status ≡ 8 → MetDamage seen (sink.faults before) (sink.faults after)
-    pub accepted : (status ≡ 0) ⊎ (status ≡ 5) → IsAccepted seen.start seen.mode seen.opened
     -- 7, 8: the disk has counted no fault
     pub no_disk_fault : (status ≡ 7) ⊎ (status ≡ 8) → disk.faults ended ≡ disk.faults opened
     -- However the clients' threads interleave, every reply in the output is that of a plain map at its point of one
     -- printed history of whole batches, which has each client's acknowledged batches once, in the client's order, each
     -- under its own run of sequences; and a crash at any moment of the run leaves a log that recovers a prefix of the
     -- logged batches, with every acknowledged synced batch that the log left by the crash goes past, and at the run's
-    -- end with all of them. A run whose log goes on begins from the map and the last sequence that the log recovers.
+    -- end with all of them. A run whose log is resumed begins from the map and the last sequence that the log recovers.
     -- Its map, its sequences and its log come after these: the prefix is one of the records that recovery keeps,
     -- followed by the run's own. Once the run has begun to write, the prefix has all of the kept records; before that
     -- it has them too, where recovery of what the crash leaves meets no fragment that recovery of the log doesn't
@@ -93,7 +93,7 @@ module _ {S D K : Type 0} (source : source.Ghosts S) (disk : disk.Ghosts D) (sin
     pub source_untouched : has ≡ had
     pub disk_untouched : ended ≡ opened
 
-  -- `run`, over a log that is opened as `start` says, in this mode if it goes on
+  -- `run`, over a log that is opened as `start` says, in this mode if it is resumed
   pub record AnswersRun (options : Options) (start : LogStart) (mode : Mode) (status : ℕ) : Type 0 where
     pub other : (status < 9) × (status ≢ 1)
     -- 2: the text isn't a script, and its first fault is printed
@@ -107,13 +107,14 @@ module _ {S D K : Type 0} (source : source.Ghosts S) (disk : disk.Ghosts D) (sin
     -- where the script was run, or would have been, the source was read to its end
     pub read_to_end : (status ≡ 0) ⊎ (status ≡ 3) ⊎ (status ≡ 5) ⊎ (status ≡ 7) ⊎ (status ≡ 8)
         → IfSome (source.left has) (λ left. left ≡ [])
-    -- where no script was read the disk isn't touched
+    -- 2, 4: The disk isn't touched. Nor is it, at any status, if the text is no script.
     pub disk_untouched : (status ≡ 2) ⊎ (status ≡ 4) → ended ≡ opened
+    pub no_script : IfSome (source.left had) (λ text. (f : Fault) → script_of whole_grammar text ≡ Err f → ended ≡ opened)
     pub runs : RunsScript disk sink
         (observation_of disk sink (SaysScript (source.left had)) form.Whole options start mode opened ended
         before after) opened ended before after status
     -- where no device fails and no damage is met, a script over an empty log ends well, and so does one whose log is
-    -- written over or goes on, unless memory runs out
+    -- written over or resumed, unless memory runs out
     pub completes : NoFault (source.faults had) (source.faults has) → NoFault (sink.faults before) (sink.faults after)
         → NoFault (disk.faults opened) (disk.faults ended) → MeetsNoDamage start mode (disk.told opened)
         → IfSome (source.left had) (λ text. IfSome (disk.told opened) (λ d. (script : Script)

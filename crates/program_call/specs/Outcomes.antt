@@ -12,13 +12,17 @@ use Rattle.model_base.specs.Script.{Script, script_of, whole_grammar}
 use Rattle.model_base.specs.Generator.{script_of_seed}
 use Rattle.model_base.specs.Runs.{NoneWithoutMemory}
 use Rattle.model_base.specs.declared.log.EndReason.{EndReason}
+use Rattle.model_base.specs.declared.write.WriteOptions.{WriteOptions}
+use Rattle.model_base.specs.Progress.{batch_after}
+use Rattle.model_base.specs.Trace.{Settings}
 use Rattle.model_base.specs.declared.options.Options.{Options}
 use Rattle.log_recovery.specs.declared.modes.Mode.{Mode}
 use Rattle.run_outcome.specs.declared.log_start.LogStart.{LogStart}
-use Rattle.run_outcome.specs.Running.{Execution, Before, GoesOnFrom, IsRunOf, LeavesSafeLog, IsAsFound, IsReached}
+use Rattle.run_outcome.specs.Running.{Execution, Before, GoesOnFrom, IsRunOf, LeavesSafeLog, IsReached}
+use Rattle.run_laws.specs.Accepting.{ReachesCommit, PassesChecks, HasRoom, IsNotHeldUp, IsAccepted as IsAcceptedBatch}
 use Rattle.model_runs.specs.Refusals.{AreRefusedForThemselves}
 use Rattle.log_writer.specs.Opening.{LeavesAsBefore}
-use Rattle.run_execution.specs.Ends.{IsDamaged, LeavesAsFound, execution_on}
+use Rattle.run_execution.specs.Ends.{IsAccepted, IsDamaged, IsLeftAlone, LeavesAlone, execution_on}
 use Rattle.program_text.specs.Refusals.{damage, disk_fault}
 use Rattle.program_call.specs.declared.report.Form.{Form}
 use Rattle.program_call.specs.Reports.{text_of}
@@ -38,10 +42,20 @@ pub record IsOutcome (execution : Execution) (opened ended : Option Disk) (o : c
 abbrev pub RefusesForThemselves : calls.Outcome → Type 0
 RefusesForThemselves o = o.fault ≡ None → AllByRecursion AreRefusedForThemselves o.transcripts
 
+-- Where the log has no fault, each commit that a client reached was accepted, or found no memory, if three things hold:
+-- its batch and its options pass the checks, and its client holds no stop token; there are sequences for the batches of
+-- all commits that the clients reached; and the commit may wait, or no client asks for a stop or a slowdown.
+abbrev pub AcceptsCommits : Settings → Script → calls.Outcome → Type 0
+AcceptsCommits settings script o =
+    (client : ℕ) (before : List calls.Call) (how : WriteOptions) (reply : calls.Reply)
+    → o.fault ≡ None → ReachesCommit o client before how reply → PassesChecks settings before how
+    → HasRoom settings o → IsNotHeldUp script how
+    → IsAcceptedBatch (batch_after before) reply ⊎ (reply ≡ calls.no_memory)
+
 -- What is known of a call: which script it should run, how it prints the outcome, how it should open the log, which
 -- ends the log's recovery should accept, what the devices tell of the call, where they do, and the execution there of
 -- a script that goes on from something. Then what is said of a crash at any moment of the call: that it leaves only
--- what it might have left before, or what `LeavesAsFound` lets it leave where nothing is run.
+-- what it might have left before, or what `LeavesAlone` lets it leave where nothing is run.
 pub record Observation : Type 1 where
   pub says : Script → Type 0
   pub form : Form
@@ -55,7 +69,7 @@ pub record Observation : Type 1 where
   pub ended : Option Disk
   pub execution : Script → Before → Execution
   pub leaves_as_before : Type 0
-  pub leaves_as_found : Type 0
+  pub leaves_alone : Type 0
 
 abbrev pub observation_of : {D K : Type 0} → disk.Ghosts D → sink.Ghosts K → (Script → Type 0) → Form → Options
     → LogStart → Mode → D → D → K → K → Observation
@@ -70,7 +84,7 @@ observation_of disk sink says form options start mode opened ended before after 
   ended = disk.told ended;
   execution = λ script from. execution_on disk options start from script opened ended;
   leaves_as_before = LeavesAsBefore disk opened ended;
-  leaves_as_found = LeavesAsFound disk start opened ended;
+  leaves_alone = LeavesAlone disk start mode opened ended;
 }
 
 -- the script is that of the text, if the text is told
@@ -96,14 +110,18 @@ pub record LacksMemory (o : calls.Outcome) : Type 0 where
   pub reply : call.reply ≡ calls.no_memory
 
 module _ (seen : Observation) where
-  -- A script was run, it went on from what its log should go on from, and this is its outcome.
+  -- A script was run, and this is its outcome. If its log was resumed, the mode accepts the end of the log's recovery,
+  -- and the run went on from what the log recovers. If the log has no fault, commits were accepted unless a named cause
+  -- holds, or found no memory.
   pub record RanScript (o : calls.Outcome) : Type 0 where
     pub script : Script
     pub said : seen.says script
+    pub accepted : IsAccepted seen.start seen.mode seen.opened
     pub before : Before
     pub goes_on : GoesOnFrom seen.start seen.opened before
     pub is_outcome : IsOutcome (seen.execution script before) seen.opened seen.ended o
     pub refusals : RefusesForThemselves o
+    pub accepts : AcceptsCommits (seen.execution script before).settings script o
 
   -- status 0: the outcome was printed, no write of the log failed, and no client ran out of memory
   pub record RanWhole : Type 0 where
@@ -122,14 +140,14 @@ module _ (seen : Observation) where
     pub fault : IsSome outcome.fault
     pub sink_counted : sink_fails ≡ sink_failed
 
-  -- status 3, where the log wasn't opened: the disk is as it was found, and a crash leaves no less
+  -- status 3, where the log wasn't opened: the disk was left alone, and a crash leaves no less
   pub record DiskRefused (failed fails sink_failed sink_fails : ℕ) : Type 0 where
     pub script : Script
     pub said : seen.says script
     pub count : ℕ
     pub reached : IsReached failed count fails
-    pub untouched : IsAsFound seen.start seen.opened seen.ended
-    pub crash : seen.leaves_as_found
+    pub untouched : IsLeftAlone seen.start seen.mode seen.opened seen.ended
+    pub crash : seen.leaves_alone
     pub refused : SaysTo seen.before seen.after (disk_fault count) sink_failed sink_fails
 
   -- status 3, in either case
@@ -143,7 +161,7 @@ module _ (seen : Observation) where
     pub ran : RanScript outcome
     pub printed : TakesPrefix seen.before seen.after (text_of seen.form outcome)
 
-  -- status 8: the log should go on, but the mode doesn't accept where its recovery ends
+  -- status 8: the log should be resumed, but the mode doesn't accept where its recovery ends
   pub record MetDamage (sink_failed sink_fails : ℕ) : Type 0 where
     pub at : ℕ
     pub why : EndReason
@@ -152,11 +170,10 @@ module _ (seen : Observation) where
     pub crash : seen.leaves_as_before
     pub refused : SaysTo seen.before seen.after (damage at why) sink_failed sink_fails
 
-  -- Status 6: nothing was run or printed. The disk is as it was found, and has counted no fault. A crash leaves no
-  -- less.
+  -- Status 6: nothing was run or printed. The disk was left alone, and has counted no fault. A crash leaves no less.
   pub record RanNothing (failed fails : ℕ) : Type 0 where
-    pub untouched : IsAsFound seen.start seen.opened seen.ended
-    pub crash : seen.leaves_as_found
+    pub untouched : IsLeftAlone seen.start seen.mode seen.opened seen.ended
+    pub crash : seen.leaves_alone
     pub counted : fails ≡ failed
     pub silent : seen.after ≡ seen.before
 

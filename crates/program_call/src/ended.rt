@@ -18,7 +18,7 @@ pub struct Ended<D> {
     /// | 4 | the source failed | `source fault COUNT` |
     /// | 5 | the sink failed | a prefix of the outcome |
     /// | 6 | there was no memory | nothing, or the outcome where only clients' calls found none |
-    /// | 7 | the log isn't empty, and should neither be written over nor go on | `log not empty LEN` |
+    /// | 7 | the log isn't empty, and should neither be written over nor resumed | `log not empty LEN` |
     /// | 8 | the mode doesn't accept where the log's recovery ends | `damage AT REASON` |
     pub status: u8,
     pub disk: D,

@@ -73,7 +73,7 @@ pub fn run_generated<
     let setup = Setup {
         options: USUAL_OPTIONS,
         start: LogStart::New,
-        // The log doesn't go on, so the mode has no effect.
+        // The log isn't resumed, so the mode has no effect.
         mode: Mode::Point,
         shards,
         pipelined,

@@ -20,6 +20,7 @@ use base_devices::{Clock, Disk, Sink, Source};
 use engine_calls::Gate;
 use model_base::{MAX_CLIENTS, MAX_SIZE};
 use run_execution::{Host, Setup, execute};
+use run_laws::commits_are_accepted;
 use run_scripts::Script;
 use std::rt;
 use std::sync::Wait;
@@ -48,6 +49,8 @@ pub fn run_script<
         × SaysTo (K.taken sink.old) (K.taken sink.new) (source_fault count) (K.faults sink.old) (K.faults sink.new)) }
     ensures source_fault_is_told { result.status ≢ 4 → S.faults source.new ≡ S.faults source.old }
     ensures disk_untouched { (result.status ≡ 2) ⊎ (result.status ≡ 4) → result.disk ≡ disk }
+    ensures no_script { IfSome (S.left source.old) (λ text. (f : Fault)
+        → script_of whole_grammar text ≡ Err f → result.disk ≡ disk) }
     ensures read_to_end { (result.status ≡ 0) ⊎ (result.status ≡ 3) ⊎ (result.status ≡ 5) ⊎ (result.status ≡ 7)
         ⊎ (result.status ≡ 8) → IfSome (S.left source.new) (λ left. left ≡ []) }
     ensures runs { RunsScript ⟦<D as Disk>⟧ ⟦<K as Sink>⟧ (observation_of ⟦<D as Disk>⟧ ⟦<K as Sink>⟧
@@ -104,6 +107,7 @@ pub fn run_and_tell<
         (IsScript (commands_of script)) form setup.options setup.start setup.mode disk result.disk sink.old sink.new)
         disk result.disk sink.old sink.new result.status }
 {
+    commits_are_accepted();
     let (disk, end) = execute(host, disk, clock, &script, setup);
     // The script is no longer needed while the text is made.
     drop(script);

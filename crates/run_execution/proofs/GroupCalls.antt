@@ -10,11 +10,11 @@ use Rattle.model_base.specs.History.{Entry}
 use Rattle.model_base.specs.Attempts.{Attempt}
 use Rattle.model_base.specs.Calls.{Outcome}
 use Rattle.model_base.specs.LogContents.{GroupCall, record_of_call, record_of_entries, records_of}
-use Rattle.log_laws.specs.Prefixes.{BeginsWith}
-use Rattle.log_writer.specs.Written.{if_worked, first_fault, written_by, HaveSynced as HaveCallsSynced, HoldsSynced as HoldsCallsSynced, HoldsCalls}
+use Rattle.log_laws.specs.Prefixes.{BeginsWith, HoldsFront}
+use Rattle.log_writer.specs.Written.{if_worked, first_fault, written_by, begun_by, HaveSynced as HaveCallsSynced, HoldsSynced as HoldsCallsSynced, HoldsCalls}
 use Rattle.log_writer.proofs.Keeping.{after_front, after_shorter}
 use Rattle.model_runs.specs.Lost.{IsLostGroup}
-use Rattle.model_runs.specs.Crashes.{HasSync, HaveSynced, HoldsSynced, text_through, over, failed_record, IsFailedWrite}
+use Rattle.model_runs.specs.Crashes.{HasSync, HaveSynced, HoldsSynced, text_through, over, failed_record, HoldsFailedWrite}
 use Rattle.model_runs.specs.Written.{WroteEntries, AreLost}
 use Rattle.model_accounts.proofs.Logs.{same_records, has_synced}
 
@@ -26,6 +26,14 @@ written_for [] (c ∷ calls) more each = absurd each
 written_for (group ∷ groups) [] more each = absurd each
 written_for (group ∷ groups) (c ∷ calls) more each =
     ap (λ f. if_worked f (record_of_call c ∷ written_by (calls ++ more)) []) (each.0).ok ∙ ap (λ l. record_of_call c ∷ l) (written_for groups calls more each.1)
+
+-- and so was begun
+begun_for : (groups : List (List Entry)) (calls more : List GroupCall) → AllZip WroteEntries groups calls → begun_by (calls ++ more) ≡ map record_of_call calls ++ begun_by more
+begun_for [] [] more each = refl
+begun_for [] (c ∷ calls) more each = absurd each
+begun_for (group ∷ groups) [] more each = absurd each
+begun_for (group ∷ groups) (c ∷ calls) more each =
+    ap (λ f. record_of_call c ∷ if_worked f (begun_by (calls ++ more)) []) (each.0).ok ∙ ap (λ l. record_of_call c ∷ l) (begun_for groups calls more each.1)
 
 first_for : (groups : List (List Entry)) (calls more : List GroupCall) → AllZip WroteEntries groups calls → first_fault (calls ++ more) ≡ first_fault more
 first_for [] [] more each = refl
@@ -148,20 +156,33 @@ module _ (b : Beginning) (group_bytes : ℕ) (attempts : List (List Attempt)) (l
   pub none_failed : AreLost group_bytes attempts None last lost → first_fault (calls ++ lost) ≡ None
   none_failed are = first_for groups calls lost each ∙ ap first_fault are
 
-  -- where no write failed, the groups' text is over what was there; else one more record was tried
-  pub failed_write : (begun content : List ℕ) → (first_fault (calls ++ lost) ≡ None → content ≡ over (text_after b (written_by (calls ++ lost))) begun) → (o : Outcome) → o.last ≡ last → (fault : Option ℕ) → o.fault ≡ fault
-      → AreLost group_bytes attempts fault last lost → MatchOption fault (content ≡ over (text_after b records) begun) (λ count. (x : List ℕ) × (failed_record lost ≡ Some x) × IsFailedWrite group_bytes attempts o x)
-  failed_write begun content whole o end None e are = whole (none_failed are) ∙ ap (λ (l : List (List ℕ)). over (text_after b l) begun) (written_is None are)
-  failed_write begun content whole o end (Some count) e are =
+  -- where a call failed, its record was begun after the groups'
+  begun_is : (count : ℕ) (are : AreLost group_bytes attempts (Some count) last lost) → begun_by (calls ++ lost) ≡ records ++ record_of_call are.0 ∷ []
+  begun_is count are =
+      let c = are.0 in
+      let one : begun_by lost ≡ record_of_call c ∷ [] = ap begun_by are.1 ∙ ap (λ f. record_of_call c ∷ if_worked f [] []) (are.2).failed in
+      begun_for groups calls lost each ∙ ap (λ l. map record_of_call calls ++ l) one ∙ ap (λ l. l ++ record_of_call c ∷ []) (same_records groups calls each)
+
+  -- Where no write failed, the groups' text is over what was there. Else one more record was tried, and a front of it
+  -- may be after them.
+  pub failed_write : (begun : List ℕ) (d : Disk) (safe : ℕ) → HoldsCalls b d (calls ++ lost) safe → (first_fault (calls ++ lost) ≡ None → d.content ≡ over (text_after b (written_by (calls ++ lost))) begun)
+      → (o : Outcome) → o.last ≡ last → o.log_len ≡ length (text_after b records) → (fault : Option ℕ) → o.fault ≡ fault
+      → AreLost group_bytes attempts fault last lost → MatchOption fault (d.content ≡ over (text_after b records) begun) (λ count. (x : List ℕ) × (failed_record lost ≡ Some x) × HoldsFailedWrite group_bytes attempts o b groups x d.place d.content)
+  failed_write begun d safe holds whole o end len None e are = whole (none_failed are) ∙ ap (λ (l : List (List ℕ)). over (text_after b l) begun) (written_is None are)
+  failed_write begun d safe holds whole o end len (Some count) e are =
       let c = are.0 in
       let call = are.2 in (
         record_of_call c,
         ap failed_record are.1,
         record {
-          count = count;
-          fault = e;
-          batches = c.batches;
-          lost = subst (λ (n : ℕ). IsLostGroup group_bytes attempts count n c.batches) (sym end) call.batches;
-          same = ap (λ (n : ℕ). group_record n c.batches) (call.first ∙ ap (λ (n : ℕ). n + 1) (sym end));
+          failed = record {
+            count = count;
+            fault = e;
+            batches = c.batches;
+            lost = subst (λ (n : ℕ). IsLostGroup group_bytes attempts count n c.batches) (sym end) call.batches;
+            same = ap (λ (n : ℕ). group_record n c.batches) (call.first ∙ ap (λ (n : ℕ). n + 1) (sym end));
+          };
+          behind = omega (arith, len, holds.behind, ap (λ (l : List (List ℕ)). length (text_after b l)) (written_is (Some count) are));
+          front = subst (λ (l : List (List ℕ)). HoldsFront (text_after b l) d.place d.content) (begun_is count are) holds.front;
         },
       )

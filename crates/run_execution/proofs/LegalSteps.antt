@@ -77,16 +77,16 @@ earlier attempts records how (Some status) none = all_front (λ (h : Attempt). i
 last_faulted : (attempts : List Attempt) (records : List Record) (how : WriteOptions) (count : ℕ) → NoneFaulted (with_attempt attempts records how (Some (faulted count))) → ⊥
 last_faulted attempts records how count none = let last = (all_back (λ (h : Attempt). is_faulted h.status ≡ false) attempts (record { records = records; options = how; status = faulted count } ∷ []) none).0 in cc last
 
-for_itself : (controller_calls : List ControllerCall) (p : Progress) (knows : ℕ) (how : WriteOptions) (why : Refusal) (status : Option WriteStatus)
-    → MayRefuse controller_calls p knows how why status → NoneFaulted (with_attempt p.attempts p.pending how status) → is_for_itself why ≡ true
-for_itself controller_calls p knows how (no.Incomplete stops delays wait) status may none = refl
-for_itself controller_calls p knows how (no.LogFault count) status may none = absurd (last_faulted p.attempts p.pending how count (subst (λ (o : Option WriteStatus). NoneFaulted (with_attempt p.attempts p.pending how o)) may none))
-for_itself controller_calls p knows how (no.SequenceFull last) status may none = refl
-for_itself controller_calls p knows how no.Empty status may none = absurd may
-for_itself controller_calls p knows how (no.TooLarge size) status may none = absurd may
-for_itself controller_calls p knows how no.SyncWithoutLog status may none = absurd may
-for_itself controller_calls p knows how no.SelfStop status may none = absurd may
-for_itself controller_calls p knows how no.NoMemory status may none = absurd may
+for_itself : (controller_calls : List ControllerCall) (client : ℕ) (p : Progress) (knows : ℕ) (how : WriteOptions) (why : Refusal) (status : Option WriteStatus)
+    → MayRefuse controller_calls client p knows how why status → NoneFaulted (with_attempt p.attempts p.pending how status) → is_for_itself why ≡ true
+for_itself controller_calls client p knows how (no.Incomplete stops delays wait) status may none = refl
+for_itself controller_calls client p knows how (no.LogFault count) status may none = absurd (last_faulted p.attempts p.pending how count (subst (λ (o : Option WriteStatus). NoneFaulted (with_attempt p.attempts p.pending how o)) may none))
+for_itself controller_calls client p knows how (no.SequenceFull last) status may none = refl
+for_itself controller_calls client p knows how no.Empty status may none = absurd may
+for_itself controller_calls client p knows how (no.TooLarge size) status may none = absurd may
+for_itself controller_calls client p knows how no.SyncWithoutLog status may none = absurd may
+for_itself controller_calls client p knows how no.SelfStop status may none = absurd may
+for_itself controller_calls client p knows how no.NoMemory status may none = absurd may
 
 -- Steps
 
@@ -142,7 +142,7 @@ module _ (settings : Settings) (trace : Trace) (client : ℕ) where
           earlier p.attempts p.pending how s.0 none_before,
           λ other e. (
               let same : why ≡ other = cc e in
-              subst (λ (w : Refusal). is_for_itself w ≡ true) same (for_itself trace.controller_calls p q.known how why s.0 s.1 none_before)),
+              subst (λ (w : Refusal). is_for_itself w ≡ true) same (for_itself trace.controller_calls client p q.known how why s.0 s.1 none_before)),
         ));
   }
   attempted p how _ q fits s = absurd s

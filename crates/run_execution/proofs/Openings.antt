@@ -18,7 +18,7 @@ use Rattle.run_outcome.specs.declared.log_start.LogStart.{LogStart}
 use Rattle.run_outcome.specs.declared.log_start.LogStart.TheVariants.{New, Over, Behind}
 use Rattle.run_outcome.specs.Running.{Before, nothing, number_in, RecoversTo, GoesOnFrom, beginning_of, begun_on, RecoversKept, IfGoesOn, IsOpened, IsAsFound, GoesOn}
 use Rattle.log_recovery.specs.declared.modes.Mode.{Mode}
-use Rattle.run_execution.specs.Ends.{HasOpenedAs, IsOpenedFor, LeavesAsFound, IsRefused, end_of}
+use Rattle.run_execution.specs.Ends.{HasOpenedAs, IsOpenedFor, IsAccepted, IsLeftAlone, LeavesAlone, IsRefused, end_of}
 use Rattle.run_execution.proofs.SafeLogs.{KeepsBatches, keeps_none}
 
 -- what holds of any content holds of what a disk tells
@@ -136,10 +136,11 @@ module _ {D : Type 0} {ghosts : Ghosts D} where
   time_as (Behind number) before disk log has_opened = let crash = (has_opened.0).crash in record { later = crash.later; forgets = crash.forgets }
 
   -- and a crash leaves no less of it
-  pub crash_as : (start : LogStart) (before : Before) (disk : D) (log : LogWriter D ghosts) → OnlyNow ghosts disk → GoesOnFrom start (ghosts.told disk) before → HasOpenedAs start before disk log → LeavesAsFound ghosts start disk (disk_of log)
-  crash_as New before disk log only goes has_opened = leaves_looked ghosts disk (disk_of log) only (has_opened.looked_at).same (has_opened.looked_at).time
-  crash_as (Over n) before disk log only goes has_opened = has_opened.crash
-  crash_as (Behind number) before disk log only goes has_opened = inr (before, goes, (has_opened.0).crash)
+  pub crash_as : (start : LogStart) (mode : Mode) (before : Before) (disk : D) (log : LogWriter D ghosts) → OnlyNow ghosts disk → GoesOnFrom start (ghosts.told disk) before → IsAccepted start mode (ghosts.told disk)
+      → HasOpenedAs start before disk log → LeavesAlone ghosts start mode disk (disk_of log)
+  crash_as New mode before disk log only goes accepted has_opened = leaves_looked ghosts disk (disk_of log) only (has_opened.looked_at).same (has_opened.looked_at).time
+  crash_as (Over n) mode before disk log only goes accepted has_opened = has_opened.crash
+  crash_as (Behind number) mode before disk log only goes accepted has_opened = inr (accepted, (before, goes, (has_opened.0).crash))
 
   -- The log was opened for a run that goes on from nothing.
   pub opened_new : (disk : D) (log : LogWriter D ghosts) → HasOpened disk log → IsOpenedFor ghosts New disk (record { log = log; map = []; last = 0 })
@@ -175,8 +176,8 @@ module _ {D : Type 0} (ghosts : Ghosts D) (disk now : D) where
   pub refused_over : (n : ℕ) (mode : Mode) (why : OpenError) → IsReuseError ghosts disk now why → IsRefused ghosts (Over n) mode disk now (end_of why)
   refused_over n mode why error = by_cause why error.cause
     where
-      found : IsAsFound (Over n) (ghosts.told disk) (ghosts.told now)
-      found = as_found (Over n) nothing (ghosts.told disk) (ghosts.told now) (λ x y. y ≡ rewound x) refl (λ x y e. e) error.told
+      found : IsLeftAlone (Over n) mode (ghosts.told disk) (ghosts.told now)
+      found = inr (tt, as_found (Over n) nothing (ghosts.told disk) (ghosts.told now) (λ x y. y ≡ rewound x) refl (λ x y e. e) error.told)
 
       by_cause : (why : OpenError) → IsCauseOver ghosts disk now why → IsRefused ghosts (Over n) mode disk now (end_of why)
       by_cause (Fault count) cause = let now_is = cause.1 in (found, (cause.0, omega (arith, now_is)), error.crash)

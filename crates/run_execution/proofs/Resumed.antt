@@ -18,8 +18,8 @@ use Rattle.log_writer.specs.Opening.{MayBeLeftOf, LeavesOf, SpellsInFront, HasRe
 use Rattle.log_writer.proofs.Putting.{leaves_more}
 use Rattle.log_writer.proofs.Beginning.{leaves_before_of}
 use Rattle.run_outcome.specs.declared.log_start.LogStart.TheVariants.{Behind}
-use Rattle.run_outcome.specs.Running.{Before, GoesOnFrom, IsAsFound, GoesOn}
-use Rattle.run_execution.specs.Ends.{HasAcceptedEnd, HasOpenedAs, LeavesAsFound, IsRefused, end_of}
+use Rattle.run_outcome.specs.Running.{Before, GoesOnFrom, GoesOn}
+use Rattle.run_execution.specs.Ends.{HasAcceptedEnd, HasOpenedAs, IsAccepted, IsLeftAlone, LeavesAlone, IsRefused, end_of}
 use Rattle.run_execution.proofs.Openings.{OnlyNow, leaves_looked, as_found}
 
 -- What is recovered, and the bytes that are kept. Where the disk doesn't tell them, as many zeros take their place.
@@ -97,16 +97,19 @@ module _ (number : Option ℕ) (shown : Recovered) where
 
     -- and where the log was not opened, why
     module _ (now : D) where
-      pub refused_behind : (mode : Mode) (why : OpenError) → OnlyNow ghosts disk → IsResumeError ghosts read now shown.kept why → IsRefused ghosts (Behind number) mode disk now (end_of why)
-      refused_behind mode why only error = by_cause why error.cause
+      pub refused_behind : (mode : Mode) (why : OpenError) → OnlyNow ghosts disk → IsAccepted (Behind number) mode (ghosts.told disk) → IsResumeError ghosts read now shown.kept why → IsRefused ghosts (Behind number) mode disk now (end_of why)
+      refused_behind mode why only accepted error = by_cause why error.cause
         where
-          found : IsAsFound (Behind number) (ghosts.told disk) (ghosts.told now)
-          found = as_found (Behind number) (before_of (ghosts.told disk) shown) (ghosts.told disk) (ghosts.told now) (λ x y. y ≡ cut_at shown.kept x) (goes_behind (ghosts.told disk) has)
-              (λ x y e. inl (e ∙ ap (λ (n : ℕ). cut_at n x) (sym (kept_len (ghosts.told disk) has))))
-              (subst (λ (t : Option Disk). Told t (ghosts.told now) (λ x y. (y ≡ x) ⊎ (y ≡ cut_at shown.kept x))) same error.told)
+          found : IsLeftAlone (Behind number) mode (ghosts.told disk) (ghosts.told now)
+          found = inr (
+            accepted,
+            as_found (Behind number) (before_of (ghosts.told disk) shown) (ghosts.told disk) (ghosts.told now) (λ x y. y ≡ cut_at shown.kept x) (goes_behind (ghosts.told disk) has)
+                (λ x y e. inl (e ∙ ap (λ (n : ℕ). cut_at n x) (sym (kept_len (ghosts.told disk) has))))
+                (subst (λ (t : Option Disk). Told t (ghosts.told now) (λ x y. (y ≡ x) ⊎ (y ≡ cut_at shown.kept x))) same error.told),
+          )
 
-          crash : LeavesAsFound ghosts (Behind number) disk now
-          crash = inr (before_of (ghosts.told disk) shown, goes_behind (ghosts.told disk) has, subst (λ (n : ℕ). LeavesOf ghosts disk now n) (sym (kept_len (ghosts.told disk) has)) (leaves_first now only error.crash))
+          crash : LeavesAlone ghosts (Behind number) mode disk now
+          crash = inr (accepted, (before_of (ghosts.told disk) shown, goes_behind (ghosts.told disk) has, subst (λ (n : ℕ). LeavesOf ghosts disk now n) (sym (kept_len (ghosts.told disk) has)) (leaves_first now only error.crash)))
 
           by_cause : (why : OpenError) → IsCauseOver ghosts read now why → IsRefused ghosts (Behind number) mode disk now (end_of why)
           by_cause (Fault count) cause = let now_is = cause.1 in (found, (subst (λ (n : ℕ). Rose n count) no_fault cause.0, omega (arith, now_is)), crash)

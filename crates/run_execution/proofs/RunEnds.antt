@@ -1,5 +1,5 @@
 -- How a run ends, from its result over its opened log.
-use Rattle.std.proofs.Common.{◌≡◌, ℕ, ◌≤◌, max, List, [], ◌∷◌, ◌++◌, length, take, IfSome, Option, None, Vec, Global, refl, ap, sym, ◌∙◌, subst, arith, length-append}
+use Rattle.std.proofs.Common.{◌≡◌, inr, ℕ, ◌≤◌, max, List, [], ◌∷◌, ◌++◌, length, take, IfSome, Option, None, Vec, Global, refl, ap, sym, ◌∙◌, subst, arith, length-append}
 use Rattle.model_base.specs.declared.limits.TheConstants.{MAX_CLIENTS, MAX_SIZE}
 use Rattle.base_devices.specs.declared.disk.Disk.{Ghosts}
 use Rattle.base_devices.specs.Disk as dev
@@ -29,7 +29,7 @@ use Rattle.run_threads.specs.Runs.{HaveRun, ComesTo, log_of, outcome_with}
 use Rattle.run_execution.specs.declared.opening.Opened.{Opened}
 use Rattle.run_execution.specs.declared.end.RunEnd.TheVariants.{NoMemory}
 use Rattle.log_recovery.specs.declared.modes.Mode.{Mode}
-use Rattle.run_execution.specs.Ends.{HasOutcome, HasOpenedAs, IsOpenedFor, IsRefused, options_behind, execution_on, EndsOn, end_of_run}
+use Rattle.run_execution.specs.Ends.{HasOutcome, HasOpenedAs, IsOpenedFor, IsAccepted, IsRefused, options_behind, execution_on, EndsOn, end_of_run}
 use Rattle.run_execution.proofs.LegalRuns.{small_entries, refused_for_themselves}
 use Rattle.run_execution.proofs.Openings.{OnlyNow, ImageLaw, keeps_as, recovers_as, content_as, empty_as, found_as, no_fault_as, crash_as}
 use Rattle.run_execution.proofs.SafeLogs.{len_is, safe_log, left_since, kept_left, held_images, is_written, goes_on, later}
@@ -145,13 +145,13 @@ module _ {D : Type 0} {ghosts : Ghosts D} where
             }
 
     -- how the run ends, from its result
-    pub is_end : (mode : Mode) → OnlyNow ghosts disk → (ran : ClientsEnd (LogWriter D ghosts)) → ComesTo settings script (Wrote opened) fault_of (λ l. ghosts.faults (disk_of l)) ran
+    pub is_end : (mode : Mode) → IsAccepted start mode (ghosts.told disk) → OnlyNow ghosts disk → (ran : ClientsEnd (LogWriter D ghosts)) → ComesTo settings script (Wrote opened) fault_of (λ l. ghosts.faults (disk_of l)) ran
         → EndsOn ghosts options start mode script disk (disk_of (log_of ran)) (end_of_run ran)
-    is_end mode only (NotRun log) wrote =
+    is_end mode accepted only (NotRun log) wrote =
         subst (λ (l : LogWriter D ghosts). IsRefused ghosts start mode disk (disk_of l) NoMemory) (sym (not_written opened [] log wrote refl))
-        (found_as start before disk opened goes has_opened, no_fault_as start before disk opened has_opened, crash_as start before disk opened only goes has_opened)
-    is_end mode only (Untold log last) ran = (before, goes, has_outcome log last ran)
-    is_end mode only (Told log last transcripts history state) told = (before, goes, has_run log last transcripts history state told.0 told.1)
+        (inr (accepted, found_as start before disk opened goes has_opened), no_fault_as start before disk opened has_opened, crash_as start mode before disk opened only goes accepted has_opened)
+    is_end mode accepted only (Untold log last) ran = (before, goes, has_outcome log last ran)
+    is_end mode accepted only (Told log last transcripts history state) told = (before, goes, has_run log last transcripts history state told.0 told.1)
 
   -- the disk's time has gone on, and its count of faults hasn't fallen, whether calls wrote the log or none did
   abbrev WentOn : LogWriter D ghosts → LogWriter D ghosts → Type 0

@@ -103,11 +103,11 @@ module _ (b : Beginning) (trace : Trace) (keeps : KeepsBatches b trace.start) (a
           enough = (omega (arith, enough), synced_is b group_bytes attempts last groups calls lost each (prefix.many - length kept) (synced_later all safe (prefix.many - length kept) holds.have_synced (omega (arith, enough))));
         }
 
-    crash_safe : (reached : ℕ) (any : List ℕ → Type 0) (since : List GroupCall → List GroupCall → List ℕ → Type 0) → ((image : List ℕ) → any image → HoldsCallsSynced b reached all image)
+    crash_safe : o.log_len ≡ length (text_after b records) → (reached : ℕ) (any : List ℕ → Type 0) (since : List GroupCall → List GroupCall → List ℕ → Type 0) → ((image : List ℕ) → any image → HoldsCallsSynced b reached all image)
         → ((image : List ℕ) → since [] all image → BeginsWith b.kept image) → KeepsSynced b groups all since
-        → IsCrashSafe group_bytes attempts o b groups begun d.content all lost reached any since (IsImage d)
-    crash_safe reached any since held kept kept_since = record {
-      failed = failed_write b group_bytes attempts last groups calls lost each begun d.content whole o end o.fault refl are;
+        → IsCrashSafe group_bytes attempts o b groups begun d.content d.place all lost reached any since (IsImage d)
+    crash_safe len reached any since held kept kept_since = record {
+      failed = failed_write b group_bytes attempts last groups calls lost each begun d safe holds whole o end len o.fault refl are;
       any_moment = λ x may image left none kept spells. any_prefix b kept (with_failed_record records x) image spells none;
       held = λ image left. held_is b group_bytes attempts last groups calls lost each o.fault are reached image (held image left);
       kept = kept;
@@ -321,7 +321,7 @@ module _ {D : Type 0} {ghosts : Ghosts D} where
             found_empty = empty;
             safe = record {
               log = log_left (own execution) run.trace keeps run.attempts execution.settings.group_bytes o run.legal.history run.legal.last (run.legal.is_trace).entries suit run.writes.parts run.writes.calls run.writes.lost run.writes.cut run.writes.runs run.writes.each run.writes.none_else begun y holds.0 holds.1 text run.length_is;
-              crash = crash_safe (own execution) run.trace keeps run.attempts execution.settings.group_bytes o run.legal.history run.legal.last (run.legal.is_trace).entries suit run.writes.parts run.writes.calls run.writes.lost run.writes.cut run.writes.runs run.writes.each run.writes.none_else begun y holds.0 holds.1 text x.reach execution.images execution.since held kept kept_since;
+              crash = crash_safe (own execution) run.trace keeps run.attempts execution.settings.group_bytes o run.legal.history run.legal.last (run.legal.is_trace).entries suit run.writes.parts run.writes.calls run.writes.lost run.writes.cut run.writes.runs run.writes.each run.writes.none_else begun y holds.0 holds.1 text run.length_is x.reach execution.images execution.since held kept kept_since;
             };
             went_on = went;
           }

@@ -104,14 +104,14 @@ pub record HasAcceptedEnd (number : Option ℕ) (mode : Mode) (file : List ℕ) 
   pub is : IsRecovered number file recovered
   pub accepts : Accepts number mode file recovered.at recovered.why
 
--- where the log goes on, the mode accepts the end of its recovery
+-- where the log is resumed, the mode accepts the end of its recovery
 abbrev pub IsAccepted : LogStart → Mode → Option Disk → Type 0
 IsAccepted New mode told = ⊤
 IsAccepted (Over number) mode told = ⊤
 IsAccepted (Behind number) mode told = IfSome told (λ d. HasAcceptedEnd number mode d.content)
 
--- The log goes on, and the mode, which isn't the one that accepts any end, doesn't accept that its recovery ends there
--- for this reason.
+-- The log should be resumed, and the mode, which isn't the one that accepts any end, doesn't accept that its recovery
+-- ends there for this reason.
 abbrev pub IsDamaged : LogStart → Mode → Option Disk → ℕ → EndReason → Type 0
 IsDamaged New mode told at why = ⊥
 IsDamaged (Over number) mode told at why = ⊥
@@ -127,29 +127,35 @@ Ran end.NoMemory = ⊥
 Ran end.NoOutcome = ⊤
 Ran (end.Ran shown) = ⊤
 
+-- The disk tells what it told before; or, only where the mode accepts the end of the log's recovery, it is as the
+-- opening of the log leaves it.
+abbrev pub IsLeftAlone : LogStart → Mode → Option Disk → Option Disk → Type 0
+IsLeftAlone start mode old new = (new ≡ old) ⊎ (IsAccepted start mode old × IsAsFound start old new)
+
 -- What a crash may leave at any moment of a call in which nothing was run: only what it might have left before. Where
--- the log should go on, the bytes that it doesn't keep may have been taken off; of what was safe, those that it keeps
--- are still certain to stay.
-abbrev pub LeavesAsFound : {D : Type 0} → Ghosts D → LogStart → D → D → Type 0
-LeavesAsFound ghosts New old new = LeavesAsBefore ghosts old new
-LeavesAsFound ghosts (Over number) old new = LeavesAsBefore ghosts old new
-LeavesAsFound ghosts (Behind number) old new = LeavesAsBefore ghosts old new
-    ⊎ ((before : Before) × GoesOnFrom (Behind number) (ghosts.told old) before
-    × LeavesOf ghosts old new (length before.kept))
+-- the log should be resumed, and the mode accepts the end of its recovery, the bytes that it doesn't keep may have been
+-- truncated; of what was safe, those that it keeps are still certain to stay.
+abbrev pub LeavesAlone : {D : Type 0} → Ghosts D → LogStart → Mode → D → D → Type 0
+LeavesAlone ghosts New mode old new = LeavesAsBefore ghosts old new
+LeavesAlone ghosts (Over number) mode old new = LeavesAsBefore ghosts old new
+LeavesAlone ghosts (Behind number) mode old new = LeavesAsBefore ghosts old new
+    ⊎ (IsAccepted (Behind number) mode (ghosts.told old)
+    × ((before : Before) × GoesOnFrom (Behind number) (ghosts.told old) before
+    × LeavesOf ghosts old new (length before.kept)))
 
 module _ {D : Type 0} (ghosts : Ghosts D) (start : LogStart) (mode : Mode) (old new : D) where
-  -- The log was not opened, or no client ran, and the run's end says why. The disk is as it was found, and a crash
-  -- leaves no less. Its count of faults is as before, unless the end is a fault.
+  -- The log was not opened, or no client ran, and the run's end says why. The disk was left alone, and a crash leaves no
+  -- less. Its count of faults is as before, unless the end is a fault.
   abbrev pub IsRefused : RunEnd → Type 0
-  IsRefused (end.DiskFault count) = IsAsFound start (ghosts.told old) (ghosts.told new)
-      × IsReached (ghosts.faults old) count (ghosts.faults new) × LeavesAsFound ghosts start old new
+  IsRefused (end.DiskFault count) = IsLeftAlone start mode (ghosts.told old) (ghosts.told new)
+      × IsReached (ghosts.faults old) count (ghosts.faults new) × LeavesAlone ghosts start mode old new
   IsRefused (end.NotEmpty len) = (start ≡ New) × (0 < len)
       × IfSome (ghosts.told old) (λ d. length d.content ≡ len)
       × (ghosts.told new ≡ ghosts.told old) × (ghosts.faults new ≡ ghosts.faults old) × LeavesAsBefore ghosts old new
   IsRefused (end.Damage at why) = IsDamaged start mode (ghosts.told old) at why
       × (ghosts.told new ≡ ghosts.told old) × (ghosts.faults new ≡ ghosts.faults old) × LeavesAsBefore ghosts old new
-  IsRefused end.NoMemory = IsAsFound start (ghosts.told old) (ghosts.told new)
-      × (ghosts.faults new ≡ ghosts.faults old) × LeavesAsFound ghosts start old new
+  IsRefused end.NoMemory = IsLeftAlone start mode (ghosts.told old) (ghosts.told new)
+      × (ghosts.faults new ≡ ghosts.faults old) × LeavesAlone ghosts start mode old new
   IsRefused end.NoOutcome = ⊥
   IsRefused (end.Ran shown) = ⊥
 

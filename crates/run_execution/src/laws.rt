@@ -11,7 +11,7 @@ ghost use Rattle.run_outcome.specs.declared.log_start.LogStart.{LogStart};
 ghost use Rattle.run_outcome.specs.Running.{Before, GoesOn, GoesOnFrom};
 ghost use Rattle.run_threads.specs.declared.run.ClientsEnd.{ClientsEnd as Ended};
 ghost use Rattle.run_threads.specs.Runs.{log_of};
-ghost use Rattle.run_execution.specs.Ends.{EndsOn, HasOpenedAs, HasRunOver, end_of_run, options_behind};
+ghost use Rattle.run_execution.specs.Ends.{EndsOn, HasOpenedAs, IsAccepted, HasRunOver, end_of_run, options_behind};
 
 use base_devices::Disk;
 use log_recovery_laws::an_image_of_the_file;
@@ -23,7 +23,8 @@ pub fn runs_leave_safe_logs<D: Disk>()
     // Then the run ends as it should, and the log is left as it should be.
     ensures ends { (disk : D) (opened : Log D ⟦<D as Disk>⟧) (options : RunOptions) (start : LogStart) (mode : Mode)
         (before : Before) (script : List (List Command)) (ran : Ended (Log D ⟦<D as Disk>⟧))
-        → GoesOnFrom start (D.told disk) before → HasOpenedAs start before disk opened
+        → GoesOnFrom start (D.told disk) before → IsAccepted start mode (D.told disk)
+        → HasOpenedAs start before disk opened
         → length script ≤ MAX_CLIENTS → options.batch_bytes ≤ MAX_SIZE
         → HasRunOver opened (options_behind options before) before.map (D.faults disk) script ran
         → EndsOn ⟦<D as Disk>⟧ options start mode script disk (disk_of (log_of ran)) (end_of_run ran) }

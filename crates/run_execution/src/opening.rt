@@ -21,7 +21,7 @@ pub(crate) struct Opened<D: Disk> {
     pub(crate) last: u64,
 }
 
-/// Opens the log of a run. A log that goes on is recovered first, with the mode, and cut after what is kept.
+/// Opens the log of a run. One that is resumed is recovered first, with the mode, and truncated after what is kept.
 pub(crate) fn open_log<D: Disk>(
     alloc: Global,
     disk: D,

@@ -34,10 +34,15 @@ pub fn execute<
     requires fits { FitsBatches script.now }
     requires options { (setup.options.last ≤ max_sequence) × (setup.options.batch_bytes ≤ MAX_SIZE) }
     requires shards { 0 < setup.shards }
+    // What comes of it: a legal outcome, and how its log was written; or the same, where there was no memory for the
+    // outcome itself; or why the log was not opened, with the disk left alone.
     ensures end { EndsOn ⟦<D as Disk>⟧ setup.options setup.start setup.mode (commands_of script.now) disk result.0
         result.1 }
+    // nothing runs over a log whose recovery has an end that the mode doesn't accept
     ensures accepted { Ran result.1 → IsAccepted setup.start setup.mode (D.told disk) }
+    // the disk's count of faults doesn't fall, so it can be compared before and after
     ensures later { D.faults disk ≤ D.faults result.0 }
+    // moments don't turn back, and what the disk has forgotten it doesn't tell again
     ensures time { GoesOn D.moment D.from disk result.0 }
 {
     match open_log(host.alloc, disk, setup.start, setup.mode) {
@@ -71,6 +76,7 @@ fn run_over<
     requires last { opened.last ≤ max_sequence }
     requires opened { (disk : D) × IsOpenedFor ⟦<D as Disk>⟧ setup.start disk opened }
     ensures end { (disk : D) → IsOpenedFor ⟦<D as Disk>⟧ setup.start disk opened
+        → IsAccepted setup.start setup.mode (D.told disk)
         → EndsOn ⟦<D as Disk>⟧ setup.options setup.start setup.mode (commands_of script.now) disk result.0 result.1 }
     ensures later { D.faults (disk_of opened.log) ≤ D.faults result.0 }
     ensures time { GoesOn D.moment D.from (disk_of opened.log) result.0 }

@@ -47,10 +47,10 @@ module _ (settings : Settings) (ended : ℕ) (script : Script) (o : Outcome) (cl
 
   -- the commit can't be refused
   never_refused : (p : Progress) (knows : ℕ) (why : Refusal) (status : Option WriteStatus) → most + count_of p.pending ≤ max_sequence → (how.no_slowdown ≡ false) ⊎ HoldsNothingUp script
-      → AreSound most (with_attempt p.attempts p.pending how status) → MayRefuse trace.controller_calls p knows how why status → ⊥
+      → AreSound most (with_attempt p.attempts p.pending how status) → MayRefuse trace.controller_calls (client + 1) p knows how why status → ⊥
   never_refused p knows (no.Incomplete stops delays wait) status room (inl waits) s may = let yes = may.0 in cc
   never_refused p knows (no.Incomplete stops delays wait) status room (inr quiet) s may =
-      not_held_up trace.controller_calls legal.legal.is_trace.controller_calls (history.calm settings ended script o legal quiet) p.known knows _ status may.2 may.1
+      not_held_up trace.controller_calls legal.legal.is_trace.controller_calls (history.calm settings ended script o legal quiet) (client + 1) p.known knows _ status may.2 may.1
   never_refused p knows (no.LogFault count) status room freed s may =
       sound_last most p.attempts p.pending how (faulted count) (subst (λ x. AreSound most (with_attempt p.attempts p.pending how x)) may s)
   never_refused p knows (no.SequenceFull last) status room freed s may =

@@ -122,14 +122,14 @@ told_at n (u ∷ controller_calls) history none calm (suc place) t l there told 
     told_at (numbers_after n u.action) controller_calls history.1 none.1 (calm_after n u.action none.0 calm) place t l there told
 
 module _ (controller_calls : List ControllerCall) (history : IsHistoryFrom opening controller_calls) (none : HasNoTokens controller_calls) where
-  told_calm : (knew knows : ℕ) (l : Look) (status : Option WriteStatus) → IsTold controller_calls knew knows l status → TellsCalm l
-  told_calm knew knows l None told = told_at opening controller_calls history none (refl, refl) told.0 _ l told.2.there refl
-  told_calm knew knows l (Some (slowed place)) told = told_at opening controller_calls history none (refl, refl) place _ l told.3.there refl
-  told_calm knew knows l (Some other) told = absurd told
+  told_calm : (client knew knows : ℕ) (l : Look) (status : Option WriteStatus) → IsTold controller_calls client knew knows l status → TellsCalm l
+  told_calm client knew knows l None told = told_at opening controller_calls history none (refl, refl) told.0 _ l told.1.there refl
+  told_calm client knew knows l (Some (slowed place)) told = told_at opening controller_calls history none (refl, refl) place _ l told.3.there refl
+  told_calm client knew knows l (Some other) told = absurd told
 
   not_up : (l : Look) → TellsCalm l → HoldUp l → ⊥
   not_up l calm (inl stopped) = let none_stop = calm.0 in omega arith
   not_up l calm (inr slow_now) = let none_slow = calm.1 in let some = slow_now.0 in omega arith
 
-  pub not_held_up : (knew knows : ℕ) (l : Look) (status : Option WriteStatus) → IsTold controller_calls knew knows l status → HoldUp l → ⊥
-  not_held_up knew knows l status told up = not_up l (told_calm knew knows l status told) up
+  pub not_held_up : (client knew knows : ℕ) (l : Look) (status : Option WriteStatus) → IsTold controller_calls client knew knows l status → HoldUp l → ⊥
+  not_held_up client knew knows l status told up = not_up l (told_calm client knew knows l status told) up

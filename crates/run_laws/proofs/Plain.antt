@@ -121,7 +121,7 @@ module _ (most : ℕ) (small : most + 4 ≤ max_sequence) (settings : Settings) 
 
   -- the commit can't be refused
   never_refused : (n : ℕ) (p : Progress) (knows : ℕ) (how : WriteOptions) (why : Refusal) (status : Option WriteStatus) → how ≡ plain → n ≤ 4 → Stands n p
-      → AreSound most (with_attempt p.attempts p.pending how status) → MayRefuse trace.controller_calls p knows how why status → ⊥
+      → AreSound most (with_attempt p.attempts p.pending how status) → MayRefuse trace.controller_calls client p knows how why status → ⊥
   never_refused n p knows how (no.Incomplete stops delays wait) status is few s a may = let no_wait : how.no_slowdown ≡ false = ap (λ (x : WriteOptions). x.no_slowdown) is in let yes = may.0 in cc
   never_refused n p knows how (no.LogFault count) status is few s a may =
       sound_last most p.attempts p.pending how (faulted count) (subst (λ x. AreSound most (with_attempt p.attempts p.pending how x)) may a)

@@ -96,7 +96,7 @@ IfGoesOn (Behind number) T = T
 pub record LeavesSafeLog (execution : Execution) (o : calls.Outcome) (run : IsRunOf execution o)
     (opened ended : Disk) : Type 0 where
   pub found_empty : execution.start ≡ New → opened.content ≡ []
-  pub safe : IsSafe run (begun_on execution.start execution.before opened.content) ended.content opened.reach
+  pub safe : IsSafe run (begun_on execution.start execution.before opened.content) ended.content ended.place opened.reach
       execution.images execution.since (IsImage ended)
   pub went_on : IfGoesOn execution.start
       (RecoversKept execution.start execution.before opened.content execution.images)

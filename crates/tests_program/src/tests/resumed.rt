@@ -202,7 +202,7 @@ const ONE_AND_A_PART: &str = "groups 1\n1 1 17\nstate 1 1\n61 31\nend 24 badleng
 const TWO_LEFT: &str = "groups 2\n1 1 17\n2 1 17\nstate 2 2\n61 31\n62 32\nend 48 clean\n";
 
 /// Which call of the disk fails, the status, all that is printed then, how many bytes the disk holds, how many of them
-/// are safe, and what they recover. The calls are a look at the length, a read, a cut, a sync, and an append.
+/// are safe, and what they recover. The calls are two reads, a cut, a sync, and an append.
 type Left = (Fails, u8, &'static str, u64, u64, &'static str);
 
 const LEFT: [Left; 6] = [

@@ -20,6 +20,7 @@ returns-in-Run-clause-run g c = λ wanted start mode asked.
       source_fault_is_told = does.source_fault_is_told;
       read_to_end = does.read_to_end;
       disk_untouched = does.disk_untouched;
+      no_script = does.no_script;
       runs = does.runs;
       completes = does.completes;
     })

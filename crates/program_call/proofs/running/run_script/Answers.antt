@@ -7,10 +7,10 @@ use Rattle.log_writer.proofs.Beginning.{leaves_before}
 use Rattle.program_call.specs.declared.report.Form.TheVariants as form
 use Rattle.program_call.specs.Reading.{IsScriptError}
 use Rattle.program_call.specs.Outcomes.{IsScript, SaysScript, observation_of}
-use Rattle.program_call.proofs.Leaving.{as_found}
+use Rattle.program_call.proofs.Leaving.{left_alone}
 use Rattle.program_call.proofs.Endings.{unread}
 use Rattle.program_call.proofs.Runs.{runs_script, runs_retold, completes}
-use Rattle.program_call.proofs.Unread.{source_failed, fault_said, unread_stood, unread_completes}
+use Rattle.program_call.proofs.Unread.{source_failed, fault_said, unread_stood, unread_completes, is_script, left_untouched}
 use Rattle.program_call.proofs.running.run_script.Goals as goal
 
 says_it : (left : Option (List ℕ)) (this s : Script) → IfSome left (λ text. script_of whole_grammar text ≡ Ok this) → IsScript this s → SaysScript left s
@@ -36,6 +36,12 @@ returns-in-Ok-clause-runs g c =
 pub returns-in-Ok-clause-completes : goal.returns-in-Ok-clause-completes
 returns-in-Ok-clause-completes g c = λ source_fault_is_told sink_stood no_disk_fault no_damage.
     under _ _ _ _ (completes _ _ _ _ _ _ _ _ c.run_and_tell.ensures.runs c.run_and_tell.ensures.status sink_stood no_disk_fault no_damage)
+
+pub returns-in-Ok-clause-no_script : goal.returns-in-Ok-clause-no_script
+returns-in-Ok-clause-no_script g c = is_script (g.S.Source.left c.args.source.now) (commands_of c.in-Ok.script) _ c.in-Ok.ensures.script.said
+
+pub returns-in-Err-clause-no_script : goal.returns-in-Err-clause-no_script
+returns-in-Err-clause-no_script g c = left_untouched (g.S.Source.left c.args.source.now) _ c.end_with.ensures.disk
 
 pub returns-in-Err-clause-source : goal.returns-in-Err-clause-source
 returns-in-Err-clause-source g c =
@@ -75,7 +81,7 @@ returns-in-Err-clause-runs g c =
     let says = SaysScript (g.S.Source.left c.args.source.now) in
     let start = c.args.setup.start in
     let laws = g.met.D.Disk g.world.𝓛 g.world.𝓜 g.world.𝓡 ((λ s x. x), (λ x. x), (λ x. x), λ x. x) in
-    let crash = as_found g.D.Disk start was was (leaves_before g.D.Disk was (laws.only_now was)) in
+    let crash = left_alone g.D.Disk start c.args.setup.mode was was (leaves_before g.D.Disk was (laws.only_now was)) in
     rw (c.end_with.ensures.status, c.end_with.ensures.disk) (runs_script g.D.Disk g.K.Sink says form.Whole c.args.setup.options start c.args.setup.mode was was before after _
     (unread (observation_of g.D.Disk g.K.Sink says form.Whole c.args.setup.options start c.args.setup.mode was was before after) (g.D.Disk.faults was) (g.D.Disk.faults was) (g.K.Sink.faults before) (g.K.Sink.faults after)
     c.in-Err.why c.tell_read_error.result refl crash refl c.tell_read_error.ensures))

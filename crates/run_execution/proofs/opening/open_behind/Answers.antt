@@ -44,8 +44,9 @@ pub returns-clause-err : goal.returns-clause-err
 returns-clause-err g c =
     let found = c.in-Ok.ensures in
     let reads = c.recover_mode.ensures.disk in
+    let accepted = accepted_end c.args.number c.args.mode (g.D.Disk.told c.args.disk) c.in-Ok.recovered found.recovered found.accepted in
     subst (λ (end : RunEnd). IsRefused g.D.Disk (Behind c.args.number) c.args.mode c.args.disk c.in-Err.disk end) (sym c.from.ensures)
-    (refused_behind c.args.number c.in-Ok.recovered g.D.Disk c.args.disk c.recover_mode.new.disk reads.same reads.time found.worked found.recovered c.in-Err.disk c.args.mode c.in-Err.why (g.met.D.Disk.only_now c.args.disk) c.in-Err.ensures.err)
+    (refused_behind c.args.number c.in-Ok.recovered g.D.Disk c.args.disk c.recover_mode.new.disk reads.same reads.time found.worked found.recovered c.in-Err.disk c.args.mode c.in-Err.why (g.met.D.Disk.only_now c.args.disk) accepted c.in-Err.ensures.err)
 
 pub returns-in-Ok-resume-clause-accepted : goal.returns-in-Ok-resume-clause-accepted
 returns-in-Ok-resume-clause-accepted g c =

@@ -21,7 +21,7 @@ pub run_engine-requires-sync-E : goal.run_engine-requires-sync-E
 run_engine-requires-sync-E g c κs within = record { shared = (engine_sync (param 0 g.row.D) (param 1 g.row.C) (param 2 g.row.H) g.D.Disk c.type_bounds.send-D c.type_bounds.send-C c.type_bounds.sync-H).shared }
 
 pub returns-in-Ok-clause-end : goal.returns-in-Ok-clause-end
-returns-in-Ok-clause-end g c = λ disk is.
+returns-in-Ok-clause-end g c = λ disk is accepted.
     let start = c.args.setup.start in
     let opened = c.args.opened in
     let options = c.args.setup.options in
@@ -31,7 +31,7 @@ returns-in-Ok-clause-end g c = λ disk is.
     let settings = c.in-Ok.ensures.engine.1 ∙ settings_behind start disk opened options c.max.result _ _ is c.max.ensures (ap length value) in
     let comes = comes_to fault_of (λ (l : LogWriter g.row.D.Denot g.D.Disk). g.D.Disk.faults (disk_of l)) ran _ _ _ _ _ _ settings value (ap Wrote c.in-Ok.ensures.engine.0) c.run_engine.ensures in
     rw (c.end_run.ensures.end, c.end_run.ensures.disk)
-    (c.runs_leave_safe_logs.ensures.ends disk opened.log options start c.args.setup.mode is.before script ran is.goes_on is.is_opened (omega (arith, c.requires.clients)) c.requires.options.1 comes)
+    (c.runs_leave_safe_logs.ensures.ends disk opened.log options start c.args.setup.mode is.before script ran is.goes_on accepted is.is_opened (omega (arith, c.requires.clients)) c.requires.options.1 comes)
 
 pub returns-in-Ok-clause-later : goal.returns-in-Ok-clause-later
 returns-in-Ok-clause-later g c =
@@ -58,8 +58,8 @@ returns-in-Ok-clause-time g c =
     rw c.end_run.ensures.disk (c.runs_leave_safe_logs.ensures.time opened.log options opened.map script faults ran comes).0
 
 pub returns-in-Err-clause-end : goal.returns-in-Err-clause-end
-returns-in-Err-clause-end g c = λ disk is.
+returns-in-Err-clause-end g c = λ disk is accepted.
     let log = c.args.opened.log in
     let script = commands_of c.args.script.now in
     rw (c.into_disk.ensures, c.in-Err.ensures.err.0)
-    (c.runs_leave_safe_logs.ensures.ends disk log c.args.setup.options c.args.setup.start c.args.setup.mode is.before script (NotRun log) is.goes_on is.is_opened (omega (arith, c.requires.clients)) c.requires.options.1 no_call)
+    (c.runs_leave_safe_logs.ensures.ends disk log c.args.setup.options c.args.setup.start c.args.setup.mode is.before script (NotRun log) is.goes_on accepted is.is_opened (omega (arith, c.requires.clients)) c.requires.options.1 no_call)

@@ -1,4 +1,4 @@
-use Rattle.std.proofs.Common.{◌≡◌, ◌≤◌, ℕ, Bool, true, List, None, Some, IfOk, IfSome, inl, inr, refl, sym, ap, ◌∙◌, subst}
+use Rattle.std.proofs.Common.{◌≡◌, ◌≤◌, ℕ, Bool, true, false, List, None, Some, IfOk, IfSome, inl, inr, refl, sym, ap, ◌∙◌, subst}
 use Rattle.model_base.specs.Controller.{look, ControllerCall}
 use Rattle.model_base.specs.Progress.{early_refusal}
 use Rattle.model_base.specs.Tokens.{holds_stop, tokens_of}
@@ -40,7 +40,7 @@ returns-then-stopping-clause-err g c =
     let ends = subst (λ (k : ℕ). EndsWith k (seen_by v.pass) look (Some (look_of c.look-look.result)) (seen_by c.look-look.new.pass)) S.pass_number L.asked in
     let impatient = impatient_if settings.batch_bytes records how (subst (λ (b : Bool). early_refusal settings.batch_bytes b records how ≡ None) held passed) in
     let seen = (g.Versions.Table.account v.seat).seen in
-    let refused = refused_looked v.start (map_at_opening g.Versions.Table v.table.value) v.number (own_commits v.number (answers_told v.writer)) records how seen seen (seen_by v.pass) (seen_by c.look-look.new.pass) (look_of c.look-look.result) (begins_self seen) ends impatient (inl some) in
+    let refused = refused_looked v.start (map_at_opening g.Versions.Table v.table.value) v.number (own_commits v.number (answers_told v.writer)) records how seen seen (seen_by v.pass) (seen_by c.look-look.new.pass) (look_of c.look-look.result) (begins_self seen) held ends impatient (inl some) in
     subst (λ (r : Refused). Refuses settings (account_in g.Versions.Table v) records how r.why (account_of v.start (map_at_opening g.Versions.Table v.table.value) v.number (own_commits v.number (answers_told v.writer)) seen (seen_by c.look-look.new.pass))) (sym c.refused_by.ensures)
     (refuses_late settings (account_in g.Versions.Table v) records how _ _ passed (inr refused))
 
@@ -69,6 +69,7 @@ returns g c =
     let stops = c.is_stopping-stopping.ensures ∙ ap holds_stop (same_tokens g.Versions.Table e v c.requires) in
     let at_once = sym (ap (λ (b : Bool). early_refusal settings.batch_bytes b records how) stops) ∙ sym (c.refusal_at_once.ensures records c.of-measure.ensures.value) in
     let passed = at_once ∙ none_is c.refusal_at_once.result c.in_default.not-Some in
+    let free : holds_stop (tokens_of v.number (seen_by v.pass)) ≡ false = sym stops ∙ c.if-stopping.false in
     let N = c.note.ensures in let p = c.open-told.result.0 in let w1 = c.submit.new.client in
     let A = subst (λ (z : Request × Answer). IsAnswered e.controller (opened_log e) (g.Versions.Table.opening e.table).start z.0 z.1 (record v { seat = c.last-shown.new.seat; pass = c.note.new.pass; envelope = c.take.new.self }) w1) (λ i. (c.ask.ensures i, sym c.open-told.ensures i)) c.submit.ensures.answered in
     let w2 = c.see.new.client in let E = c.see.ensures in
@@ -81,7 +82,7 @@ returns g c =
     let more = sees_on v.number (seen_by v.pass) (seen_by w1.pass) (seen_by w2.pass) first second in
     let kept = subst (λ (n : ℕ). AreHandled e.controller (opened_log e) n A.handled) (sym S.start) A.are_handled in
     let reached = subst (λ (n : ℕ). IfOk p.answer (λ (r : Receipt). r.group_last ≤ last_of n now)) (sym S.start) E.published in
-    let done = concludes e.controller (opened_log e) v.start (map_at_opening g.Versions.Table v.table.value) v.number settings _ p (answers_told v.writer) A.handled kept A.own before now sees (seen_by v.pass) (seen_by w2.pass) more N.note.1 E.noted passed above p.answer refl reached in
+    let done = concludes e.controller (opened_log e) v.start (map_at_opening g.Versions.Table v.table.value) v.number settings _ p (answers_told v.writer) A.handled kept A.own before now sees (seen_by v.pass) (seen_by w2.pass) more N.note.1 E.noted passed free above p.answer refl reached in
     let st : v.start ≡ w2.start = sym (E.same.1 ∙ A.start_same) in
     let tb : v.table ≡ w2.table = sym (E.same.3 ∙ A.table_same) in
     let nu : v.number ≡ w2.number = sym (E.same.0 ∙ A.number) in
