@@ -176,10 +176,7 @@ int flock(int number, int operation) {
 int statx(int number, const char *restrict name, int flags, unsigned mask, struct statx *restrict to) {
     int is_path = path != NULL && number == AT_FDCWD;
     const char *look = flags & AT_SYMLINK_NOFOLLOW ? "link" : "look";
-    const char *call = kind_of(number) != OTHER              ? "length"
-                       : is_path && strcmp(name, path) == 0   ? look
-                       : is_path && strcmp(name, folder) == 0 ? "place"
-                                                              : NULL;
+    const char *call = kind_of(number) != OTHER ? "length" : is_path && strcmp(name, path) == 0 ? look : NULL;
     if (call == NULL) return syscall(SYS_statx, number, name, flags, mask, to);
     long nth;
     if (fails(call, &nth)) return -1;

@@ -42,7 +42,12 @@ pub trait Disk {
         ensures small { IfOk result (λ n. n < 2 ^ 63) }
         ensures same { told self.new ≡ told self.old }
         ensures adds_none { added self.new ≡ added self.old }
+        // Moments only go on. From some moment on the disk tells what a crash might have left then, and what it has
+        // forgotten it doesn't tell again.
         ensures time { TimePasses told moment from since self.old self.new }
+        // Each call of a device has such a clause: it fails only where the count of faults rises in it, or is at its
+        // greatest, and one that works leaves the count as it was. So whoever compares the count before and after knows
+        // whether a call failed.
         ensures cause { HasCause (faults self.old) (faults self.new) result };
 
     /// Copies the content from the place `at` on to the start of `buf`, as many bytes as both have, and answers how
@@ -62,6 +67,7 @@ pub trait Disk {
     /// may leave any bytes after those that are safe, as far as this append wrote or tried to write.
     fn append(&mut self, piece: &[u8]) -> Result<(), Failed>
         ensures appended { Told (told self.old) (told self.new) (λ old new. Appended old new piece.now result) }
+        // By this count no sum of lengths overflows. A rewind and a cut set it anew.
         ensures added { GrowsBy (added self.old) (added self.new) (length piece.now) result }
         ensures time { TimePasses told moment from since self.old self.new }
         ensures cause { HasCause (faults self.old) (faults self.new) result };
@@ -71,6 +77,7 @@ pub trait Disk {
     /// If it fails, the place may be the one from before or the start.
     fn rewind(&mut self) -> Result<(), Failed>
         ensures rewound { Told (told self.old) (told self.new) (λ old new. Rewound old new result) }
+        // The sum of what was added begins at 0 again.
         ensures counted { OnOk result (added self.new ≡ 0) }
         ensures time { TimePasses told moment from since self.old self.new }
         ensures cause { HasCause (faults self.old) (faults self.new) result };
@@ -81,6 +88,7 @@ pub trait Disk {
     fn cut(&mut self, at: u64) -> Result<(), Failed>
         requires there { IfSome (told self.old) (λ d. at ≤ length d.content) }
         ensures cut { Told (told self.old) (told self.new) (λ old new. Cut old new at result) }
+        // The sum of what was added begins at this length again.
         ensures counted { OnOk result (added self.new ≡ at) }
         ensures time { TimePasses told moment from since self.old self.new }
         ensures cause { HasCause (faults self.old) (faults self.new) result };

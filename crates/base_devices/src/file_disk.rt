@@ -4,7 +4,7 @@ ghost use Rattle.std.specs.Prelude.{◌≡◌, MatchResult, IsErr};
 ghost use Rattle.base_devices.specs.Faults.{HasCause};
 
 use crate::failed::count_fault;
-use crate::system_file::SystemFile;
+use crate::system_file::{Access, SystemFile};
 use crate::{Disk, Failed};
 use std::fs::File;
 use std::io;
@@ -12,27 +12,32 @@ use std::rt::Files;
 
 /// A file of the system as a disk. It tells nothing of its content. Each error of the system is a fault.
 ///
-/// Making one touches nothing. The first `len`, `read`, `rewind` or `sync` opens the file for reading, and the first
-/// `append` or `cut` opens it for writing; the `append` makes the file if there is none. So a file that may only be
-/// read can be read, and no file is made before something is appended. Where there is no file, `len` answers 0, and
-/// `rewind` and `cut` to 0 have nothing to do, but these three fail where there is no folder for one; `sync` has
-/// nothing to do, and `read` and any other `cut` fail. A call that couldn't open the file fails, and the next call
-/// tries again. Each call fails if the path is that of a folder, a pipe, a socket or a device; none of them waits
-/// there for another program.
+/// Making one touches nothing. The first call opens the file, finds out its length and keeps count of it from then on.
+/// If one of this can't be done the call fails, and the next call tries again. Each call fails if the path is that of
+/// a folder, a pipe, a socket or a device, or of nothing where no file can be made; none of them waits there for
+/// another program.
 ///
-/// It relies on being the only writer of the file, and keeps count of the file's length from the first call on. When
-/// it opens the file for writing it takes the exclusive lock of `flock`, which it keeps until it is dropped. It fails
-/// there if another one has the lock, or if the file no longer has the length that an earlier call found. A program
-/// that doesn't ask for the lock isn't kept out. An append writes at the place, over the bytes there, also those that
-/// a failed append may have left. It does so in one call of the system, unless that call takes only a part. `cut` is
-/// the system's `ftruncate`, and fails if the file has fewer bytes.
+/// A disk that [`FileDisk::new`] makes relies on being the only writer of the file. Its first call opens the file for
+/// reading and writing and makes it if there is none, except that a first `read` makes no file, and fails. Before it
+/// looks at the length or reads a byte it takes the exclusive lock of `flock`, which it keeps until it is dropped. It
+/// fails if another one has the lock. A program that doesn't ask for the lock isn't kept out. So of two such disks on
+/// one file the second one sees all that the first one did, or nothing at all.
+///
+/// A disk that [`FileDisk::to_read`] makes opens the file for reading, without a lock, and makes none. It may read
+/// while another program writes: it finds the length that the file had at its first call, and reads fail where the
+/// file has become shorter than that. All calls that change a disk, and `sync`, fail, and do nothing.
+///
+/// An append writes at the place, over the bytes there, also those that a failed append may have left. It does so in
+/// one call of the system, unless that call takes only a part. `cut` is the system's `ftruncate`, and fails if the
+/// file has fewer bytes.
 ///
 /// `sync` is the system's `fdatasync`: it makes the file's bytes and its length safe, also the length that a cut left;
-/// before it a crash may bring back what was cut off. The first sync, and the first one after the file was opened for
-/// writing, also sync the folder that the file lies in, since the file's entry there may be new. If the path is a
-/// link, this is the folder of the file, not of the link. They fail if that folder may not be read, since nothing else
-/// makes the entry safe. Once a sync of the bytes has failed, each later one fails too: the system may have dropped
-/// what it couldn't write, and then a sync that works shows nothing.
+/// before it a crash may bring back what was cut off. The first sync also syncs the folder that the file lies in, since
+/// the file's entry there may be new. If the path is a link, this is the folder of the file, not of the link. If that
+/// folder may not be read nothing makes the entry safe. Then the sync fails, unless this disk has appended nothing:
+/// what it found is as safe as it was, and the first sync after an append tries again. Once a sync of the bytes has
+/// failed, each later one fails too: the system may have dropped what it couldn't write, and then a sync that works
+/// shows nothing.
 ///
 /// The file never gets the number of a standard stream, also where the caller has closed one: so what is meant for the
 /// stream can't get into the file.
@@ -45,13 +50,24 @@ pub struct FileDisk<R: Drop> {
 impl<R: Files<File = File> + Drop> FileDisk<R> {
     ghost use Rattle.base_devices.specs.FileDisk.{file_added, file_faults};
 
-    /// The file at this path as a disk. This touches nothing yet.
+    /// The file at this path as a disk to write. This touches nothing yet.
     pub fn new(runtime: R, path: String) -> Self
         ensures added { file_added result ≡ 0 }
         ensures faults { file_faults result ≡ 0 }
     {
         FileDisk {
-            file: SystemFile::new(runtime, path),
+            file: SystemFile::new(runtime, path, Access::Write),
+            faults: 0,
+        }
+    }
+
+    /// The file at this path as a disk that is only read. This touches nothing yet.
+    pub fn to_read(runtime: R, path: String) -> Self
+        ensures added { file_added result ≡ 0 }
+        ensures faults { file_faults result ≡ 0 }
+    {
+        FileDisk {
+            file: SystemFile::new(runtime, path, Access::Read),
             faults: 0,
         }
     }

@@ -123,6 +123,7 @@ impl MemDisk {
         ensures disk { disk_of self.new ≡ with_byte (disk_of self.old) at byte }
         ensures capacity { capacity_of self.new ≡ capacity_of self.old }
         ensures calls { disk_calls self.new ≡ disk_calls self.old }
+        // A test that damages a disk hears nothing of crashes before that.
         ensures anew { StartsAnew self.new }
     {
         self.content[at as usize] = byte;
@@ -158,7 +159,7 @@ impl MemDisk {
         requires safe { (disk_of self).synced ≤ len }
         requires there { len ≤ len_of self }
         ensures disk { disk_of result ≡ torn_to len seed (disk_of self) }
-        // A crash may leave just these bytes.
+        // A crash may leave these very bytes: so what contracts say of each image is said of this disk too.
         ensures image { IsImage (disk_of self) (disk_of result).content }
         ensures capacity { capacity_of result ≡ capacity_of self }
         ensures calls { disk_calls result ≡ disk_calls self }
@@ -275,11 +276,12 @@ impl Disk for MemDisk {
 
     ghost only_now = { only_since_now };
 
+    /// How many calls have failed: those of the list, and appends for which there was no room.
     fn faults(&self) -> u64 {
         self.calls.faults()
     }
 
-    // This fails just at the listed calls.
+    /// This fails exactly at the listed calls.
     fn len(&mut self) -> Result<u64, Failed>
         ensures len { IfOk result (λ n. n ≡ len_of self.old) }
         ensures small { IfOk result (λ n. n < 2 ^ 63) }
@@ -295,7 +297,7 @@ impl Disk for MemDisk {
         Ok(self.content.len() as u64)
     }
 
-    // This fails just at the listed calls.
+    /// This fails exactly at the listed calls.
     fn read(&mut self, at: u64, buf: &mut [u8]) -> Result<usize, Failed>
         ensures bytes { ReadsAt (disk_of self.old) at buf.new result }
         ensures at_most { IfOk result (λ n. n ≤ length buf.new) }
@@ -319,7 +321,7 @@ impl Disk for MemDisk {
         Ok(n)
     }
 
-    // This fails just at the listed calls, and where the capacity isn't enough. Then the content stays.
+    /// This fails exactly at the listed calls, and where the capacity isn't enough. Then the content stays.
     fn append(&mut self, piece: &[u8]) -> Result<(), Failed>
         ensures appended { Appended (disk_of self.old) (disk_of self.new) piece.now result }
         ensures added { GrowsBy (place_of self.old) (place_of self.new) (length piece.now) result }
@@ -344,8 +346,8 @@ impl Disk for MemDisk {
         Ok(())
     }
 
-    // This fails just at the listed calls, and then changes nothing. It forgets the eras that have ended only if in one
-    // of them bytes after its place were safe.
+    /// This fails exactly at the listed calls, and then changes nothing. It forgets the eras that have ended only if in
+    /// one of them bytes after its place were safe.
     fn rewind(&mut self) -> Result<(), Failed>
         ensures rewound { Rewound (disk_of self.old) (disk_of self.new) result }
         ensures kept { OnErr result (disk_of self.new ≡ disk_of self.old) }
@@ -362,8 +364,8 @@ impl Disk for MemDisk {
         Ok(())
     }
 
-    // This fails just at the listed calls, and then changes nothing. It forgets the eras that have ended only if in one
-    // of them bytes after its place were safe.
+    /// This fails exactly at the listed calls, and then changes nothing. It forgets the eras that have ended only if in
+    /// one of them bytes after its place were safe.
     fn cut(&mut self, at: u64) -> Result<(), Failed>
         requires there { at ≤ len_of self.old }
         ensures cut { Cut (disk_of self.old) (disk_of self.new) at result }
@@ -384,8 +386,8 @@ impl Disk for MemDisk {
         Ok(())
     }
 
-    // This fails just at the listed calls. It keeps at most one era more, as long as there is room; there is room for
-    // as many eras as the disk may have bytes. If it has nothing to do, or fails, no era ends.
+    /// This fails exactly at the listed calls. It keeps at most one era more, as long as there is room; there is room
+    /// for as many eras as the disk may have bytes. If it has nothing to do, or fails, no era ends.
     fn sync(&mut self) -> Result<(), Failed>
         ensures synced { Synced (disk_of self.old) (disk_of self.new) result }
         ensures adds_none { place_of self.new ≡ place_of self.old }

@@ -64,12 +64,13 @@ impl Sink for MemSink {
 
     ghost faults = { λ s. (sink_calls s).faults };
 
+    /// How many writes have failed: those of the list, and those for which it was full.
     fn faults(&self) -> u64 {
         self.calls.faults()
     }
 
-    // It takes as many bytes as it may, and fails just at the listed calls, and when it is full and the piece isn't
-    // empty.
+    /// It takes as many bytes as it may, and fails exactly at the listed calls, and when it is full and the piece isn't
+    /// empty.
     fn write(&mut self, piece: &[u8]) -> Result<usize, Failed>
         ensures bytes { Writes (Some (taken_of self.old)) (Some (taken_of self.new)) result piece.now }
         ensures count { IfOk result (λ n. n ≡ takes_of self.old (length piece.now)) }

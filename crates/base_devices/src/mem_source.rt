@@ -50,11 +50,12 @@ impl Source for MemSource {
 
     ghost faults = { λ s. (source_calls s).faults };
 
+    /// How many reads have failed: those of the list.
     fn faults(&self) -> u64 {
         self.calls.faults()
     }
 
-    // It gives as many bytes as it may.
+    /// It gives as many bytes as it may.
     fn read(&mut self, buf: &mut [u8]) -> Result<usize, Failed>
         ensures bytes { Reads (Some (left_of self.old)) (Some (left_of self.new)) result buf.new }
         ensures count { IfOk result (λ n. n ≡ gives_of self.old (length buf.old)) }

@@ -33,8 +33,8 @@ impl<R: rt::Clock + Drop> Clock for RealClock<R> {
 
     ghost last = { real_answered };
 
-    // If the clock can't be read, it answers the last moment again, and 0 if there is none. Past the greatest `u64` it
-    // doesn't move on.
+    /// If the clock can't be read, it answers the last moment again, and 0 if there is none. Past the greatest `u64` it
+    /// doesn't move on.
     fn now(&mut self) -> u64 {
         let moment = match self.runtime.monotonic() {
             Ok(since_start) => u64::try_from(since_start.as_micros()).unwrap_or(u64::MAX),
@@ -44,7 +44,7 @@ impl<R: rt::Clock + Drop> Clock for RealClock<R> {
         moment
     }
 
-    // It sleeps.
+    /// It sleeps.
     fn pause(&mut self, micros: u64) {
         thread::sleep(&self.runtime, Duration::from_micros(micros));
     }

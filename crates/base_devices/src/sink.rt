@@ -28,6 +28,7 @@ pub trait Sink {
 /// Writes all of `piece`, in as many writes as it takes. At the first write that fails it fails too, and then the sink
 /// has taken a prefix of the piece, but not all.
 pub fn write_all<K: Sink>(sink: &mut K, piece: &[u8]) -> Result<(), Failed>
+    // At `Ok` the whole piece was taken, at `Err` a prefix of it that isn't the whole.
     ensures bytes { WritesAll (K.taken sink.old) (K.taken sink.new) result piece.now }
     ensures cause { HasCause (K.faults sink.old) (K.faults sink.new) result }
 {

@@ -28,6 +28,7 @@ impl<'a> SliceDisk<'a> {
     /// A disk with these bytes. Its place is their end.
     pub fn new(bytes: &'a [u8]) -> SliceDisk<'a>
         ensures disk { slice_disk result ≡ all_safe bytes.now }
+        // Its count of faults follows from what it tells: who leaves its bytes as they were has met no fault.
         ensures faults { slice_faults result ≡ 0 }
     {
         let len = bytes.len() as u64;
@@ -67,6 +68,7 @@ impl<'a> Disk for SliceDisk<'a> {
 
     ghost only_now = { λ _ _ _ is. is };
 
+    /// It is 0 while nothing was added or cut off, and else the greatest `u64`.
     fn faults(&self) -> u64 {
         let len = self.bytes.len() as u64;
         if self.synced == len && self.reach == len {
@@ -76,10 +78,12 @@ impl<'a> Disk for SliceDisk<'a> {
         }
     }
 
+    /// This never fails.
     fn len(&mut self) -> Result<u64, Failed> {
         Ok(self.bytes.len() as u64)
     }
 
+    /// This never fails.
     fn read(&mut self, at: u64, buf: &mut [u8]) -> Result<usize, Failed> {
         let len = self.bytes.len();
         if at >= len as u64 {
@@ -91,7 +95,7 @@ impl<'a> Disk for SliceDisk<'a> {
         Ok(n)
     }
 
-    // Adding nothing at the end is no change.
+    /// Adding nothing at the end is no change.
     fn append(&mut self, piece: &[u8]) -> Result<(), Failed> {
         if piece.is_empty() && self.place == self.bytes.len() as u64 {
             return Ok(());
@@ -101,12 +105,13 @@ impl<'a> Disk for SliceDisk<'a> {
         Err(Failed)
     }
 
+    /// This never fails: it moves the place, and no byte.
     fn rewind(&mut self) -> Result<(), Failed> {
         self.place = 0;
         Ok(())
     }
 
-    // Cutting nothing off is no change.
+    /// Cutting nothing off is no change.
     fn cut(&mut self, at: u64) -> Result<(), Failed> {
         self.place = at;
         if at == self.bytes.len() as u64 {
@@ -117,6 +122,7 @@ impl<'a> Disk for SliceDisk<'a> {
         Err(Failed)
     }
 
+    /// It fails once an append or a cut has failed.
     fn sync(&mut self) -> Result<(), Failed> {
         if self.faults() == 0 {
             Ok(())

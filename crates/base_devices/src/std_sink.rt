@@ -37,12 +37,13 @@ impl<R: Print + Drop> Sink for StdSink<R> {
 
     ghost faults = { λ count. count };
 
+    /// How many writes have failed.
     fn faults(&self) -> u64 {
         self.faults
     }
 
-    // One write of the system, made again if a signal interrupted it. Any other error is a fault, and so is a write of
-    // some bytes that took none of them.
+    /// One write of the system, made again if a signal interrupted it. Any other error is a fault, and so is a write of
+    /// some bytes that took none of them.
     fn write(&mut self, piece: &[u8]) -> Result<usize, Failed> {
         for _ in 0..MAX_TRIES {
             match self.runtime.write_some(piece) {

@@ -40,11 +40,12 @@ impl<R: Input> Source for StdSource<R> {
 
     ghost faults = { λ count. count };
 
+    /// How many reads have failed.
     fn faults(&self) -> u64 {
         self.faults
     }
 
-    // Each error of the system is a fault. A read that a signal interrupts is made again instead.
+    /// Each error of the system is a fault. A read that a signal interrupts is made again instead.
     fn read(&mut self, buf: &mut [u8]) -> Result<usize, Failed> {
         match read_again(&mut self.reader, buf) {
             Ok(n) => Ok(n),

@@ -28,6 +28,7 @@ impl Clock for SteppedClock {
 
     ghost last = { clock_answered };
 
+    /// The moment that it is set to, which stays until a pause.
     fn now(&mut self) -> u64
         ensures moment { result ≡ clock_at self.old }
         ensures last { clock_answered self.new ≡ Some result }
@@ -37,7 +38,7 @@ impl Clock for SteppedClock {
         self.at
     }
 
-    // Past the greatest `u64` it doesn't move on.
+    /// Past the greatest `u64` it doesn't move on.
     fn pause(&mut self, micros: u64)
         ensures moves { clock_at self.new ≡ min (clock_at self.old + micros) (2 ^ 64 - 1) }
         ensures last { clock_answered self.new ≡ clock_answered self.old }

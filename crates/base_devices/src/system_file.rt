@@ -1,4 +1,4 @@
-//! A file of the system, opened only as far as it is used.
+//! A file of the system, opened at its first call.
 
 ghost use Rattle.std.specs.Prelude.{◌≡◌, ◌+◌, ◌^◌, ◌<◌, ◌≤◌, length, true, false, IfOk, OnOk};
 
@@ -15,16 +15,22 @@ const MAX_LEN: u64 = (1 << 63) - 1;
 /// The number of standard error, the last of the standard streams.
 const LAST_STREAM: i32 = 2;
 
+/// What a file is opened for.
+#[derive(Drop)]
+pub(crate) enum Access {
+    Read,
+    Write,
+}
+
 /// A file of the system. It has `len` bytes; a failed append may have left more after them. The next append writes at
 /// `place`.
 #[derive(Drop)]
 pub(crate) struct SystemFile<R: Drop> {
     runtime: R,
     path: String,
-    /// The open file.
+    access: Access,
+    /// The open file. One to write is locked.
     file: Option<File>,
-    /// Whether it is open for writing too, and locked.
-    writes: bool,
     /// Whether its length was measured.
     measured: bool,
     /// Where the count of added bytes begins: the file's length when it was measured, or 0 once the file was rewound
@@ -32,12 +38,13 @@ pub(crate) struct SystemFile<R: Drop> {
     start: u64,
     place: u64,
     len: u64,
+    /// Whether an append wrote to it, or tried to.
+    appended: bool,
     /// Whether its entry in its folder is safe.
     entry_synced: bool,
     /// Whether a sync of its bytes failed.
     sync_failed: bool,
     ghost unmeasured: { measured ≡ false → len ≡ 0 },
-    ghost written: { writes ≡ true → measured ≡ true },
     ghost counted: { start ≤ place },
     ghost placed: { place ≤ len },
     ghost small: { len < 2 ^ 63 },
@@ -48,39 +55,40 @@ impl<R: Files<File = File> + Drop> SystemFile<R> {
     ghost use Rattle.base_devices.specs.FileDisk.{added_to};
 
     /// The file at this path. This touches nothing yet.
-    pub(crate) fn new(runtime: R, path: String) -> Self
+    pub(crate) fn new(runtime: R, path: String, access: Access) -> Self
         ensures { added_to result ≡ 0 }
     {
         SystemFile {
             runtime,
             path,
+            access,
             file: None,
-            writes: false,
             measured: false,
             start: 0,
             place: 0,
             len: 0,
+            appended: false,
             entry_synced: false,
             sync_failed: false,
         }
     }
 
-    /// How many bytes the file has: 0 if it isn't there, but there is a folder to make it in.
+    /// How many bytes the file has.
     pub(crate) fn len(&mut self) -> io::Result<u64>
         ensures small { IfOk result (λ n. n < 2 ^ 63) }
         ensures adds_none { added_to self.new ≡ added_to self.old }
     {
-        self.look()?;
+        self.open(true)?;
         Ok(self.len)
     }
 
-    /// Copies the content from a place on to the start of the buffer.
+    /// Copies the content from a place on to the start of the buffer. It makes no file.
     pub(crate) fn read(&mut self, at: u64, buf: &mut [u8]) -> io::Result<usize>
         ensures at_most { IfOk result (λ n. n ≤ length buf.new) }
         ensures small { IfOk result (λ n. 0 < n → at + n < 2 ^ 63) }
         ensures adds_none { added_to self.new ≡ added_to self.old }
     {
-        self.open_to_read()?;
+        self.open(false)?;
         let rest = self.len.saturating_sub(at);
         let n = rest.min(buf.len() as u64) as usize;
         self.opened()?.read_exact_at(&mut buf[..n], at)?;
@@ -91,56 +99,49 @@ impl<R: Files<File = File> + Drop> SystemFile<R> {
     pub(crate) fn append(&mut self, piece: &[u8]) -> io::Result<()>
         ensures added { GrowsBy (added_to self.old) (added_to self.new) (length piece.now) result }
     {
-        self.open_to_write()?;
+        self.open_to_change()?;
         let more = piece.len() as u64;
         if more > MAX_LEN - self.place {
             return Err(io::Error::from(ErrorKind::FileTooLarge));
         }
+        self.appended = true;
         self.opened()?.write_all_at(piece, self.place)?;
         self.place += more;
         self.len = self.len.max(self.place);
         Ok(())
     }
 
-    /// Sets the place to the start. It makes no file.
+    /// Sets the place to the start.
     pub(crate) fn rewind(&mut self) -> io::Result<()>
         ensures counted { OnOk result (added_to self.new ≡ 0) }
     {
-        self.look()?;
+        self.open_to_change()?;
         self.start = 0;
         self.place = 0;
         Ok(())
     }
 
-    /// Cuts the file to its first `at` bytes, and sets the place to their end. A file that isn't there has no bytes,
-    /// and isn't made. It is an error if the file has fewer bytes. What a failed append left after the content is cut
-    /// off too.
+    /// Cuts the file to its first `at` bytes, and sets the place to their end. It is an error if the file has fewer
+    /// bytes. What a failed append left after the content is cut off too.
     pub(crate) fn cut(&mut self, at: u64) -> io::Result<()>
         ensures counted { OnOk result (added_to self.new ≡ at) }
     {
-        if self.look()? {
-            self.open_to_write()?;
-        }
+        self.open_to_change()?;
         if at > self.len {
             return Err(io::Error::from(ErrorKind::InvalidInput));
         }
-        if let Some(file) = &self.file {
-            file.set_len(at)?;
-        }
+        self.opened()?.set_len(at)?;
         self.start = 0;
         self.place = at;
         self.len = at;
         Ok(())
     }
 
-    /// Makes the content safe, and also the entry in the folder, if it isn't safe yet. A file that isn't there has no
-    /// content.
+    /// Makes the content safe, and also the entry in the folder, if it isn't safe yet.
     pub(crate) fn sync(&mut self) -> io::Result<()>
         ensures adds_none { added_to self.new ≡ added_to self.old }
     {
-        if !self.is_there()? {
-            return Ok(());
-        }
+        self.open_to_change()?;
         if self.sync_failed {
             return Err(io::Error::from(ErrorKind::Other));
         }
@@ -150,81 +151,72 @@ impl<R: Files<File = File> + Drop> SystemFile<R> {
         self.sync_entry()
     }
 
-    /// Makes the entry in the folder safe, if it isn't yet.
+    /// Makes the entry in the folder safe, if it isn't yet. If the folder may not be read, only a file to which this
+    /// one appended nothing gets by: it is as safe as it was found. Then the next call tries again.
     fn sync_entry(&mut self) -> io::Result<()>
         ensures adds_none { added_to self.new ≡ added_to self.old }
     {
-        if !self.entry_synced {
-            self.open_folder()?.sync_all()?;
-            self.entry_synced = true;
-        }
-        Ok(())
-    }
-
-    /// Finds out the length, and answers whether there is a file. If there is none, there is a folder to make it in.
-    fn look(&mut self) -> io::Result<bool>
-        ensures adds_none { added_to self.new ≡ added_to self.old }
-    {
-        let there = self.is_there()?;
-        if !there {
-            self.runtime.metadata(folder_of(self.path.as_str()))?;
-            self.measure(0)?;
-        }
-        Ok(there)
-    }
-
-    /// Opens the file for reading, if it isn't open yet, and answers whether there is one.
-    fn is_there(&mut self) -> io::Result<bool>
-        ensures adds_none { added_to self.new ≡ added_to self.old }
-    {
-        match self.open_to_read() {
-            Ok(()) => Ok(true),
-            Err(error) if error.kind() == ErrorKind::NotFound => Ok(false),
-            Err(error) => Err(error),
-        }
-    }
-
-    /// Opens the file for reading, if it isn't open yet.
-    fn open_to_read(&mut self) -> io::Result<()>
-        ensures adds_none { added_to self.new ≡ added_to self.old }
-    {
-        if self.file.is_some() {
+        if self.entry_synced {
             return Ok(());
         }
-        let file = self.open(OpenOptions::new().read(true))?;
-        self.measure(len_of(&file)?)?;
-        self.file = Some(file);
-        Ok(())
+        match self.open_folder() {
+            Err(error) if error.kind() == ErrorKind::PermissionDenied && !self.appended => Ok(()),
+            folder => {
+                folder?.sync_all()?;
+                self.entry_synced = true;
+                Ok(())
+            }
+        }
     }
 
-    /// Opens the file for writing too, if that wasn't done yet, and makes it if there is none. The file is locked from
-    /// then on: no other program that asks for the lock gets it.
-    fn open_to_write(&mut self) -> io::Result<()>
+    /// Opens the file to change it, if it isn't open yet, and makes it if there is none. It is an error if the file is
+    /// only to be read.
+    fn open_to_change(&mut self) -> io::Result<()>
         ensures ready { OnOk result (self.new.measured ≡ true) }
         ensures adds_none { added_to self.new ≡ added_to self.old }
     {
-        if self.writes {
+        match self.access {
+            Access::Read => Err(io::Error::from(ErrorKind::PermissionDenied)),
+            Access::Write => self.open(true),
+        }
+    }
+
+    /// Opens the file, if it isn't open yet, and finds out its length. Where `makes` says so, a file to write is made
+    /// if there is none.
+    fn open(&mut self, makes: bool) -> io::Result<()>
+        ensures ready { OnOk result (self.new.measured ≡ true) }
+        ensures adds_none { added_to self.new ≡ added_to self.old }
+    {
+        if self.measured {
             return Ok(());
         }
-        let file = self.open_locked()?;
-        self.measure(len_of(&file)?)?;
+        let file = self.open_as_asked(makes)?;
+        let len = len_of(&file)?;
         self.file = Some(file);
-        self.writes = true;
-        self.entry_synced = false;
+        self.measured = true;
+        self.start = len;
+        self.place = len;
+        self.len = len;
         Ok(())
     }
 
-    /// Opens the file for reading and writing, and locks it.
-    fn open_locked(&self) -> io::Result<File> {
-        let file = self.open(OpenOptions::new().read(true).write(true).create(true))?;
-        file.try_lock()?;
-        Ok(file)
+    /// Opens the file as its access says. One to write is locked from then on: no other program that asks for the lock
+    /// gets it.
+    fn open_as_asked(&self, makes: bool) -> io::Result<File> {
+        match self.access {
+            Access::Read => self.open_with(OpenOptions::new().read(true)),
+            Access::Write => {
+                let file = self.open_with(OpenOptions::new().read(true).write(true).create(makes))?;
+                file.try_lock()?;
+                Ok(file)
+            }
+        }
     }
 
     /// Opens the file. If the path leads to something that is no regular file, it isn't opened, since opening it may
     /// wait for another program. If the caller has closed a standard stream, the system may give the stream's number
     /// to the file, and what is meant for the stream would get into the file. Then the file takes a higher number.
-    fn open(&self, options: &OpenOptions) -> io::Result<File> {
+    fn open_with(&self, options: &OpenOptions) -> io::Result<File> {
         match self.runtime.metadata(self.path.as_str()) {
             Ok(found) if !found.is_file() => return Err(no_file()),
             _ => {}
@@ -235,29 +227,6 @@ impl<R: Files<File = File> + Drop> SystemFile<R> {
         } else {
             file.try_clone()
         }
-    }
-
-    /// The first time it notes the length, and sets the place there. Later the length must be the same: that is
-    /// checked when the file is opened for writing, before anything is written or cut.
-    fn measure(&mut self, len: u64) -> io::Result<()>
-        ensures measured { OnOk result (self.new.measured ≡ true) }
-        ensures adds_none { added_to self.new ≡ added_to self.old }
-    {
-        if self.measured {
-            return if len == self.len {
-                Ok(())
-            } else {
-                Err(io::Error::from(ErrorKind::InvalidData))
-            };
-        }
-        if len > MAX_LEN {
-            return Err(io::Error::from(ErrorKind::FileTooLarge));
-        }
-        self.measured = true;
-        self.start = len;
-        self.place = len;
-        self.len = len;
-        Ok(())
     }
 
     /// The open file.
@@ -289,13 +258,17 @@ fn folder_of(path: &str) -> &str {
 }
 
 /// How many bytes an open file has. It is an error if it is no regular file.
-fn len_of(file: &File) -> io::Result<u64> {
+fn len_of(file: &File) -> io::Result<u64>
+    ensures { IfOk result (λ n. n < 2 ^ 63) }
+{
     let found = file.metadata()?;
-    if found.is_file() {
-        Ok(found.len())
-    } else {
-        Err(no_file())
+    if !found.is_file() {
+        return Err(no_file());
     }
+    if found.len() > MAX_LEN {
+        return Err(io::Error::from(ErrorKind::FileTooLarge));
+    }
+    Ok(found.len())
 }
 
 /// The error for a path that leads to a folder, a pipe, a socket or a device.

@@ -1,5 +1,5 @@
 //! A file as a disk, in cases that the program doesn't have: a sync before there is a file, an append of nothing, a
-//! length and reads at other places after appends, a call after one that failed, and a file that was changed.
+//! length and reads at other places after appends, a call after one that failed, and a disk to read that is written to.
 
 use crate::calls::{Call, Row, check_calls};
 use crate::checks::check;
@@ -36,22 +36,37 @@ fn check_taken(rt: &HostRuntime, abort: &impl Abort, name: &str, wanted: &[u8]) 
     Ok(())
 }
 
-// Calls of a disk whose file doesn't exist at first.
-const FIRST: [Row; 7] = [
-    (Call::Len, Ok(0)),
-    (Call::Sync, Ok(0)),
+// Calls of a disk whose file doesn't exist at first. The read makes none.
+const FIRST: [Row; 8] = [
     (Call::Read(0), Err(Failed)),
+    (Call::Sync, Ok(0)),
+    (Call::Len, Ok(0)),
+    (Call::Read(0), Ok(0)),
     (Call::Append(b"ab"), Ok(0)),
     (Call::Append(b""), Ok(0)),
     (Call::Append(b"cde"), Ok(0)),
     (Call::Sync, Ok(0)),
 ];
 
-// Calls of a second disk, while the first one has the file open for writing.
-const LOCKED: [Row; 3] = [
-    (Call::Len, Ok(5)),
+// Calls of a second disk, while the first one has the lock.
+const LOCKED: [Row; 6] = [
+    (Call::Len, Err(Failed)),
+    (Call::Read(0), Err(Failed)),
     (Call::Append(b"f"), Err(Failed)),
+    (Call::Rewind, Err(Failed)),
     (Call::Cut(0), Err(Failed)),
+    (Call::Sync, Err(Failed)),
+];
+
+// Calls of a disk that only reads, at the same time. It asks for no lock, and changes nothing.
+const READING: [Row; 7] = [
+    (Call::Read(3), Ok(2)),
+    (Call::Append(b""), Err(Failed)),
+    (Call::Append(b"f"), Err(Failed)),
+    (Call::Rewind, Err(Failed)),
+    (Call::Cut(5), Err(Failed)),
+    (Call::Sync, Err(Failed)),
+    (Call::Len, Ok(5)),
 ];
 
 // Calls of the second disk after that.
@@ -64,36 +79,41 @@ const SECOND: [Row; 6] = [
     (Call::Read(u64::MAX), Ok(0)),
 ];
 
-// The calls of two disks on one file. The second one goes on once the first one is dropped.
-fn check_disks<D: Disk + Drop>(rt: &impl Abort, mut disk: D, mut again: D) {
+// The calls of two disks to write and one to read, on one file. The second one goes on once the first one is dropped.
+fn check_disks<D: Disk + Drop>(rt: &impl Abort, mut disk: D, mut again: D, mut reader: D) {
     let mut buf = [0; 4];
     check_calls(rt, &mut disk, &FIRST, &mut buf);
     check_calls(rt, &mut again, &LOCKED, &mut buf);
+    check_calls(rt, &mut reader, &READING, &mut buf);
     drop(disk);
     check_calls(rt, &mut again, &SECOND, &mut buf);
-    check(rt, 0, &(buf, again.faults()), &(*b"defd", 2));
+    check(rt, 0, &(buf, again.faults()), &(*b"defd", 6));
 }
 
 #[test]
 fn file_is_a_disk(rt: HostRuntime) -> Result<(), Fail> {
     let path = path_of(&rt, "log")?;
     let disk = FileDisk::new(rt, path.clone()?);
-    check_disks(&rt, disk, FileDisk::new(rt, path));
+    let again = FileDisk::new(rt, path.clone()?);
+    check_disks(&rt, disk, again, FileDisk::to_read(rt, path));
     check_taken(&rt, &rt, "log", b"abcdef")?;
     Ok(())
 }
 
-// Calls of a disk whose file doesn't exist. None of them makes it.
-const NO_FILE: [Row; 4] = [
-    (Call::Rewind, Ok(0)),
-    (Call::Cut(0), Ok(0)),
-    (Call::Len, Ok(0)),
-    (Call::Sync, Ok(0)),
+// Calls on a file that doesn't exist. None of a disk to read makes it, nor does a first read of another one.
+const NO_FILE: [Row; 3] = [
+    (Call::Len, Err(Failed)),
+    (Call::Read(0), Err(Failed)),
+    (Call::Append(b"a"), Err(Failed)),
 ];
 
-// The calls after that: the file is written again from its start, in part, whole and past its end, and cut to a part,
-// to its length and to nothing.
-const AGAIN: [Row; 22] = [
+const NOT_MADE: [Row; 1] = [(Call::Read(0), Err(Failed))];
+
+// The calls after that: the file is made, and written again from its start, in part, whole and past its end, and cut to
+// a part, to its length and to nothing.
+const AGAIN: [Row; 24] = [
+    (Call::Rewind, Ok(0)),
+    (Call::Cut(0), Ok(0)),
     (Call::Append(b"abcdef"), Ok(0)),
     (Call::Rewind, Ok(0)),
     (Call::Append(b"xy"), Ok(0)),
@@ -131,12 +151,18 @@ const LATER: [Row; 5] = [
 fn file_is_written_again_and_cut(rt: HostRuntime) -> Result<(), Fail> {
     let path = path_of(&rt, "again")?;
     let mut buf = [0; 4];
+    check_calls(
+        &rt,
+        &mut FileDisk::to_read(rt, path.clone()?),
+        &NO_FILE,
+        &mut buf,
+    );
     let mut disk = FileDisk::new(rt, path.clone()?);
-    check_calls(&rt, &mut disk, &NO_FILE, &mut buf);
+    check_calls(&rt, &mut disk, &NOT_MADE, &mut buf);
     assert!(&rt; taken(&rt, "again").is_err());
     check_calls(&rt, &mut disk, &AGAIN, &mut buf);
     // A cut makes no file longer.
-    check(&rt, 0, &(disk.cut(6), disk.faults()), &(Err(Failed), 1));
+    check(&rt, 0, &(disk.cut(6), disk.faults()), &(Err(Failed), 2));
     check(&rt, 1, &buf, b"xycd");
     drop(disk);
     check_calls(&rt, &mut FileDisk::new(rt, path), &LATER, &mut buf);
@@ -145,26 +171,29 @@ fn file_is_written_again_and_cut(rt: HostRuntime) -> Result<(), Fail> {
     Ok(())
 }
 
-// Calls of a disk in a folder that doesn't exist. A sync has nothing to do.
+// Calls of a disk in a folder that doesn't exist.
 const NOWHERE: [Row; 4] = [
     (Call::Len, Err(Failed)),
     (Call::Rewind, Err(Failed)),
     (Call::Append(b"a"), Err(Failed)),
-    (Call::Sync, Ok(0)),
+    (Call::Sync, Err(Failed)),
 ];
 
 #[test]
 fn file_without_a_folder(rt: HostRuntime) -> Result<(), Fail> {
     let mut disk = FileDisk::new(rt, path_of(&rt, "folder/log")?);
     check_calls(&rt, &mut disk, &NOWHERE, &mut []);
-    check(&rt, 0, &(disk.cut(0), disk.faults()), &(Err(Failed), 4));
+    check(&rt, 0, &(disk.cut(0), disk.faults()), &(Err(Failed), 5));
     Ok(())
 }
 
-// The calls before another program writes to the file, and after that.
-const BEFORE: [Row; 1] = [(Call::Len, Ok(0))];
+// Calls of a disk that only reads, before another program writes to the file, and after the file has become longer and
+// shorter. It reads as far as the file went at its first call.
+const BEFORE: [Row; 1] = [(Call::Len, Ok(3))];
 
-const BEHIND: [Row; 1] = [(Call::Append(b"b"), Err(Failed))];
+const LONGER: [Row; 2] = [(Call::Len, Ok(3)), (Call::Read(1), Ok(2))];
+
+const SHORTER: [Row; 2] = [(Call::Read(0), Err(Failed)), (Call::Len, Ok(3))];
 
 // Writes a file as another program does.
 fn write(rt: &HostRuntime, name: &str, bytes: &[u8]) -> io::Result<()> {
@@ -172,11 +201,15 @@ fn write(rt: &HostRuntime, name: &str, bytes: &[u8]) -> io::Result<()> {
 }
 
 #[test]
-fn file_that_another_has_changed(rt: HostRuntime) -> Result<(), Fail> {
-    let mut disk = FileDisk::new(rt, path_of(&rt, "changed")?);
-    check_calls(&rt, &mut disk, &BEFORE, &mut []);
-    write(&rt, "changed", b"a")?;
-    check_calls(&rt, &mut disk, &BEHIND, &mut []);
-    check_taken(&rt, &rt, "changed", b"a")?;
+fn file_that_changes_while_it_is_read(rt: HostRuntime) -> Result<(), Fail> {
+    let mut buf = [0; 4];
+    write(&rt, "changing", b"abc")?;
+    let mut disk = FileDisk::to_read(rt, path_of(&rt, "changing")?);
+    check_calls(&rt, &mut disk, &BEFORE, &mut buf);
+    write(&rt, "changing", b"abcde")?;
+    check_calls(&rt, &mut disk, &LONGER, &mut buf);
+    write(&rt, "changing", b"a")?;
+    check_calls(&rt, &mut disk, &SHORTER, &mut buf);
+    check_taken(&rt, &rt, "changing", b"a")?;
     Ok(())
 }

@@ -22,7 +22,7 @@ fn main(rt: HostRuntime) -> ExitCode {
     };
     let mut source = StdSource::new(&rt);
     let mut sink = StdSink::new(&rt);
-    let disk = FileDisk::new(&rt, path);
+    let disk = disk_for(&rt, path, &words);
     let clock = RealClock::new(&rt);
     let Ended { status, disk: _ } = run(
         &rt,
@@ -34,6 +34,14 @@ fn main(rt: HostRuntime) -> ExitCode {
         clock,
     );
     ExitCode::from(status)
+}
+
+/// The log as a disk: for `recover` one that is only read, and else one that locks the file at its first call.
+fn disk_for<'a>(rt: &'a HostRuntime, path: String, words: &[String]) -> FileDisk<&'a HostRuntime> {
+    match words.get(1) {
+        Some(command) if command.as_str() == "recover" => FileDisk::to_read(rt, path),
+        _ => FileDisk::new(rt, path),
+    }
 }
 
 /// The log's path, and the words of the call: the program's name, and all words after the path.
