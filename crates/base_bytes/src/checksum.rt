@@ -15,6 +15,8 @@ const MASK_DELTA: u32 = 0xa282ead8;
 /// The CRC-32C of some bytes (polynomial 0x1EDC6F41), as RFC 3720 and the RocksDB wiki's "Write
 /// Ahead Log File Format" use it.
 pub fn crc32c(bytes: &[u8]) -> u32
+    // The definition is the remainder of a division of polynomials, and names no table: so the tables are proved
+    // against it.
     ensures { result ≡ checksum.crc32c bytes.now }
 {
     extend(0, bytes)
@@ -24,6 +26,7 @@ pub fn crc32c(bytes: &[u8]) -> u32
 ///
 /// The checksum of no bytes is 0.
 pub fn extend(crc: u32, bytes: &[u8]) -> u32
+    // It is said of all earlier bytes with that checksum, which is why they needn't be handed in.
     ensures { (front : List ℕ) → checksum.crc32c front ≡ crc
         → result ≡ checksum.crc32c (front ++ bytes.now) }
 {

@@ -46,6 +46,7 @@ impl Draws {
     /// The next number.
     pub fn next(&mut self) -> u64
         ensures state { self.new.state ≡ next_state self.old.state }
+        // The definition gives the number for each seed, so a script can be made again from its seed.
         ensures number { result ≡ number_at self.new.state }
     {
         self.state = (self.state * FACTOR + INCREMENT) % STATES;

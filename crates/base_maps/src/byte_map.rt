@@ -54,6 +54,7 @@ impl ByteMap {
     /// Gives a key a value, which replaces the value that it had.
     pub fn insert(&mut self, key: &[u8], value: &[u8]) -> Result<(), NoMemory>
         ensures ok { OnOk result (self.new ≡ insert_entry byte_order self.old key.now value.now) }
+        // This is the only call of the map that can fail for want of memory.
         ensures err { OnErr result (self.new ≡ self.old) }
     {
         let value = Bytes::copy(self.alloc, value)?;

@@ -115,6 +115,7 @@ impl Model for ByteKey {
 impl ByteKey {
     /// The key of these bytes. A key of at most 16 bytes takes no memory.
     pub fn copy(alloc: Global, bytes: &[u8]) -> Result<ByteKey, NoMemory>
+        // That a short key takes no memory is not proved: no clause tells when memory is asked for.
         ensures { IfOk result (λ key. key ≡ bytes.now) }
     {
         if bytes.len() <= FRONT_LEN {
@@ -152,6 +153,7 @@ impl ByteKey {
 
     /// How it compares with another key in byte order.
     pub fn order(&self, other: &ByteKey) -> Ordering
+        // Bytes are numbers from 0 to 255, and a key comes before those that it begins.
         ensures { result ≡ byte_order self.now other.now }
     {
         let order = self.front.order(&other.front);

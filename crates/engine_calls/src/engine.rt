@@ -73,6 +73,7 @@ pub trait Engine {
     ) -> Result<Receipt, Refused>
         requires { belongs self.now client.old }
         ensures belongs { belongs self.now client.new }
+        // The client has seen its whole group published, so its next read has the batch.
         ensures ok { IfOk result (λ r. Wrote (settings self.now) (account client.old) batch.records options r.run.first
             r.group_last (account client.new)) }
         ensures back { IfOk result (λ r. (r.batch ≡ record batch { sequence = r.run.first })
@@ -80,8 +81,12 @@ pub trait Engine {
         // a batch that asked for a sync was written by a call of the log writer that synced
         ensures synced { IfOk result (λ r. options.sync ≡ true → (calls : List GroupCall) × (log : Self.Log)
             × wrote self.now calls log × IsSyncedBy r.run.first batch.records calls) }
+        // The cause holds of the batch, of the client, of the log as the client may know it, or of the controller by
+        // the numbers of its group's own delay or of a look. A client that meets want of memory has made no attempt:
+        // its commit was never in the line.
         ensures err { IfErr result (λ e. Refuses (settings self.now) (account client.old) batch.records options e.why
             (account client.new)) }
+        // So the caller may write the same batch again.
         ensures unchanged { IfErr result (λ e. e.batch ≡ batch) };
 
     /// A key's value at the end of what is published. For this and the other reads the clauses say that it is the end
@@ -95,6 +100,7 @@ pub trait Engine {
         requires { belongs self.now client.old }
         ensures belongs { belongs self.now client.new }
         ensures keeps { Keeps (account client.old) (account client.new) }
+        // The end is named, and is not below what the client has seen.
         ensures ok { IfOk result (λ read. ReadsAt read.at (λ m. found_value read.value ≡ value_at m key.now)
             (account client.new)) };
 
@@ -134,6 +140,7 @@ pub trait Engine {
         ensures belongs { belongs self.now client.new }
         ensures done { OnOk result ((holds_stop (account client.old).asked ≡ false)
             × Asks (account client.old) controller.stop (account client.new)) }
+        // It is refused exactly where the client itself holds one.
         ensures held { OnErr result ((holds_stop (account client.old).asked ≡ true)
             × Keeps (account client.old) (account client.new)) };
 
@@ -186,6 +193,8 @@ pub trait Engine {
     ) -> Closed<Self::Log>
         requires all { AreOurs (belongs self) account (settings self).clients clients.clients.items }
         requires room { closes self clients.room }
+        // A receipt that names another end than that of its batch's group fits no closing, and neither does a log that
+        // was written in other groups.
         ensures { HasOneTrace (settings self) (faults result.log) (map account clients.clients.items) result.last
             (fault result.log) (λ calls. wrote self calls result.log) };
 }

@@ -26,6 +26,8 @@ impl<Time: Clock> Controller<Time> {
     pub fn delay<R: Wait>(&self, rt: &R, pass: &mut Pass, clock: &mut Time, bytes: u64) -> Look
         requires own { IsPassOf self.now pass.old }
         ensures own { IsPassOf self.now pass.new × (client_of pass.new ≡ client_of pass.old) }
+        // The call goes on from all that the pass had seen: calls of others first, then this one, once. No clause says
+        // that the clock was asked in this call.
         ensures asked { (now : ℕ) × IfSome (Time.last clock.new) (λ moment. moment ≡ now)
             × EndsWith (client_of pass.old) (seen_by pass.old) (delay now bytes) (Some (look_of result))
             (seen_by pass.new) }
@@ -45,6 +47,7 @@ impl<Time: Clock> Controller<Time> {
         ensures own { IsPassOf self.now pass.new × (client_of pass.new ≡ client_of pass.old) }
         ensures asked { EndsWith (client_of pass.old) (seen_by pass.old) look (Some (look_of result))
             (seen_by pass.new) }
+        // A client that stops writes itself hears of a stop.
         ensures stopped { holds_stop (asked_by pass.old) ≡ true → 1 ≤ (look_of result).stops }
     {
         let found = load::<Looking, R>(&self.cell, rt, &mut pass.seat);

@@ -40,6 +40,7 @@ pub fn own_calls()
     ensures delays { (client : ℕ) (seen : List ControllerCall) (action : Action) (told : Option Look)
         (after : List ControllerCall) → EndsWith client seen action told after
         → delays_of client after ≡ delays_of client seen ++ place_if (is_delay action) (length after - 1) }
+    // So a client's own calls are in its order, each after all that it had seen.
     ensures last { (client : ℕ) (seen : List ControllerCall) (action : Action) (told : Option Look)
         (after : List ControllerCall) → EndsWith client seen action told after
         → IsLast client seen action told after }

@@ -48,6 +48,8 @@ impl<Time: Clock> Controller<Time> {
     /// seen a beginning of it, with all calls of its own.
     pub fn close<R: Wait>(self, rt: &R, passes: Passes)
         requires all { AreAll self passes }
+        // Each pass has seen a beginning of it, with all its own calls: so the answers that clients had of the
+        // controller fit together.
         ensures history { (history : List ControllerCall) × IsHistoryOf passes.clients.items history }
     {
         let Controller {

@@ -28,6 +28,7 @@ impl<Time: Clock> Controller<Time> {
         ensures own { IsPassOf self.now pass.new × (client_of pass.new ≡ client_of pass.old) }
         ensures done { OnOk result ((holds_stop (asked_by pass.old) ≡ false)
             × EndsWith (client_of pass.old) (seen_by pass.old) stop None (seen_by pass.new)) }
+        // A token is refused exactly where the client itself holds one, and then nothing is called.
         ensures held { OnErr result ((holds_stop (asked_by pass.old) ≡ true)
             × (seen_by pass.new ≡ seen_by pass.old)) }
     {
@@ -45,6 +46,7 @@ impl<Time: Clock> Controller<Time> {
         ensures own { IsPassOf self.now pass.new × (client_of pass.new ≡ client_of pass.old) }
         ensures done { OnOk result ((holds_stop (asked_by pass.old) ≡ true)
             × EndsWith (client_of pass.old) (seen_by pass.old) unstop None (seen_by pass.new)) }
+        // Giving back is refused exactly where the client holds none.
         ensures not_held { OnErr result ((holds_stop (asked_by pass.old) ≡ false)
             × (seen_by pass.new ≡ seen_by pass.old)) }
     {

@@ -188,6 +188,7 @@ impl<
         requires options { (options.last ≡ (Versions.opening table).start) × (options.last ≤ max_sequence)
             × (options.batch_bytes ≤ MAX_SIZE) }
         requires clients { (0 < (Versions.opening table).clients) × ((Versions.opening table).clients ≤ MAX_CLIENTS) }
+        // It doesn't matter how the log was opened: it may be new, lie over old bytes, or go on.
         requires log { fault_of log ≡ None }
         requires turn { Versions.our_turn table seats.turn × (Versions.history seats.turn ≡ []) }
         requires seats { AreSeatsAtStart Versions.Table table (Versions.opening table).clients seats.clients.items }
@@ -200,6 +201,7 @@ impl<
         ensures new { IfOk result (λ r. (i : ℕ) (c : _) → slice_get r.1.clients.items i ≡ Some c
             → account_in Versions.Table c ≡ newcomer options.last (map_at_opening Versions.Table table) (i + 1)) }
         ensures room { IfOk result (λ r. HasRoomToClose r.0.controller (clients_of r.0.list) r.1.room) }
+        // All other clauses are the same for one stage and for two.
         ensures stages { IfOk result (λ r. piped_of r.0.list ≡ pipelined) }
         ensures err { IfErr result (λ e. (e.log ≡ log) × (e.clock ≡ clock) × (e.table ≡ table) × (e.seats ≡ seats)
             × (e.gate ≡ gate)) }

@@ -50,6 +50,7 @@ pub fn open_engine<Device: Disk, Time: Clock + Drop, Watch: Gate + Drop>(
     ensures engine { IfOk result (λ r. (opened_log r.0 ≡ log)
         × (settings_of memory_table r.0
         ≡ settings_with options map.now clients (Device.faults (disk_of log)))) }
+    // The table has as many shards as are asked for. All else is the same for each number of shards.
     ensures table { IfOk result (λ r. (opening_of r.0.table).shards ≡ shards) }
     ensures clients { IfOk result (λ r. AreOurs (IsClientOf memory_table r.0)
         (account_in memory_table) (clients_of r.0.list) r.1.clients.items) }

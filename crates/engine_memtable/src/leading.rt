@@ -77,16 +77,19 @@ pub fn lead<
     requires ours { Versions.ours table.now seat.old × Versions.our_turn table.now turn
         × IsReady (Versions.account seat.old) }
     requires next { IsNext (Versions.opening table.now) (Versions.history turn) (GroupList.parts parts.old) }
+    // Nobody is among the members who has no part, and nobody is there twice: such a member would wait for ever.
     requires parts { HaveParts (Versions.account seat.old).number members.now (GroupList.parts parts.old) }
     requires end { (end
         ≡ end_of (last_of (Versions.opening table.now).start (Versions.history turn)) (GroupList.parts parts.old))
         × (end < 2 ^ 64) }
     ensures client { (client_of writer.new ≡ client_of writer.old) × Belongs list.now writer.new }
+    // That the members hear of it is in no clause: a body that asks nobody would wait for ever.
     ensures leads { (d : Debt Request Reply) (from to : List (Handling Request Reply)) (mine : List (Request × Reply))
         → HasRight (clients_of list.now) d from to mine writer.old
         → HasRight (clients_of list.now) d from to mine writer.new }
     ensures ours { Versions.ours table.now seat.new × Versions.our_turn table.now result
         × IsReady (Versions.account seat.new) }
+    // The whole group is published at once, right after what the turn showed.
     ensures published { Versions.history result ≡ Versions.history turn ++ GroupList.parts parts.old ∷ [] }
     ensures seen { ((Versions.account seat.new).number ≡ (Versions.account seat.old).number)
         × Begins (Versions.account seat.old).seen (Versions.account seat.new).seen }

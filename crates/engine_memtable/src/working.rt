@@ -22,6 +22,7 @@ pub fn work<
     requires ours { Versions.ours table.now seat.old }
     requires free { MayTake (Versions.account seat.old).stage }
     ensures ours { Versions.ours table.now seat.new }
+    // The member that is the last of its group has published it, and has seen it. Each other one has seen what it had.
     ensures works { Works (Versions.opening table.now) (Versions.account seat.old) (Versions.account seat.new) }
 {
     let part = table.take(rt, seat);

@@ -27,6 +27,7 @@ pub fn groups_are_served()
     ensures ends { (start : ℕ) (fault : Option ℕ) (commits : List Commit) (published : List (List MemberVersions))
         → AreAnswered start fault commits → AreServed (accepted_of commits) published
         → last_of start published ≡ last_after_all start commits }
+    // What is published was made by exactly the commits that were given runs before, group by group in their order.
     ensures written { (known : List ControllerCall) (last end : ℕ) (requests : List CommitRequest)
         (commits : List Commit) (old new : List (List MemberVersions)) → AreServed (accepted_of commits) old
         → Publishes (versions_from last requests) old new

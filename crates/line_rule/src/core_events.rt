@@ -38,6 +38,8 @@ use crate::code::codes_stand_for_items;
 /// and its leader gives the log on by `next`, which may come only then. The first group of the second queue leaves it
 /// by an exit once it is published, and its members leave with their answers.
 pub fn list_and_core<Request, Reply>()
+    // The other laws have premises on the core's writers; by this one there are such writers, so these laws speak of
+    // something.
     ensures writers { (items : Request → Item) (writer : ℕ → Request → Writer)
         → ((c : ℕ) (q : Request) → ((writer c q).client ≡ c) × (item_of (writer c q) ≡ items q))
         → IsSame {Request = Request} (λ e. writer e.by e.asked)
@@ -46,6 +48,8 @@ pub fn list_and_core<Request, Reply>()
     ensures open { (writer_of : QueuedWriter Request → Writer) (reply_of : Reply → CoreReply) (o : Options)
         (plans : List (List Command)) → IsCoreOf {Request = Request} {Reply = Reply} writer_of reply_of []
         lists_at_opening (list_half_of (opening_state o plans)) }
+    // What the words of the list don't show is a premise here: the client is idle, and its next call is a commit that
+    // no check refuses.
     ensures link { (writer_of : QueuedWriter Request → Writer) (reply_of : Reply → CoreReply) (o : Options)
         (s : State) (a b : Lists Request Reply) (ws : List Writer) (e : QueuedWriter Request)
         → IsCoreOf writer_of reply_of ws a (list_half_of s) → HappensAlone (comes e) a b
@@ -58,6 +62,7 @@ pub fn list_and_core<Request, Reply>()
         (s : State) (a b : Lists Request Reply) (ws : List Writer) (own : QueuedWriter Request)
         → StandsAs writer_of reply_of ws a s → HasItems writer_of a.0.0 → IsBuild o.group_bytes own a b
         → IsTaken writer_of reply_of o (core.Build own.by) s [] b }
+    // No group is logged after a fault: that the log has not failed is a premise.
     ensures log { (writer_of : QueuedWriter Request → Writer) (reply_of : Reply → CoreReply) (o : Options)
         (s : State) (a : Lists Request Reply) (old ws : List Writer) (own : QueuedWriter Request)
         (group : List (QueuedWriter Request)) → StandsAs writer_of reply_of old a s → a.0.1 ≡ grouped own group
@@ -75,6 +80,7 @@ pub fn list_and_core<Request, Reply>()
         (own : QueuedWriter Request) (p : Reply) (gs : List (QueuedWriter Request × Reply)) → IsJoined g back
         → IsCoreOf writer_of reply_of ws a (list_half_of s) → IsNext back own p gs a b
         → HasReplies reply_of (all_answers own p gs) ws → IsTaken writer_of reply_of o (core.Next own.by) s [] b }
+    // The core's `next` comes only where the leader's group is in the second list while it has the log.
     ensures next_of_handed { (writer_of : QueuedWriter Request → Writer) (reply_of : Reply → CoreReply)
         (o : Options) (s new : State) (a : Lists Request Reply) (ws : List Writer) (c : ℕ)
         → IsCoreOf writer_of reply_of ws a (list_half_of s) → step o s (core.Next c) ≡ Some new

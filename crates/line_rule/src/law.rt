@@ -40,6 +40,7 @@ pub fn between_steps<
     Log: LogOfGroups<Request, Reply, Right>,
     Right,
 >()
+    // Events are only added, so no later step can put others in the place of past ones.
     ensures { (z : Start Log.About) (s : ListState Request Reply Log Right)
         → let law = laws_for Request.item_of Reply.run_of Log.LogOfGroups z in
         (r : Listed law z.clients s) → (between : Between law z.clients s)
@@ -118,6 +119,8 @@ pub fn steps_and_events<
         → IsAt c (Leading lead) me → IsNextAfter (in_hand lead) x lead.walk
         → LoadIs (laws_for Request.item_of Reply.run_of Log.LogOfGroups z) z.clients (λ _. Stays)
         slots id me (older_at x.by) after_fetch }
+    // A group leaves only with handlings of its own members' clients and requests, the leader's first and then in the
+    // order of links.
     ensures leave { (z : Start Log.About) (slots id c member : ℕ) (me : Sat Request Reply Log Right)
         (lead : Lead Request Reply) (gs : List (QueuedWriter Request × Reply)) (p : Reply)
         → let law = laws_for Request.item_of Reply.run_of Log.LogOfGroups z in

@@ -111,10 +111,12 @@ pub fn handing_on<
     Log: LogOfGroups<Request, Reply, Right>,
     Right,
 >()
+    // Nobody is elected meanwhile, so no second leader can log at the same time.
     ensures cut { (z : Start Log.About) (s : ListState Request Reply Log Right) (id c : ℕ)
         (stage : LineStage Request Reply) (lead : Lead Request Reply) (back : Back Request Reply)
         → let law = laws_for Request.item_of Reply.run_of Log.LogOfGroups z in (r : Listed law z.clients s)
         → SeesAt s id c stage back → IsCut lead stage → (now_of law z.clients s r).0.1 ≡ grouped lead.own lead.taken }
+    // So groups come into the second list in the order in which they were logged.
     ensures hands { (last : List (Handling Request Reply) → List (Handling Request Reply)) (back : Back Request Reply)
         (seen now : List (Handling Request Reply))
         → HandsOn true last back seen now

@@ -26,6 +26,8 @@ impl<
     pub fn close(self, mut writers: Vec<Writer<Request, Reply, Log, Right>>) -> (Log, Right)
         requires out { AllOut (table_of self) writers.items × AllThere (clients_of self) writers.items
             × (vec_len writers ≡ length writers.items) }
+        // In a list with a second one the right covers what was given runs of all that was handled, and in others
+        // nothing.
         ensures { (handled : Handled Request Reply)
             × law_of Reply.run_of Log.LogOfGroups self result.0 handled
             × (piped_of self ≡ false → Log.serves (about_of self) result.1 [])
@@ -52,7 +54,7 @@ impl<
         take_all(table.close_with(seat), clients)
     }
 
-    // Joins the seats of the writers into one.
+    /// Joins the seats of the writers into one.
     fn join_all(
         &self,
         first: &mut Seat<LineSlot<Request, Reply, Log, Right>, LineView<Request, Reply>>,
@@ -82,7 +84,7 @@ impl<
     }
 }
 
-// Takes the log and the right out of the slots of a closed table. All other slots are empty.
+/// Takes the log and the right out of the slots of a closed table. All other slots are empty.
 fn take_all<Request, Reply, Log, Right>(
     mut closed: Closed<LineSlot<Request, Reply, Log, Right>, Global>,
     clients: u32,

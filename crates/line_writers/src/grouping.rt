@@ -50,10 +50,13 @@ impl<
         ensures room { HasRoom (clients_of self.now) room.new
             × (vec_capacity requests.new.list ≡ vec_capacity requests.old.list) }
         ensures client { client_of writer.new ≡ client_of writer.old }
+        // No group may pass over a writer that had come: each writer that waits knows its own coming among the events
+        // that the leader knows.
         ensures group { Belongs self.now writer.new × ((own : QueuedWriter Request) (seen : Handled Request Reply)
             → IsChosen own seen (answers_told writer.old) writer.old → (group left : Queue Request)
             × HasGroup (asks_of Request.item_of Log.lawful self.now) (clients_of self.now) (bound_of self.now) own group
             left seen (answers_told writer.old) writer.new × (requests.new.list.items ≡ asks own group)) }
+        // Whoever linked a request had to show this of it.
         ensures lawful { AllByRecursion (λ (x : ℕ
             × Request). Log.lawful (about_of self.now) x.1) requests.new.list.items }
         ensures few { length requests.new.list.items ≤ clients_of self.now }
@@ -61,7 +64,7 @@ impl<
         self.group_from::<Brand>(writer, self.group_bytes, &mut requests.list, room);
     }
 
-    // The caller picks the bound and what the law is about, since a load knows neither.
+    /// The caller picks the bound and what the law is about, since a load knows neither.
     fn group_from<About: PickedAbout<Log::About>>(
         &self,
         writer: &mut Writer<Request, Reply, Log, Right>,
@@ -97,7 +100,7 @@ impl<
         room.walk.clear();
     }
 
-    // Reads the number of the newest writer. This step builds the group.
+    /// Reads the number of the newest writer. This step builds the group.
     fn build<About: PickedAbout<Log::About>>(
         &self,
         writer: &mut Writer<Request, Reply, Log, Right>,
@@ -118,8 +121,8 @@ impl<
         self.table.shared.load::<Build<About>>(&mut writer.seat, 0)
     }
 
-    // Walks the writers that were read, from the newest one (`first`) to the oldest one, whose link names `end`. The
-    // walk lists each writer's client and code.
+    /// Walks the writers that were read, from the newest one (`first`) to the oldest one, whose link names `end`. The
+    /// walk lists each writer's client and code.
     pub(crate) fn survey(
         &self,
         writer: &mut Writer<Request, Reply, Log, Right>,
@@ -152,7 +155,7 @@ impl<
         unreachable!()
     }
 
-    // Takes the leader's own request.
+    /// Takes the leader's own request.
     fn own_request(&self, writer: &mut Writer<Request, Reply, Log, Right>) -> Request
         requires seat { writer.old.seat.table_id ≡ self.now.table.shared.table_id }
         requires held { (q : Request) × (t : Carried Request Reply Log Right)
@@ -174,7 +177,7 @@ impl<
         }
     }
 
-    // Takes the requests of the writers of the walk, from its oldest writer on, while they fit.
+    /// Takes the requests of the writers of the walk, from its oldest writer on, while they fit.
     fn gather(
         &self,
         writer: &mut Writer<Request, Reply, Log, Right>,
@@ -217,7 +220,7 @@ impl<
         }
     }
 
-    // Takes the request of the oldest writer whose request the leader does not have yet.
+    /// Takes the request of the oldest writer whose request the leader does not have yet.
     fn fetch(&self, writer: &mut Writer<Request, Reply, Log, Right>, member: u64) -> Request
         requires seat { (writer.old.seat.table_id ≡ self.now.table.shared.table_id) × (member ≤ self.now.clients) }
         requires next { (lead : Lead Request Reply) × (mine : Answers Request Reply)

@@ -53,6 +53,7 @@ impl<
         ensures replies { (replies.new.list.items ≡ [])
             × (vec_capacity replies.new.list ≡ vec_capacity replies.old.list) }
         ensures client { (client_of writer.new ≡ client_of writer.old) × Belongs self.now writer.new }
+        // The group comes after all that was given runs before it, so groups are served in the order of the log.
         ensures sent { ForReplies (asks_of Request.item_of Log.lawful self.now) (clients_of self.now)
             replies.old.list.items writer.old (λ lead d. IsSent (Log.serves (about_of self.now)) (clients_of self.now) d
             (given_runs Reply.run_of lead.seen) (given_runs Reply.run_of (all_handled lead d))
@@ -67,8 +68,8 @@ impl<
         writer.task = Task::Queues;
     }
 
-    // Does the work of `exit_pipelined`. The caller picks what was given runs before the group, and with it. Returns
-    // true where the leader has the right.
+    /// Does the work of `exit_pipelined`. The caller picks what was given runs before the group, and with it. Returns
+    /// true where the leader has the right.
     fn exit_from<
         Given: PickedGiven<Request, Reply>,
         ForRight: PickedRight<Request, Reply, Log::About>,
@@ -111,7 +112,7 @@ impl<
         )
     }
 
-    // The code of the leader's own item, which its link holds.
+    /// The code of the leader's own item, which its link holds.
     fn own_code(&self, writer: &mut Writer<Request, Reply, Log, Right>) -> u64
         requires seat { (writer.old.seat.table_id ≡ self.now.table.shared.table_id)
             × (writer.old.client ≤ self.now.clients) }
@@ -130,7 +131,7 @@ impl<
         Older::of(word).code
     }
 
-    // Moves the group to the second list, and gives the log on. Returns true where the leader has taken the right.
+    /// Moves the group to the second list, and gives the log on. Returns true where the leader has taken the right.
     fn send_on<
         Given: PickedGiven<Request, Reply>,
         ForRight: PickedRight<Request, Reply, Log::About>,
@@ -172,8 +173,8 @@ impl<
         false
     }
 
-    // Puts the group, which is cut off from the first list, into the second. Returns true where its leader takes the
-    // right.
+    /// Puts the group, which is cut off from the first list, into the second. Returns true where its leader takes the
+    /// right.
     fn join_second<ForRight: PickedRight<Request, Reply, Log::About>, R: Wait + rt::Clock>(
         &self,
         rt: &R,
@@ -210,7 +211,7 @@ impl<
         unreachable!()
     }
 
-    // Lets the leader of a group that is cut off name `older`, the newest writer of the second list, in its link.
+    /// Lets the leader of a group that is cut off name `older`, the newest writer of the second list, in its link.
     fn aim_second(&self, writer: &mut Writer<Request, Reply, Log, Right>, older: u64, code: u64)
         requires seat { (writer.old.seat.table_id ≡ self.now.table.shared.table_id) × (0 < writer.old.client)
             × (writer.old.client ≤ self.now.clients) × (older < 256) × (code < 2 ^ 56) }
@@ -233,8 +234,8 @@ impl<
             .store::<AimSecond>(&mut writer.seat, older_word(c as u64), named.pack());
     }
 
-    // Puts the group into the second list if the newest writer there is still `older`. Returns the newest writer that
-    // it found.
+    /// Puts the group into the second list if the newest writer there is still `older`. Returns the newest writer that
+    /// it found.
     fn enter_second<ForRight: PickedRight<Request, Reply, Log::About>>(
         &self,
         writer: &mut Writer<Request, Reply, Log, Right>,
@@ -259,7 +260,7 @@ impl<
             .compare_exchange::<JoinSecond<ForRight>>(&mut writer.seat, 1, older, newest_member)
     }
 
-    // Moves the first `count` slots to the end, after the others.
+    /// Moves the first `count` slots to the end, after the others.
     fn rotate(&self, writer: &mut Writer<Request, Reply, Log, Right>, count: usize)
         requires first { (a : Carried Request Reply Log Right)
             × (b : Carried Request Reply Log Right)

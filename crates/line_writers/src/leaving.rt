@@ -37,14 +37,17 @@ impl<
         replies: &mut Replies<Reply>,
         room: &mut Room,
     ) -> Reply
+        // The log must cover this group, and there must be one reply for each member, in link order.
         requires group { Belongs self.now writer.old × HasReplies (asks_of Request.item_of Log.lawful self.now)
             (clients_of self.now) replies.old.list.items
             (λ lead d. law_of Reply.run_of Log.LogOfGroups self.now log (all_handled lead d)
             × flat_of Reply.run_of self.now lead.seen (all_handled lead d)) writer.old }
         requires room { HasRoom (clients_of self.now) room.old × (vec_len replies.old.list ≤ clients_of self.now) }
         ensures room { HasRoom (clients_of self.now) room.new × (replies.new.list.items ≡ []) }
+        // So a leader needs no memory for the next group.
         ensures replies_room { vec_capacity replies.new.list ≡ vec_capacity replies.old.list }
         ensures client { client_of writer.new ≡ client_of writer.old }
+        // That each other member gets its own reply is what `await_role` says to that member.
         ensures out { Belongs self.now writer.new × IsOut writer.new
             × ForReplies (asks_of Request.item_of Log.lawful self.now) (clients_of self.now) replies.old.list.items
             writer.old (λ lead d. (answers_told writer.new ≡ answers_told writer.old ++ (d.own.asked, d.reply) ∷ [])
@@ -63,8 +66,8 @@ impl<
         self.retire(writer)
     }
 
-    // Puts the replies, which are given in link order, into the slots of the members, and lists the members, newest
-    // first.
+    /// Puts the replies, which are given in link order, into the slots of the members, and lists the members, newest
+    /// first.
     pub(crate) fn fill(
         &self,
         writer: &mut Writer<Request, Reply, Log, Right>,
@@ -99,7 +102,7 @@ impl<
         }
     }
 
-    // Puts the log into its slot.
+    /// Puts the log into its slot.
     pub(crate) fn put_log(&self, writer: &mut Writer<Request, Reply, Log, Right>, log: Log)
         requires seat { writer.old.seat.table_id ≡ self.now.table.shared.table_id }
         requires held { (t : Carried Request Reply Log Right) × (writer.old.seat.me.1 ≡ (0, Empty) ∷ t) }
@@ -118,7 +121,7 @@ impl<
         }
     }
 
-    // Gives the log back to the list, or on to the oldest writer after the group, which has `count` members.
+    /// Gives the log back to the list, or on to the oldest writer after the group, which has `count` members.
     fn hand_on(
         &self,
         writer: &mut Writer<Request, Reply, Log, Right>,
@@ -146,7 +149,7 @@ impl<
         self.wake(writer, next, code);
     }
 
-    // Gives the log back to the list where no writer came after the group. Returns the newest writer that it found.
+    /// Gives the log back to the list where no writer came after the group. Returns the newest writer that it found.
     fn leave(&self, writer: &mut Writer<Request, Reply, Log, Right>, newest_member: u64) -> u64
         requires seat { writer.old.seat.table_id ≡ self.now.table.shared.table_id }
         requires ready { MayLeave (law_of Reply.run_of Log.LogOfGroups self.now) (flat_of Reply.run_of self.now)
@@ -161,7 +164,7 @@ impl<
             .compare_exchange::<Leave>(&mut writer.seat, 0, newest_member, 0)
     }
 
-    // Clears the link of the oldest writer after the group, and gives it the log.
+    /// Clears the link of the oldest writer after the group, and gives it the log.
     fn wake(&self, writer: &mut Writer<Request, Reply, Log, Right>, next: u64, code: u64)
         requires seat { (writer.old.seat.table_id ≡ self.now.table.shared.table_id)
             × (0 < next) × (next ≤ self.now.clients) × (code < 2 ^ 56) }
@@ -178,7 +181,7 @@ impl<
         self.bells.ring(next);
     }
 
-    // Tells each member except the leader that its reply is there.
+    /// Tells each member except the leader that its reply is there.
     pub(crate) fn tell_all(&self, writer: &mut Writer<Request, Reply, Log, Right>, members: &[u32])
         requires seat { writer.old.seat.table_id ≡ self.now.table.shared.table_id }
         requires owed { (mine : Answers Request Reply) × (gs : Members Request Reply) × (own : QueuedWriter Request)
@@ -196,8 +199,8 @@ impl<
         self.ring_all(members);
     }
 
-    // Wakes the members once all have their replies: a member that still looks, awake, need not wait for the calls
-    // that wake others.
+    /// Wakes the members once all have their replies: a member that still looks, awake, need not wait for the calls
+    /// that wake others.
     fn ring_all(&self, members: &[u32]) {
         // The members before this one were woken, if they slept.
         for member in members {
@@ -205,7 +208,7 @@ impl<
         }
     }
 
-    // Tells one member that its reply is in its slot. It isn't woken here.
+    /// Tells one member that its reply is in its slot. It isn't woken here.
     pub(crate) fn complete(&self, writer: &mut Writer<Request, Reply, Log, Right>, member: u32)
         requires seat { (writer.old.seat.table_id ≡ self.now.table.shared.table_id)
             × (0 < member) × (member ≤ self.now.clients) }
@@ -223,7 +226,7 @@ impl<
             .store::<Complete>(&mut writer.seat, state_word(member as u64), STATE_DONE);
     }
 
-    // The leader's own last step. Returns its reply.
+    /// The leader's own last step. Returns its reply.
     pub(crate) fn retire(&self, writer: &mut Writer<Request, Reply, Log, Right>) -> Reply
         requires seat { (writer.old.seat.table_id ≡ self.now.table.shared.table_id)
             × (0 < writer.old.client) × (writer.old.client ≤ self.now.clients) }

@@ -47,6 +47,7 @@ impl<
         requires item { (item ≡ Request.item_of request) × (item.size ≤ MAX_SIZE) }
         requires lawful { Log.lawful (about_of self.now) request }
         ensures client { client_of writer.new ≡ client_of writer.old }
+        // The list has the request, or the writer leads at once.
         ensures linked { Belongs self.now writer.new
             × IsIn (law_of Reply.run_of Log.LogOfGroups self.now) request (answers_told writer.old) writer.new }
     {
@@ -63,6 +64,8 @@ impl<
             × ((q : Request)
             × IsIn (law_of Reply.run_of Log.LogOfGroups self.now) q (answers_told writer.old) writer.old) }
         ensures client { client_of writer.new ≡ client_of writer.old }
+        // A writer that leads has the log, which covers all that was handled before. One that is done has the reply to
+        // its own request.
         ensures role { Belongs self.now writer.new × ((q : Request)
             → IsIn (law_of Reply.run_of Log.LogOfGroups self.now) q (answers_told writer.old) writer.old
             → HasRole (law_of Reply.run_of Log.LogOfGroups self.now) (kept_of Log.kept self.now)
@@ -77,7 +80,7 @@ impl<
         }
     }
 
-    // The caller picks the log's number at opening and what the law is about, since a step of the table knows neither.
+    /// The caller picks the log's number at opening and what the law is about, since a step of the table knows neither.
     fn link_from<About: PickedAbout<Log::About>, R: Wait + rt::Clock>(
         &self,
         rt: &R,
@@ -129,7 +132,7 @@ impl<
         unreachable!()
     }
 
-    // Waits for the role; a member that should work in parallel with its leader goes on to wait for its reply.
+    /// Waits for the role; a member that should work in parallel with its leader goes on to wait for its reply.
     fn await_alone<About: PickedAbout<Log::About>, R: Wait + rt::Clock>(
         &self,
         rt: &R,
@@ -155,7 +158,7 @@ impl<
         }
     }
 
-    // Waits for the writer's role.
+    /// Waits for the writer's role.
     pub(crate) fn await_from<About: PickedAbout<Log::About>, R: Wait + rt::Clock>(
         &self,
         rt: &R,
@@ -197,7 +200,7 @@ impl<
         unreachable!()
     }
 
-    // Waits for the reply of a writer that was asked to work in parallel with its leader.
+    /// Waits for the reply of a writer that was asked to work in parallel with its leader.
     pub(crate) fn await_reply<About: PickedAbout<Log::About>, R: Wait + rt::Clock>(
         &self,
         rt: &R,
@@ -229,7 +232,7 @@ impl<
         unreachable!()
     }
 
-    // Takes the log out of its slot.
+    /// Takes the log out of its slot.
     pub(crate) fn claim<About: PickedAbout<Log::About>>(
         &self,
         writer: &mut Writer<Request, Reply, Log, Right>,
@@ -258,7 +261,7 @@ impl<
         }
     }
 
-    // Takes the reply out of the writer's own slot, and gives the slot back.
+    /// Takes the reply out of the writer's own slot, and gives the slot back.
     fn collect(&self, writer: &mut Writer<Request, Reply, Log, Right>) -> Reply
         requires seat { (writer.old.seat.table_id ≡ self.now.table.shared.table_id)
             × (writer.old.client ≤ self.now.clients) }
@@ -282,7 +285,7 @@ impl<
     }
 }
 
-// The task of a writer that found `newest` as the newest writer when it linked.
+/// The task of a writer that found `newest` as the newest writer when it linked.
 fn task_of(newest: u64) -> Task
     ensures first { newest ≡ 0 → result ≡ Leads }
     ensures behind { newest ≢ 0 → result ≡ Awaits }

@@ -83,7 +83,7 @@ impl<
     Log: LogOfGroups<Request, Reply, Right>,
     Right,
 > WriterList<Request, Reply, Log, Right> {
-    // The slots as they are at the start.
+    /// The slots as they are at the start.
     fn slots_for(
         alloc: Global,
         clients: u32,
@@ -106,7 +106,7 @@ impl<
         Ok(slots)
     }
 
-    // Takes the log and the right out of the slots, where the table could not be made.
+    /// Takes the log and the right out of the slots, where the table could not be made.
     fn unmade(mut slots: Vec<LineSlot<Request, Reply, Log, Right>>, clients: u32) -> (Log, Right)
         requires slots { (l : Log) × (m : Right)
             × (slots.items ≡ TheLog l ∷ (replicate clients Empty ++ TheRight m ∷ [])) }
@@ -133,7 +133,7 @@ impl<
         (log, right)
     }
 
-    // Makes a writer for each client.
+    /// Makes a writer for each client.
     fn seat_all(
         &self,
         mut first: Seat<LineSlot<Request, Reply, Log, Right>, LineView<Request, Reply>>,

@@ -24,8 +24,8 @@ impl<
     Log: LogOfGroups<Request, Reply, Right>,
     Right,
 > WriterList<Request, Reply, Log, Right> {
-    // Puts the mark into the list where no writer came after the group, whose newest member is `newest_member`.
-    // Returns the newest writer that it found.
+    /// Puts the mark into the list where no writer came after the group, whose newest member is `newest_member`.
+    /// Returns the newest writer that it found.
     fn mark<Given: PickedGiven<Request, Reply>>(
         &self,
         writer: &mut Writer<Request, Reply, Log, Right>,
@@ -47,7 +47,7 @@ impl<
             .compare_exchange::<Mark<Given>>(&mut writer.seat, 0, newest_member, MARK)
     }
 
-    // Clears the link of the oldest writer after the group, which will go to the second list.
+    /// Clears the link of the oldest writer after the group, which will go to the second list.
     fn cut_away<Given: PickedGiven<Request, Reply>>(
         &self,
         writer: &mut Writer<Request, Reply, Log, Right>,
@@ -72,8 +72,8 @@ impl<
             .store::<CutAway<Given>>(&mut writer.seat, older_word(next), cleared.pack());
     }
 
-    // Cuts the group off from the first list. Returns 0 where the mark is there in place of the group, and else the
-    // oldest writer after the group.
+    /// Cuts the group off from the first list. Returns 0 where the mark is there in place of the group, and else the
+    /// oldest writer after the group.
     pub(crate) fn part<Given: PickedGiven<Request, Reply>>(
         &self,
         writer: &mut Writer<Request, Reply, Log, Right>,
@@ -105,8 +105,8 @@ impl<
         next
     }
 
-    // Takes the mark away, and gives the log back, where no writer came after the mark. Returns the newest writer that
-    // it found.
+    /// Takes the mark away, and gives the log back, where no writer came after the mark. Returns the newest writer that
+    /// it found.
     fn free(&self, writer: &mut Writer<Request, Reply, Log, Right>) -> u64
         requires seat { writer.old.seat.table_id ≡ self.now.table.shared.table_id }
         requires ready { MayGiveLogOn (λ lead mine b. AtWith writer.old.client (Marking lead) mine b writer.old.seat.me)
@@ -124,7 +124,7 @@ impl<
             .compare_exchange::<Free>(&mut writer.seat, 0, MARK, 0)
     }
 
-    // Clears the link of the oldest writer after the mark.
+    /// Clears the link of the oldest writer after the mark.
     fn cut_behind(&self, writer: &mut Writer<Request, Reply, Log, Right>, next: u64, code: u64)
         requires seat { (writer.old.seat.table_id ≡ self.now.table.shared.table_id) × (0 < next)
             × (next ≤ self.now.clients) × (code < 2 ^ 56) }
@@ -145,7 +145,7 @@ impl<
             .store::<CutBehindMark>(&mut writer.seat, older_word(next), cleared.pack());
     }
 
-    // Takes the mark away, and gives the log back to the list, or on to the oldest writer after the mark.
+    /// Takes the mark away, and gives the log back to the list, or on to the oldest writer after the mark.
     fn free_on(&self, writer: &mut Writer<Request, Reply, Log, Right>, walk: &mut Vec<(u64, u64)>)
         requires seat { (writer.old.seat.table_id ≡ self.now.table.shared.table_id) × (vec_len walk.old ≡ 0)
             × (walk.old.items ≡ []) × (self.now.clients ≤ vec_capacity walk.old) }
@@ -169,7 +169,7 @@ impl<
         self.wake_on(writer, next);
     }
 
-    // Gives the log on to the next leader.
+    /// Gives the log on to the next leader.
     fn wake_on(&self, writer: &mut Writer<Request, Reply, Log, Right>, next: u64)
         requires seat { (writer.old.seat.table_id ≡ self.now.table.shared.table_id) × (0 < next)
             × (next ≤ self.now.clients) }
@@ -188,7 +188,7 @@ impl<
         self.bells.ring(next);
     }
 
-    // Gives the log on after the group was cut off.
+    /// Gives the log on after the group was cut off.
     pub(crate) fn go_on(
         &self,
         writer: &mut Writer<Request, Reply, Log, Right>,

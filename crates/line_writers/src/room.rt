@@ -51,7 +51,7 @@ impl<Request: Drop, Reply: Drop> Lists<Request, Reply> {
         })
     }
 
-    // Lists for each client.
+    /// Lists for each client.
     pub(crate) fn for_all(
         alloc: Global,
         clients: u32,

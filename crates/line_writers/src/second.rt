@@ -49,8 +49,11 @@ impl<
             → IsIn (law_of Reply.run_of Log.LogOfGroups self.now) q (answers_told writer.old) writer.old
             → HasPipelinedRole (law_of Reply.run_of Log.LogOfGroups self.now) (kept_of Log.kept self.now)
             q (answers_told writer.old) result writer.new }
+        // It is asked only once, and its request is still in the list.
         ensures parallel { result ≡ Parallel → AwaitsRole writer.old × IsHelping writer.new }
+        // A leader has handled its request already, so only its reply comes.
         ensures helping { IsHelping writer.old → (p : Reply) × (result ≡ Done p) }
+        // The right covers what was given runs before its group, and nothing of it or after it.
         ensures right { (d : Debt Request Reply) (from to : Handled Request Reply)
             (mine : Answers Request Reply)
             → IsSent (Log.serves (about_of self.now)) (clients_of self.now) d from to mine writer.old

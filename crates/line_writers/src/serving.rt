@@ -43,6 +43,7 @@ impl<
             × (mine : Answers Request Reply) × HasRight (clients_of self.now) d from to mine writer.old
             × AreMembers (clients_of self.now) members.now d.rest) }
         ensures client { (client_of writer.new ≡ client_of writer.old) × Belongs self.now writer.new }
+        // The leader keeps the right. That each of them hears of it is in no clause.
         ensures leads { (d : Debt Request Reply) (from to : Handled Request Reply)
             (mine : Answers Request Reply)
             → HasRight (clients_of self.now) d from to mine writer.old
@@ -64,6 +65,7 @@ impl<
         room: &mut Room,
     ) -> Reply
         requires piped { piped_of self.now ≡ true }
+        // The right must cover the group as well now.
         requires serves { Belongs self.now writer.old
             × ((d : Debt Request Reply) × (from to : Handled Request Reply)
             × (mine : Answers Request Reply) × HasRight (clients_of self.now) d from to mine writer.old
@@ -88,7 +90,7 @@ impl<
         self.retire(writer)
     }
 
-    // Asks a member to work in parallel with its leader.
+    /// Asks a member to work in parallel with its leader.
     fn make_parallel(&self, writer: &mut Writer<Request, Reply, Log, Right>, member: u32)
         requires seat { (writer.old.seat.table_id ≡ self.now.table.shared.table_id) × (0 < member)
             × (member ≤ self.now.clients) }
@@ -107,7 +109,7 @@ impl<
         self.bells.ring(member as u64);
     }
 
-    // Waits until the group is the oldest of the second list, and takes the right.
+    /// Waits until the group is the oldest of the second list, and takes the right.
     pub(crate) fn await_right<About: PickedAbout<Log::About>, R: Wait + rt::Clock>(
         &self,
         rt: &R,
@@ -139,7 +141,7 @@ impl<
         unreachable!()
     }
 
-    // Looks whether the group is the oldest of the second list. At `STATE_LEADS_TABLE` its leader has the right.
+    /// Looks whether the group is the oldest of the second list. At `STATE_LEADS_TABLE` its leader has the right.
     fn summon<About: PickedAbout<Log::About>>(
         &self,
         writer: &mut Writer<Request, Reply, Log, Right>,
@@ -163,7 +165,7 @@ impl<
             .load::<Summon<About>>(&mut writer.seat, state_word(c as u64))
     }
 
-    // Takes the right out of its slot.
+    /// Takes the right out of its slot.
     pub(crate) fn take_right(&self, writer: &mut Writer<Request, Reply, Log, Right>) -> Right
         requires seat { writer.old.seat.table_id ≡ self.now.table.shared.table_id }
         requires held { (r : Right) × (t : Carried Request Reply Log Right)
@@ -184,7 +186,7 @@ impl<
         }
     }
 
-    // Puts the right into its slot.
+    /// Puts the right into its slot.
     fn put_right(&self, writer: &mut Writer<Request, Reply, Log, Right>, right: Right)
         requires seat { writer.old.seat.table_id ≡ self.now.table.shared.table_id }
         requires held { (t : Carried Request Reply Log Right)
@@ -205,8 +207,8 @@ impl<
         }
     }
 
-    // Gives the right back to the list, or on to the leader of the next group. The leader's own group has `count`
-    // members.
+    /// Gives the right back to the list, or on to the leader of the next group. The leader's own group has `count`
+    /// members.
     fn pass_on(
         &self,
         writer: &mut Writer<Request, Reply, Log, Right>,
@@ -236,8 +238,8 @@ impl<
         self.call_next(writer, next);
     }
 
-    // Gives the right back where no group came after the leader's own, whose newest member is `newest_member`. Returns
-    // the newest writer of the second list that it found.
+    /// Gives the right back where no group came after the leader's own, whose newest member is `newest_member`. Returns
+    /// the newest writer of the second list that it found.
     fn leave_second(
         &self,
         writer: &mut Writer<Request, Reply, Log, Right>,
@@ -258,7 +260,7 @@ impl<
             .compare_exchange::<LeaveSecond>(&mut writer.seat, 1, newest_member, 0)
     }
 
-    // Clears the link, in the second list, of the next group's leader.
+    /// Clears the link, in the second list, of the next group's leader.
     fn clear_second(&self, writer: &mut Writer<Request, Reply, Log, Right>, next: u64, code: u64)
         requires piped { piped_of self.now ≡ true }
         requires seat { (writer.old.seat.table_id ≡ self.now.table.shared.table_id) × (0 < next)
@@ -280,7 +282,7 @@ impl<
             .store::<ClearSecond>(&mut writer.seat, older_word(next), cleared.pack());
     }
 
-    // Gives the right on to the next group's leader.
+    /// Gives the right on to the next group's leader.
     fn call_next(&self, writer: &mut Writer<Request, Reply, Log, Right>, next: u64)
         requires seat { (writer.old.seat.table_id ≡ self.now.table.shared.table_id) × (0 < next)
             × (next ≤ self.now.clients) }

@@ -63,8 +63,11 @@ impl Batch {
     pub fn put(&mut self, key: &[u8], value: &[u8]) -> Result<(), AddError>
         ensures ok { OnOk result (self.new ≡ with_addition self.old (model.value key.now value.now)) }
         ensures err { OnErr result (self.new ≡ self.old) }
+        // The bound is on the whole batch, with its header. The size is the one that the batch would have, or the
+        // greatest `u64`.
         ensures too_large { let size = size_with self.old (model.value key.now value.now) in
             MAX_SIZE < size → result ≡ Err (AddError.TooLarge (min size (2 ^ 64 - 1))) }
+        // Where there is room for it, want of memory is the only refusal.
         ensures fits { size_with self.old (model.value key.now value.now) ≤ MAX_SIZE
             → IsOkUnless result AddError.NoMemory }
     {
@@ -135,6 +138,7 @@ impl Batch {
         ensures err { OnErr result (self.new ≡ self.old) }
         ensures too_large { let size = size_with_all self.old other.now.records in
             MAX_SIZE < size → result ≡ Err (AddError.TooLarge (min size (2 ^ 64 - 1))) }
+        // As of `put`: want of memory is the only refusal.
         ensures fits { size_with_all self.old other.now.records ≤ MAX_SIZE → IsOkUnless result AddError.NoMemory }
     {
         let records = other.records();
@@ -193,6 +197,7 @@ impl Batch {
 
     /// The bytes of the batch.
     pub fn bytes(&self) -> &[u8]
+        // These are the bytes that RocksDB's db/write_batch.cc gives for these records and this sequence.
         ensures { result.now ≡ model.batch self.now.sequence self.now.records }
     {
         self.bytes.as_slice()

@@ -41,6 +41,7 @@ pub fn refusal_at_once(
     batch_bytes: u64,
     stopping: bool,
 ) -> Option<Refusal>
+    // Only the size and the count of a batch matter: so a caller may ask this of a batch that isn't built.
     ensures { (records : List Record) → measure ≡ measure_of records
         → result ≡ early_refusal batch_bytes stopping records options }
 {

@@ -12,6 +12,8 @@ use model_base::NoMemory;
 /// Changes a map as records say, in their order. If memory runs out, it stops after some of them, perhaps none.
 pub fn write_records(map: &mut ByteMap, records: Records<'_>) -> Result<(), NoMemory>
     ensures ok { OnOk result (map.new ≡ after_records map.old records.entry) }
+    // Some of the records were written, from the first on, and never all: so the map is of no use to who needs all of
+    // them.
     ensures err { OnErr result
         ((written : ℕ) × (written < length records.entry)
         × (map.new ≡ after_records map.old (take written records.entry))) }

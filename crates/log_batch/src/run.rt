@@ -21,6 +21,7 @@ pub fn next_run(last: u64, count: u64) -> Result<Run, Refusal>
     ensures last { IfOk result (λ run. run.last ≡ last + count) }
     ensures fits { IfOk result (λ run. run.last ≤ max_sequence) }
     ensures full { IfErr result (λ why. why ≡ Refusal.SequenceFull last) }
+    // It is refused only where the run would pass the greatest sequence.
     ensures passed { IfErr result (λ _. max_sequence < last + count) }
 {
     if count > MAX_SEQUENCE - last {

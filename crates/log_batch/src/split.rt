@@ -27,8 +27,10 @@ fn split_varstring(bytes: &[u8]) -> Result<(&[u8], &[u8]), BatchError>
 /// The record with which the bytes begin, and the bytes after it.
 pub fn split_record(bytes: &[u8]) -> Result<(RecordView<'_>, &[u8]), BatchError>
     requires { 0 < length bytes.now }
+    // The bytes spell the record and go on with what is handed back.
     ensures spelled { IfOk result (λ p. bytes.now ≡ model.record_bytes (record_of p.0) ++ p.1.now) }
     ensures readable { IfOk result (λ p. model.IsReadable (record_of p.0)) }
+    // There is no record at the front, and this says why.
     ensures err { IfErr result (model.NoRecord bytes.now) }
 {
     let strings = &bytes[1..];

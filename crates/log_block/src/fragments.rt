@@ -37,6 +37,8 @@ pub enum Seen {
 pub fn read_fragment(number: Option<u32>, block: &[u8], at: usize) -> Seen
     requires in_block { length block.now ≤ BLOCK_LEN }
     requires in_file { at ≤ length block.now }
+    // The definition has one answer for each place: so what counts as damage, and what as the end, is not left to this
+    // code.
     ensures { Tells number block.now at result (reading.seen_in_block number block.now at) }
 {
     let rest = &block[at..];

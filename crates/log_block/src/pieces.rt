@@ -58,9 +58,12 @@ impl Fragmenter {
         requires { block_offset < BLOCK_LEN }
         ensures pieces { (offset : ℕ) (bytes : List ℕ) → offset % BLOCK_LEN ≡ block_offset → length bytes ≡ len
             → pieces.ArePieces number bytes offset 0 result (log.as_fragments (log.parts_of number offset bytes)) }
+        // The pieces' bytes are the record's text in the log.
         ensures text { (offset : ℕ) (bytes : List ℕ) → offset % BLOCK_LEN ≡ block_offset → length bytes ≡ len
             → pieces.pieces_text number bytes result ≡ log.record_text number offset bytes }
+        // Together they have the whole record, in order, each byte once.
         ensures cut { pieces.CoverRecord len 0 result }
+        // No piece crosses a block's end, and each except the last fills its block.
         ensures laid { pieces.LieInBlocks number block_offset result }
         ensures bound { length result < 2 ^ 64 }
     {

@@ -89,16 +89,23 @@ impl LogReader {
     /// answer but `Record` the same answer comes again, and the disk isn't touched. A read that failed is never tried
     /// again.
     pub fn next<D: Disk>(&mut self, disk: &mut D) -> Next
+        // Of a disk that tells its content: the next record of the definition, with its place and its bytes in hand, or
+        // where nothing more is read and why.
         ensures reads { IfSome (D.told disk.old) (λ d. Follows d.content self.old → self.old.stopped ≡ None
             → Reads self.old.number d.content self.old.place self.new.in_hand result) }
         ensures number { self.new.number ≡ self.old.number }
         ensures place { self.old.stopped ≡ None → PlaceAfter self.old self.new result }
+        // A loop over the records ends: each of them ends after the place before it.
         ensures forward { self.old.stopped ≡ None → GoesForward self.old.place result }
+        // So the clause `reads` is good for the next call as well.
         ensures follows { IfSome (D.told disk.old) (λ d. Follows d.content self.old → Follows d.content self.new) }
+        // A fault is answered only where the count rose in this call, and any other answer only where it stayed as it
+        // was.
         ensures fault { self.old.stopped ≡ None → HasFault (D.faults disk.old) (D.faults disk.new) result }
         ensures stopped { self.old.stopped ≡ None → self.new.stopped ≡ stopped_by result }
         ensures again { IfSome self.old.stopped (λ answer. (result ≡ answer) × (self.new ≡ self.old)) }
         ensures untouched { IfSome self.old.stopped (λ _. disk.new ≡ disk.old) }
+        // The disk tells what it told before, its count of faults doesn't fall, and its time goes on.
         ensures disk { OnlyReads ⟦<D as Disk>⟧ disk.old disk.new }
     {
         if let Some(answer) = self.stopped {

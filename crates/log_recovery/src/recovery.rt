@@ -65,10 +65,15 @@ pub fn recover<D: Disk>(
     disk: &mut D,
     number: Option<u32>,
 ) -> Result<Recovered, RecoverError>
+    // It is said of any bytes: they needn't be a log that a program wrote.
     ensures recovered { IfSome (D.told disk.old) (λ d. IfOk result (HasRecovered number d.content)) }
+    // A log writer and a table may go on from it. It is said also where the disk tells nothing.
     ensures numbered { IfOk result (λ r. IsNumbered r.map r.last) }
+    // So no fault is swallowed.
     ensures worked { OnOk result (D.faults disk.new ≡ D.faults disk.old) }
+    // An error has a cause: the disk's count of faults rose, or there was no memory.
     ensures error { IfErr result (IsRecoverError Point (D.faults disk.old) (D.faults disk.new)) }
+    // The disk tells what it told before, its count of faults doesn't fall, and its time goes on.
     ensures disk { OnlyReads ⟦<D as Disk>⟧ disk.old disk.new }
 {
     let mut log = LogReader::open(alloc, number)?;
@@ -100,11 +105,16 @@ pub fn recover_mode<D: Disk>(
     mode: Mode,
 ) -> Result<Recovered, RecoverError>
     ensures recovered { IfSome (D.told disk.old) (λ d. IfOk result (HasRecovered number d.content)) }
+    // Of what `recover` answers only what has an end that the mode accepts.
     ensures accepted { IfSome (D.told disk.old) (λ d. IfOk result
         (λ r. Accepts number mode d.content r.end.at r.end.why)) }
+    // A refusal is true too: recovery does end at this place for this reason, and the mode doesn't accept that. No
+    // clause says which ends a crash leaves.
     ensures damage { IfSome (D.told disk.old) (λ d. IfErr result (TellsDamage number mode d.content)) }
     ensures numbered { IfOk result (λ r. IsNumbered r.map r.last) }
     ensures worked { OnOk result (D.faults disk.new ≡ D.faults disk.old) }
+    // `Damage` comes only with no fault counted, and never in the mode `Point`. The other errors are those of
+    // `recover`.
     ensures error { IfErr result (IsRecoverError mode (D.faults disk.old) (D.faults disk.new)) }
     ensures disk { OnlyReads ⟦<D as Disk>⟧ disk.old disk.new }
 {

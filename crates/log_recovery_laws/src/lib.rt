@@ -55,6 +55,7 @@ pub fn a_batch_or_one_error()
 
 /// Recovery of any file has a result, and only one: the batches, how far they reach, and where and why recovery ends.
 pub fn recovery_is_a_function()
+    // Without this "whatever is recovered is a prefix" would hold of nothing.
     ensures some { (number : Option ℕ) (file : List ℕ) → AreBytes file
         → (r : Recovered) × IsRecovered number file r }
     ensures at_most_one { (number : Option ℕ) (file : List ℕ) (one other : Recovered)

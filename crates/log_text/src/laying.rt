@@ -20,8 +20,11 @@ pub fn lay_record(
     bytes: &[u8],
     buffer: &mut [u8],
 ) -> Option<usize>
+    // It is the definition that `log_writer` is proved by too: so a program with a log file of its own lays the same
+    // bytes by this call.
     ensures laid { let text = log.record_text number offset bytes.now in
         IfSome result (λ len. (len ≡ length text) × (buffer.new ≡ text ++ drop len buffer.old)) }
+    // `None` comes only where the buffer is too small.
     ensures too_small { IfNone result (length buffer.old < length (log.record_text number offset bytes.now)) }
     ensures same { IfNone result (buffer.new ≡ buffer.old) }
 {

@@ -15,6 +15,8 @@ use base_devices::Disk;
 
 /// A log begins in three ways: on an empty disk, with a number over old bytes, or after bytes that it keeps.
 pub fn beginnings<D: Disk>()
+    // The three clauses lead from what the calls that open a log promise to one word for all three, which the other
+    // laws use.
     ensures opened { (disk : D) (log : Log D ⟦<D as Disk>⟧) → HasOpened disk log → HasBegun new_log disk log }
     ensures reused { (disk : D) (n : ℕ) (log : Log D ⟦<D as Disk>⟧) → HasReused disk n log
         → HasBegun (record { number = Some n; kept = [] }) disk log }
@@ -31,12 +33,15 @@ pub fn written_by_calls<D: Disk>()
     ensures one_more { (b : Beginning) (disk : D) (calls : List GroupCall) (c : GroupCall)
         (now new : Log D ⟦<D as Disk>⟧) → IsWritten b disk calls now → Adds c now new
         → IsWritten b disk (calls ++ c ∷ []) new }
+    // The disk has what the calls wrote after what the log kept, and the log has their first fault.
     ensures stands { (b : Beginning) (disk : D) (calls : List GroupCall) (log : Log D ⟦<D as Disk>⟧)
         → IsWritten b disk calls log → Stands b calls log }
     // Where no call failed, that text is written over what was there, and nothing else has changed.
     ensures content { (b : Beginning) (disk : D) (calls : List GroupCall) (begun log : Log D ⟦<D as Disk>⟧)
         → HasBegun b disk begun → Wrote begun calls log → first_fault calls ≡ None
         → Told (D.told (disk_of begun)) (D.told (disk_of log)) (IsTextOver (text_after b (written_by calls))) }
+    // A log has a fault only where the disk has counted one since, and the disk has counted none while the log has
+    // none.
     ensures cause { (b : Beginning) (disk : D) (calls : List GroupCall) (log : Log D ⟦<D as Disk>⟧)
         → IsWritten b disk calls log → HasCauseSince disk log }
 {}

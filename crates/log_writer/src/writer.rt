@@ -38,7 +38,9 @@ impl<D: Disk> LogWriter<D> {
 
     /// Opens the log of an empty disk, with one look at its length.
     pub fn open(alloc: Global, mut disk: D) -> Result<LogWriter<D>, (D, OpenError)>
+        // The log has nothing yet, and no number, and the disk was found empty.
         ensures ok { IfOk result (HasOpened disk) }
+        // The disk comes back as it was. Where the reason is another one than a fault, none was counted.
         ensures err { IfErr result (λ e. IsOpenError ⟦<D as Disk>⟧ disk e.0 e.1) }
     {
         let len = match disk.len() {
@@ -71,7 +73,9 @@ impl<D: Disk> LogWriter<D> {
     /// Where that fails, by a fault of the disk or for want of memory, the disk is handed back with the error. Memory
     /// is asked for first: where there is none, the disk is as it was.
     pub fn reuse(alloc: Global, mut disk: D, number: u32) -> Result<LogWriter<D>, (D, OpenError)>
+        // Until the first append a crash leaves only what it might have left before.
         ensures ok { IfOk result (HasReused disk number) }
+        // After a fault the disk is as it was, or rewound. The error has the count of that fault.
         ensures err { IfErr result (λ e. IsReuseError ⟦<D as Disk>⟧ disk e.0 e.1) }
     {
         let block = match empty_block(alloc) {
@@ -106,7 +110,10 @@ impl<D: Disk> LogWriter<D> {
         number: Option<u32>,
     ) -> Result<LogWriter<D>, (D, OpenError)>
         requires records { IfSome (D.told disk) (λ d. SpellsInFront number kept d.content) }
+        // What is kept is all that the disk has then, and it is safe. A crash in the call leaves those of these bytes
+        // that were safe before, and nothing past what writes could reach.
         ensures ok { IfOk result (HasResumed disk kept number) }
+        // After a fault the disk is as it was, or cut. The error has the count of that fault.
         ensures err { IfErr result (λ e. IsResumeError ⟦<D as Disk>⟧ disk e.0 kept e.1) }
     {
         let block = match empty_block(alloc) {
@@ -143,11 +150,17 @@ impl<D: Disk> LogWriter<D> {
         requires counts { counts_of members.now < 2 ^ 32 }
         requires run { first + counts_of members.now - 1 ≤ max_sequence }
         requires lens { body_lens_of members.now < 2 ^ 63 }
+        // The record is in the log, and safe if a sync was asked; or the log is as it was, with any bytes after it, and
+        // takes no more.
         ensures adds { Adds (call_of first members.now sync result) self.old self.new }
         ensures no_fault { OnOk result (D.faults (disk_of self.new) ≡ D.faults (disk_of self.old)) }
+        // A leader that writes its group needs no answer for want of memory.
         ensures room { room_of self.new ≡ room_of self.old }
+        // At any moment of the call. What was safe before stays, whatever becomes of this record.
         ensures crash { let record_bytes = record_of_group first members.now in
             LeavesPrefix ⟦<D as Disk>⟧ (disk_of self.old) (disk_of self.new) record_bytes }
+        // Recovery finds it then, and a reader too, under the premise that no torn or older fragment has a right
+        // checksum by chance.
         ensures durable { let record_bytes = record_of_group first members.now in
             OnOk result (IsTrue sync
             → IsDurable ⟦<D as Disk>⟧ (number_of self.old) (disk_of self.old) (disk_of self.new) record_bytes) }

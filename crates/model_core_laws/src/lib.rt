@@ -19,6 +19,8 @@ pub use examples::{one_write, wrong_replies, wrong_states};
 /// line, and once the log has failed no event gives a run. So the law holds after every list of events.
 pub fn law()
     ensures opening { (o : Options) (plans : List (List Command)) → IsCore o (opening_state o plans) }
+    // A link adds its own client at the end of the line, if it didn't wait; no other event adds anybody, and nobody
+    // passes another.
     ensures kept { (o : Options) (s t : State) (event : Event) → IsCore o s → step o s event ≡ Some t
         → IsCore o t × Keeps event s t }
     ensures every_list { (o : Options) (plans : List (List Command)) (events : List Event)
@@ -28,6 +30,8 @@ pub fn law()
 /// The replies of the core: after every list of events the clients' calls so far, with their replies, are those of a
 /// plain map, at points of the one history of batches.
 pub fn replies_of_a_map()
+    // A client's accepted batches are in the history once each, in order, perhaps with one more that it hasn't heard of
+    // yet.
     ensures every_list { (o : Options) (plans : List (List Command)) (events : List Event)
         → AreRepliesOf o plans (state_after o plans events) }
 {}

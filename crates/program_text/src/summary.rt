@@ -19,6 +19,7 @@ use std::alloc::Global;
 
 /// The summary of an outcome. `sum` is the sum of its map's values, read as numbers.
 pub fn summary_text(alloc: Global, outcome: &Outcome<ByteMap>, sum: u128) -> Result<Bytes, NoMemory>
+    // It is said only of outcomes whose history is one (`IsHistory`), and whose values have the sum that is handed in.
     ensures { (o : calls.Outcome) (start : ℕ) → IsHistory start o.history → ShowsOutcome outcome.now o
         → sum ≡ sum_by (λ p. value_of_digits p.1) o.state → IfOk result (λ t. t ≡ model.summary_text o) }
 {

@@ -19,6 +19,7 @@ use std::alloc::Global;
 
 /// The text of an outcome: each client's replies, the history, the published state, the log.
 pub fn outcome_text(alloc: Global, outcome: &Outcome<ByteMap>) -> Result<Bytes, NoMemory>
+    // Want of memory is the only error, here and of each other text.
     ensures { (o : calls.Outcome) → ShowsOutcome outcome.now o → IfOk result (λ t. t ≡ outcome_text o) }
 {
     let mut text = Bytes::new(alloc);

@@ -102,8 +102,11 @@ impl From<clap::Error> for WordsError {
 
 /// What the words ask for. The first is the program's name, and the command follows it.
 pub fn read_words(alloc: Global, words: &[String]) -> Result<Invocation, WordsError>
+    // The command, the flags and the numbers are those that clap's own definition finds in the words.
     ensures ok { IfOk result (λ asked. invocation_of words.now ≡ Some asked) }
+    // Only words of which clap's definition makes nothing are refused as these. The one other error is want of memory.
     ensures usage { result ≡ Err WordsError.Usage → invocation_of words.now ≡ None }
+    // Callers need no check of their own: each number is within its range.
     ensures limits { IfOk result KeepsLimits }
 {
     let matches = definition::writepath(alloc)?.try_get_matches_from(words)?;

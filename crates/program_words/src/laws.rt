@@ -10,6 +10,7 @@ ghost use Rattle.program_words.specs.Meaning.{invocation_in, invocation_of};
 
 /// If words are lawful, clap takes them, and they ask for what `specs/Lawful` says.
 pub fn lawful_words()
+    // clap takes other words too, such as `--last=4`: they ask for what clap makes of them.
     ensures { (words : List (String Global)) (asked : Invocation) → lawful_of words ≡ Some asked
         → invocation_of words ≡ Some asked }
 {}

@@ -30,6 +30,7 @@ impl<'a> State<'a> {
         requires few { vec_len plans ≤ MAX_CLIENTS }
         requires small { AllByRecursion IsSmallPlan plans.items }
         requires last_fits { options.last ≤ 2 ^ 56 - 1 }
+        // All room is made here, so that no event asks for memory.
         ensures shows { IfOk result (λ r. Shows r (options_of options)
             (core.opening_state (options_of options) plans.entry.items)) }
         ensures plans { IfOk result (λ r. plans_in r ≡ plans.entry.items) }

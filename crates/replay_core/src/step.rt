@@ -20,7 +20,9 @@ impl State<'_> {
     /// Takes an event, if it may come. If it may not, nothing changes, and the answer is false. The plans stay as they
     /// are. This takes no memory.
     pub fn step(&mut self, event: Event) -> bool
+        // It takes an event exactly where the table of events lets it come, and then shows the state after it.
         ensures takes { Takes event self.old result self.new }
+        // A skipped event changes nothing, not even what can't be seen.
         ensures unchanged { result ≡ false → self.new ≡ self.old }
         ensures plans { plans_in self.new ≡ plans_in self.old }
     {
@@ -82,6 +84,7 @@ impl Counts {
 
 /// Takes events in order. Those that may not come are passed over.
 pub fn replay(state: &mut State<'_>, events: &[Event]) -> Counts
+    // How many events came, and what the state is after them.
     ensures replays { Replays events.now state.old result state.new }
     ensures unchanged { result.taken ≡ 0 → state.new ≡ state.old }
     ensures plans { plans_in state.new ≡ plans_in state.old }

@@ -52,6 +52,7 @@ impl MapUpTo {
         ensures value { (o : core.Options) (s : core.State) → IsCore o s → Shows state.now o s
             → IsMapOf s.entries self.old
             → IfOk result (λ found. found_value found ≡ value_at (map_up_to at s.entries) key.now) }
+        // It is the map of some first entries of the history, also where memory was short: so it can go on from there.
         ensures kept { (o : core.Options) (s : core.State) → IsCore o s → Shows state.now o s
             → IsMapOf s.entries self.old
             → IsMapOf s.entries self.new }

@@ -45,6 +45,7 @@ pub fn replay_schedule(
     requires fits { FitsBatches schedule.script }
     requires commands { HasClientsCommands schedule.script }
     requires last { options.last ≤ 2 ^ 56 - 1 }
+    // It is said of both kinds of core: in a single stage and pipelined.
     ensures { IfOk result (λ shown. ShowsReplayed shown (replayed_of options (schedule_of schedule))) }
 {
     let Schedule { script, events } = schedule;

@@ -43,6 +43,7 @@ impl BatchList {
     /// Makes room for `batches` more batches, which have `bytes` bytes in all: each has its own bytes, and one for its
     /// flag. This only saves growth later: the list asks for more memory by itself.
     pub fn reserve(&mut self, batches: usize, bytes: usize) -> Result<(), NoMemory>
+        // Room that is made shows nothing: a caller may leave this out.
         ensures { self.new ≡ self.old }
     {
         self.bytes.reserve(bytes)?;
@@ -53,6 +54,8 @@ impl BatchList {
     /// Appends a copy of a batch. Where memory fails, the list stays as it was. There is no memory for a list of 2^32
     /// bytes or more.
     pub fn push(&mut self, flag: Flag, batch: &Batch) -> Result<(), NoMemory>
+        // Contracts see one list, and it is the only one whose bytes, by the layout at the head of `lib.rt`, are those
+        // that are kept.
         ensures ok { OnOk result (self.new ≡ self.old ++ record { flag = flag; batch = batch.now } ∷ []) }
         ensures err { OnErr result (self.new ≡ self.old) }
     {
@@ -76,6 +79,7 @@ impl BatchList {
     /// The batch at a place, from 0 on.
     pub fn get(&self, at: usize) -> AcceptedBatch<AcceptedBatchRef<'_>>
         requires { at < length self.now }
+        // It borrows the list's bytes, and has the batch as it was put there.
         ensures { slice_get self.now at ≡ Some result }
     {
         let part = part_at(&self.bytes, &self.ends, at);

@@ -38,6 +38,7 @@ impl<'a> Iterator for Commands<'a> {
 
     ghost remaining = { item_count (λ left. left) };
 
+    /// The next command, with its words as parts of the list's bytes. There is none exactly where no command is left.
     fn next(&mut self) -> Option<CommandView<'a>> {
         let (command, rest) = split_command(self.bytes)?;
         self.bytes = rest;

@@ -47,6 +47,8 @@ impl CommandList {
     /// Appends a command. Where memory fails, the list stays as it was.
     pub fn push(&mut self, command: CommandView<'_>) -> Result<(), NoMemory>
         requires { HasShortWords command }
+        // Contracts see one list, and it is the only one whose bytes, by the layout at the head of `lib.rt`, are those
+        // that are kept.
         ensures ok { OnOk result (self.new ≡ self.old ++ command_of command.entry ∷ []) }
         ensures err { OnErr result (self.new ≡ self.old) }
     {

@@ -39,6 +39,7 @@ impl<'a> Iterator for Words<'a> {
 
     ghost remaining = { item_count (λ left. left) };
 
+    /// The next word, as a part of the list's bytes.
     fn next(&mut self) -> Option<&'a [u8]> {
         let (word, rest) = split_word(self.bytes)?;
         self.bytes = rest;

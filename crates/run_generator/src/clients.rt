@@ -15,6 +15,7 @@ use std::alloc::Global;
 pub fn generate(alloc: Global, seed: u64, clients: u32, batches: u64) -> Result<Script, NoMemory>
     requires clients { (1 ≤ clients) × (clients ≤ MAX_CLIENTS) }
     requires batches { (1 ≤ batches) × (batches ≤ 100000) }
+    // What a client does depends on the seed, its number and how many batches it has. Want of memory is the only error.
     ensures ok { IfOk result (λ s. commands_of s ≡ script_of_seed seed clients batches) }
 
     // All that a client adds fits into one batch, whatever the outcome of its commits.

@@ -8,6 +8,7 @@ use run_scripts::value_of_digits;
 
 /// The sum of a map's values as numbers, if each of them is below `2^64`.
 pub fn sum_of(map: &ByteMap) -> Option<u128>
+    // There is no sum where a value is no number below `2^64`. A sum may be greater than that.
     ensures { result ≡ (if have_numbers map.now then Some (sum_of_values map.now) else None) }
 {
     // This many numbers below 2^64 have a sum below 2^128.

@@ -17,6 +17,7 @@ ghost use Rattle.run_laws.specs.Accepting.{HasRoom, IsNotHeldUp, ReachesCommit, 
 /// batch and its options pass the checks; there are sequences for the batches of all commits that the clients reached;
 /// and either the commit may wait, or no client asks for a stop or a slowdown.
 pub fn commits_are_accepted()
+    // So each refusal has one of these causes, and the script and the replies are enough to see which.
     ensures accepted { (settings : Settings) (ended : ℕ) (script : Script) (o : Outcome) (client : ℕ)
         (before : List Call) (how : WriteOptions) (reply : Reply)
         → IsLegal settings ended script o → o.fault ≡ None → ReachesCommit o client before how reply

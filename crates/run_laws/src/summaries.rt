@@ -19,6 +19,7 @@ use model_base::{MAX_CLIENTS, MAX_SIZE};
 /// All legal outcomes of one generated script, of at most 64 clients and 100000 batches of each, have one summary,
 /// whatever the schedule, if they began with nothing, a batch may have `MAX_SIZE` bytes, and no call failed.
 pub fn summaries_are_one()
+    // It is reckoned from the script, all batches client by client: so it is the same in each schedule.
     ensures one_summary { (seed clients batches ended : ℕ) (settings : Settings) (o : Outcome)
         → clients ≤ MAX_CLIENTS → batches ≤ 100000 → settings.start ≡ 0 → settings.opening ≡ []
         → settings.batch_bytes ≡ MAX_SIZE

@@ -42,6 +42,7 @@ impl Model for History {
 impl History {
     /// The history of a single client: its batches in the order that they have.
     pub fn of_one(list: BatchList) -> History
+        // A single client's batches are in order already, so nothing is sorted.
         ensures { result ≡ entries_of 1 list }
     {
         History {
@@ -77,6 +78,7 @@ impl History {
     /// The batch at a place, from 0 on.
     pub fn entry(&self, at: usize) -> HistoryEntry<AcceptedBatchRef<'_>>
         requires { at < length self.now }
+        // It has its client, its number among that client's batches, and its run.
         ensures { slice_get self.now at ≡ Some result }
     {
         match &self.batches {

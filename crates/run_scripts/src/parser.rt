@@ -37,7 +37,10 @@ use std::alloc::Global;
 /// and within a line the first kind in the order byte, word, form, client, clients. Two faults are of the whole text:
 /// that it is too long comes before all others, and that it has no client comes after all others.
 pub fn parse_clients(alloc: Global, text: &[u8]) -> Result<Script, ScriptError>
+    // What is read is what the definition of a script says, in its whole grammar.
     ensures script { IfOk result (λ s. script_of whole_grammar text.now ≡ Ok (commands_of s)) }
+    // A text is refused for its first fault only, with the fault's line and kind. The one other error is want of
+    // memory.
     ensures fault { IfErr result (IsFaultOf (script_of whole_grammar text.now)) }
     ensures clients { IfOk result (λ s. (1 ≤ length s.clients.items) × (length s.clients.items ≤ MAX_CLIENTS)) }
 

@@ -44,8 +44,10 @@ struct Draft {
 /// [`parse_clients`](crate::parse_clients). Where the line `schedule` is missing, the fault is `schedule`, and it
 /// comes after all others.
 pub fn parse_schedule(alloc: Global, text: &[u8]) -> Result<Schedule, ScriptError>
+    // What is read is what the definition of a script with a schedule says.
     ensures schedule { IfOk result (λ s. model.schedule_of replay_grammar event_words text.now
         ≡ Ok (schedule_of s)) }
+    // A text is refused for its first fault only, as by `parse_clients`.
     ensures fault { IfErr result (IsScheduleFaultOf
         (model.schedule_of replay_grammar event_words text.now)) }
 

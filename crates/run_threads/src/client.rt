@@ -41,8 +41,10 @@ pub fn run_client<E: Engine, G: Gate, R: Wait + rt::Clock>(
     requires room { length commands.now ≤ vec_capacity replies.old }
     requires no_batches { AreNone batches.old }
     ensures belongs { E.belongs engine.now client.new }
+    // The replies are whole, or end with the first that found no memory. By then the client has given back its tokens.
     ensures told { HasReplied (E.settings engine.now) number commands.now replies.new.items
         (E.account client.new) }
+    // Its batches are its entries, numbered in their order. The last one may still be outside the list.
     ensures accepted { ShowsAccepted number (accepted_in batches.new) (E.account client.new).mine }
 {
     calls_one_after_another();

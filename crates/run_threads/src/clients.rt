@@ -44,9 +44,12 @@ where
     requires few { length script.now < 2 ^ 32 }
     requires fits { FitBatches script.now }
     ensures ours { AreOurs (E.belongs engine.now) E.account (E.settings engine.now).clients clients.new.items }
+    // Of each client the replies are a transcript of its commands in each trace of which it may have seen what it has
+    // seen.
     ensures run { IfOk result (λ told. HaveReplied (E.settings engine.now) script.now told.0.items
         (map E.account clients.new.items)) }
     ensures accepted { IfOk result (λ told. HaveEntries told.1.items (map E.account clients.new.items)) }
+    // Nobody has called anything then.
     ensures err { OnErr result (clients.new ≡ clients.old) }
 {
     let mut replies = room_for(alloc, script)?;

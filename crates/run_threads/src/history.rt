@@ -14,6 +14,7 @@ use std::alloc::Global;
 /// The one history that the clients' accepted batches make, in order of their sequences.
 pub fn history_of(alloc: Global, mut lists: Vec<BatchList>) -> Result<History, NoMemory>
     requires { length lists.items < 2 ^ 32 }
+    // It is said where the batches are exactly those of a history. The closing of a write path shows that they are.
     ensures { (start : ℕ) (entries : List model.Entry) → MakeUp start lists.items entries
         → IfOk result (λ shown. ShowsEntries shown entries) }
 {

@@ -68,6 +68,8 @@ where
     requires few { length script.now < 2 ^ 32 }
     requires fits { FitBatches script.now }
     requires room { E.closes engine clients.room }
+    // Where memory was short for the outcome itself, the replies that the clients had are still those of a legal
+    // outcome, and the log is its log.
     ensures { ComesTo (E.settings engine) script.now (E.wrote engine) E.fault E.faults result }
 {
     let Clients { mut clients, room } = clients;

@@ -80,8 +80,10 @@ pub trait Table<NodeList: Versioned, GroupList: GroupParts<NodeList>> {
     ) -> Result<Read, NoMemory>
         requires { ours self.now seat.old }
         ensures ours { ours self.now seat.new }
+        // A seat never sees less than it has seen: so no later read of a client goes back.
         ensures seen { Learns (opening self.now).start (account seat.old) (account seat.new) }
         ensures at { IfOk result (λ read. read.at ≡ last_of (opening self.now).start (account seat.new).seen) }
+        // Versions above the sequence that is answered change nothing.
         ensures value { IfOk result (λ read. found_value read.value
             ≡ value_in (opening self.now).base key.now (account seat.new).seen) };
 
@@ -97,6 +99,7 @@ pub trait Table<NodeList: Versioned, GroupList: GroupParts<NodeList>> {
         ensures ours { ours self.now seat.new }
         ensures seen { Learns (opening self.now).start (account seat.old) (account seat.new) }
         ensures at { IfOk result (λ reads. reads.at ≡ last_of (opening self.now).start (account seat.new).seen) }
+        // All are values of one map, at one end of what is published.
         ensures values { IfOk result (λ reads. reads.values
             ≡ map (λ key. value_in (opening self.now).base key (account seat.new).seen) keys.now) };
 
@@ -124,9 +127,11 @@ pub trait Table<NodeList: Versioned, GroupList: GroupParts<NodeList>> {
         requires next { IsNext (opening self.now) (history turn) (GroupList.parts parts.old) }
         requires fits { end_of (last_of (opening self.now).start (history turn)) (GroupList.parts parts.old) < 2 ^ 64 }
         ensures ours { ours self.now seat.new }
+        // The seat that launches must take its own part next, if it has one.
         ensures launched { Launches (opening self.now).start (account seat.old) (history turn)
             (GroupList.parts parts.old) (account seat.new) }
         ensures emptied { GroupList.parts parts.new ≡ [] }
+        // Who leads the next group needs no memory for its parts.
         ensures room { GroupList.room parts.new ≡ GroupList.room parts.old };
 
     /// Waits until the client's part is handed out, and takes it.
@@ -134,6 +139,8 @@ pub trait Table<NodeList: Versioned, GroupList: GroupParts<NodeList>> {
         requires ours { ours self.now seat.old }
         requires free { MayTake (account seat.old).stage }
         ensures ours { ours self.now seat.new }
+        // The part is of a group that goes right after all that is published, and of the launched group where the seat
+        // itself launched one.
         ensures taken { Takes (opening self.now) (account seat.old) (versions result) (account seat.new) };
 
     /// Puts the part's nodes into their trees, each under its lock.
@@ -149,6 +156,7 @@ pub trait Table<NodeList: Versioned, GroupList: GroupParts<NodeList>> {
         requires ours { ours self.now seat.old }
         requires stored { (u : Launched) × ((account seat.old).stage ≡ Stored u) }
         ensures ours { ours self.now seat.new }
+        // That it finds as many members as haven't finished is said of the rule's step (`steps_and_events: count`).
         ensures counted { (u : Launched) → (account seat.old).stage ≡ Stored u
             → Counts (account seat.old) u result (account seat.new) };
 
@@ -157,6 +165,7 @@ pub trait Table<NodeList: Versioned, GroupList: GroupParts<NodeList>> {
         requires ours { ours self.now seat.old }
         requires last_one { (u : Launched) × ((account seat.old).stage ≡ Publishing u) }
         ensures ours { ours self.now seat.new }
+        // The group is the end of what the seat has seen.
         ensures published { (u : Launched) → (account seat.old).stage ≡ Publishing u
             → Publishes (opening self.now).start (account seat.old) u (account seat.new) };
 
@@ -172,6 +181,7 @@ pub trait Table<NodeList: Versioned, GroupList: GroupParts<NodeList>> {
         requires idle { (account seat.old).stage ≡ Idle }
         requires launched { (u : Launched) × ((account seat.old).launched ≡ Some u) × (last ≡ u.last) }
         ensures ours { ours self.now seat.new × our_turn self.now result }
+        // The turn shows the group after all that it showed before, so the next group can be launched.
         ensures published { (u : Launched) → (account seat.old).launched ≡ Some u
             → history result ≡ u.before ++ u.group ∷ [] }
         ensures seen { Learns (opening self.now).start (record (account seat.old) { launched = None })
@@ -189,5 +199,6 @@ pub trait Table<NodeList: Versioned, GroupList: GroupParts<NodeList>> {
     fn close(self, seats: Seats<Self::Seat, Self::Turn>)
         requires turn { our_turn self seats.turn }
         requires clients { (seat : Self.Seat) → In seat seats.clients.items → ours self seat × IsReady (account seat) }
+        // What was published is one history, and each seat has seen a beginning of it.
         ensures { IsClosing (opening self).start (history seats.turn) (map account seats.clients.items) };
 }

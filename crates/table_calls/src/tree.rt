@@ -47,6 +47,8 @@ pub trait VersionTree<Node: VersionNode>: Versioned {
 
     /// The key's value as of a sequence: what it is in the map that the versions up to that sequence make.
     fn lookup(&self, key: &[u8], at: u64) -> Option<&[u8]>
+        // It is said for each list of exactly the versions up to the sequence, in an order in which sequences don't
+        // fall.
         ensures { (order : List Version) → IsOrderUpTo at (Self.versions self.now) order
             → option_copied result ≡ value_at (map_of order) key.now };
 

@@ -78,6 +78,7 @@ impl MemoryTable {
         NoMemory,
     >
         requires { 0 < shards }
+        // No versions, and this published sequence. A key's shard is its CRC-32C modulo the number of shards.
         ensures table { IfOk result (λ opened. opening_of opened.0
             ≡ record { clients = clients; shards = shards; start = last; base = [] }) }
         ensures turn { IfOk result (λ opened. IsTurnAtStart opened.0 opened.1.turn) }
@@ -108,6 +109,7 @@ impl MemoryTable {
         requires shards { 0 < shards }
         requires published { base_last ≤ last }
         requires none_before { base_last ≡ 0 → map.now ≡ [] }
+        // What the table was opened over is there for contracts only, and has no bytes.
         ensures table { IfOk result (λ opened. opening_of opened.0 ≡ record {
           clients = clients;
           shards = shards;

@@ -26,6 +26,7 @@ pub fn table_and_core()
         → IsCoreOf start o team a s → s.table ≡ at_rest → leads c (table_group o s) ≡ true
         → IsCoreGroup start o team s a.published g → IsLaunch g a b
         → AreTaken start o team (core.Launch c ∷ []) s b }
+    // The core takes one insertion for each client of the team, in order, and fits the table after the last.
     ensures insert { (start : ℕ) (o : Options) (team : ℕ → List ℕ) (s : State) (a b : TableNow) (m : ℕ)
         → IsCoreOf start o team a s → IsInsert m a b → AreTaken start o team (map core.Insert (team m)) s b }
     ensures finish { (start : ℕ) (o : Options) (team : ℕ → List ℕ) (s : State) (a b : TableNow) (m found : ℕ)
@@ -33,6 +34,7 @@ pub fn table_and_core()
     ensures publish { (start : ℕ) (o : Options) (team : ℕ → List ℕ) (s : State) (a b : TableNow) (m c : ℕ)
         → IsCoreOf start o team a s → IsPublish m a b → is_last c (team m) ≡ true
         → AreTaken start o team (core.Publish c ∷ []) s b }
+    // The exit moves the core and leaves the table as it is.
     ensures exit { (start : ℕ) (o : Options) (team : ℕ → List ℕ) (s : State) (a : TableNow) (c : ℕ)
         → IsCoreOf start o team a s → a.mode ≡ still → s.table ≡ is_published → leads c (table_group o s) ≡ true
         → AreTaken start o team (core.Exit c ∷ []) s a }

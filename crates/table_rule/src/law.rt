@@ -29,6 +29,7 @@ pub fn steps_and_events<ShardTree: Versioned, NodeList: Versioned>()
         (seen : List (List MemberVersions)) (stage : Stage) (tree : ShardTree) (more : Carried ShardTree NodeList)
         → IsAt c z seen (Held word (ShardTree.versions tree)) stage me → me.1 ≡ (word, Tree tree) ∷ more
         → StoreIs ShardTree.versions NodeList.versions Stays z slots id me word 0 after_unlock }
+    // What goes in is next in the holder's own part, and all of this shard.
     ensures add_versions { (z : Opening) (slots id word c : ℕ) (me : SeatNow ShardTree NodeList)
         (seen : List (List MemberVersions)) (u : Launched) (done new rest vs : List Version) (tree : ShardTree)
         (more : Carried ShardTree NodeList) → IsAt c z seen (Held word vs) (Holding (work u done (new ++ rest))) me
@@ -56,6 +57,8 @@ pub fn steps_and_events<ShardTree: Versioned, NodeList: Versioned>()
         → word ≡ z.shards + 1 + c → 0 < c
         → IsAt c z seen Free (Holding (work u done [])) me → me.1 ≡ (z.shards + c, Blank) ∷ more
         → StoreIs ShardTree.versions NodeList.versions (IsInsert c) z slots id me word 0 after_settle }
+    // Who finds 1 is the last: all members have finished then, and the one step of the group that is left is to publish
+    // it, by that member.
     ensures count { (z : Opening) (slots id word c : ℕ) (me : SeatNow ShardTree NodeList)
         (seen : List (List MemberVersions)) (u : Launched) → word ≡ z.shards + 1 → IsAt c z seen Free (Stored u) me
         → StepIs ShardTree.versions NodeList.versions (IsFinish c) z slots id me word

@@ -20,6 +20,7 @@ impl Nodes {
     /// A node for each record of the batch that counts, the last record's node first, as `number` takes them. They
     /// don't have their sequences yet.
     pub fn make(alloc: Global, batch: &Batch) -> Result<Nodes, NoMemory>
+        // The last record's node is first, since nodes are put in front one by one; `number` turns them round.
         ensures { IfOk result (λ nodes. nodes ≡ reverse (new_versions batch.now.records)) }
     {
         let mut nodes = Nodes::new();

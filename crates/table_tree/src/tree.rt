@@ -54,7 +54,9 @@ impl Tree {
         requires { IsNew (version_of node.value) (versions_in self.old) }
         ensures versions { versions_in self.new ≡ insert_version (versions_in self.old) (version_of node.value) }
         ensures ordered { AreOrdered (versions_in self.new) }
+        // One node for each key, which has all its versions.
         ensures keyed { AreKeyed (chains_in self.new) }
+        // The heights of the two sides of a node differ by at most one, so that a look-up takes few steps.
         ensures balanced { IsBalanced self.new }
     {
         self.root.insert(node);

@@ -39,6 +39,7 @@ impl<'h> HeldDisk<'h> {
         ensures inner { inner_of result ≡ inner }
         ensures left { left_of result ≡ at }
         ensures need { hold_need result ≡ need_of hold.now }
+        // At first it tells what the disk in memory tells.
         ensures told { held_told result ≡ told_of inner }
         ensures from { held_from result ≡ from_of inner }
         ensures faults { held_faults result ≡ (disk_calls inner).faults }
@@ -140,8 +141,10 @@ impl<'h> Disk for HeldDisk<'h> {
         ensures time { TimePasses held_told held_moment held_from held_since self.old self.new }
         ensures left { left_of self.new ≡ left_of self.old - 1 }
         ensures need { hold_need self.new ≡ hold_need self.old }
+        // An append that isn't the held one fails only where it would fail on the disk in memory.
         ensures handed_on { left_of self.old ≢ 1 → FailsAsInner self.old self.new
             (has_no_room (inner_of self.old) (length piece.now)) result }
+        // So does the held one, where nobody has to arrive. That it waits otherwise, and until when, is in no clause.
         ensures open_at_once { hold_need self.old ≡ 0 → FailsAsInner self.old self.new
             (has_no_room (inner_of self.old) (length piece.now)) result }
         ensures cause { HasCause (held_faults self.old) (held_faults self.new) result }

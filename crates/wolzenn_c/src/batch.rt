@@ -60,6 +60,8 @@ pub extern "C" fn wz_batch_put(
     key: &[u8],
     value: &[u8],
 ) -> u32
+    // `TOO_LARGE` always comes where the batch would have more than `MAX_SIZE` bytes. Where it would not, the records
+    // are added, or there is no memory.
     ensures { Adds handle.old.held.object (model.value key.now value.now ∷ []) result handle.new.held.object }
 {
     let view = RecordView::Value { key, value };

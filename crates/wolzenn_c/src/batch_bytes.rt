@@ -50,6 +50,7 @@ pub struct WzOp {
 pub extern "C" fn wz_batch_read(bytes: &[u8], head: &mut WzBatchHead, why: &mut WzEnd) -> u32
     // Which answers there are, and what is true if it gives them.
     ensures answers { (result ≡ DONE) ⊎ (result ≡ NO_BATCH) }
+    // These are the answers of `read_batch`, both ways, in numbers.
     ensures done { result ≡ DONE → (records : List Record) × IsBatch bytes.now head.new.sequence records
         × (head.new.count ≡ count_of records) × (why.new ≡ why.old) }
     ensures no_batch { result ≡ NO_BATCH → (error : BatchError) × IsBatchError bytes.now error

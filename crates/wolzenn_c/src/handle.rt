@@ -98,6 +98,7 @@ pub extern "C" fn wz_version() -> u32
 /// Frees what the handle holds. It holds nothing then.
 #[unsafe(no_mangle)]
 pub extern "C" fn wz_close(alloc: Global, handle: &mut WzHandle)
+    // That what it held is freed is in no clause: the handle's `Drop` frees it, and `tests/library` counts.
     ensures { handle.new.held.object ≡ None }
 {
     handle.clear(alloc);

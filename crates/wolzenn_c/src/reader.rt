@@ -59,9 +59,11 @@ pub extern "C" fn wz_reader_next(
     found: &mut WzRecord,
     end: &mut WzEnd,
 ) -> u32
+    // The answer in numbers is that of `LogReader::next`. A fault never comes, since the bytes are in memory.
     ensures next { MatchOption (as_reader handle.old.held.object) (result ≡ CLOSED)
         (λ old. MatchOption (as_reader handle.new.held.object) ⊥
         (λ new. IsNext log.now old new (found.old, end.old) result (found.new, end.new))) }
+    // A handle of another kind keeps what it holds.
     ensures closed { result ≡ CLOSED → handle.new.held.object ≡ handle.old.held.object }
     ensures untold { result ≡ CLOSED → (found.new ≡ found.old) × (end.new ≡ end.old) }
 {

@@ -45,6 +45,8 @@ pub extern "C" fn wz_recover(
     log: &[u8],
     summary: &mut WzRecovered,
 ) -> u32
+    // The pairs and the summary are those of the one recovery of these bytes, and the mode accepts its end; or the
+    // summary has the end that the mode doesn't accept.
     ensures recovers { MatchOption (mode_with mode) (result ≡ RANGE) (λ m.
         Recovers (number_of number) m log.now result (as_recovery handle.new.held.object) summary.new) }
     ensures nothing { result ≢ DONE → handle.new.held.object ≡ None }
