@@ -1,12 +1,19 @@
 """Charts of rates by clients, for the scripts in this folder."""
 
-COLOURS = ["#1b6ca8", "#d1495b", "#b57d00", "#3f8a5f", "#7a4fa3", "#5c5c5c"]
+UNGROUPED = "a mutex and a write each"
+# The colours of each program in all charts: one for each of its ways, in the order in which a chart has them.
+COLOURS = {
+    "Wolzenn": ["#1b6ca8", "#63b3e8"],
+    "LevelDB": ["#d1495b"],
+    "RocksDB": ["#b57d00"],
+    UNGROUPED: ["#3f8a5f"],
+}
 INK, GREY, PALE = "#222222", "#767676", "#d9d9d9"
 # A chart's columns and ticks are in a field of this size, from its left edge on. GAP is the distance between two
 # charts.
 WIDTH, HEIGHT, LEFT, TOP, GAP = 380, 280, 80, 60, 24
-# About how wide a letter of a name is.
-LETTER = 7
+# How long the line before a name is, and about how wide a letter of it.
+LINE, LETTER = 16, 7
 
 
 def step_of(most):
@@ -17,6 +24,17 @@ def step_of(most):
             if 5 * step >= most:
                 return step
         power *= 10
+
+
+def strokes_of(series):
+    """How the line of each of these names is drawn. A name begins with that of its program, up to a comma."""
+    left = {program: list(colours) for program, colours in COLOURS.items()}
+    strokes = []
+    for name in series:
+        program = name.split(",")[0]
+        dashes = ' stroke-dasharray="6 4"' if program == UNGROUPED else ""
+        strokes.append(f'stroke="{left[program].pop(0)}"{dashes}')
+    return strokes
 
 
 def text(x, y, words, fill=GREY, more=""):
@@ -41,15 +59,15 @@ def axes(x0, title, clients, step, top):
 
 
 def names(x0, series):
-    """The series' names in their colours, in as many rows as they need, and how many rows these are."""
+    """The series' names with their lines, in as many rows as they need, and how many rows these are."""
     parts, x, row = [], 0, 0
-    for number, name in enumerate(series):
-        width = 22 + LETTER * len(name)
+    for name, stroke in zip(series, strokes_of(series)):
+        width = LINE + 8 + LETTER * len(name)
         if x > 0 and x + width > WIDTH:
             x, row = 0, row + 1
-        y, colour = TOP + HEIGHT + 62 + 20 * row, COLOURS[number % len(COLOURS)]
-        parts.append(f'<path d="M{x0 + x} {y - 4}h14" stroke="{colour}" stroke-width="3"/>')
-        parts.append(text(x0 + x + 19, y, name, INK))
+        y = TOP + HEIGHT + 62 + 20 * row
+        parts.append(f'<path d="M{x0 + x} {y - 4}h{LINE}" {stroke} stroke-width="3"/>')
+        parts.append(text(x0 + x + LINE + 5, y, name, INK))
         x += width + 10
     return parts, row + 1
 
@@ -60,10 +78,9 @@ def chart(x0, title, clients, rates):
     step = step_of(most)
     top = step * max(1, -int(-most // step))
     parts, columns = axes(x0, title, clients, step, top)
-    for number, values in enumerate(rates.values()):
-        colour = COLOURS[number % len(COLOURS)]
+    for stroke, values in zip(strokes_of(rates), rates.values()):
         points = [f"{x:.0f},{TOP + HEIGHT - HEIGHT * rate / top:.0f}" for x, rate in zip(columns, values)]
-        parts.append(f'<polyline points="{" ".join(points)}" fill="none" stroke="{colour}" stroke-width="2"/>')
+        parts.append(f'<polyline points="{" ".join(points)}" fill="none" {stroke} stroke-width="2"/>')
     named, rows = names(x0, rates)
     return parts + named, rows
 

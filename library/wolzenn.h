@@ -59,16 +59,16 @@ enum {
 enum {
   WZ_CLEAN = 1,        /* the log ends after a whole record, or in or after the zeros that end its block, or is
                           empty: `at` is its length, which may be past `kept` of its recovery */
-  WZ_SHORT_HEADER = 2, /* a fragment's header is cut off */
+  WZ_SHORT_HEADER = 2, /* a fragment's header is incomplete */
   WZ_ZEROS = 3,        /* a header of zeros */
   WZ_BAD_LENGTH = 4,   /* a fragment passes the end of its block or of the log */
   WZ_BAD_TYPE = 5,     /* a fragment of no type that such a log has: first is its type */
-  WZ_BAD_CHECKSUM = 6, /* a fragment's checksum differs */
+  WZ_BAD_CHECKSUM = 6, /* a fragment's checksum doesn't match its bytes */
   WZ_BAD_TRAILER = 7,  /* bytes that aren't zeros where a block ends */
   WZ_OLD_LOG = 8,      /* a fragment of another log: first is that log's number */
   WZ_BAD_ORDER = 9,    /* a fragment is where none of its type may be */
   WZ_UNFINISHED = 10,  /* the log ends inside a record */
-  WZ_SHORT = 11,       /* a batch whose header or record is cut off */
+  WZ_SHORT = 11,       /* a batch whose header or record is incomplete */
   WZ_BAD_VARINT = 12,  /* a length in a batch isn't in its shortest spelling, or is too long */
   WZ_TAG = 13,         /* a record of a batch has a tag that isn't read: first is the tag */
   WZ_COUNT = 14,       /* a batch's header has another count (first) than its records (second) */
@@ -79,7 +79,7 @@ enum {
 /* Which ends of a log recovery accepts. */
 enum {
   WZ_POINT = 0,   /* any: the records before it are recovered (kPointInTimeRecovery) */
-  WZ_TAIL = 1,    /* that of a whole log, and one where the last write was cut off */
+  WZ_TAIL = 1,    /* that of a whole log, and one where the last write is incomplete */
   WZ_ABSOLUTE = 2 /* that of a whole log (kAbsoluteConsistency) */
 };
 /* After the end of a log that was written over an older one come the older bytes, and they may show as any of the
@@ -163,12 +163,12 @@ uint32_t wz_reader_record(wz_handle *handle, uint8_t *buffer, size_t buffer_len)
    its tables or its other logs. A caller who needs deletions reads record by record. A log may be resumed at
    summary->kept.
    WZ_DAMAGE: the mode doesn't accept the end; summary->end says where and why, and the rest of *summary is 0.
-   WZ_RANGE: there is no such mode. WZ_NO_MEMORY. At any answer but WZ_DONE the handle holds nothing. */
+   WZ_RANGE: there is no such mode. WZ_NO_MEMORY. At any answer except WZ_DONE the handle holds nothing. */
 uint32_t wz_recover(wz_handle *handle, uint32_t number, uint32_t mode, const uint8_t *log, size_t log_len,
                     wz_recovered *summary);
 
-/* How many bytes the key and the value of a pair have. The pairs are in the byte order of their keys, and have indices
-   from 0 on. WZ_DONE. WZ_END: there is no such pair. WZ_CLOSED: the handle holds no recovery. */
+/* How many bytes the key and the value of a pair have. The pairs are in the byte order of their keys, with
+   indices from 0. WZ_DONE. WZ_END: there is no such pair. WZ_CLOSED: the handle holds no recovery. */
 uint32_t wz_pair_len(wz_handle *handle, size_t index, wz_pair_lens *lens);
 
 /* Copies the key and the value of the pair with this index to the starts of the two buffers, and touches nothing after
@@ -217,7 +217,7 @@ uint32_t wz_batch_bytes(wz_handle *handle, uint8_t *buffer, size_t buffer_len);
 
 /* ---- reading a batch ---- */
 
-/* Looks through the bytes of a batch. WZ_DONE: they are one, and *head has its sequence and its count. WZ_NO_BATCH:
+/* Checks the bytes of a batch. WZ_DONE: they are one, and *head has its sequence and its count. WZ_NO_BATCH:
    they are none, and *why says why: WZ_SHORT, WZ_BAD_VARINT, WZ_TAG or WZ_COUNT, with the offset 0; wz_batch_next
    finds the place of a record that can't be read. */
 uint32_t wz_batch_read(const uint8_t *bytes, size_t len, wz_batch_head *head, wz_end *why);
@@ -233,7 +233,7 @@ uint32_t wz_batch_next(const uint8_t *bytes, size_t len, size_t *at, wz_op *op, 
    The file is the caller's. The caller writes what these functions give at the log's end, syncs the file when that
    should be safe, and keeps the offset. A log begins at the offset 0. So does one with a number that is written over
    an older file: there each record is written at its offset, and not at the file's end. A log that was recovered is
-   resumed at `kept` of its summary, once the file is cut there. `number` is as above. */
+   resumed at `kept` of its summary, once the file is truncated there. `number` is as above. */
 
 /* How many bytes a record of len bytes takes in a log that has `offset` bytes so far: its fragments, each after its
    header, and the zeros that end a block. The answer is the greatest size_t where they are more than that. */

@@ -2,9 +2,9 @@
 //!
 //!     write_log LOG [NUMBER]
 //!
-//! Each record is safe once the file is synced, which this program does itself. Where LOG exists, the log is resumed:
-//! what it recovers is kept, and the rest is cut off. Where nothing of it would be kept, as with a wrong NUMBER, it is
-//! left as it is.
+//! Each record is safe once the file is synced, which this program does itself. If LOG exists, the log is resumed: what
+//! it recovers is kept, and the rest is truncated. If nothing of it would be kept, as with a wrong NUMBER, it is left
+//! as it is.
 
 use std::error::Error;
 use std::fs::{File, OpenOptions};

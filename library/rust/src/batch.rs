@@ -40,7 +40,7 @@ impl Batch {
         self.held.single_delete(key)
     }
 
-    /// Adds bytes that are in the log alone, and take no sequence.
+    /// Adds bytes that are only in the log, and take no sequence.
     pub fn log_data(&mut self, blob: &[u8]) -> Result<(), Error> {
         self.held.log_data(blob)
     }
@@ -95,7 +95,7 @@ pub enum Op<'a> {
     Delete(&'a [u8]),
     /// Takes a key out that was set at most once.
     SingleDelete(&'a [u8]),
-    /// Bytes that are in the log alone.
+    /// Bytes that are only in the log.
     LogData(&'a [u8]),
 }
 

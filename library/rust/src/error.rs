@@ -18,7 +18,7 @@ pub struct End {
 pub enum Why {
     /// The log ends after a whole record, or is empty.
     Clean,
-    /// A fragment's header is cut off.
+    /// A fragment's header is incomplete.
     ShortHeader,
     /// A header of zeros.
     Zeros,
@@ -36,7 +36,7 @@ pub enum Why {
     BadOrder,
     /// The log ends inside a record.
     Unfinished,
-    /// A batch whose header or record is cut off.
+    /// A batch whose header or record is incomplete.
     Short,
     /// A length in a batch isn't in its shortest spelling, or too long.
     BadVarint,

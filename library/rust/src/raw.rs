@@ -189,7 +189,7 @@ pub(crate) enum Next {
     End(End),
 }
 
-/// What the library tells of a recovery.
+/// What the library says about a recovery.
 #[derive(Debug)]
 pub(crate) struct Summary {
     pub groups: usize,

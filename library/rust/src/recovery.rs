@@ -10,7 +10,7 @@ use std::num::NonZeroU32;
 pub enum Mode {
     /// Any end: the records before it are recovered (kPointInTimeRecovery).
     Point,
-    /// The end of a whole log, and one where the last write was cut off.
+    /// The end of a whole log, and one where the last write is incomplete.
     Tail,
     /// The end of a whole log (kAbsoluteConsistency).
     Absolute,

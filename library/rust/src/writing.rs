@@ -21,7 +21,7 @@ impl<W: Write> LogWriter<W> {
         LogWriter::resume(sink, number, 0)
     }
 
-    /// A log that is resumed at this offset, as [`Recovery::kept`](crate::Recovery::kept) tells it. What is written to
+    /// A log that is resumed at this offset, as [`Recovery::kept`](crate::Recovery::kept) gives it. What is written to
     /// the sink must land there: a file is cut to this length first, and its cursor is at its end.
     pub fn resume(sink: W, number: Option<NonZeroU32>, offset: u64) -> LogWriter<W> {
         LogWriter { sink, number, offset, buffer: Vec::new(), has_failed: false }
