@@ -109,7 +109,8 @@ module _ {S D K : Type 0} (source : source.Ghosts S) (disk : disk.Ghosts D) (sin
         → IfSome (source.left has) (λ left. left ≡ [])
     -- 2, 4: The disk isn't touched. Nor is it, at any status, if the text is no script.
     pub disk_untouched : (status ≡ 2) ⊎ (status ≡ 4) → ended ≡ opened
-    pub no_script : IfSome (source.left had) (λ text. (f : Fault) → script_of whole_grammar text ≡ Err f → ended ≡ opened)
+    pub no_script : IfSome (source.left had) (λ text. (f : Fault)
+        → script_of whole_grammar text ≡ Err f → ended ≡ opened)
     pub runs : RunsScript disk sink
         (observation_of disk sink (SaysScript (source.left had)) form.Whole options start mode opened ended
         before after) opened ended before after status

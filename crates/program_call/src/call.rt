@@ -83,8 +83,8 @@ pub fn run<
     ensures status { result.status < 9 }
     // 1 comes only of unlawful words
     ensures words { result.status ≡ 1 → AskNothing words.now }
-    // One clause for unlawful words, and one for the words of each command. The record that it names has what is promised
-    // as its fields.
+    // One clause for unlawful words, and one for the words of each command. The record that it names has what is
+    // promised as its fields.
     ensures nothing { AskNothing words.now → AnswersNothing ⟦<S as Source>⟧ ⟦<D as Disk>⟧ ⟦<K as Sink>⟧
         source.old source.new disk result.disk sink.old sink.new result.status }
     ensures run { (options : RunOptions) (start : Start) (mode : Accepting) → AskToRun words.now options start mode
@@ -125,8 +125,8 @@ pub fn run_gated<
     ensures status { result.status < 9 }
     // 1 comes only of unlawful words
     ensures words { result.status ≡ 1 → AskNothing words.now }
-    // One clause for unlawful words, and one for the words of each command. The record that it names has what is promised
-    // as its fields.
+    // One clause for unlawful words, and one for the words of each command. The record that it names has what is
+    // promised as its fields.
     ensures nothing { AskNothing words.now → AnswersNothing ⟦<S as Source>⟧ ⟦<D as Disk>⟧ ⟦<K as Sink>⟧
         source.old source.new disk result.disk sink.old sink.new result.status }
     ensures run { (options : RunOptions) (start : Start) (mode : Accepting) → AskToRun words.now options start mode

@@ -144,8 +144,8 @@ LeavesAlone ghosts (Behind number) mode old new = LeavesAsBefore ghosts old new
     × LeavesOf ghosts old new (length before.kept)))
 
 module _ {D : Type 0} (ghosts : Ghosts D) (start : LogStart) (mode : Mode) (old new : D) where
-  -- The log was not opened, or no client ran, and the run's end says why. The disk was left alone, and a crash leaves no
-  -- less. Its count of faults is as before, unless the end is a fault.
+  -- The log was not opened, or no client ran, and the run's end says why. The disk was left alone, and a crash leaves
+  -- no less. Its count of faults is as before, unless the end is a fault.
   abbrev pub IsRefused : RunEnd → Type 0
   IsRefused (end.DiskFault count) = IsLeftAlone start mode (ghosts.told old) (ghosts.told new)
       × IsReached (ghosts.faults old) count (ghosts.faults new) × LeavesAlone ghosts start mode old new
