@@ -12,20 +12,19 @@ use Rattle.engine_rule.specs.Asked.{HasAsked}
 use Rattle.engine_groups.specs.Meaning.{Meaning}
 use Rattle.engine_groups.specs.declared.engine.GroupEngine.{GroupEngine}
 use Rattle.engine_groups.specs.declared.engine.EngineClient.{EngineClient}
-use Rattle.engine_groups.specs.declared.leader.Leadership.{Leadership}
 use Rattle.engine_parts.specs.declared.layout.Layout.{Layout}
 use Rattle.engine_parts.specs.declared.requests.Request.{Request}
 use Rattle.engine_parts.specs.declared.requests.Answer.{Answer}
 use Rattle.engine_groups.specs.Clients.{IsIdle, opened_log, own_commits}
 use Rattle.engine_parts.specs.Layout.{IsLaid, IsRoomy}
-use Rattle.engine_groups.specs.Leaving.{HasAnswered, IsToLeave}
+use Rattle.engine_groups.specs.Leaving.{HasAnswered, HasAnsweredGroup}
 use Rattle.engine_groups.proofs.Leads.{of_engine}
 
 pub roomy : (n : ℕ) (layout : Layout) → IsLaid n layout → layout.parts.parts ≡ [] → IsRoomy n layout
 roomy n layout l none = record { clear = (l.no_numberings, l.no_batches, none, l.clients_are); numberings = l.numberings; batches = l.batches; members = l.members }
 
 module _ {D T C G S U P : Type 0} {ghosts : Ghosts D} (meaning : Meaning T S U P) (e : GroupEngine D T C G S U P ghosts)
-    (number start : ℕ) (mine : List (Request × Answer)) (own : QueuedWriter Request) (seen : List (Handling Request Answer)) (w : EngineClient D T C S U P ghosts) (leadership : Leadership D T C S U P ghosts) (l : IsToLeave meaning e number start mine own seen w leadership) where
+    (number start : ℕ) (mine : List (Request × Answer)) (own : QueuedWriter Request) (seen : List (Handling Request Answer)) (w : EngineClient D T C S U P ghosts) (last : ℕ) (l : HasAnsweredGroup meaning e number start mine own seen w last) where
   pub left_client : (w' : EngineClient D T C S U P ghosts) → w'.number ≡ w.number → w'.start ≡ w.start → w'.table ≡ w.table → Belongs e.list w'.writer → client_of w'.writer ≡ client_of w.writer → IsOut w'.writer → answers_told w'.writer ≡ mine ++ (own.asked, l.p) ∷ []
       → meaning.ours e.table w'.seat → IsReady (meaning.account w'.seat) → (meaning.account w'.seat).number ≡ (meaning.account w.seat).number → w'.pass ≡ w.pass → AreReady (clients_of e.list) w'.lists → IsRoomy (clients_of e.list) w'.layout
       → IsIdle meaning e w'

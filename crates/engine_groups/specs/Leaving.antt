@@ -1,8 +1,9 @@
 -- A leader that has answered its group, and gives the log on.
-use Rattle.std.specs.Prelude.{◌≡◌, ℕ, ◌≤◌, List, [], ◌∷◌, ◌++◌, map, vec_len, vec_capacity}
+use Rattle.std.specs.Prelude.{◌≡◌, ℕ, ◌≤◌, false, List, [], ◌∷◌, ◌++◌, map, Option, Some, None, is_none, vec_len, vec_capacity}
 use Rattle.base_devices.specs.declared.disk.Disk.{Ghosts}
 use Rattle.log_writer.specs.declared.writer.LogWriter.{LogWriter}
-use Rattle.table_rule.specs.Histories.{made_by, versions_in}
+use Rattle.table_rule.specs.declared.content.MemberVersions.{MemberVersions}
+use Rattle.table_rule.specs.Histories.{last_of, made_by, versions_in}
 use Rattle.table_tree.specs.Parts.{group_of}
 use Rattle.line_rule.specs.declared.view.QueuedWriter.{QueuedWriter}
 use Rattle.line_rule.specs.declared.view.Handling.{Handling}
@@ -28,7 +29,7 @@ use Rattle.engine_groups.specs.Clients.{own_commits}
 use Rattle.engine_parts.specs.Handled.{AreHandled, IsNoted, commit_of}
 use Rattle.engine_parts.specs.Items.{item_with}
 use Rattle.engine_parts.specs.Runs.{run_of}
-use Rattle.engine_groups.specs.Law.{LeadershipCovers}
+use Rattle.engine_groups.specs.Law.{LeadershipCovers, LeadershipIsStaged}
 use Rattle.engine_parts.specs.Layout.{IsLaid}
 use Rattle.engine_groups.specs.Serving.{HasSeats}
 use Rattle.engine_parts.specs.Staged.{MayLaunch}
@@ -36,11 +37,12 @@ use Rattle.engine_parts.specs.Staged.{MayLaunch}
 module _ {Device Versions Time Watch Seat Turn Part : Type 0} {ghosts : Ghosts Device}
     (meaning : Meaning Versions Seat Turn Part)
     (e : GroupEngine Device Versions Time Watch Seat Turn Part ghosts) where
-  -- The client has answered the group that it leads as `own`; the requests in `seen` were handled before that group.
-  -- When it began to lead it had this number and this start, and `mine` were its own requests and answers.
-  pub record IsToLeave (number start : ℕ) (mine : List (Request × Answer)) (own : QueuedWriter Request)
+  -- The client has answered the group that it leads as `own`; the requests in `seen` were handled before that group,
+  -- and `last` is the last sequence that is given now. When it began to lead it had this number and this start, and
+  -- `mine` were its own requests and answers.
+  pub record HasAnsweredGroup (number start : ℕ) (mine : List (Request × Answer)) (own : QueuedWriter Request)
       (seen : List (Handling Request Answer)) (w : EngineClient Device Versions Time Seat Turn Part ghosts)
-      (leadership : Leadership Device Versions Time Seat Turn Part ghosts) : Type 0
+      (last : ℕ) : Type 0
     where
       pub seats : HasSeats meaning e w
       pub layout : IsLaid (clients_of e.list) w.layout
@@ -61,12 +63,11 @@ module _ {Device Versions Time Watch Seat Turn Part : Type 0} {ghosts : Ghosts D
       pub told_is : answers_told w.writer ≡ mine
       pub heads_are : heads gs ≡ group
       pub pays_are : w.lists.replies.list.items ≡ pays own p gs
-      pub stands : LeadershipCovers meaning (about_of e.list) leadership (seen ++ all_answers own p gs)
       pub before : AreHandled (about_of e.list).controller.value (about_of e.list).opened.value (about_of e.list).start
           seen
       pub kept : AreHandled (about_of e.list).controller.value (about_of e.list).opened.value (about_of e.list).start
           (seen ++ all_answers own p gs)
-      pub last : leadership.held.value.path.last ≡ last_run run_of (start_of e.list) (seen ++ all_answers own p gs)
+      pub last_is : last ≡ last_run run_of (start_of e.list) (seen ++ all_answers own p gs)
       pub own_now : of number (seen ++ all_answers own p gs) ≡ mine ++ (own.asked, p) ∷ []
       pub requests : TakesRequests (clients_of e.list) w.lists.requests
       pub replies_few : vec_len w.lists.replies.list ≤ clients_of e.list
@@ -74,26 +75,66 @@ module _ {Device Versions Time Watch Seat Turn Part : Type 0} {ghosts : Ghosts D
       pub room : HasRoom (clients_of e.list) w.lists.room
       pub has_asked : HasAsked number (own_commits number (mine ++ (own.asked, p) ∷ [])) (seen_by w.pass)
 
+  -- and the leadership represents all that was handled, also that group
+  pub record IsToLeave (number start : ℕ) (mine : List (Request × Answer)) (own : QueuedWriter Request)
+      (seen : List (Handling Request Answer)) (w : EngineClient Device Versions Time Seat Turn Part ghosts)
+      (leadership : Leadership Device Versions Time Seat Turn Part ghosts) : Type 0
+    where
+      pub led : HasAnsweredGroup number start mine own seen w leadership.held.value.path.last
+      pub covers : LeadershipCovers meaning (about_of e.list) leadership (seen ++ all_answers own led.p led.gs)
+
   -- the group's members got no runs, or the list has one stage
   abbrev pub IsFlat : (number start : ℕ) (mine : List (Request × Answer)) (own : QueuedWriter Request)
       (seen : List (Handling Request Answer)) (w : EngineClient Device Versions Time Seat Turn Part ghosts)
       (leadership : Leadership Device Versions Time Seat Turn Part ghosts)
       → IsToLeave number start mine own seen w leadership → Type 0
-  IsFlat number start mine own seen w leadership l = flat_of run_of e.list seen (seen ++ all_answers own l.p l.gs)
+  IsFlat number start mine own seen w leadership l =
+      flat_of run_of e.list seen (seen ++ all_answers own l.led.p l.led.gs)
 
-  -- the parts that it laid out are those of its group, and come after all that got runs before; those who insert in
-  -- parallel with it are other members of the group
+  -- The parts that the client laid out are those of its group, which are answered with `p` and in `gs`, and come after
+  -- all that got runs before. Those who insert in parallel with it are other members of the group.
+  pub record HasLaidOut (own : QueuedWriter Request) (seen : List (Handling Request Answer)) (p : Answer)
+      (gs : List (QueuedWriter Request × Answer))
+      (w : EngineClient Device Versions Time Seat Turn Part ghosts) (end : ℕ) : Type 0 where
+    pub may : MayLaunch (meaning.account w.seat).number (meaning.opening e.table).clients
+        (last_after_all (meaning.opening e.table).start (map commit_of seen)) end w.layout.members.items
+        (group_of w.layout.parts.parts)
+    pub beside : AreMembers (clients_of e.list) w.layout.members.items gs
+    pub made : versions_in (group_of w.layout.parts.parts)
+        ≡ made_by versions_made (map commit_of (all_answers own p gs))
+
   pub record IsToHandOn (number start : ℕ) (mine : List (Request × Answer)) (own : QueuedWriter Request)
       (seen : List (Handling Request Answer)) (w : EngineClient Device Versions Time Seat Turn Part ghosts)
       (leadership : Leadership Device Versions Time Seat Turn Part ghosts)
       (end : ℕ) : Type 0 where
     pub leaves : IsToLeave number start mine own seen w leadership
-    pub may : MayLaunch (meaning.account w.seat).number (meaning.opening e.table).clients
-        (last_after_all (meaning.opening e.table).start (map commit_of seen)) end w.layout.members.items
-        (group_of w.layout.parts.parts)
-    pub beside : AreMembers (clients_of e.list) w.layout.members.items leaves.gs
-    pub made : versions_in (group_of w.layout.parts.parts)
-        ≡ made_by versions_made (map commit_of (all_answers own leaves.p leaves.gs))
+    pub parts : HasLaidOut own seen leaves.led.p leaves.led.gs w end
+
+  -- Its parts must still be published, after the groups in `published`. Where the right to launch is with the
+  -- leadership, nobody inserts in parallel with it.
+  pub record IsToPublish (number start : ℕ) (mine : List (Request × Answer)) (own : QueuedWriter Request)
+      (seen : List (Handling Request Answer)) (w : EngineClient Device Versions Time Seat Turn Part ghosts)
+      (leadership : Leadership Device Versions Time Seat Turn Part ghosts)
+      (end : ℕ) : Type 0 where
+    pub led : HasAnsweredGroup number start mine own seen w leadership.held.value.path.last
+    pub published : List (List MemberVersions)
+    pub last : last_of (about_of e.list).start published
+        ≡ last_after_all (meaning.opening e.table).start (map commit_of seen)
+    pub staged : LeadershipIsStaged meaning (about_of e.list) leadership (Some end) w.layout.parts.parts published
+        (seen ++ all_answers own led.p led.gs)
+    pub parts : HasLaidOut own seen led.p led.gs w end
+    pub alone : is_none leadership.turn ≡ false → w.layout.members.items ≡ []
+
+  -- What is left to do once a group is answered: its leader leaves, since no member got a run, or its parts must be
+  -- published.
+  abbrev pub IsToEnd : (number start : ℕ) (mine : List (Request × Answer)) (own : QueuedWriter Request)
+      (seen : List (Handling Request Answer)) (w : EngineClient Device Versions Time Seat Turn Part ghosts)
+      (leadership : Leadership Device Versions Time Seat Turn Part ghosts) → Option ℕ → Type 0
+  IsToEnd number start mine own seen w leadership None =
+      (l : IsToLeave number start mine own seen w leadership) × IsFlat number start mine own seen w leadership l
+      × (w.layout.parts.parts ≡ [])
+  IsToEnd number start mine own seen w leadership (Some end) =
+      IsToPublish number start mine own seen w leadership end
 
 -- the request was answered, and there is a list of all that was handled by then, in which the client's own requests are
 -- exactly those that it has answers to, with this one

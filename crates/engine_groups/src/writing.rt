@@ -1,6 +1,6 @@
 //! A client's write, from the outside in: `write` checks it and takes its memory, `submit` waits in the line, and a
-//! client that becomes a leader there (`lead`) serves its group: it asks the write controller and has the group logged
-//! (`serve`, `log_phase`), has it put into the table, and gives the log on (`leave`, `hand_on`).
+//! client that becomes a leader there (`lead`) serves its group (`answer_group`): it asks the write controller and has
+//! the group logged (`serve`, `log_phase`), has it put into the table, and gives the log on (`leave`, `hand_on`).
 
 ghost use Rattle.std.specs.Prelude.{◌≡◌, ◌+◌, true, false, ℕ, List, [], ◌∷◌, ◌++◌, Ok, Err, IfOk, IfErr, IfSome, is_none};
 ghost use Rattle.table_rule.specs.Histories.{Begins};
@@ -20,6 +20,7 @@ ghost use Rattle.engine_parts.specs.Staged.{IsStaged};
 ghost use Rattle.engine_parts.specs.Handled.{AreHandled, IsNoted, handled_with};
 ghost use Rattle.engine_groups.specs.Clients.{IsClientOf, IsIdle, IsSeated, IsAnswered, told_of, own_commits, opened_log};
 ghost use Rattle.engine_groups.specs.Serving.{IsToServe, IsServed};
+ghost use Rattle.engine_groups.specs.Leaving.{IsToEnd};
 
 use crate::engine::{EngineClient, GroupEngine};
 use crate::laws;
@@ -182,13 +183,7 @@ impl<
         ensures seen { Begins (Versions.account client.old.seat).seen (Versions.account client.new.seat).seen
             × SeesMore client.old.number (seen_by client.old.pass) (seen_by client.new.pass) }
     {
-        laws::codes_stand_for_items();
-        self.list.group(
-            &mut client.writer,
-            &mut client.lists.requests,
-            &mut client.lists.room,
-        );
-        let (mut leadership, end) = self.serve(rt, client, leadership);
+        let (mut leadership, end) = self.answer_group(rt, client, leadership);
         // No member got a run, so none goes into the table.
         let Some(end) = end else {
             return self.leave(client, leadership);
@@ -217,6 +212,38 @@ impl<
                 self.leave(client, leadership)
             }
         }
+    }
+
+    /// Takes the requests of the leader's group from the list, and serves them. `IsToEnd` says what is left to do.
+    fn answer_group<R: Wait + rt::Clock>(
+        &self,
+        rt: &R,
+        client: &mut EngineClient<Device, Versions, Time>,
+        leadership: Leadership<Device, Versions, Time>,
+    ) -> (Leadership<Device, Versions, Time>, Option<u64>)
+        requires seated { IsSeated Versions.Table self.now client.old }
+        requires has_asked { HasAsked client.old.number (own_commits client.old.number (told_of client.old))
+            (seen_by client.old.pass) }
+        requires leads { (own : QueuedWriter Asked) × (seen : List (Handling Asked Told))
+            × IsChosen own seen (told_of client.old) client.old.writer
+            × (of client.old.number seen ≡ told_of client.old)
+            × AreHandled self.now.controller (opened_log self.now) (Versions.opening self.now.table).start seen
+            × LeadershipCovers Versions.Table (about_of self.now.list) leadership seen }
+        ensures ends { (own : QueuedWriter Asked) × (seen : List (Handling Asked Told))
+            × IsChosen own seen (told_of client.old) client.old.writer
+            × IsToEnd Versions.Table self.now client.old.number client.old.start (told_of client.old) own seen
+            client.new result.0 result.1 }
+        ensures same { (client.new.number ≡ client.old.number) × (client.new.start ≡ client.old.start)
+            × (client.new.seat ≡ client.old.seat) × (client.new.table ≡ client.old.table) }
+        ensures seen { SeesMore client.old.number (seen_by client.old.pass) (seen_by client.new.pass) }
+    {
+        laws::codes_stand_for_items();
+        self.list.group(
+            &mut client.writer,
+            &mut client.lists.requests,
+            &mut client.lists.room,
+        );
+        self.serve(rt, client, leadership)
     }
 
     /// Asks the write controller about the leader's group, and writes the group to the log as soon as writes aren't

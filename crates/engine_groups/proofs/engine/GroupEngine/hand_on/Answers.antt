@@ -19,13 +19,13 @@ use Rattle.engine_groups.proofs.engine.GroupEngine.hand_on.Goals as goal
 
 pub exit_pipelined-requires-clause-group : goal.exit_pipelined-requires-clause-group
 exit_pipelined-requires-clause-group g c =
-    let r = c.requires.leaves in let h = r.5 in let l = h.leaves in
-    (l.writer, (bound_of c.args.self.now.list, r.3, l.group, l.left, r.4, l.gs, l.p, l.has, l.heads_are, l.pays_are, (l.stands, l.kept, l.last)))
+    let r = c.requires.leaves in let h = r.5 in let l = h.leaves.led in
+    (l.writer, (bound_of c.args.self.now.list, r.3, l.group, l.left, r.4, l.gs, l.p, l.has, l.heads_are, l.pays_are, (h.leaves.covers, l.kept, l.last_is)))
 
 pub await_pipelined_role-requires : goal.await_pipelined_role-requires
 await_pipelined_role-requires g c =
     let r = c.requires.leaves in let e = c.args.self.now in let w = c.args.client.now in let n : ℕ = clients_of e.list in let about = about_of e.list in
-    let own = r.3 in let seen = r.4 in let h = r.5 in let l = h.leaves in
+    let own = r.3 in let seen = r.4 in let h = r.5 in let l = h.leaves.led in
     let all = all_answers own l.p l.gs in let d = debt l.gs own l.p in let from = given_runs run_of seen in let to = given_runs run_of (seen ++ all) in
     let sent = c.exit_pipelined.ensures.sent (bound_of e.list) own l.group l.left seen l.gs l.p l.has l.heads_are l.pays_are in
     (c.exit_pipelined.ensures.client.1, inr (c.requires.piped, (d, from, to, answers_told w.writer, sent.0)))
@@ -33,7 +33,7 @@ await_pipelined_role-requires g c =
 pub turn_in-turn-requires : goal.turn_in-turn-requires
 turn_in-turn-requires g c =
     let r = c.requires.leaves in let e = c.args.self.now in let w = c.args.client.now in let n : ℕ = clients_of e.list in let about = about_of e.list in
-    let own = r.3 in let seen = r.4 in let h = r.5 in let l = h.leaves in
+    let own = r.3 in let seen = r.4 in let h = r.5 in let l = h.leaves.led in
     let all = all_answers own l.p l.gs in let d = debt l.gs own l.p in let from = given_runs run_of seen in let to = given_runs run_of (seen ++ all) in
     let sent = c.exit_pipelined.ensures.sent (bound_of e.list) own l.group l.left seen l.gs l.p l.has l.heads_are l.pays_are in
     let piped = l.seats.is_engine.pipelined ∙ c.requires.piped in
@@ -44,19 +44,19 @@ turn_in-turn-requires g c =
 pub lead-turn-requires-clause-leads : goal.lead-turn-requires-clause-leads
 lead-turn-requires-clause-leads g c =
     let r = c.requires.leaves in let e = c.args.self.now in let w = c.args.client.now in let n : ℕ = clients_of e.list in let about = about_of e.list in
-    let own = r.3 in let seen = r.4 in let h = r.5 in let l = h.leaves in
+    let own = r.3 in let seen = r.4 in let h = r.5 in let l = h.leaves.led in
     let all = all_answers own l.p l.gs in let d = debt l.gs own l.p in let from = given_runs run_of seen in let to = given_runs run_of (seen ++ all) in
     let sent = c.exit_pipelined.ensures.sent (bound_of e.list) own l.group l.left seen l.gs l.p l.has l.heads_are l.pays_are in
     let piped = l.seats.is_engine.pipelined ∙ c.requires.piped in
     let R = c.await_pipelined_role.ensures.right d from to (answers_told w.writer) sent.0 in
     let H = has_turn g.Versions.Table about n d from to (answers_told w.writer) c.await_pipelined_role.new.writer piped c.await_pipelined_role.result R in
-    let members = subst (λ ks. AreMembers n ks l.gs) (sym c.as_slice.ensures.value) h.beside in
+    let members = subst (λ ks. AreMembers n ks l.gs) (sym c.as_slice.ensures.value) h.parts.beside in
     (c.await_pipelined_role.ensures.client.1, (d, from, to, answers_told w.writer, H.has_right, members))
 
 pub lead-turn-requires-clause-ours : goal.lead-turn-requires-clause-ours
 lead-turn-requires-clause-ours g c =
     let r = c.requires.leaves in let e = c.args.self.now in let w = c.args.client.now in let n : ℕ = clients_of e.list in let about = about_of e.list in
-    let own = r.3 in let seen = r.4 in let h = r.5 in let l = h.leaves in
+    let own = r.3 in let seen = r.4 in let h = r.5 in let l = h.leaves.led in
     let all = all_answers own l.p l.gs in let d = debt l.gs own l.p in let from = given_runs run_of seen in let to = given_runs run_of (seen ++ all) in
     let sent = c.exit_pipelined.ensures.sent (bound_of e.list) own l.group l.left seen l.gs l.p l.has l.heads_are l.pays_are in
     let piped = l.seats.is_engine.pipelined ∙ c.requires.piped in
@@ -72,7 +72,7 @@ lead-turn-requires-clause-ours g c =
 pub lead-turn-requires-clause-next : goal.lead-turn-requires-clause-next
 lead-turn-requires-clause-next g c =
     let r = c.requires.leaves in let e = c.args.self.now in let w = c.args.client.now in let n : ℕ = clients_of e.list in let about = about_of e.list in
-    let own = r.3 in let seen = r.4 in let h = r.5 in let l = h.leaves in
+    let own = r.3 in let seen = r.4 in let h = r.5 in let l = h.leaves.led in
     let all = all_answers own l.p l.gs in let d = debt l.gs own l.p in let from = given_runs run_of seen in let to = given_runs run_of (seen ++ all) in
     let sent = c.exit_pipelined.ensures.sent (bound_of e.list) own l.group l.left seen l.gs l.p l.has l.heads_are l.pays_are in
     let piped = l.seats.is_engine.pipelined ∙ c.requires.piped in
@@ -83,17 +83,17 @@ lead-turn-requires-clause-next g c =
     let start_is = l.seats.is_engine.start in
     let answered = subst (λ (k : ℕ). AreAnswered k None (map commit_of seen)) start_is l.before.answered in
     let last_is : last_of home.start (g.Versions.Table.history c.turn_in-turn.result) ≡ last_after_all home.start (map commit_of seen) = served_last home.start seen (g.Versions.Table.history c.turn_in-turn.result) l.before.handed_back answered t.1 in
-    (subst (λ (m : ℕ). Runs m (versions_in (group_of w.layout.parts.parts))) (sym last_is) h.may.runs, h.may.some, h.may.members)
+    (subst (λ (m : ℕ). Runs m (versions_in (group_of w.layout.parts.parts))) (sym last_is) h.parts.may.runs, h.parts.may.some, h.parts.may.members)
 
 pub lead-turn-requires-clause-parts : goal.lead-turn-requires-clause-parts
 lead-turn-requires-clause-parts g c =
     let e = c.args.self.now in let w = c.args.client.now in let h = c.requires.leaves.5 in
-    subst (λ ks. HaveParts (g.Versions.Table.account w.seat).number ks (group_of w.layout.parts.parts)) (sym c.as_slice.ensures.value) h.may.each
+    subst (λ ks. HaveParts (g.Versions.Table.account w.seat).number ks (group_of w.layout.parts.parts)) (sym c.as_slice.ensures.value) h.parts.may.each
 
 pub lead-turn-requires-clause-end : goal.lead-turn-requires-clause-end
 lead-turn-requires-clause-end g c =
     let r = c.requires.leaves in let e = c.args.self.now in let w = c.args.client.now in let n : ℕ = clients_of e.list in let about = about_of e.list in
-    let own = r.3 in let seen = r.4 in let h = r.5 in let l = h.leaves in
+    let own = r.3 in let seen = r.4 in let h = r.5 in let l = h.leaves.led in
     let all = all_answers own l.p l.gs in let d = debt l.gs own l.p in let from = given_runs run_of seen in let to = given_runs run_of (seen ++ all) in
     let sent = c.exit_pipelined.ensures.sent (bound_of e.list) own l.group l.left seen l.gs l.p l.has l.heads_are l.pays_are in
     let piped = l.seats.is_engine.pipelined ∙ c.requires.piped in
@@ -104,12 +104,12 @@ lead-turn-requires-clause-end g c =
     let start_is = l.seats.is_engine.start in
     let answered = subst (λ (k : ℕ). AreAnswered k None (map commit_of seen)) start_is l.before.answered in
     let last_is : last_of home.start (g.Versions.Table.history c.turn_in-turn.result) ≡ last_after_all home.start (map commit_of seen) = served_last home.start seen (g.Versions.Table.history c.turn_in-turn.result) l.before.handed_back answered t.1 in
-    (h.may.ends ∙ ap (λ (m : ℕ). m + length (versions_in (group_of w.layout.parts.parts))) (sym last_is), c.ranges.end.fits)
+    (h.parts.may.ends ∙ ap (λ (m : ℕ). m + length (versions_in (group_of w.layout.parts.parts))) (sym last_is), c.ranges.end.fits)
 
 pub exit_memtable-requires-clause-serves : goal.exit_memtable-requires-clause-serves
 exit_memtable-requires-clause-serves g c =
     let r = c.requires.leaves in let e = c.args.self.now in let w = c.args.client.now in let n : ℕ = clients_of e.list in let about = about_of e.list in
-    let own = r.3 in let seen = r.4 in let h = r.5 in let l = h.leaves in
+    let own = r.3 in let seen = r.4 in let h = r.5 in let l = h.leaves.led in
     let all = all_answers own l.p l.gs in let d = debt l.gs own l.p in let from = given_runs run_of seen in let to = given_runs run_of (seen ++ all) in
     let sent = c.exit_pipelined.ensures.sent (bound_of e.list) own l.group l.left seen l.gs l.p l.has l.heads_are l.pays_are in
     let piped = l.seats.is_engine.pipelined ∙ c.requires.piped in
@@ -121,7 +121,7 @@ exit_memtable-requires-clause-serves g c =
     let answered = subst (λ (k : ℕ). AreAnswered k None (map commit_of seen)) start_is l.before.answered in
     let last_is : last_of home.start (g.Versions.Table.history c.turn_in-turn.result) ≡ last_after_all home.start (map commit_of seen) = served_last home.start seen (g.Versions.Table.history c.turn_in-turn.result) l.before.handed_back answered t.1 in
     let kept = subst (λ (k : ℕ). AreAnswered k None (map commit_of (seen ++ all))) start_is l.kept.answered in
-    let now = served_now home.start seen all (g.Versions.Table.history c.turn_in-turn.result) (group_of w.layout.parts.parts) l.before.handed_back answered l.kept.handed_back kept h.made t.1 in
+    let now = served_now home.start seen all (g.Versions.Table.history c.turn_in-turn.result) (group_of w.layout.parts.parts) l.before.handed_back answered l.kept.handed_back kept h.parts.made t.1 in
     let published = subst (AreServed (map commit_of to)) (sym c.lead-turn.ensures.published) now in (
       c.lead-turn.ensures.client.1,
       (
@@ -138,7 +138,7 @@ exit_memtable-requires-clause-serves g c =
 pub returns-clause-fits : goal.returns-clause-fits
 returns-clause-fits g c =
     let r = c.requires.leaves in let e = c.args.self.now in let w = c.args.client.now in let n : ℕ = clients_of e.list in let about = about_of e.list in
-    let own = r.3 in let seen = r.4 in let h = r.5 in let l = h.leaves in
+    let own = r.3 in let seen = r.4 in let h = r.5 in let l = h.leaves.led in
     let all = all_answers own l.p l.gs in let d = debt l.gs own l.p in let from = given_runs run_of seen in let to = given_runs run_of (seen ++ all) in
     let sent = c.exit_pipelined.ensures.sent (bound_of e.list) own l.group l.left seen l.gs l.p l.has l.heads_are l.pays_are in
     let piped = l.seats.is_engine.pipelined ∙ c.requires.piped in
@@ -147,7 +147,7 @@ returns-clause-fits g c =
     let x = c.exit_memtable.ensures in let lead = c.lead-turn.ensures in
     let gone = x.out.1 d from to (answers_told w.writer) (lead.leads d from to (answers_told w.writer) H.has_right) in
     let emptied : c.lead-turn.new.parts.parts ≡ [] = none_of (λ (part : MemberNodes). record { member = part.member; versions = part.nodes }) c.lead-turn.new.parts.parts lead.emptied.0 in
-    left_client g.Versions.Table e r.0 r.1 r.2 own seen w c.args.leadership l _
+    left_client g.Versions.Table e r.0 r.1 r.2 own seen w c.args.leadership.held.value.path.last l _
     refl refl refl x.client.1 (x.client.0 ∙ (lead.client.0 ∙ (c.await_pipelined_role.ensures.client.0 ∙ c.exit_pipelined.ensures.client.0))) x.out.0 (gone.0 ∙ (λ i. l.told_is i ++ (own.asked, l.p) ∷ [])) lead.ours.0 lead.ours.2 lead.seen.0 refl (
       l.requests,
       (c.exit_pipelined.new.replies.list.ok.0 ∙ ap length c.exit_pipelined.ensures.replies.0, c.exit_pipelined.ensures.replies.0, subst (λ (k : ℕ). n ≤ k) (sym c.exit_pipelined.ensures.replies.1) l.replies_room),
@@ -158,11 +158,11 @@ returns-clause-fits g c =
 pub returns-clause-answered : goal.returns-clause-answered
 returns-clause-answered g c number start mine own seen h =
     let e = c.args.self.now in let w = c.args.client.now in let n : ℕ = clients_of e.list in let about = about_of e.list in
-    let l = h.leaves in
+    let l = h.leaves.led in
     let all = all_answers own l.p l.gs in let d = debt l.gs own l.p in let from = given_runs run_of seen in let to = given_runs run_of (seen ++ all) in
     let sent = c.exit_pipelined.ensures.sent (bound_of e.list) own l.group l.left seen l.gs l.p l.has l.heads_are l.pays_are in
     let piped = l.seats.is_engine.pipelined ∙ c.requires.piped in
     let R = c.await_pipelined_role.ensures.right d from to (answers_told w.writer) sent.0 in
     let H = has_turn g.Versions.Table about n d from to (answers_told w.writer) c.await_pipelined_role.new.writer piped c.await_pipelined_role.result R in
     let gone = c.exit_memtable.ensures.out.1 d from to (answers_told w.writer) (c.lead-turn.ensures.leads d from to (answers_told w.writer) H.has_right) in
-    has_answered g.Versions.Table e number start mine own seen w c.args.leadership l c.exit_memtable.result _ (gone.0 ∙ (λ i. l.told_is i ++ (own.asked, l.p) ∷ [])) gone.1
+    has_answered g.Versions.Table e number start mine own seen w c.args.leadership.held.value.path.last l c.exit_memtable.result _ (gone.0 ∙ (λ i. l.told_is i ++ (own.asked, l.p) ∷ [])) gone.1
