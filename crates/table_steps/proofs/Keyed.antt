@@ -1,6 +1,7 @@
 -- Small facts for the calls.
 use Rattle.std.proofs.Common.{◌≡◌, ℕ, ◌++◌, inl, ⊎_elim, List, [], ◌∷◌, refl, sym, ap, ◌∙◌, subst}
 use Rattle.atomic_table.specs.Table.{rest}
+use Rattle.atomic_table.specs.declared.shared.Seat.{Seat}
 use Rattle.table_rule.specs.declared.view.Opening.{Opening}
 use Rattle.table_rule.specs.declared.content.Content.{Content}
 use Rattle.table_rule.specs.declared.content.Content.TheVariants.{Blank, Tree, Nodes}
@@ -44,6 +45,10 @@ top_or d (x ∷ xs) = tree_or d x.1
 -- what was taken out of a slot that holds a tree is that tree
 pub same_tree : {ShardTree NodeList : Type 0} (t u : ShardTree) (i j : ℕ) (l m m' : List (ℕ × Content ShardTree NodeList)) → l ≡ (i, Tree t) ∷ m → l ≡ (j, Tree u) ∷ m' → t ≡ u
 same_tree t u i j l m m' a b = ap (top_or t) (sym a ∙ b)
+
+-- a seat is as it was where a step has left what it sees
+pub same_seat : {S V : Type 0} (a b : Seat S V) → a.table_id ≡ b.table_id → a.id ≡ b.id → a.me ≡ b.me → a ≡ b
+same_seat a b t n m = λ i. record { marker = a.marker; table_id = t i; id = n i; me = m i }
 
 pub shards_of : (z : Opening) (s : Sizes) → sizes_of z ≡ s → s.shards ≡ z.shards
 shards_of z s e = ap (λ (x : Sizes). x.shards) (sym e)

@@ -1,5 +1,5 @@
 //! The turn: a group is launched, and its launcher waits until it is published.
-ghost use Rattle.std.specs.Prelude.{◌≡◌, ◌<◌, ◌≤◌, List, [], ◌∷◌, ◌++◌, length};
+ghost use Rattle.std.specs.Prelude.{◌≡◌, ◌<◌, ◌≤◌, true, false, List, [], ◌∷◌, ◌++◌, length};
 ghost use Rattle.table_rule.specs.declared.content.MemberVersions.{MemberVersions};
 ghost use Rattle.table_rule.specs.declared.view.Lock.TheVariants.{Free};
 ghost use Rattle.table_rule.specs.declared.view.Stage.TheVariants.{Idle, Resting, Handing};
@@ -155,17 +155,35 @@ impl<ShardTree: VersionTree<NodeList::Node>, NodeList: VersionNodes> SharedTable
             → IsAt 0 self.now.table.shared.key (seen ++ g ∷ []) Free Resting turn.new.seat.me }
     {
         let pauses = Pauses::new();
-        // No load so far has found the group published.
+        // No look so far has found the group published.
         for _ in rt.forever() {
-            let found = self
-                .table
-                .shared
-                .load::<Await>(&mut turn.seat, self.sizes.shards as usize);
-            if found == last {
+            if self.is_published(turn, last) {
                 return;
             }
             self.published.pause(rt, &pauses);
         }
         unreachable!()
+    }
+
+    /// Whether the launched group, whose last sequence is `last`, is published. If so, the turn is free again. Else it
+    /// is as it was.
+    pub(crate) fn is_published(&self, turn: &mut Turn<ShardTree, NodeList>, last: u64) -> bool
+        requires seat { turn.old.seat.table_id ≡ self.now.table.shared.table_id }
+        requires launched { (seen : List (List MemberVersions)) × (g : List MemberVersions)
+            × IsAt 0 self.now.table.shared.key seen Free (Handing g []) turn.old.seat.me
+            × (last ≡ end_of (last_of self.now.table.shared.key.start seen) g) }
+        ensures seat { (turn.new.seat.table_id ≡ turn.old.seat.table_id) × (turn.new.seat.me.1 ≡ turn.old.seat.me.1)
+            × (turn.new.last ≡ turn.old.last) }
+        ensures not_yet { result ≡ false → turn.new ≡ turn.old }
+        ensures published { (seen : List (List MemberVersions)) (g : List MemberVersions)
+            → IsAt 0 self.now.table.shared.key seen Free (Handing g []) turn.old.seat.me
+            → result ≡ true
+            → IsAt 0 self.now.table.shared.key (seen ++ g ∷ []) Free Resting turn.new.seat.me }
+    {
+        let found = self
+            .table
+            .shared
+            .load::<Await>(&mut turn.seat, self.sizes.shards as usize);
+        found == last
     }
 }

@@ -1,5 +1,5 @@
 //! A member's part: it is taken, put into the trees, finished, and its group published.
-ghost use Rattle.std.specs.Prelude.{◌≡◌, ℕ, ◌+◌, ◌<◌, ◌≤◌, List, [], ◌∷◌, ◌++◌, length};
+ghost use Rattle.std.specs.Prelude.{◌≡◌, ℕ, ◌+◌, ◌<◌, ◌≤◌, List, [], ◌∷◌, ◌++◌, length, None, IfSome};
 ghost use Rattle.atomic_table.specs.Table.{rest};
 ghost use Rattle.table_rule.specs.declared.content.Content.{Content};
 ghost use Rattle.table_rule.specs.declared.content.Content.TheVariants.{Blank};
@@ -104,25 +104,40 @@ impl<ShardTree: VersionTree<NodeList::Node> + Drop, NodeList: VersionNodes + Dro
         ensures taken { Takes (opening_of table.now) (account self.old) (NodeList.versions result)
             (account self.new) }
     {
-        let shared = &table.table.shared;
-        let word = table.sizes.shards as usize + 1 + self.client.number as usize;
-        let slot = table.sizes.shards as usize + self.client.number as usize;
         let pauses = Pauses::new();
         // The seat is as it was: nothing has been handed out yet.
         for _ in rt.forever() {
-            let found = shared.load::<Take>(&mut self.client.seat, word);
-            if found == 1 {
-                match shared.exchange(&mut self.client.seat, slot, Content::Blank) {
-                    Content::Nodes(nodes, last) => {
-                        self.last = last;
-                        return nodes;
-                    }
-                    _ => unreachable!(),
-                }
+            if let Some(nodes) = self.try_take(table) {
+                return nodes;
             }
             table.handed.pause(rt, &pauses, self.client.number);
         }
         unreachable!()
+    }
+
+    /// Takes the client's part, if it is handed out. Else the answer is `None`, and the seat is as it was.
+    pub fn try_take(&mut self, table: &SharedTable<ShardTree, NodeList>) -> Option<NodeList>
+        requires ours { IsOurs table.now self.old }
+        requires free { MayTake (account self.old).stage }
+        ensures ours { IsOurs table.now self.new }
+        ensures none { result ≡ None → self.new ≡ self.old }
+        ensures taken { IfSome result (λ nodes. Takes (opening_of table.now) (account self.old)
+            (NodeList.versions nodes) (account self.new)) }
+    {
+        let shared = &table.table.shared;
+        let word = table.sizes.shards as usize + 1 + self.client.number as usize;
+        let slot = table.sizes.shards as usize + self.client.number as usize;
+        let found = shared.load::<Take>(&mut self.client.seat, word);
+        if found != 1 {
+            return None;
+        }
+        match shared.exchange(&mut self.client.seat, slot, Content::Blank) {
+            Content::Nodes(nodes, last) => {
+                self.last = last;
+                Some(nodes)
+            }
+            _ => unreachable!(),
+        }
     }
 
     /// Marks the client's part as inserted: all its nodes are in their trees.

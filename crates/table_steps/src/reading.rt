@@ -1,5 +1,5 @@
 //! What a client reads: the published sequence, and a shard's tree as of it.
-ghost use Rattle.std.specs.Prelude.{◌≡◌, ◌<◌, ◌≤◌, List, IfOk};
+ghost use Rattle.std.specs.Prelude.{◌≡◌, ◌<◌, ◌≤◌, List, None, IfOk, IfSome};
 ghost use Rattle.model_base.specs.Map.{value_at, rows_within};
 ghost use Rattle.base_bytes.specs.Answers.{found_value};
 ghost use Rattle.table_rule.specs.declared.content.Version.{Version};
@@ -11,6 +11,7 @@ use crate::seat::TableSeat;
 use crate::shared::SharedTable;
 use base_bytes::{Bytes, Found, Rows};
 use base_waiting::Pauses;
+use crossbeam_utils::Backoff;
 use model_base::NoMemory;
 use std::alloc::Global;
 use std::rt;
@@ -94,11 +95,44 @@ impl<ShardTree: VersionTree<NodeList::Node> + Drop, NodeList: VersionNodes + Dro
             ≡ value_at (map_of (of_shard (opening_of table.now).shards shard
             (standing (opening_of table.now).base (account self.old).seen))) key.now) }
     {
-        let tree = table.lock(rt, &mut self.client, shard);
+        let backoff = Backoff::new();
+        // Somebody had the shard's lock at each try so far, and the seat is as it was.
+        for _ in rt.forever() {
+            if let Some(found) = self.try_find(table, alloc, shard, key, at) {
+                return found;
+            }
+            backoff.snooze();
+        }
+        unreachable!()
+    }
+
+    /// Looks the key up as `find` does, if nobody else has the shard's lock. Else the answer is `None`, and the seat
+    /// is as it was.
+    pub fn try_find(
+        &mut self,
+        table: &SharedTable<ShardTree, NodeList>,
+        alloc: Global,
+        shard: u64,
+        key: &[u8],
+        at: u64,
+    ) -> Option<Result<Found, NoMemory>>
+        requires ours { IsOurs table.now self.old }
+        requires shard { shard < (opening_of table.now).shards }
+        requires history { IsHistory (opening_of table.now).start (account self.old).seen }
+        requires at { at ≡ last_of (opening_of table.now).start (account self.old).seen }
+        ensures ours { IsOurs table.now self.new }
+        ensures none { result ≡ None → self.new ≡ self.old }
+        ensures same { account self.new ≡ account self.old }
+        ensures value { IfSome result (λ answer. IfOk answer (λ found. found_value found
+            ≡ value_at (map_of (of_shard (opening_of table.now).shards shard
+            (standing (opening_of table.now).base (account self.old).seen))) key.now)) }
+    {
+        let tree = table.try_lock(&mut self.client, shard)?;
         let found = copied::<NodeList::Node, ShardTree>(alloc, &tree, key, at);
         table.unlock(&mut self.client, shard, tree);
-        found
+        Some(found)
     }
+
     /// The keys of a shard from `lo` on and below `hi` with their values, as of `at`, the end of what the seat has
     /// seen.
     pub fn find_rows<R: Wait + rt::Clock>(
@@ -122,9 +156,43 @@ impl<ShardTree: VersionTree<NodeList::Node> + Drop, NodeList: VersionNodes + Dro
             (map_of (of_shard (opening_of table.now).shards shard
             (standing (opening_of table.now).base (account self.old).seen)))) }
     {
-        let tree = table.lock(rt, &mut self.client, shard);
+        let backoff = Backoff::new();
+        // Somebody had the shard's lock at each try so far, and the seat is as it was.
+        for _ in rt.forever() {
+            if let Some(rows) = self.try_find_rows(table, alloc, shard, lo, hi, at) {
+                return rows;
+            }
+            backoff.snooze();
+        }
+        unreachable!()
+    }
+
+    /// Looks the rows up as `find_rows` does, if nobody else has the shard's lock. Else the answer is `None`, and the
+    /// seat is as it was.
+    pub fn try_find_rows(
+        &mut self,
+        table: &SharedTable<ShardTree, NodeList>,
+        alloc: Global,
+        shard: u64,
+        lo: &[u8],
+        hi: &[u8],
+        at: u64,
+    ) -> Option<Result<Rows, NoMemory>>
+        requires ours { IsOurs table.now self.old }
+        requires shard { shard < (opening_of table.now).shards }
+        requires history { IsHistory (opening_of table.now).start (account self.old).seen }
+        requires at { at ≡ last_of (opening_of table.now).start (account self.old).seen }
+        ensures ours { IsOurs table.now self.new }
+        ensures none { result ≡ None → self.new ≡ self.old }
+        ensures same { account self.new ≡ account self.old }
+        ensures at { IfSome result (λ answer. IfOk answer (λ rows. rows.at ≡ at)) }
+        ensures rows { IfSome result (λ answer. IfOk answer (λ rows. rows.rows ≡ rows_within lo.now hi.now
+            (map_of (of_shard (opening_of table.now).shards shard
+            (standing (opening_of table.now).base (account self.old).seen))))) }
+    {
+        let tree = table.try_lock(&mut self.client, shard)?;
         let rows = tree.range(alloc, lo, hi, at);
         table.unlock(&mut self.client, shard, tree);
-        rows
+        Some(rows)
     }
 }

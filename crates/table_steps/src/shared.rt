@@ -1,5 +1,5 @@
 //! The table as all threads see it, and the steps on locks.
-ghost use Rattle.std.specs.Prelude.{◌≡◌, ℕ, ◌+◌, ◌<◌, ◌≤◌, ◌^◌, List, [], ◌∷◌};
+ghost use Rattle.std.specs.Prelude.{◌≡◌, ℕ, ◌+◌, ◌<◌, ◌≤◌, ◌^◌, List, [], ◌∷◌, None, IfSome};
 ghost use Rattle.atomic_table.specs.Table.{rest};
 ghost use Rattle.table_rule.specs.declared.content.Content.{Content};
 ghost use Rattle.table_rule.specs.declared.content.Content.TheVariants.{Blank};
@@ -62,20 +62,44 @@ impl<ShardTree: VersionTree<NodeList::Node>, NodeList: VersionNodes> SharedTable
             → Locked who.old.number self.now.table.shared.key shard seen stage
             (ShardTree.versions result) who.old.seat.me who.new.seat.me }
     {
-        let shared = &self.table.shared;
         let backoff = Backoff::new();
-        // The lock was held by somebody at each try so far.
+        // Somebody had the lock at each try so far, and the seat is as it was.
         for _ in rt.forever() {
-            let found = shared.compare_exchange::<LockShard>(&mut who.seat, shard as usize, 0, 1);
-            if found == 0 {
-                match shared.exchange(&mut who.seat, shard as usize, Content::Blank) {
-                    Content::Tree(tree) => return tree,
-                    _ => unreachable!(),
-                }
+            if let Some(tree) = self.try_lock(who, shard) {
+                return tree;
             }
             backoff.snooze();
         }
         unreachable!()
+    }
+
+    /// Takes a shard's lock and its tree, if nobody else has the lock. Else the answer is `None`, and the seat is as it
+    /// was.
+    pub(crate) fn try_lock(
+        &self,
+        who: &mut Client<ShardTree, NodeList>,
+        shard: u64,
+    ) -> Option<ShardTree>
+        requires seat { (who.old.seat.table_id ≡ self.now.table.shared.table_id)
+            × (shard < self.now.table.shared.key.shards) }
+        requires free { (seen : List (List MemberVersions)) × (stage : Stage)
+            × IsAt who.old.number self.now.table.shared.key seen Free stage who.old.seat.me }
+        ensures seat { (who.new.seat.table_id ≡ who.old.seat.table_id) × (who.new.number ≡ who.old.number) }
+        ensures none { result ≡ None → who.new ≡ who.old }
+        ensures locked { (seen : List (List MemberVersions)) (stage : Stage)
+            → IsAt who.old.number self.now.table.shared.key seen Free stage who.old.seat.me
+            → IfSome result (λ tree. Locked who.old.number self.now.table.shared.key shard seen stage
+            (ShardTree.versions tree) who.old.seat.me who.new.seat.me) }
+    {
+        let shared = &self.table.shared;
+        let found = shared.compare_exchange::<LockShard>(&mut who.seat, shard as usize, 0, 1);
+        if found != 0 {
+            return None;
+        }
+        match shared.exchange(&mut who.seat, shard as usize, Content::Blank) {
+            Content::Tree(tree) => Some(tree),
+            _ => unreachable!(),
+        }
     }
 
     /// Gives a shard's tree back as it was.

@@ -2,4 +2,4 @@ use Rattle.std.proofs.Common.{◌≡◌}
 use Rattle.table_steps.proofs.shared.SharedTable.await_published.Given as goal
 
 abbrev pub invariant-loop : goal.invariant-loop
-invariant-loop g l = (goal.iterator-loop g).can_next l.iterator' × (goal.iterator-loop g).is_finite l.iterator' × (l.turn.seat.table_id ≡ l.fn.turn.seat.table_id) × (l.turn.seat.me ≡ l.fn.turn.seat.me) × (l.turn.last ≡ l.fn.turn.last)
+invariant-loop g l = (goal.iterator-loop g).can_next l.iterator' × (goal.iterator-loop g).is_finite l.iterator' × (l.turn ≡ l.fn.turn)

@@ -2,5 +2,4 @@ use Rattle.std.proofs.Common.{◌≡◌}
 use Rattle.table_steps.proofs.shared.SharedTable.lock.Given as goal
 
 abbrev pub invariant-loop : goal.invariant-loop
-invariant-loop g l =
-    (goal.iterator-loop g).can_next l.iterator' × (goal.iterator-loop g).is_finite l.iterator' × (l.who.number ≡ l.fn.who.number) × (l.who.seat.table_id ≡ l.fn.who.seat.table_id) × (l.who.seat.me ≡ l.fn.who.seat.me)
+invariant-loop g l = (goal.iterator-loop g).can_next l.iterator' × (goal.iterator-loop g).is_finite l.iterator' × (l.who ≡ l.fn.who)
