@@ -9,7 +9,11 @@ says what is wrong with it. Of an outcome these must hold:
   client has seen before, its own batches included;
 - the printed state is the map at the published sequence;
 - where the log has failed, each client is refused by that fault from some commit on, and at least one client is;
-- a client that finds no memory learns it in its last line, and its call is not in the history.
+- a client that finds no memory learns it in its last line, and its call is not in the history;
+- a token's line is answered by the client's own tokens. Where the client holds a stop token, each of its commits is
+  refused: as its own stop, or, with `noslow`, by numbers that show a stop. Otherwise a commit is refused because
+  writes are held up only with `noslow`, by numbers that show stops or delays, of no more clients than take such
+  tokens. Without a wait of its own group it is so refused only where another client commits too.
 """
 
 import os
@@ -124,17 +128,46 @@ def flag_of(words):
     return "nolog" if "nolog" in words else "sync" if "sync" in words else "log"
 
 
-def calls_of(commands, replies, whole, fault):
+def token_reply(words, held):
+    """The answer to a token's line. It takes the token or gives it back, by those that the client holds."""
+    kind = words[0].removeprefix("un")
+    if (words[0] == kind) == (kind in held):
+        return "held" if words[0] == kind else "notheld"
+    held ^= {kind}
+    return "done"
+
+
+def check_held_up(words, numbers, held, tokens):
+    """Checks the numbers by which a commit was refused because writes are held up. `tokens` is how many clients take
+    each kind of token, and how many commit."""
+    stops, delays, wait = (int(number) for number in numbers)
+    line = " ".join(["incomplete", *numbers])
+    wanted("noslow" in words, f"no refusal of a commit that may wait: {line}")
+    wanted(0 < stops or 0 < delays, f"stops or delays: {line}")
+    wanted(stops <= tokens["stop"] and delays <= tokens["slow"], f"no more clients than take tokens: {line}")
+    wanted(wait == 0 or stops == 0 < delays, f"a wait only where writes are slowed and not stopped: {line}")
+    wanted("stop" not in held or 0 < stops, f"the client's own stop: {line}")
+    wanted("stop" in held or wait > 0 or stops > 0 or tokens["commit"] > 1, f"no stall with one client: {line}")
+
+
+def tokens_in(script):
+    """How many clients take each kind of token, and how many commit."""
+    kinds = ("stop", "slow", "commit")
+    return {kind: sum(any(words[0] == kind for words in lines) for lines in script) for kind in kinds}
+
+
+def calls_of(commands, replies, whole, fault, tokens, may_stall):
     """A client's accepted batches by its replies, the one whose answer it waits for, its reads with what it had seen
     before each, and whether a commit was refused by the log's fault, if there is one.
 
     Where the run is not whole, the replies may end early. They may too where the last one is that there was no memory;
-    then the client waits for nothing.
+    then the client waits for nothing. In a schedule in which leaders stall writes (`may_stall`), a commit that may not
+    wait may be refused.
     """
     replies, ended = list(replies), lacks_memory(replies)
     if ended:
         replies.pop()
-    pending, accepted, reads, seen, is_refused = [], [], [], 0, False
+    pending, accepted, reads, seen, is_refused, held = [], [], [], 0, False, set()
     for words in commands:
         if words[0] in TAGS:
             pending.append(words)
@@ -144,7 +177,19 @@ def calls_of(commands, replies, whole, fault):
             return accepted, waits, reads, is_refused
         wanted(replies, f"a reply to {' '.join(words)}")
         reply = replies.pop(0).split(" ")
-        if words[0] == "commit":
+        if words[0] in ("stop", "unstop", "slow", "unslow"):
+            answer = token_reply(words, held)
+            wanted(reply == [answer], f"{answer}, not {' '.join(reply)}")
+        elif words[0] == "commit":
+            if may_stall and reply[:2] == ["no", "incomplete"]:
+                wanted("noslow" in words and reply[2:] == ["1", "0", "0"], f"no incomplete 1 0 0, not {' '.join(reply)}")
+                continue
+            if reply[:2] == ["no", "incomplete"]:
+                check_held_up(words, reply[2:], held, tokens)
+                continue
+            if "stop" in held:
+                wanted("noslow" not in words and reply == ["no", "selfstop"], f"no selfstop, not {' '.join(reply)}")
+                continue
             is_refused = is_refused or fault is not None and reply[0] == "no"
             if is_refused:
                 wanted(reply == ["no", "logfault", fault], f"no logfault {fault}, not {' '.join(reply)}")
@@ -169,17 +214,18 @@ def history_line(client, ordinal, first, flag, records):
     return f"{first} {first + count - 1} {client} {ordinal} {flag} {batch.hex()}"
 
 
-def check_outcome(script, text, whole=True, before=(0, {})):
+def check_outcome(script, text, whole=True, before=(0, {}), may_stall=False):
     """Checks an outcome up to its state, and gives back the batches of its history, and the lines after the state.
 
     Where the run is not whole, the history may have one more batch of each client, whose answer the client hasn't got
-    yet. `before` is the last sequence and the map that the run went on from.
+    yet. `before` is the last sequence and the map that the run went on from. `may_stall` is for a schedule in which
+    leaders stall writes.
     """
     replies, rest = sections_of(text, len(script))
     fault = fault_of(rest)
-    batches, waits, reads, are_refused = [], {}, [], False
+    batches, waits, reads, are_refused, tokens = [], {}, [], False, tokens_in(script)
     for client, (commands, own) in enumerate(zip(script, replies), 1):
-        accepted, waiting, own_reads, is_refused = calls_of(commands, own, whole, fault)
+        accepted, waiting, own_reads, is_refused = calls_of(commands, own, whole, fault, tokens, may_stall)
         are_refused = are_refused or is_refused
         for ordinal, (first, last, flag, records) in enumerate(accepted, 1):
             batches.append((first, last, history_line(client, ordinal, first, flag, records), records))

@@ -13,8 +13,11 @@ GREATEST = 2**56 - 1
 # A batch begins with its sequence and its count.
 BATCH_HEADER = 12
 
-# Events that have methods of other names, since their own are taken by parts of the state.
-TAKEN_BY = {"log": "log_group", "second": "to_second"}
+# What a commit that may not wait is told where a leader stalls writes.
+HELD_UP = "no incomplete 1 0 0"
+
+# Events that have methods of other names, since their own are taken.
+TAKEN_BY = {"log": "log_group", "second": "to_second", "leave": "leave_queue"}
 
 
 def schedule_of(text):
@@ -86,8 +89,8 @@ def group_len(queue, group_bytes):
 
 
 class Core:
-    """The state. The log is `free`, or a group has it and it is `led`, `built`, `in log`, `marked` or `handed`. The
-    table is `still`, `launched` or `published`.
+    """The state. The log is `free`, or a group has it and it is `led`, `built`, `stalled`, `in log`, `marked` or
+    `handed`. The table is `still`, `launched` or `published`.
     """
 
     def __init__(self, script, is_pipelined=False, group_bytes=2**20, batch_bytes=2**24, last=0):
@@ -111,6 +114,10 @@ class Core:
             return False
         writer = Writer(number, call, client.pending)
         refusal = self.refusal_of(writer)
+        if refusal is None and self.log == "stalled":
+            if "noslow" not in writer.flags:
+                return False
+            refusal = HELD_UP
         if refusal is None:
             client.is_idle = False
             self.queue.append(writer)
@@ -199,6 +206,28 @@ class Core:
         self.leave(self.in_hand)
         self.log_failed = True
         return True
+
+    def stall(self, number):
+        if not self.leads(number, "built") or "noslow" in self.in_hand[0].flags:
+            return False
+        self.log = "stalled"
+        return True
+
+    def unstall(self, number):
+        if not self.leads(number, "stalled"):
+            return False
+        self.log = "built"
+        return True
+
+    def leave_queue(self, number):
+        """A writer that waits in the queue, and may not be slowed down, leaves it."""
+        for writer in self.queue if self.log == "stalled" else []:
+            if writer.client == number and "noslow" in writer.flags:
+                writer.answer = HELD_UP
+                self.queue.remove(writer)
+                self.leaving.append(writer)
+                return True
+        return False
 
     def boundary(self, number):
         if not self.is_pipelined or not self.leads(number, "in log"):

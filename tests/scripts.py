@@ -10,12 +10,17 @@ THREE_SHARDS = ["--shards", "3", "--table", "shards"]
 PATHS = [[], THREE_SHARDS, ["--pipelined"], [*THREE_SHARDS, "--pipelined"]]
 
 
-def script_of(draw, is_named=False, count=None):
+# Rates of slow tokens, in bytes a second: groups wait for a millisecond or a little longer.
+RATES = ["1000000", "100000000"]
+
+
+def script_of(draw, is_named=False, count=None, has_tokens=False):
     """A script of clients that write and read the same keys: of this number, or mostly of 2 to 16 and otherwise of up
     to 64.
 
-    Where its batches should have names, each begins with a note of its client and of how many batches of that client
-    come before it, as `3.0`, and some scripts have long values.
+    Where it should have tokens, clients stop and slow writes, and some commits may not wait. Where its batches should
+    have names, each begins with a note of its client and of how many batches of that client come before it, as `3.0`,
+    and some scripts have long values.
     """
     # Where a group has many records, its clients are woken in two stages over shards, each to insert its own.
     least, most = draw.choice([(1, 4), (1, 4), (16, 40)])
@@ -33,7 +38,11 @@ def script_of(draw, is_named=False, count=None):
                     lines.append([draw.choice(["del", "sdel"]), key])
                 else:
                     lines.append(["put", key, f"{client + 1}.{turn}.{record}".ljust(width, "v")])
+            if has_tokens and draw.random() < 0.3:
+                lines.append(draw.choice([["stop"], ["unstop"], ["slow", draw.choice(RATES)], ["unslow"]]))
             flags = draw.choice([(), (), (), ("sync",), ("nolog",)])
+            if has_tokens and draw.random() < 0.4:
+                flags = (*flags, "noslow")
             lines.append(["commit", *flags])
             for _ in range(draw.randint(0, 2)):
                 lines.append(

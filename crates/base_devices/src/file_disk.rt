@@ -18,14 +18,14 @@ use std::rt::Files;
 /// another program.
 ///
 /// A disk that [`FileDisk::new`] makes relies on being the only writer of the file. Its first call opens the file for
-/// reading and writing and makes it if there is none, except that a first `read` makes no file, and fails. Before it
-/// looks at the length or reads a byte it takes the exclusive lock of `flock`, which it keeps until it is dropped. It
-/// fails if another one has the lock. A program that doesn't ask for the lock isn't kept out. So of two such disks on
-/// one file the second one sees all that the first one did, or nothing at all.
+/// reading and writing, and makes it if there is none; only `read` makes none, and fails there. Before it looks at the
+/// length or reads a byte it takes the exclusive lock of `flock`, which it keeps until it is dropped. It fails if
+/// another one has the lock. So the calls of a second such disk on the file fail until the first one is dropped, and
+/// then it finds all that the first one did. A program that doesn't ask for the lock isn't kept out.
 ///
 /// A disk that [`FileDisk::to_read`] makes opens the file for reading, without a lock, and makes none. It may read
-/// while another program writes: it finds the length that the file had at its first call, and reads fail where the
-/// file has become shorter than that. All calls that change a disk, and `sync`, fail, and do nothing.
+/// while another program writes: it keeps to the length that the file had at its first call, and a read fails where
+/// the file has become too short for it. `append`, `rewind`, `cut` and `sync` fail, and do nothing.
 ///
 /// An append writes at the place, over the bytes there, also those that a failed append may have left. It does so in
 /// one call of the system, unless that call takes only a part. `cut` is the system's `ftruncate`, and fails if the
@@ -34,10 +34,10 @@ use std::rt::Files;
 /// `sync` is the system's `fdatasync`: it makes the file's bytes and its length safe, also the length that a cut left;
 /// before it a crash may bring back what was cut off. The first sync also syncs the folder that the file lies in, since
 /// the file's entry there may be new. If the path is a link, this is the folder of the file, not of the link. If that
-/// folder may not be read nothing makes the entry safe. Then the sync fails, unless this disk has appended nothing:
-/// what it found is as safe as it was, and the first sync after an append tries again. Once a sync of the bytes has
-/// failed, each later one fails too: the system may have dropped what it couldn't write, and then a sync that works
-/// shows nothing.
+/// folder may not be read, nothing can make the entry safe. Then a sync fails as soon as this disk has appended
+/// something, or tried to; before that the sync of the bytes is enough, and the next sync tries again. Once a sync of
+/// the bytes has failed, each later one fails too: the system may have dropped what it couldn't write, and then a sync
+/// that works shows nothing.
 ///
 /// The file never gets the number of a standard stream, also where the caller has closed one: so what is meant for the
 /// stream can't get into the file.
@@ -50,7 +50,7 @@ pub struct FileDisk<R: Drop> {
 impl<R: Files<File = File> + Drop> FileDisk<R> {
     ghost use Rattle.base_devices.specs.FileDisk.{file_added, file_faults};
 
-    /// The file at this path as a disk to write. This touches nothing yet.
+    /// The file at this path as a disk that is read and written. This touches nothing yet.
     pub fn new(runtime: R, path: String) -> Self
         ensures added { file_added result ≡ 0 }
         ensures faults { file_faults result ≡ 0 }

@@ -29,7 +29,7 @@ pub(crate) struct SystemFile<R: Drop> {
     runtime: R,
     path: String,
     access: Access,
-    /// The open file. One to write is locked.
+    /// The open file. With the access `Write` it is locked.
     file: Option<File>,
     /// Whether its length was measured.
     measured: bool,
@@ -151,8 +151,9 @@ impl<R: Files<File = File> + Drop> SystemFile<R> {
         self.sync_entry()
     }
 
-    /// Makes the entry in the folder safe, if it isn't yet. If the folder may not be read, only a file to which this
-    /// one appended nothing gets by: it is as safe as it was found. Then the next call tries again.
+    /// Makes the entry in the folder safe, if it isn't yet. If the folder may not be read nothing can make it safe. That
+    /// is an error only after an append: without one there is nothing new that needs the entry. The next call tries
+    /// again.
     fn sync_entry(&mut self) -> io::Result<()>
         ensures adds_none { added_to self.new ≡ added_to self.old }
     {
@@ -169,8 +170,8 @@ impl<R: Files<File = File> + Drop> SystemFile<R> {
         }
     }
 
-    /// Opens the file to change it, if it isn't open yet, and makes it if there is none. It is an error if the file is
-    /// only to be read.
+    /// Opens the file to change it, if it isn't open yet, and makes it if there is none. It is an error if the access is
+    /// `Read`.
     fn open_to_change(&mut self) -> io::Result<()>
         ensures ready { OnOk result (self.new.measured ≡ true) }
         ensures adds_none { added_to self.new ≡ added_to self.old }
@@ -181,8 +182,8 @@ impl<R: Files<File = File> + Drop> SystemFile<R> {
         }
     }
 
-    /// Opens the file, if it isn't open yet, and finds out its length. Where `makes` says so, a file to write is made
-    /// if there is none.
+    /// Opens the file, if it isn't open yet, and finds out its length. If `makes` and the access is `Write`, it makes
+    /// the file if there is none.
     fn open(&mut self, makes: bool) -> io::Result<()>
         ensures ready { OnOk result (self.new.measured ≡ true) }
         ensures adds_none { added_to self.new ≡ added_to self.old }
@@ -200,8 +201,8 @@ impl<R: Files<File = File> + Drop> SystemFile<R> {
         Ok(())
     }
 
-    /// Opens the file as its access says. One to write is locked from then on: no other program that asks for the lock
-    /// gets it.
+    /// Opens the file as its access says. With `Write` the file is locked from then on: no other program that asks for
+    /// the lock gets it.
     fn open_as_asked(&self, makes: bool) -> io::Result<File> {
         match self.access {
             Access::Read => self.open_with(OpenOptions::new().read(true)),

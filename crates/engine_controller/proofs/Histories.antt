@@ -4,13 +4,19 @@ use mathlib.Core.List.{IsPrefix}
 use Rattle.model_base.specs.Controller as controller
 use Rattle.model_base.specs.Controller.{ControllerCall, numbers_after, answer, IsHistoryFrom, IsLegal}
 use Rattle.engine_controller.specs.declared.rule.Call.{Call}
-use Rattle.engine_controller.specs.Numbers.{action_of}
-use Rattle.engine_controller.specs.Rule.{numbers_from, history_from, numbers_at, history_of, AreNotOf}
+use Rattle.engine_controller.specs.Numbers.{action_of, held_up_after}
+use Rattle.engine_controller.specs.Rule.{numbers_from, held_up_from, history_from, numbers_at, history_of, AreNotOf}
 use Rattle.engine_controller.specs.Passes.{AreOfOthers}
 
 pub numbers_append : (n : controller.Numbers) (xs ys : List Call) → numbers_from n (xs ++ ys) ≡ numbers_from (numbers_from n xs) ys
 numbers_append n [] ys = refl
 numbers_append n (c ∷ xs) ys = numbers_append (numbers_after n (action_of c.action)) xs ys
+
+pub held_up_append : (h : ℕ) (n : controller.Numbers) (xs ys : List Call)
+    → held_up_from h n (xs ++ ys) ≡ held_up_from (held_up_from h n xs) (numbers_from n xs) ys
+held_up_append h n [] ys = refl
+held_up_append h n (c ∷ xs) ys =
+    held_up_append (held_up_after c.client h n (action_of c.action)) (numbers_after n (action_of c.action)) xs ys
 
 pub history_append : (n : controller.Numbers) (xs ys : List Call) → history_from n (xs ++ ys) ≡ history_from n xs ++ history_from (numbers_from n xs) ys
 history_append n [] ys = refl

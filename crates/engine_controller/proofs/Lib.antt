@@ -4,6 +4,7 @@ pub mod Closings
 pub mod Histories
 pub mod Moves
 pub mod Places
+pub mod Stalls
 pub mod Steps
 pub mod Tellings
 pub mod Totals

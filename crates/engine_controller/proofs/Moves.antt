@@ -1,5 +1,5 @@
 -- What the methods of the cell require, shown for views that are known.
-use Rattle.std.proofs.Common.{◌≡◌, ℕ, zero, suc, ◌+◌, ◌^◌, ◌≤◌, ◌<◌, Bool, true, false, true≢false, List, [], ◌∷◌, ◌++◌, sym, ap, ◌∙◌, refl, subst, arith}
+use Rattle.std.proofs.Common.{◌≡◌, ◌≢◌, ◌⊎◌, ⊎_elim, ℕ, zero, suc, ◌+◌, ◌^◌, ◌≤◌, ◌<◌, Bool, true, false, true≢false, List, [], ◌∷◌, ◌++◌, sym, ap, ◌∙◌, refl, subst, arith}
 use Rattle.std.specs.Prelude.{◌==◌, ◌||◌, ◌&&◌, nat_lt, if◌then◌else◌}
 use Rattle.std.specs.List.{AllByRecursion, sum_by}
 use Rattle.std.proofs.lemmas.Bool.Decides.{nat_tests}
@@ -16,10 +16,10 @@ use Rattle.engine_controller.specs.declared.numbers.Action.TheVariants.{Look, De
 use Rattle.engine_controller.specs.declared.rule.Call.{Call}
 use Rattle.engine_controller.specs.declared.rule.Observer.{Observer}
 use Rattle.engine_controller.specs.declared.rule.Caller.TheVariants.{Nobody, Client, Others}
-use Rattle.engine_controller.specs.Numbers.{numbers_of, action_of}
-use Rattle.engine_controller.specs.Rule.{asked_in, observer, client_view, others, note_of, fewer_others, next_client, covers, coverage, IsOfOthers, Fits, weight, tokens_held, share, total, Kept, Sees, Makes, Asks, Exchanges, Closes, MayCall}
+use Rattle.engine_controller.specs.Numbers.{numbers_of, action_of, held_up_after}
+use Rattle.engine_controller.specs.Rule.{asked_in, observer, client_view, others, note_of, fewer_others, next_client, covers, coverage, IsOfOthers, Fits, weight, tokens_held, share, total, Kept, Sees, Makes, is_free, Asks, Exchanges, Closes, MayCall}
 use Rattle.engine_controller.proofs.Totals.{sum_single, all_map}
-use Rattle.engine_controller.proofs.Unchanged.{unslowed}
+use Rattle.engine_controller.proofs.Unchanged.{unslowed, freely_told}
 use Rattle.engine_controller.proofs.Steps.{forked, merged, AreNotes, no_notes, sees_at, makes_at}
 
 same_number : (m n : ℕ) → (m == n) ≡ true → m ≡ n
@@ -28,39 +28,60 @@ same_number m n e = grind (arith, nat_tests)
 equal_number : (m n : ℕ) → m ≡ n → (m == n) ≡ true
 equal_number m n e = grind (arith, nat_tests)
 
+and_both : (a b : Bool) → (a && b) ≡ true → (a ≡ true) × (b ≡ true)
+and_both true b e = (refl, e)
+and_both false b e = absurd (true≢false (sym e))
+
+-- whether some client stops or slows writes
+pub is_free_at : (x : Numbers) → x.stops ≡ 0 → x.delays ≡ 0 → is_free x ≡ true
+is_free_at x stops delays = rw (equal_number x.stops 0 stops, equal_number x.delays 0 delays) refl
+
+pub is_not_free : (x : Numbers) → ((x.stops ≡ 0) × (x.delays ≢ 0)) ⊎ (x.stops ≢ 0) → is_free x ≡ false
+is_not_free x either = by_case (x.stops == 0) (x.delays == 0) refl refl
+  where
+    by_case : (a b : Bool) → (x.stops == 0) ≡ a → (x.delays == 0) ≡ b → (a && b) ≡ false
+    by_case true true p q = absurd (⊎_elim (λ (t : (x.stops ≡ 0) × (x.delays ≢ 0)). t.1 (same_number x.delays 0 q)) (λ (n : x.stops ≢ 0). n (same_number x.stops 0 p)) either)
+    by_case true false p q = refl
+    by_case false b p q = refl
+
 -- Loads and exchanges
 
 pub sees_turn : (id c : ℕ) (seen : List Call) (notes : List Observer) → AreNotes notes → (v : List Observer) → v ≡ observer (Client c) seen ∷ notes → Turns Kept id v (λ x. x) Sees
 sees_turn id c seen notes quiet v is = subst (λ (u : List Observer). Turns Kept id u (λ x. x) Sees) (sym is) (λ x views r at. sees_at id c seen notes quiet x views r at)
 
 pub looks_turn : (id c : ℕ) (seen : List Call) (v : List Observer) → v ≡ client_view c seen → Turns Kept id v (λ x. x) (λ v x _ w. Makes Look v x w)
-looks_turn id c seen v is = subst (λ (u : List Observer). Turns Kept id u (λ x. x) (λ v x _ w. Makes Look v x w)) (sym is) (λ x views r at. makes_at id c seen Look tt x x views refl r at)
+looks_turn id c seen v is = subst (λ (u : List Observer). Turns Kept id u (λ x. x) (λ v x _ w. Makes Look v x w)) (sym is) (λ x views r at. makes_at id c seen Look tt x x views refl refl r at)
 
 asks_turn : (id c : ℕ) (seen : List Call) (now bytes : ℕ) (v : List Observer) → v ≡ client_view c seen → Turns Kept id v (λ x. x) (λ v x _ w. Asks (Delay now bytes) v x w)
-asks_turn id c seen now bytes v is = subst (λ (u : List Observer). Turns Kept id u (λ x. x) (λ v x _ w. Asks (Delay now bytes) v x w)) (sym is) (λ x. by_case x (x.delays == 0) refl)
+asks_turn id c seen now bytes v is = subst (λ (u : List Observer). Turns Kept id u (λ x. x) (λ v x _ w. Asks (Delay now bytes) v x w)) (sym is) (λ x. by_case x (is_free x) refl)
   where
-    by_case : (x : Numbers) (b : Bool) → (x.delays == 0) ≡ b → TurnsAt Kept id (client_view c seen) x x (λ v x _ w. Asks (Delay now bytes) v x w)
+    by_case : (x : Numbers) (b : Bool) → is_free x ≡ b → TurnsAt Kept id (client_view c seen) x x (λ v x _ w. Asks (Delay now bytes) v x w)
     by_case x true e views r at =
-        let none : x.delays ≡ 0 = same_number x.delays 0 e in
-        let made = makes_at id c seen (Delay now bytes) tt x x views (sym (ap (λ a. a.numbers) (unslowed (numbers_of x) now bytes none))) r at in
-        (made.0, made.1, record { made = λ _. made.2; other = λ some. absurd (some none) })
+        let free = and_both (x.stops == 0) (x.delays == 0) e in
+        let stops : x.stops ≡ 0 = same_number x.stops 0 free.0 in
+        let delays : x.delays ≡ 0 = same_number x.delays 0 free.1 in
+        let made = makes_at id c seen (Delay now bytes) tt x x views (sym (ap (λ a. a.numbers) (unslowed (numbers_of x) now bytes delays)))
+        (sym (freely_told c x.held_up (numbers_of x) now bytes stops delays)) r at in
+        (made.0, made.1, record { made = λ _. made.2; other = λ no. absurd (true≢false (sym e ∙ no)) })
     by_case x false e views r at =
         let seen_now = sees_at id c seen [] no_notes x views r at in
-        (seen_now.0, seen_now.1, record { made = λ none. absurd (true≢false (sym (equal_number x.delays 0 none) ∙ e)); other = λ _. seen_now.2 })
+        (seen_now.0, seen_now.1, record { made = λ yes. absurd (true≢false (sym yes ∙ e)); other = λ _. seen_now.2 })
 
 pub asks_picked : (id c : ℕ) (seen : List Call) (a : Action) (now bytes : ℕ) → a ≡ Delay now bytes → (v : List Observer) → v ≡ client_view c seen → Turns Kept id v (λ x. x) (λ v x _ w. Asks a v x w)
 asks_picked id c seen a now bytes is v view = subst (λ (k : Action). Turns Kept id v (λ x. x) (λ v x _ w. Asks k v x w)) (sym is) (asks_turn id c seen now bytes v view)
 
 exchange_turn : (eq : Numbers → Numbers → Bool) → ((x y : Numbers) → eq x y ≡ true → x ≡ y) → ((x y : Numbers) → x ≡ y → eq x y ≡ true)
     → (id c : ℕ) (seen : List Call) (a : Action) (found new : Numbers) → MayCall a (asked_in c seen) → numbers_of new ≡ numbers_after (numbers_of found) (action_of a)
+    → new.held_up ≡ held_up_after c found.held_up (numbers_of found) (action_of a)
     → (v : List Observer) → v ≡ client_view c seen → Turns Kept id v (λ x. if eq x found then new else x) (λ v x _ w. Exchanges a found v x w)
-exchange_turn eq same here id c seen a found new may next v is =
+exchange_turn eq same here id c seen a found new may next held_up v is =
     subst (λ (u : List Observer). Turns Kept id u (λ x. if eq x found then new else x) (λ v x _ w. Exchanges a found v x w)) (sym is) (λ x. by_case x (eq x found) refl)
   where
     by_case : (x : Numbers) (b : Bool) → eq x found ≡ b → TurnsAt Kept id (client_view c seen) x (if b then new else x) (λ v x _ w. Exchanges a found v x w)
     by_case x true e views r at =
         let is : x ≡ found = same x found e in
-        let made = makes_at id c seen a may x new views (next ∙ ap (λ n. numbers_after (numbers_of n) (action_of a)) (sym is)) r at in
+        let made = makes_at id c seen a may x new views (next ∙ ap (λ n. numbers_after (numbers_of n) (action_of a)) (sym is))
+        (held_up ∙ ap (λ n. held_up_after c n.held_up (numbers_of n) (action_of a)) (sym is)) r at in
         (made.0, made.1, record { made = λ _. made.2; other = λ ne. absurd (ne is) })
     by_case x false e views r at =
         let seen_now = sees_at id c seen [] no_notes x views r at in
@@ -78,10 +99,11 @@ weight_at_most : (b : Bool) → weight b ≤ 1
 weight_at_most true = omega arith
 weight_at_most false = omega arith
 
-pub begins : (x : Numbers) → numbers_of x ≡ controller.opening → Kept x (others 0 ∷ [])
-begins x is = record {
+pub begins : (x : Numbers) → numbers_of x ≡ controller.opening → x.held_up ≡ 0 → Kept x (others 0 ∷ [])
+begins x is held_up = record {
   calls = [];
   numbers = is;
+  held_up = held_up;
   rate = subst (λ n. 1 ≤ n.rate) (sym is) (omega arith);
   each = each;
   alone = λ c. omega (arith, total_one (coverage c) (observer (Others 0) []), weight_at_most (covers (Others 0) c));
@@ -169,6 +191,20 @@ copies id c seen v is = subst (λ (u : List Observer). Forks Kept id u u (note_o
         (omega (arith, sum_single (tokens_held holds_slow) note))
         (omega (arith, sum_single share note))
 
+-- a note is copied as a client's view is
+pub note_copies : (id : ℕ) (seen : List Call) (v : List Observer) → v ≡ observer Nobody seen ∷ [] → Forks Kept id v v (note_of v)
+note_copies id seen v is = subst (λ (u : List Observer). Forks Kept id u u (note_of u)) (sym is) copy
+  where
+    copy : Forks Kept id (observer Nobody seen ∷ []) (observer Nobody seen ∷ []) (observer Nobody seen ∷ [])
+    copy x views r at =
+        let note : Observer = observer Nobody seen in
+        let fits = r.each id (note ∷ []) at in
+        forked x views id (note ∷ []) r at (note ∷ []) (note ∷ []) fits fits
+        (λ d. omega (arith, sum_single (coverage d) note))
+        (omega (arith, sum_single (tokens_held holds_stop) note))
+        (omega (arith, sum_single (tokens_held holds_slow) note))
+        (omega (arith, sum_single share note))
+
 pub moves : (id : ℕ) (v : List Observer) → Forks Kept id v [] v
 moves id v x views r at = forked x views id v r at [] v tt (r.each id v at) (λ c. omega arith) (omega arith) (omega arith) (omega arith)
 
@@ -178,11 +214,7 @@ joins id other v w x views r at apart there = merged x views id v r at other w a
 -- Numbers are compared field by field
 
 abbrev pub eq_numbers : Numbers → Numbers → Bool
-eq_numbers x y = (x.stops == y.stops) && ((x.delays == y.delays) && ((x.rate == y.rate) && ((x.credit == y.credit) && (x.next == y.next))))
-
-and_both : (a b : Bool) → (a && b) ≡ true → (a ≡ true) × (b ≡ true)
-and_both true b e = (refl, e)
-and_both false b e = absurd (true≢false (sym e))
+eq_numbers x y = (x.stops == y.stops) && ((x.delays == y.delays) && ((x.rate == y.rate) && ((x.credit == y.credit) && ((x.next == y.next) && (x.held_up == y.held_up)))))
 
 pub eq_same : (x y : Numbers) → eq_numbers x y ≡ true → x ≡ y
 eq_same x y e =
@@ -190,22 +222,25 @@ eq_same x y e =
     let b = and_both (x.delays == y.delays) _ a.1 in
     let c = and_both (x.rate == y.rate) _ b.1 in
     let d = and_both (x.credit == y.credit) _ c.1 in
+    let f = and_both (x.next == y.next) _ d.1 in
     let stops = same_number x.stops y.stops a.0 in
     let delays = same_number x.delays y.delays b.0 in
     let rate = same_number x.rate y.rate c.0 in
     let credit = same_number x.credit y.credit d.0 in
-    let next = same_number x.next y.next d.1 in
-    λ i. record { stops = stops i; delays = delays i; rate = rate i; credit = credit i; next = next i }
+    let next = same_number x.next y.next f.0 in
+    let held_up = same_number x.held_up y.held_up f.1 in
+    λ i. record { stops = stops i; delays = delays i; rate = rate i; credit = credit i; next = next i; held_up = held_up i }
 
 pub eq_here : (x y : Numbers) → x ≡ y → eq_numbers x y ≡ true
 eq_here x y e = subst (λ (z : Numbers). eq_numbers x z ≡ true) e (whole x)
   where
     whole : (x : Numbers) → eq_numbers x x ≡ true
-    whole x = rw (equal_number x.stops x.stops refl, equal_number x.delays x.delays refl, equal_number x.rate x.rate refl, equal_number x.credit x.credit refl, equal_number x.next x.next refl) refl
+    whole x = rw (equal_number x.stops x.stops refl, equal_number x.delays x.delays refl, equal_number x.rate x.rate refl, equal_number x.credit x.credit refl, equal_number x.next x.next refl, equal_number x.held_up x.held_up refl) refl
 
 pub exchanges : (eq : Numbers → Numbers → Bool) → ((x y : Numbers) → eq x y ≡ true → x ≡ y) → ((x y : Numbers) → x ≡ y → eq x y ≡ true)
     → (id c : ℕ) (seen : List Call) (a b : Action) (found again new : Numbers) → a ≡ b → again ≡ found → MayCall b (asked_in c seen) → numbers_of new ≡ numbers_after (numbers_of found) (action_of b)
+    → new.held_up ≡ held_up_after c found.held_up (numbers_of found) (action_of b)
     → (v : List Observer) → v ≡ client_view c seen → Turns Kept id v (λ x. if eq x found then new else x) (λ v x _ w. Exchanges a again v x w)
-exchanges eq same here id c seen a b found again new is at may next v view =
+exchanges eq same here id c seen a b found again new is at may next held_up v view =
     subst (λ (k : Action). Turns Kept id v (λ x. if eq x found then new else x) (λ v x _ w. Exchanges k again v x w)) (sym is)
-    (subst (λ (n : Numbers). Turns Kept id v (λ x. if eq x found then new else x) (λ v x _ w. Exchanges b n v x w)) (sym at) (exchange_turn eq same here id c seen b found new may next v view))
+    (subst (λ (n : Numbers). Turns Kept id v (λ x. if eq x found then new else x) (λ v x _ w. Exchanges b n v x w)) (sym at) (exchange_turn eq same here id c seen b found new may next held_up v view))

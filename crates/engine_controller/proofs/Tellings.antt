@@ -11,7 +11,7 @@ use Rattle.engine_controller.specs.declared.numbers.Action.{Action}
 use Rattle.engine_controller.specs.declared.rule.Call.{Call}
 use Rattle.engine_controller.specs.declared.rule.Observer.{Observer}
 use Rattle.engine_controller.specs.Numbers.{numbers_of, action_of}
-use Rattle.engine_controller.specs.Rule.{numbers_at, history_from, history_of, asked_in, call, observer, client_view, client_in, seen_in, IsClientView, AreNotOf, Sees, Makes}
+use Rattle.engine_controller.specs.Rule.{numbers_at, held_up_at, history_from, history_of, asked_in, call, observer, client_view, client_in, seen_in, IsClientView, AreNotOf, Sees, Makes}
 use Rattle.engine_controller.specs.Passes.{GoesOn, EndsWith, token_in}
 use Rattle.engine_controller.proofs.Totals.{all_append, all_map}
 use Rattle.engine_controller.proofs.Histories.{history_append, legal_from, others_from, history_prefix}
@@ -83,6 +83,7 @@ follows_makes v w u a x f m =
       view = m.view ∙ (λ i. client_view (client i) (all i ++ call (client i) a ∷ []));
       others = all_append (λ (k : Call). k.client ≢ client_in v) f.between m.between f.others (subst (λ c. AreNotOf c m.between) client m.others);
       numbers = m.numbers ∙ ap numbers_at all;
+      held_up = m.held_up ∙ ap held_up_at all;
       own_stop = λ holds. m.own_stop (ap holds_stop (follows_asked v w f) ∙ holds);
     }
 

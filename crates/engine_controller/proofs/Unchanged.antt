@@ -1,8 +1,9 @@
 -- What a delay leaves as it was, how a slow token changes the counts, and that a rate stays at least 1.
-use Rattle.std.proofs.Common.{◌≡◌, ℕ, ◌+◌, ◌≤◌, Bool, true, false, true≢false, sym, refl, subst, arith}
+use Rattle.std.proofs.Common.{◌≡◌, ℕ, ◌+◌, ◌≤◌, Bool, true, false, true≢false, sym, ap, ◌∙◌, refl, subst, arith}
 use Rattle.std.proofs.lemmas.Bool.Decides.{nat_tests}
-use Rattle.std.specs.Prelude.{if◌then◌else◌, ◌==◌, nat_le, nat_lt, ◌||◌}
+use Rattle.std.specs.Prelude.{if◌then◌else◌, ◌==◌, nat_le, nat_lt, ◌||◌, ◌&&◌}
 use Rattle.model_base.specs.Controller.{Numbers, Action, stop, unstop, slow, unslow, delay, look, numbers_after, after_delay, after_slow, After, after_refill, after_payment, after_start, after_due_refill}
+use Rattle.engine_controller.specs.Numbers.{held_up_after}
 
 on_if : {A : Type 0} (P : A → Type 0) (b : Bool) (x y : A) → P x → P y → P (if b then x else y)
 on_if P true x y p q = p
@@ -39,6 +40,22 @@ pub unslowed : (n : Numbers) (now bytes : ℕ) → n.delays ≡ 0 → after_dela
 unslowed n now bytes none =
     let is : (n.delays == 0) ≡ true = grind (arith, nat_tests) in
     if_either (nat_lt 0 n.stops) (n.delays == 0) _ _ is
+
+-- where no client stops or slows writes, a delay isn't told that writes are held up
+pub freely_told : (client held_up : ℕ) (n : Numbers) (now bytes : ℕ) → n.stops ≡ 0 → n.delays ≡ 0
+    → held_up_after client held_up n (delay now bytes) ≡ held_up
+freely_told client held_up n now bytes stops delays =
+    ap (λ b. if b then client else held_up) (neither (nat_lt 0 n.stops) (nat_lt 0 n.delays) _ (grind (arith, nat_tests)) (grind (arith, nat_tests)))
+  where
+    neither : (a b c : Bool) → a ≡ false → b ≡ false → (a || (b && c)) ≡ false
+    neither true b c p q = p
+    neither false true c p q = absurd (true≢false q)
+    neither false false c p q = refl
+
+-- what is noted of a call depends on the number of its client alone
+pub noted_by : (client other held_up after : ℕ) (n : Numbers) (a : Action) → after ≡ held_up_after client held_up n a
+    → client ≡ other → after ≡ held_up_after other held_up n a
+noted_by client other held_up after n a is same = is ∙ ap (λ (c : ℕ). held_up_after c held_up n a) same
 
 pub slowed_stops : (n : Numbers) (rate : ℕ) → (after_slow n rate).stops ≡ n.stops
 slowed_stops n rate = on_if (λ (m : Numbers). m.stops ≡ n.stops) (n.delays == 0) (record n { credit = 0; next = 0 }) n refl refl

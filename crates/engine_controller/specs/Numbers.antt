@@ -1,5 +1,5 @@
--- The five words as the numbers of the write controller's equations, and calls as the calls of those equations.
-use Rattle.std.specs.Prelude.{ℕ, List, [], ◌∷◌}
+-- The first five words as the numbers of the write controller's equations, and calls as the calls of those equations.
+use Rattle.std.specs.Prelude.{ℕ, Bool, ◌||◌, ◌&&◌, nat_lt, if◌then◌else◌, List, [], ◌∷◌}
 use Rattle.model_base.specs.Controller as controller
 use Rattle.model_base.specs.Controller.{stop, unstop, slow, unslow, delay, look, after_delay}
 use Rattle.engine_controller.specs.declared.numbers.Numbers.{Numbers}
@@ -8,7 +8,7 @@ use Rattle.engine_controller.specs.declared.numbers.Action.TheVariants as call
 
 -- the order of the words in the cell
 abbrev pub words_of : Numbers → List ℕ
-words_of n = n.stops ∷ n.delays ∷ n.rate ∷ n.credit ∷ n.next ∷ []
+words_of n = n.stops ∷ n.delays ∷ n.rate ∷ n.credit ∷ n.next ∷ n.held_up ∷ []
 
 abbrev pub numbers_of : Numbers → controller.Numbers
 numbers_of n = record { stops = n.stops; delays = n.delays; rate = n.rate; credit = n.credit; next = n.next }
@@ -25,3 +25,14 @@ action_of call.Look = look
 abbrev pub wait_after : controller.Numbers → controller.Action → ℕ
 wait_after n (delay now bytes) = (after_delay n now bytes).wait
 wait_after n other = 0
+
+-- these numbers say that writes are held up
+abbrev pub holds_up : controller.Look → Bool
+holds_up numbers = nat_lt 0 numbers.stops || (nat_lt 0 numbers.delays && nat_lt 0 numbers.wait)
+
+-- which client's delay was the last one that was told so, after a call of this client at the numbers n, where it was
+-- `held_up` before
+abbrev pub held_up_after : ℕ → ℕ → controller.Numbers → controller.Action → ℕ
+held_up_after client held_up n (delay now bytes) =
+    if holds_up (controller.look_with n (after_delay n now bytes).wait) then client else held_up
+held_up_after client held_up n other = held_up

@@ -6,12 +6,11 @@ use Rattle.model_base.specs.Controller.{ControllerCall, Action, Look, IsLegal}
 use Rattle.model_base.specs.Tokens.{tokens_of, is_token, holds_stop, holds_slow}
 use Rattle.model_base.specs.Replies.{IsLater}
 use Rattle.engine_controller.specs.declared.pass.Pass.{Pass}
-use Rattle.engine_controller.specs.declared.pass.Note.{Note}
+use Rattle.engine_controller.specs.Noted.{Noted}
 use Rattle.engine_controller.specs.declared.pass.Others.{Others}
 use Rattle.engine_controller.specs.declared.pass.Passes.{Passes}
 use Rattle.engine_controller.specs.declared.controller.Controller.{Controller}
-use Rattle.engine_controller.specs.Rule.{client_in, seen_in, history_of, IsClientView, observer, others}
-use Rattle.engine_controller.specs.declared.rule.Caller.TheVariants.{Nobody}
+use Rattle.engine_controller.specs.Rule.{client_in, seen_in, history_of, held_up_at, IsClientView, others}
 
 -- the client whose pass it is
 abbrev pub client_of : Pass → ℕ
@@ -21,8 +20,13 @@ client_of pass = client_in (cell_view pass.seat)
 abbrev pub seen_by : Pass → List ControllerCall
 seen_by pass = history_of (seen_in (cell_view pass.seat))
 
-abbrev pub seen_by_note : Note → List ControllerCall
-seen_by_note note = history_of (seen_in (cell_view note.seat))
+-- the client whose delay was the last one, as far as the pass has seen, that was told that writes are held up; 0 where
+-- none was
+abbrev pub last_held_up : Pass → ℕ
+last_held_up pass = held_up_at (seen_in (cell_view pass.seat))
+
+abbrev pub seen_by_note : Noted → List ControllerCall
+seen_by_note note = history_of note.seen
 
 -- the client's own calls that took a token or gave one back
 abbrev pub asked_by : Pass → List Action
@@ -36,14 +40,13 @@ clients_of controller = controller.clients
 pub record IsPassOf {C : Type 0} (controller : Controller C) (pass : Pass) : Type 0 where
   pub cell : pass.seat.table_id ≡ controller.cell.table.shared.table_id
   pub view : IsClientView (cell_view pass.seat)
+  pub number : pass.number ≡ client_of pass
   pub stopping : pass.stopping ≡ holds_stop (asked_by pass)
   pub slowing : pass.slowing ≡ holds_slow (asked_by pass)
 
 -- it is a note that this controller gave
-pub record IsNoteOf {C : Type 0} (controller : Controller C) (note : Note) : Type 0 where
-  pub cell : note.seat.table_id ≡ controller.cell.table.shared.table_id
-  pub view : cell_view note.seat ≡ observer Nobody (seen_in (cell_view note.seat)) ∷ []
-  pub free : note.seat.me.1 ≡ []
+abbrev pub IsNoteOf : {C : Type 0} → Controller C → Noted → Type 0
+IsNoteOf controller note = note.cell ≡ controller.cell.table.shared.table_id
 
 -- How a history goes on
 

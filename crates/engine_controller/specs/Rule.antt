@@ -1,5 +1,5 @@
--- The rule of the controller's five words, and what each step on them shows.
-use Rattle.std.specs.Prelude.{◌≡◌, ◌≢◌, ℕ, ◌+◌, ◌-◌, ◌^◌, ◌≤◌, Bool, true, false, ◌||◌, List, [], ◌∷◌, ◌++◌, ◌==◌, nat_lt, ⊤, Option, IfSome}
+-- The rule of the controller's six words, and what each step on them shows.
+use Rattle.std.specs.Prelude.{◌≡◌, ◌≢◌, ℕ, ◌+◌, ◌-◌, ◌^◌, ◌≤◌, Bool, true, false, ◌||◌, ◌&&◌, List, [], ◌∷◌, ◌++◌, ◌==◌, nat_lt, ⊤, Option, IfSome}
 use Rattle.std.specs.List.{AllByRecursion, sum_by}
 use mathlib.Core.Option.{some}
 use mathlib.Core.List.{IsPrefix}
@@ -14,7 +14,7 @@ use Rattle.engine_controller.specs.declared.rule.Call.{Call}
 use Rattle.engine_controller.specs.declared.rule.Observer.{Observer}
 use Rattle.engine_controller.specs.declared.rule.Caller.{Caller}
 use Rattle.engine_controller.specs.declared.rule.Caller.TheVariants.{Nobody, Client, Others}
-use Rattle.engine_controller.specs.Numbers.{numbers_of, action_of}
+use Rattle.engine_controller.specs.Numbers.{numbers_of, action_of, held_up_after}
 
 -- Calls
 
@@ -22,6 +22,13 @@ use Rattle.engine_controller.specs.Numbers.{numbers_of, action_of}
 abbrev pub numbers_from : controller.Numbers → List Call → controller.Numbers
 numbers_from n [] = n
 numbers_from n (c ∷ calls) = numbers_from (numbers_after n (action_of c.action)) calls
+
+-- which client's delay was the last one among these calls that was told that writes are held up; `held_up`, where none
+-- was
+abbrev pub held_up_from : ℕ → controller.Numbers → List Call → ℕ
+held_up_from held_up n [] = held_up
+held_up_from held_up n (c ∷ calls) = held_up_from (held_up_after c.client held_up n (action_of c.action))
+    (numbers_after n (action_of c.action)) calls
 
 -- the same calls, each with its answer
 abbrev pub history_from : controller.Numbers → List Call → List ControllerCall
@@ -32,6 +39,9 @@ history_from n (c ∷ calls) =
 
 abbrev pub numbers_at : List Call → controller.Numbers
 numbers_at calls = numbers_from controller.opening calls
+
+abbrev pub held_up_at : List Call → ℕ
+held_up_at calls = held_up_from 0 controller.opening calls
 
 abbrev pub history_of : List Call → List ControllerCall
 history_of calls = history_from controller.opening calls
@@ -151,12 +161,13 @@ share v = share_of v.caller
 abbrev pub total : (Observer → ℕ) → List (List Observer) → ℕ
 total f views = sum_by (λ (v : List Observer). sum_by f v) views
 
--- There is one history of calls. The words are the numbers after it. Each observer has seen a beginning of it, and no
--- later call is its own. At most one observer covers a client. The words `stops` and `delays` are how many clients hold
--- a stop token and a slow token.
+-- There is one history of calls. The words are the numbers after it, and the client that was last told in it that
+-- writes are held up. Each observer has seen a beginning of it, and no later call is its own. At most one observer
+-- covers a client. The words `stops` and `delays` are how many clients hold a stop token and a slow token.
 pub record Kept (x : Numbers) (views : List (List Observer)) : Type 0 where
   pub calls : List Call
   pub numbers : numbers_of x ≡ numbers_at calls
+  pub held_up : x.held_up ≡ held_up_at calls
   pub rate : 1 ≤ x.rate
   pub each : (i : ℕ) (v : List Observer) → get_elem? views i ≡ some v → AllByRecursion (Fits calls) v
   pub alone : (client : ℕ) → total (coverage client) views ≤ 1
@@ -191,6 +202,7 @@ pub record Makes (action : Action) (v : List Observer) (x : Numbers) (w : List O
   pub view : w ≡ client_view (client_in v) ((seen_in v ++ between) ++ call (client_in v) action ∷ [])
   pub others : AreNotOf (client_in v) between
   pub numbers : numbers_of x ≡ numbers_at (seen_in v ++ between)
+  pub held_up : x.held_up ≡ held_up_at (seen_in v ++ between)
   -- where the client holds a stop token, `stops` counts it
   pub own_stop : holds_stop (asked_in (client_in v) (seen_in v)) ≡ true → 1 ≤ x.stops
 
@@ -204,10 +216,15 @@ pub record Exchanges (action : Action) (found : Numbers) (v : List Observer) (x 
 abbrev pub IsDelayAt : Option ℕ → ℕ → Action → Type 0
 IsDelayAt last bytes action = (now : ℕ) × IfSome last (λ moment. moment ≡ now) × (action ≡ Delay now bytes)
 
--- a load that asks for a delay makes the call where no client slows writes, since there the call changes no number
+-- no client stops writes, and none slows them
+abbrev pub is_free : Numbers → Bool
+is_free x = (x.stops == 0) && (x.delays == 0)
+
+-- a load that asks for a delay makes the call where no client stops or slows writes, since there the call changes no
+-- word
 pub record Asks (action : Action) (v : List Observer) (x : Numbers) (w : List Observer) : Type 0 where
-  pub made : x.delays ≡ 0 → Makes action v x w
-  pub other : x.delays ≢ 0 → Sees v x x w
+  pub made : is_free x ≡ true → Makes action v x w
+  pub other : is_free x ≡ false → Sees v x x w
 
 -- there is a history that fits all the observers
 pub record Closes (v w : List Observer) : Type 0 where

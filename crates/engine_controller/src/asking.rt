@@ -1,11 +1,12 @@
 //! The calls of clients that write, and how one pass learns what another pass has seen.
 
-ghost use Rattle.std.specs.Prelude.{◌≡◌, ◌≤◌, ℕ, true, Some, IfSome};
+ghost use Rattle.std.specs.Prelude.{◌≡◌, ◌≢◌, ◌≤◌, ◌-◌, ℕ, true, length, Some, IfSome};
 ghost use mathlib.Core.List.{IsPrefix};
 ghost use Rattle.model_base.specs.Controller.{delay, look};
+ghost use Rattle.model_base.specs.Replies.{WasHeldUp};
 ghost use Rattle.model_base.specs.Tokens.{holds_stop};
 ghost use Rattle.engine_controller.specs.Looks.{look_of};
-ghost use Rattle.engine_controller.specs.Passes.{client_of, seen_by, asked_by, seen_by_note};
+ghost use Rattle.engine_controller.specs.Passes.{client_of, seen_by, asked_by, last_held_up, seen_by_note};
 ghost use Rattle.engine_controller.specs.Passes.{IsPassOf, IsNoteOf, GoesOn, EndsWith};
 
 use crate::controller::Controller;
@@ -19,10 +20,10 @@ use std::marker::Brand;
 use std::sync::Wait;
 
 impl<Time: Clock> Controller<Time> {
-    /// Asks how long a group of `bytes` bytes has to wait. Where some client slows writes, the clock is asked once,
-    /// before the call, and the call is at the moment that it answers. Where no client does, no answer depends on the
-    /// moment, and the clock isn't asked: the call is at the last moment that the clock had answered, where the clock
-    /// tells one, or else at any moment.
+    /// Asks how long a group of `bytes` bytes has to wait. Where some client stops or slows writes, the clock is asked
+    /// once, before the call, and the call is at the moment that it answers. Where no client does, no answer depends on
+    /// the moment, and the clock isn't asked: the call is at the last moment that the clock had answered, where the
+    /// clock tells one, or else at any moment.
     pub fn delay<R: Wait>(&self, rt: &R, pass: &mut Pass, clock: &mut Time, bytes: u64) -> Look
         requires own { IsPassOf self.now pass.old }
         ensures own { IsPassOf self.now pass.new × (client_of pass.new ≡ client_of pass.old) }
@@ -32,13 +33,18 @@ impl<Time: Clock> Controller<Time> {
             × EndsWith (client_of pass.old) (seen_by pass.old) (delay now bytes) (Some (look_of result))
             (seen_by pass.new) }
     {
-        // Where no client slows writes, this load is the whole call, and no word is written.
+        // Where no client stops or slows writes, this load is the whole call, and no word is written.
         let found = self.ask_unslowed::<Brand, R>(rt, &mut pass.seat, clock, bytes);
-        if found.delays == 0 {
-            return Look::new(found.stops, 0, 0);
+        if found.stops == 0 && found.delays == 0 {
+            return Look::new(0, 0, 0);
         }
         let now = clock.now();
-        self.call(rt, &mut pass.seat, Action::Delay { now, bytes })
+        self.call(
+            rt,
+            &mut pass.seat,
+            pass.number,
+            Action::Delay { now, bytes },
+        )
     }
 
     /// Reads how many clients stop writes, and how many slow them. A client that stops writes itself is counted too.
@@ -54,6 +60,20 @@ impl<Time: Clock> Controller<Time> {
         Look::new(found.stops, found.delays, 0)
     }
 
+    /// As [`Controller::look`]. It also answers which client's delay was the last one before it that was told that
+    /// writes are held up, or 0 where none was. So a client that meets a stall learns whose it is, or was.
+    pub fn look_at_stall<R: Wait>(&self, rt: &R, pass: &mut Pass) -> (Look, u64)
+        requires own { IsPassOf self.now pass.old }
+        ensures own { IsPassOf self.now pass.new × (client_of pass.new ≡ client_of pass.old) }
+        ensures asked { EndsWith (client_of pass.old) (seen_by pass.old) look (Some (look_of result.0))
+            (seen_by pass.new) }
+        ensures last { result.1 ≡ last_held_up pass.new }
+        ensures stalled { result.1 ≢ 0 → WasHeldUp (seen_by pass.new) result.1 (length (seen_by pass.new) - 1) }
+    {
+        let found = load::<Looking, R>(&self.cell, rt, &mut pass.seat);
+        (Look::new(found.stops, found.delays, 0), found.held_up)
+    }
+
     /// Copies what the pass has seen, for another client's pass. It is no call, and the pass itself stays as it is.
     pub fn note(&self, pass: &mut Pass) -> Note
         requires own { IsPassOf self.now pass.old }
@@ -64,6 +84,21 @@ impl<Time: Clock> Controller<Time> {
         Note {
             seat: split::<Copied>(&self.cell, &mut pass.seat),
         }
+    }
+
+    /// Makes two notes of one. It is no call.
+    pub fn copies(&self, note: Note) -> (Note, Note)
+        requires { IsNoteOf self.now note }
+        ensures { (result.0 ≡ note) × (result.1 ≡ note) }
+    {
+        let Note { mut seat } = note;
+        let one = Note {
+            seat: split::<Copied>(&self.cell, &mut seat),
+        };
+        let two = Note {
+            seat: split::<Copied>(&self.cell, &mut seat),
+        };
+        (one, two)
     }
 
     /// Lets the pass see what another pass has seen, and all of the history so far. It is no call.

@@ -1,4 +1,4 @@
-//! The controller: five words that change together, and the step that makes a call.
+//! The controller: six words that change together, and the step that makes a call.
 
 ghost use Rattle.std.specs.Prelude.{◌≡◌};
 ghost use Rattle.crossbeam_utils.specs.Seq.{cell_view};
@@ -27,9 +27,10 @@ pub struct Controller<Time> {
 }
 
 impl<Time: Clock> Controller<Time> {
-    // Makes a call, and returns its answer. Between the load and the exchange other clients may have called: then it
-    // tries again with the numbers that the exchange found.
-    pub(crate) fn call<R: Wait>(&self, rt: &R, seat: &mut Seat, action: Action) -> Look
+    // Makes a call of this client's, and returns its answer. Between the load and the exchange other clients may have
+    // called: then it tries again with the numbers that the exchange found.
+    pub(crate) fn call<R: Wait>(&self, rt: &R, seat: &mut Seat, client: u32, action: Action) -> Look
+        requires client { client ≡ client_in (cell_view seat.old) }
         requires cell { seat.old.table_id ≡ self.now.cell.table.shared.table_id }
         requires view { IsClientView (cell_view seat.old) }
         requires may { MayCall action (asked_in (client_in (cell_view seat.old)) (seen_in (cell_view seat.old))) }
@@ -41,7 +42,7 @@ impl<Time: Clock> Controller<Time> {
         // No call was made so far, and the numbers that were found last are numbers of the history that the seat has
         // seen.
         for _ in rt.forever() {
-            let (new, wait) = found.after(action);
+            let (new, wait) = found.after(client as u64, action);
             match exchange::<Brand, R>(&self.cell, rt, seat, action, found, new) {
                 Ok(_) => return Look::new(found.stops, found.delays, wait),
                 Err(other) => found = other,
@@ -50,9 +51,9 @@ impl<Time: Clock> Controller<Time> {
         unreachable!()
     }
 
-    // Reads the numbers. Where no client slows writes, this also asks for a delay: there a load is the whole call, and
-    // no word is written. The clock isn't asked. It is a parameter for the last moment that it answered, which only
-    // the clauses and proofs know.
+    // Reads the numbers. Where no client stops or slows writes, this also asks for a delay: there a load is the whole
+    // call, and no word is written. The clock isn't asked. It is a parameter for the last moment that it answered,
+    // which only the clauses and proofs know.
     pub(crate) fn ask_unslowed<Picked: Asking, R: Wait>(
         &self,
         rt: &R,

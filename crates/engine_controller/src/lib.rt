@@ -8,7 +8,7 @@
 //! the rate of the token that was taken last. The controller itself makes no client wait: it answers how long, and the
 //! client that writes waits.
 //!
-//! The controller is five words, which change together:
+//! The controller is six words, which change together. The first five are the equations' numbers:
 //!
 //! | word | what it is |
 //! |---|---|
@@ -17,6 +17,7 @@
 //! | `rate` | bytes a second, at least 1 |
 //! | `credit` | bytes that may be written with no wait |
 //! | `next` | the moment of the next refill, in microseconds; 0: none is set |
+//! | `held_up` | the client whose `delay` was the last one that was told that writes are held up; 0: none was |
 //!
 //! | call | what it does |
 //! |---|---|
@@ -24,9 +25,10 @@
 //! | `stop`, `unstop` | takes the client's stop token; gives it back |
 //! | `slow`, `unslow` | takes the client's slow token, with a rate; gives it back |
 //! | `end` | gives back the tokens that the client holds |
-//! | `delay` | how long a number of bytes has to wait, by a clock while writes are slowed; and the counts of tokens |
+//! | `delay` | how long some bytes have to wait, by a clock while writes are stopped or slowed; and the counts of tokens |
 //! | `look` | the counts of tokens |
-//! | `note`, `learn` | carry what one pass has seen to another, and make no call |
+//! | `look_at_stall` | the same, and which client was last told that writes are held up |
+//! | `note`, `copies`, `learn` | carry what one pass has seen to another, and make no call |
 //! | `close` | takes all passes back |
 //!
 //! Calls of several threads follow one another in one history, and each call's answer is the one that the equations

@@ -1,8 +1,9 @@
-//! The controller's five numbers, and how each call changes them, by the equations of `model_base`.
+//! The controller's five numbers, and how each call changes them, by the equations of `model_base`. Next to them stands
+//! which client was last told that writes are held up.
 
-ghost use Rattle.std.specs.Prelude.{◌≡◌, ◌+◌, ◌<◌, ◌≤◌, ◌^◌};
+ghost use Rattle.std.specs.Prelude.{◌≡◌, ◌+◌, ◌<◌, ◌≤◌, ◌^◌, if◌then◌else◌};
 ghost use Rattle.model_base.specs.Controller.{numbers_after, slow, after_delay, after_debt, after_refill, after_payment, at_most_u64};
-ghost use Rattle.engine_controller.specs.Numbers.{numbers_of, action_of, wait_after};
+ghost use Rattle.engine_controller.specs.Numbers.{numbers_of, action_of, wait_after, held_up_after};
 
 use crossbeam_utils::atomic::seq_cell::Words;
 
@@ -25,24 +26,35 @@ pub struct Numbers {
     pub credit: u64,
     /// The moment of the next refill, in microseconds. 0: none is set.
     pub next: u64,
+    /// The client whose delay was the last one that was told that writes are held up. 0: none was. No answer depends on
+    /// it: it is what a client learns that meets a stall.
+    pub held_up: u64,
 }
 
-impl Words<5> for Numbers {
+impl Words<6> for Numbers {
     ghost use Rattle.engine_controller.specs.Numbers.{words_of};
 
     ghost words = { words_of };
 
-    fn to_words(self) -> [u64; 5] {
-        [self.stops, self.delays, self.rate, self.credit, self.next]
+    fn to_words(self) -> [u64; 6] {
+        [
+            self.stops,
+            self.delays,
+            self.rate,
+            self.credit,
+            self.next,
+            self.held_up,
+        ]
     }
 
-    fn from_words(bits: &[u64; 5]) -> Numbers {
+    fn from_words(bits: &[u64; 6]) -> Numbers {
         Numbers {
             stops: bits[0],
             delays: bits[1],
             rate: bits[2],
             credit: bits[3],
             next: bits[4],
+            held_up: bits[5],
         }
     }
 }
@@ -67,13 +79,16 @@ impl Numbers {
         rate: 1,
         credit: 0,
         next: 0,
+        held_up: 0,
     };
 
-    /// The numbers after a call, and the wait that it answers, in microseconds.
-    pub fn after(self, action: Action) -> (Numbers, u64)
+    /// The numbers after a call of this client, and the wait that it answers, in microseconds.
+    pub fn after(self, client: u64, action: Action) -> (Numbers, u64)
         requires rate { 1 ≤ self.rate }
         requires room { (self.stops + 1 < 2 ^ 64) × (self.delays + 1 < 2 ^ 64) }
         ensures numbers { numbers_of result.0 ≡ numbers_after (numbers_of self) (action_of action) }
+        ensures held_up { result.0.held_up
+            ≡ held_up_after client self.held_up (numbers_of self) (action_of action) }
         ensures wait { result.1 ≡ wait_after (numbers_of self) (action_of action) }
     {
         let numbers = match action {
@@ -90,16 +105,36 @@ impl Numbers {
                 delays: self.delays.saturating_sub(1),
                 ..self
             },
-            Action::Delay { now, bytes } => return self.after_delay(now, bytes),
+            Action::Delay { now, bytes } => {
+                let (after, wait) = self.after_delay(now, bytes);
+                let told = self.stops > 0 || (self.delays > 0 && wait > 0);
+                return (after.with_held_up(client, told), wait);
+            }
             Action::Look => self,
         };
         (numbers, 0)
     }
 
+    // The numbers once this client has been told that writes are held up, if it has.
+    fn with_held_up(self, client: u64, told: bool) -> Numbers
+        ensures numbers { numbers_of result ≡ numbers_of self }
+        ensures held_up { result.held_up ≡ (if told then client else self.held_up) }
+    {
+        if told {
+            Numbers {
+                held_up: client,
+                ..self
+            }
+        } else {
+            self
+        }
+    }
+
     // The first slow token begins with no credit and no refill set.
     fn after_slow(self, rate: u64) -> Numbers
         requires { self.delays + 1 < 2 ^ 64 }
-        ensures { numbers_of result ≡ numbers_after (numbers_of self) (slow rate) }
+        ensures numbers { numbers_of result ≡ numbers_after (numbers_of self) (slow rate) }
+        ensures held_up { result.held_up ≡ self.held_up }
     {
         let fresh = if self.delays == 0 {
             Numbers {
@@ -120,6 +155,7 @@ impl Numbers {
     fn after_delay(self, now: u64, bytes: u64) -> (Numbers, u64)
         requires { 1 ≤ self.rate }
         ensures numbers { numbers_of result.0 ≡ (after_delay (numbers_of self) now bytes).numbers }
+        ensures held_up { result.0.held_up ≡ self.held_up }
         ensures wait { result.1 ≡ (after_delay (numbers_of self) now bytes).wait }
     {
         if self.stops > 0 || self.delays == 0 {
@@ -145,6 +181,7 @@ impl Numbers {
         requires { self.next ≤ now }
         ensures numbers { numbers_of result ≡ after_refill (numbers_of self) now }
         ensures rate { result.rate ≡ self.rate }
+        ensures held_up { result.held_up ≡ self.held_up }
     {
         let elapsed = (now - self.next).saturating_add(MILLISECOND);
         let allowed = (u128::from(elapsed) * u128::from(self.rate)).div_ceil(u128::from(SECOND));
@@ -158,6 +195,7 @@ impl Numbers {
     fn after_payment(self, now: u64, bytes: u64) -> (Numbers, u64)
         requires { 1 ≤ self.rate }
         ensures numbers { numbers_of result.0 ≡ (after_payment (numbers_of self) now bytes).numbers }
+        ensures held_up { result.0.held_up ≡ self.held_up }
         ensures wait { result.1 ≡ (after_payment (numbers_of self) now bytes).wait }
     {
         if bytes > self.credit {
@@ -174,6 +212,7 @@ impl Numbers {
     fn after_debt(self, now: u64, bytes: u64) -> (Numbers, u64)
         requires { 1 ≤ self.rate }
         ensures numbers { numbers_of result.0 ≡ (after_debt (numbers_of self) now bytes).numbers }
+        ensures held_up { result.0.held_up ≡ self.held_up }
         ensures wait { result.1 ≡ (after_debt (numbers_of self) now bytes).wait }
     {
         let owed = u128::from(bytes.saturating_sub(self.credit));

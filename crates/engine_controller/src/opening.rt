@@ -24,10 +24,11 @@ impl<Time: Clock> Controller<Time> {
         let mut passes = Vec::with_capacity(alloc, clients as usize)?;
         let (cell, mut rest) = Cell::ruled(alloc, Numbers::OPENING)?;
         // Each client so far has a pass, and the seat of the others covers the clients that come next.
-        for _known in 0..clients {
+        for known in 0..clients {
             let seat = split::<NextClient>(&cell, &mut rest);
             passes.push(Pass {
                 seat,
+                number: known + 1,
                 stopping: false,
                 slowing: false,
             })?;

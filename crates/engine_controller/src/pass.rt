@@ -1,12 +1,14 @@
 //! What a client needs to call the controller.
 
 use crate::rule::Seat;
+use std::marker::Model;
 
-/// A client's pass. It knows the calls of the controller that it has seen, and whether the client holds a token of
-/// either kind.
+/// A client's pass. It knows its client's number, the calls of the controller that it has seen, and whether the client
+/// holds a token of either kind.
 #[derive(Drop)]
 pub struct Pass {
     pub(crate) seat: Seat,
+    pub(crate) number: u32,
     pub(crate) stopping: bool,
     pub(crate) slowing: bool,
 }
@@ -27,8 +29,24 @@ pub struct Passes {
     pub others: Others,
 }
 
-/// What a pass has seen, to be given to another client's pass.
+/// What a pass has seen, to be given to another client's pass. Two notes of one controller that show the same calls are
+/// the same in contracts.
 #[derive(Drop)]
 pub struct Note {
     pub(crate) seat: Seat,
+}
+
+impl Model for Note {
+    ghost use Rattle.std.specs.Prelude.{◌≡◌, [], ◌∷◌};
+    ghost use Rattle.crossbeam_utils.specs.Seq.{cell_view};
+    ghost use Rattle.engine_controller.specs.Noted.{Noted};
+    ghost use Rattle.engine_controller.specs.Rule.{observer, seen_in};
+    ghost use Rattle.engine_controller.specs.declared.rule.Caller.TheVariants.{Nobody};
+
+    ghost Value = { Noted };
+
+    ghost view = { λ n. record { cell = n.seat.table_id; seen = seen_in (cell_view n.seat) } };
+
+    ghost invariant = { λ n. (cell_view n.seat ≡ observer Nobody (seen_in (cell_view n.seat)) ∷ [])
+        × (n.seat.me.1 ≡ []) };
 }

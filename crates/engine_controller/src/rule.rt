@@ -1,4 +1,4 @@
-//! The rule of the five words: what they are, and what each pass knows of the calls so far.
+//! The rule of the six words: what they are, and what each pass knows of the calls so far.
 //!
 //! The history of calls exists only in the proofs. No value is made of the structs and enums here.
 
@@ -34,7 +34,8 @@ pub struct Observer {
 /// What a pass knows: one observer; several while it takes in another pass, and at closing.
 pub type ControllerView = LinkedList<Observer>;
 
-/// The rule: the words are the numbers after one history of calls.
+/// The rule: the words are the numbers after one history of calls, and the client that was last told in it that writes
+/// are held up.
 pub struct OneHistory;
 
 impl Protocol<Numbers, ControllerView> for OneHistory {
@@ -45,10 +46,10 @@ impl Protocol<Numbers, ControllerView> for OneHistory {
     ghost first = { others 0 };
 }
 
-/// The five words.
-pub type Cell = RuledSeqCell<Numbers, ControllerView, OneHistory, 5>;
+/// The six words.
+pub type Cell = RuledSeqCell<Numbers, ControllerView, OneHistory, 6>;
 
-/// A view of the five words.
+/// A view of the six words.
 pub type Seat = Pass<Numbers, ControllerView>;
 
 /// A load that shows the history so far, and isn't a call.
@@ -95,7 +96,7 @@ impl Asking for Brand {
 
     ghost call = { Look };
 
-    ghost found = { record { stops = 0; delays = 0; rate = 1; credit = 0; next = 0 } };
+    ghost found = { record { stops = 0; delays = 0; rate = 1; credit = 0; next = 0; held_up = 0 } };
 }
 
 /// An exchange that asks for this call. Its outcome knows the call, so one step is enough for a call: it shows that
@@ -110,8 +111,8 @@ impl<Picked: Asking> Outcome<Numbers, ControllerView> for Exchange<Picked> {
     ghost then = { λ v x _ w. Exchanges Picked.call Picked.found v x w };
 }
 
-/// A load that asks for a delay where no client slows writes. There the call changes no number, so that it needs no
-/// exchange, and the moment changes no answer, so that the proof may pick it.
+/// A load that asks for a delay where no client stops or slows writes. There the call changes no word, so that it needs
+/// no exchange, and the moment changes no answer, so that the proof may pick it.
 pub struct Unslowed<Picked: Asking> {
     asking: PhantomData<Picked>,
 }

@@ -35,7 +35,7 @@ impl<Time: Clock> Controller<Time> {
         if pass.stopping {
             return Err(Held);
         }
-        self.call(rt, &mut pass.seat, Action::Stop);
+        self.call(rt, &mut pass.seat, pass.number, Action::Stop);
         pass.stopping = true;
         Ok(())
     }
@@ -53,7 +53,7 @@ impl<Time: Clock> Controller<Time> {
         if !pass.stopping {
             return Err(NotHeld);
         }
-        self.call(rt, &mut pass.seat, Action::Unstop);
+        self.call(rt, &mut pass.seat, pass.number, Action::Unstop);
         pass.stopping = false;
         Ok(())
     }
@@ -71,7 +71,7 @@ impl<Time: Clock> Controller<Time> {
         if pass.slowing {
             return Err(Held);
         }
-        self.call(rt, &mut pass.seat, Action::Slow { rate });
+        self.call(rt, &mut pass.seat, pass.number, Action::Slow { rate });
         pass.slowing = true;
         Ok(())
     }
@@ -89,7 +89,7 @@ impl<Time: Clock> Controller<Time> {
         if !pass.slowing {
             return Err(NotHeld);
         }
-        self.call(rt, &mut pass.seat, Action::Unslow);
+        self.call(rt, &mut pass.seat, pass.number, Action::Unslow);
         pass.slowing = false;
         Ok(())
     }

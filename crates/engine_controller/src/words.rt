@@ -1,4 +1,4 @@
-//! What is done with the five words and the passes, as far as it doesn't depend on the type of the clock: each
+//! What is done with the six words and the passes, as far as it doesn't depend on the type of the clock: each
 //! function is one step of the cell under its rule.
 
 ghost use Rattle.std.specs.Prelude.{◌≡◌, ◌≢◌, ◌++◌, [], Bool, true, if◌then◌else◌, IfOk, IfErr};
@@ -6,7 +6,7 @@ ghost use Rattle.crossbeam_utils.specs.Register.{Turns, Forks};
 ghost use Rattle.crossbeam_utils.specs.Seq.{cell_view};
 ghost use Rattle.model_base.specs.Controller.{numbers_after};
 ghost use Rattle.engine_controller.specs.declared.numbers.Numbers.{Numbers};
-ghost use Rattle.engine_controller.specs.Numbers.{numbers_of, action_of};
+ghost use Rattle.engine_controller.specs.Numbers.{numbers_of, action_of, held_up_after};
 ghost use Rattle.engine_controller.specs.Rule.{Kept, Makes, Sees, MayCall, IsClientView, client_in, seen_in, asked_in};
 
 use crate::numbers::{Action, Numbers};
@@ -43,6 +43,8 @@ pub fn exchange<Picked: Asking, R: Wait>(
     requires view { IsClientView (cell_view seat.old) }
     requires may { MayCall action (asked_in (client_in (cell_view seat.old)) (seen_in (cell_view seat.old))) }
     requires new { numbers_of new ≡ numbers_after (numbers_of found) (action_of action) }
+    requires held_up { new.held_up ≡ held_up_after (client_in (cell_view seat.old)) found.held_up
+        (numbers_of found) (action_of action) }
     ensures cell { seat.new.table_id ≡ seat.old.table_id }
     ensures ok { IfOk result (λ _. Makes action (cell_view seat.old) found (cell_view seat.new)) }
     ensures err { IfErr result (λ x. Sees (cell_view seat.old) x x (cell_view seat.new)) }

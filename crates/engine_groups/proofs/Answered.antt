@@ -14,11 +14,11 @@ use Rattle.model_base.specs.Map.{Pairs}
 use Rattle.model_base.specs.Trace.{Settings}
 use Rattle.model_base.specs.Progress.{early_refusal}
 use Rattle.model_base.specs.Batch.{Record, count_of, size_of_batch}
-use Rattle.model_base.specs.Controller.{ControllerCall, Look, delay}
+use Rattle.model_base.specs.Controller.{ControllerCall, Look, delay, look}
 use Rattle.model_base.specs.LogContents.{GroupCall}
-use Rattle.model_base.specs.Replies.{IsLater}
+use Rattle.model_base.specs.Replies.{IsLater, MetStall}
 use Rattle.model_base.specs.Tokens.{tokens_of, holds_stop}
-use Rattle.model_base.proofs.Prefixes.{prefix_self, prefix_trans}
+use Rattle.model_base.proofs.Prefixes.{prefix_length, prefix_self, prefix_trans}
 use Rattle.model_base.proofs.Runs.{later_in}
 use Rattle.log_writer.specs.declared.writer.LogWriter.{LogWriter}
 use Rattle.log_writer.specs.Written.{Wrote as LogWrote}
@@ -29,7 +29,7 @@ use Rattle.table_rule.proofs.Histories.{versions_append}
 use Rattle.line_rule.specs.declared.view.Handling.{Handling}
 use Rattle.line_rule.specs.Chain.{of}
 use Rattle.engine_controller.specs.declared.controller.Controller.{Controller}
-use Rattle.engine_controller.specs.declared.pass.Note.{Note}
+use Rattle.engine_controller.specs.Noted.{Noted}
 use Rattle.engine_controller.specs.Passes.{seen_by_note, IsNoteOf}
 use Rattle.engine_parts.specs.declared.requests.Request.{Request}
 use Rattle.engine_calls.specs.declared.answers.Receipt.{Receipt}
@@ -38,11 +38,11 @@ use Rattle.engine_parts.specs.declared.requests.Answer.{Answer}
 use Rattle.model_accounts.specs.Accounts.{Account, IsRefused, IsRefusedLate, Keeps, Refuses, Wrote}
 use Rattle.model_runs.specs.Written.{IsSyncedBy}
 use Rattle.engine_groups.specs.Clients.{own_commits}
-use Rattle.engine_parts.specs.Handled.{AreHandled, ComesBack, HandsBack, IsLate, ShowsDelay, answer_in, answer_of_refusal, commit_of, noted_in, seen_for}
+use Rattle.engine_parts.specs.Handled.{AreHandled, ComesBack, HandsBack, IsLate, ShowsDelay, answer_in, answer_of_refusal, commit_of, held_up_with, noted_in, seen_for}
 use Rattle.engine_parts.specs.Runs.{IsAbove}
 use Rattle.engine_rule.specs.Commits.{Commit, commits_of, held_up}
 use Rattle.engine_rule.specs.Entries.{account_of, SeesMore}
-use Rattle.engine_rule.proofs.Own.{refused_failed, refused_full, refused_held_up, wrote}
+use Rattle.engine_rule.proofs.Own.{refused_failed, refused_full, refused_held_up, refused_stalled, wrote}
 use Rattle.engine_rule.proofs.Synced.{have_synced}
 
 abbrev pub commit : ℕ → Request → Answer → Commit
@@ -137,7 +137,7 @@ pub record Concludes {D : Type 0} {ghosts : Ghosts D} (opened : LogWriter D ghos
   pub unchanged : IfErr answer (λ (e : Refused). e.batch ≡ batch)
 
 module _ {C D : Type 0} {ghosts : Ghosts D} (controller : Controller C) (opened : LogWriter D ghosts) (start : ℕ) (opening : Pairs) (k : ℕ) (settings : Settings) (q : Request) (p : Answer) (mine : List (Request × Answer)) (handled : List (Handling Request Answer)) (kept : AreHandled controller opened start handled) (own : of k handled ≡ mine ++ (q, p) ∷ []) (seen now : List (List MemberVersions)) (sees : Begins seen now)
-    (known after : List ControllerCall) (more : SeesMore k known after) (noted_known : noted_in q.note ≡ known) (sees_note : IfSome p.note (λ (n : Note). IsPrefix (seen_by_note n) after))
+    (known after : List ControllerCall) (more : SeesMore k known after) (noted_known : IsPrefix known (noted_in q.note)) (sees_note : IfSome p.note (λ (n : Noted). IsPrefix (seen_by_note n) after))
     (passed : early_refusal settings.batch_bytes (holds_stop (tokens_of k known)) q.batch.records q.options ≡ None) (free : holds_stop (tokens_of k known) ≡ false) (above : IsAbove (last_of start seen) p.answer) where
   is : commits_of k (map commit_of handled) ≡ own_commits k mine ++ commit k q p ∷ []
   is = commits_told k handled ∙ (ap (own_commits k) own ∙ own_more k mine q p)
@@ -156,7 +156,7 @@ module _ {C D : Type 0} {ghosts : Ghosts D} (controller : Controller C) (opened 
       (wrote start opening k (own_commits k mine) (commit k q p) seen now sees known after more free (map commit_of handled) kept.answered is settings r.run.first r.group_last (ap answer_in ok) passed (subst (IsAbove (last_of start seen)) ok above) reached)
 
   -- the client has seen the note of a reply, and with it the delay that the note shows
-  noted_after : (note : Option Note) → IfSome note (λ (n : Note). IsNoteOf controller n × (seen_by_note n ≡ seen_for p)) → IfSome note (λ (n : Note). IsPrefix (seen_by_note n) after) → (n : Note) → note ≡ Some n → IsPrefix (seen_for p) after
+  noted_after : (note : Option Noted) → IfSome note (λ (n : Noted). IsNoteOf controller n × (seen_by_note n ≡ seen_for p)) → IfSome note (λ (n : Noted). IsPrefix (seen_by_note n) after) → (n : Noted) → note ≡ Some n → IsPrefix (seen_for p) after
   noted_after None a b n e = absurd (cc)
   noted_after (Some m) a b n e = subst (λ (l : List ControllerCall). IsPrefix l after) a.1 b
 
@@ -173,9 +173,10 @@ module _ {C D : Type 0} {ghosts : Ghosts D} (controller : Controller C) (opened 
       let delayed = h.3 in
       let front = noted_after p.note shows.note sees_note h.2.0 h.2.1 in
       let later = later_in (seen_for p) after front (length (noted_in q.note)) (length (seen_for p) - 1) (record { client = delayed.by; action = delay delayed.now delayed.bytes; told = Some numbers }) delayed.is_later in
+      let low = prefix_length known (noted_in q.note) noted_known in let late = later.later in
       subst (IsRefused old q.batch.records q.options (Incomplete s d w)) new_is
       (refused_held_up start opening k (own_commits k mine) (commit k q p) seen now sees known after more free numbers delayed.by delayed.now delayed.bytes told h.0 h.1
-      (subst (λ (l : List ControllerCall). IsLater after (length l) (length (seen_for p) - 1) (record { client = delayed.by; action = delay delayed.now delayed.bytes; told = Some numbers })) noted_known later))
+      (record { later = omega (arith, low, late); there = later.there }))
   refused_by Empty e is_why err late = absurd late
   refused_by (TooLarge size) e is_why err late = absurd late
   refused_by SyncWithoutLog e is_why err late = absurd late
@@ -200,8 +201,22 @@ module _ {C D : Type 0} {ghosts : Ghosts D} (controller : Controller C) (opened 
   concludes (Ok r) ok reached = let b = subst (ComesBack q.batch) ok back in record { accepted = answered_ok r ok reached; back = b; synced = answered_synced r ok; refused = tt; unchanged = tt }
   concludes (Err e) err reached = let b = subst (ComesBack q.batch) err back in record { accepted = tt; back = tt; synced = tt; refused = answered_err e err; unchanged = b.0 }
 
+-- what a client concludes whose commit met a stall, and is in no group
+pub concludes_met : {D : Type 0} {ghosts : Ghosts D} (opened : LogWriter D ghosts) (settings : Settings) (start : ℕ) (opening : Pairs) (k : ℕ) (own : List Commit) (batch : Contents) (how : WriteOptions) (before now : List (List MemberVersions)) (known after : List ControllerCall) (numbers : Look) (by place : ℕ)
+    → Begins before now → SeesMore k known after → early_refusal settings.batch_bytes (holds_stop (tokens_of k known)) batch.records how ≡ None → holds_stop (tokens_of k known) ≡ false → how.no_slowdown ≡ true
+    → IsLater after (length known) place (record { client = by; action = look; told = Some numbers }) → MetStall after k by place numbers
+    → Concludes opened settings (account_of start opening k own before known) batch how (Err (held_up_with numbers batch)) (account_of start opening k own now after)
+concludes_met opened settings start opening k own batch how before now known after numbers by place sees more passed free impatient later met = record {
+  accepted = tt;
+  back = tt;
+  synced = tt;
+  refused = refuses_late settings (account_of start opening k own before known) batch.records how (Incomplete numbers.stops numbers.delays numbers.wait) (account_of start opening k own now after) passed
+      (inr (refused_stalled start opening k own batch.records how before now known after numbers by place sees more free impatient later met));
+  unchanged = refl;
+}
+
 -- the note of a reply is the controller's
-pub note_of : {C : Type 0} (controller : Controller C) (note : Option Note) (seen : List ControllerCall) → IfSome note (λ (n : Note). IsNoteOf controller n × (seen_by_note n ≡ seen)) → IfSome note (IsNoteOf controller)
+pub note_of : {C : Type 0} (controller : Controller C) (note : Option Noted) (seen : List ControllerCall) → IfSome note (λ (n : Noted). IsNoteOf controller n × (seen_by_note n ≡ seen)) → IfSome note (IsNoteOf controller)
 note_of controller None seen h = tt
 note_of controller (Some n) seen h = h.0
 

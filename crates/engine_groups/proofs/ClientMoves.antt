@@ -3,7 +3,8 @@ use Rattle.std.proofs.Common.{◌≡◌, ℕ, ◌-◌, Bool, true, false, List, 
 use Rattle.std.specs.List.{AllByRecursion}
 use mathlib.Core.List.{IsPrefix}
 use Rattle.base_devices.specs.declared.disk.Disk.{Ghosts}
-use Rattle.model_base.specs.Controller.{ControllerCall, Action, Look, unstop, unslow}
+use Rattle.model_base.specs.Controller.{ControllerCall, Action, Look, opening, unstop, unslow}
+use Rattle.crossbeam_utils.specs.Seq.{cell_view}
 use Rattle.model_base.specs.Groups.{is_delay}
 use Rattle.model_base.specs.Map.{Pairs}
 use Rattle.model_base.specs.Tokens.{tokens_of, given_back}
@@ -15,6 +16,8 @@ use Rattle.model_accounts.proofs.Seeing.{seen_of_all}
 use Rattle.engine_controller.specs.declared.pass.Pass.{Pass}
 use Rattle.engine_controller.specs.Delays.{delays_of, place_if}
 use Rattle.engine_controller.specs.Passes.{IsPassOf, EndsWith, GoesOn, GivesBack as GivesBackIn, asked_by, seen_by, token_in, client_of as pass_client}
+use Rattle.engine_controller.specs.Rule.{seen_in}
+use Rattle.engine_controller.proofs.Histories.{legal_from}
 use Rattle.engine_controller.proofs.Account.{ends_begins, ends_tokens, ends_last, goes_begins, goes_tokens}
 use Rattle.engine_controller.proofs.Places.{ends_delays, goes_delays}
 use Rattle.engine_rule.specs.Asked.{place_of}
@@ -42,6 +45,10 @@ back_begins false client seen action after h = subst (λ (l : List ControllerCal
 back_no_delays : (b : Bool) (client : ℕ) (seen : List ControllerCall) (action : Action) (after : List ControllerCall) → is_delay action ≡ false → GivesBackIn b client seen action after → delays_of client after ≡ delays_of client seen
 back_no_delays true client seen action after still h = ends_delays client seen action None after h ∙ (ap (λ (d : Bool). delays_of client seen ++ place_if d (length after - 1)) still ∙ append-nil (delays_of client seen))
 back_no_delays false client seen action after still h = ap (delays_of client) h
+
+-- a pass that learned nothing
+pub goes_nowhere : (k : ℕ) (pass : Pass) → GoesOn k (seen_by pass) (seen_by pass)
+goes_nowhere k pass = record { between = []; is = sym (append-nil (seen_by pass)); others = tt; legal = legal_from opening (seen_in (cell_view pass.seat)) }
 
 -- its envelope went away, or came back
 pub envelope_moved : {D T C G S U P : Type 0} {ghosts : Ghosts D} (meaning : Meaning T S U P) (e : GroupEngine D T C G S U P ghosts) (c : EngineClient D T C S U P ghosts) (envelope : Option (Unit {0})) → IsIdle meaning e c → IsIdle meaning e (record c { envelope = envelope })
@@ -210,7 +217,7 @@ module _ {D T C G S U P : Type 0} {ghosts : Ghosts D} (meaning : Meaning T S U P
 
   -- its pass has seen more of others' calls
   module _ (pass : Pass) (goes : GoesOn (pass_client c.pass) (seen_by c.pass) (seen_by pass)) where
-    goes_own : GoesOn c.number (seen_by c.pass) (seen_by pass)
+    pub goes_own : GoesOn c.number (seen_by c.pass) (seen_by pass)
     goes_own = subst (λ (k : ℕ). GoesOn k (seen_by c.pass) (seen_by pass)) fits.idle.seated.pass_number goes
 
     pub learn_moved : IsPassOf e.controller pass → pass_client pass ≡ pass_client c.pass → IsClientOf meaning e (record c { pass = pass })

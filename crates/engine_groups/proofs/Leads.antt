@@ -1,5 +1,5 @@
 -- The law of the list, in the engine's own words.
-use Rattle.std.proofs.Common.{◌≡◌, inl, inr, ⊎_elim, ℕ, ◌-◌, Bool, true, false, cond, ◌==◌, List, [], ◌∷◌, ◌++◌, None, length, refl, ap, sym, ◌∙◌, subst}
+use Rattle.std.proofs.Common.{◌≡◌, ◌⊎◌, inl, inr, ⊎_elim, ℕ, ◌-◌, Bool, true, false, cond, ◌==◌, List, [], ◌∷◌, ◌++◌, None, length, refl, ap, sym, ◌∙◌, subst}
 use Rattle.std.specs.List.{AllByRecursion}
 use Rattle.std.proofs.lemmas.Bool.{ne_eqb, eq-eqb}
 use Rattle.base_devices.specs.declared.disk.Disk.{Ghosts}
@@ -20,7 +20,7 @@ use Rattle.line_writers.specs.Seats.{about_of, answers_told, told_in_first, Belo
 use Rattle.line_writers.specs.declared.writer.Task.{Task}
 use Rattle.line_writers.specs.declared.writer.Task.TheVariants.{Awaits, Leads as Leads_, Helps, Queues, Serves}
 use Rattle.line_rule.specs.Members.{asks, pays}
-use Rattle.line_writers.specs.Roles.{IsLinked, Becomes}
+use Rattle.line_writers.specs.Roles.{IsLinked, Becomes, HasReply, HasLeft}
 use Rattle.engine_controller.specs.declared.controller.Controller.{Controller}
 use Rattle.engine_controller.specs.Delays.{delays_of}
 use Rattle.engine_rule.specs.Asked.{HasAsked, place_of}
@@ -209,8 +209,9 @@ module _ {Q P L M : Type 0} where
   linked_told stood c Queues q mine m h = absurd h
   linked_told stood c Serves q mine m h = absurd h
 
-  pub as_leader : (stood : L → List (Handling Q P) → Type 0) (kept : List (Handling Q P) → Type 0) (c : ℕ) (q : Q) (mine : List (Q × P)) (r : Role L P) (l : L) (m : Sat Q P L M) → r ≡ LogLeader l → Becomes stood kept c q mine r m → Becomes stood kept c q mine (LogLeader l) m
-  as_leader stood kept c q mine r l m e h = subst (λ (z : Role L P). Becomes stood kept c q mine z m) e h
+  pub as_leader : (stood : L → List (Handling Q P) → Type 0) (kept : List (Handling Q P) → Type 0) (drops : Q → P → Type 0) (c : ℕ) (q : Q) (mine : List (Q × P)) (r : Role L P) (l : L) (m : Sat Q P L M) → r ≡ LogLeader l → Becomes stood kept drops c q mine r m → Becomes stood kept drops c q mine (LogLeader l) m
+  as_leader stood kept drops c q mine r l m e h = subst (λ (z : Role L P). Becomes stood kept drops c q mine z m) e h
 
-  pub as_done : (stood : L → List (Handling Q P) → Type 0) (kept : List (Handling Q P) → Type 0) (c : ℕ) (q : Q) (mine : List (Q × P)) (r : Role L P) (p : P) (m : Sat Q P L M) → r ≡ Done p → Becomes stood kept c q mine r m → Becomes stood kept c q mine (Done p) m
-  as_done stood kept c q mine r p m e h = subst (λ (z : Role L P). Becomes stood kept c q mine z m) e h
+  -- one that is done has its reply, or has left the queue
+  pub as_done : (stood : L → List (Handling Q P) → Type 0) (kept : List (Handling Q P) → Type 0) (drops : Q → P → Type 0) (c : ℕ) (q : Q) (mine : List (Q × P)) (r : Role L P) (p : P) (m : Sat Q P L M) → r ≡ Done p → Becomes stood kept drops c q mine r m → HasReply kept c q mine p m ⊎ HasLeft drops c q mine p m
+  as_done stood kept drops c q mine r p m e h = subst (λ (z : Role L P). Becomes stood kept drops c q mine z m) e h

@@ -1,5 +1,6 @@
 -- An engine and its clients, and a client's account.
-use Rattle.std.specs.Prelude.{◌≡◌, ℕ, ◌<◌, ◌≤◌, List, [], ◌∷◌, ◌++◌, None, Some, vec_capacity}
+use Rattle.std.specs.Prelude.{◌≡◌, ◌⊎◌, ℕ, ◌<◌, ◌≤◌, List, [], ◌∷◌, ◌++◌, None, Some, vec_capacity}
+use mathlib.Core.List.{IsPrefix}
 use Rattle.base_devices.specs.declared.disk.Disk.{Ghosts}
 use Rattle.model_base.specs.declared.limits.TheConstants.{MAX_SIZE}
 use Rattle.model_base.specs.History.{max_sequence}
@@ -9,12 +10,14 @@ use Rattle.log_writer.specs.declared.writer.LogWriter.{LogWriter}
 use Rattle.log_writer.specs.Words.{disk_of, fault_of}
 use Rattle.table_rule.specs.Histories.{map_of}
 use Rattle.table_calls.specs.Account.{IsReady}
+use Rattle.line_rule.specs.declared.words.TheConstants.{STALL}
 use Rattle.line_rule.specs.declared.view.Handling.{Handling}
 use Rattle.line_rule.specs.Chain.{of}
 use Rattle.line_writers.specs.declared.writer.Writer.{Writer}
 use Rattle.engine_controller.specs.declared.controller.Controller.{Controller}
 use Rattle.engine_controller.specs.declared.pass.Pass.{Pass}
-use Rattle.engine_controller.specs.Passes.{seen_by, IsPassOf, IsOthersOf, clients_of as controller_clients, client_of as pass_client}
+use Rattle.engine_controller.specs.Noted.{Noted}
+use Rattle.engine_controller.specs.Passes.{seen_by, seen_by_note, IsPassOf, IsOthersOf, clients_of as controller_clients, client_of as pass_client}
 use Rattle.line_writers.specs.Rooms.{AreReady}
 use Rattle.line_writers.specs.Seats.{bound_of, client_of, clients_of, about_of, start_of, piped_of, Belongs, IsOut, answers_told}
 use Rattle.model_accounts.specs.Accounts.{Account}
@@ -29,7 +32,7 @@ use Rattle.engine_groups.specs.declared.engine.EngineClient.{EngineClient}
 use Rattle.engine_groups.specs.declared.engine.ClosingRoom.{ClosingRoom}
 use Rattle.engine_groups.specs.declared.leader.Leadership.{Leadership}
 use Rattle.engine_groups.specs.declared.leader.Right.{Right}
-use Rattle.engine_parts.specs.Handled.{commit_of, AreHandled}
+use Rattle.engine_parts.specs.Handled.{commit_of, AreHandled, IsDropped, IsTurnedAway}
 use Rattle.engine_parts.specs.Layout.{IsRoomy}
 
 -- a client's commits, from its requests and their answers
@@ -69,7 +72,7 @@ module _ {Device Versions Time Seat Turn Part : Type 0} {ghosts : Ghosts Device}
         pub group_bytes : (about_of e.list).group_bytes ≡ bound_of e.list
         pub pipelined : (about_of e.list).pipelined ≡ piped_of e.list
         pub low : (meaning.opening e.table).start ≤ max_sequence
-        pub few : clients_of e.list < 255
+        pub few : clients_of e.list < STALL
         pub batch_bytes : e.batch_bytes ≤ MAX_SIZE
         pub no_fault : fault_of (opened_log e) ≡ None
 
@@ -141,6 +144,31 @@ module _ {Device Versions Time Seat Turn Part : Type 0} {ghosts : Ghosts Device}
     pub number : w.number ≡ v.number
     pub start_same : w.start ≡ v.start
     pub table_same : w.table ≡ v.table
+
+  -- The request was linked with a note of what the client had seen by then, and was answered in a group.
+  pub record IsAnsweredInGroup (controller : Controller Time) (opened : LogWriter Device ghosts) (start : ℕ)
+      (q : Request) (p : Answer)
+      (v w : EngineClient Device Versions Time Seat Turn Part ghosts) : Type 0 where
+    pub note : Noted
+    pub shows : IsPrefix (seen_by v.pass) (seen_by_note note)
+    pub answered : IsAnswered controller opened start (record q { note = Some note }) p v w
+
+  -- The request was linked with such a note, and left the queue at a stall. Since then the client has seen nothing
+  -- more.
+  pub record HasLeftQueue (controller : Controller Time) (q : Request) (p : Answer)
+      (w : EngineClient Device Versions Time Seat Turn Part ghosts) : Type 0 where
+    pub note : Noted
+    pub shows : seen_by_note note ≡ seen_by w.pass
+    pub dropped : IsDropped controller (record q { note = Some note }) p
+
+  -- The request met a stall, and is in no group. Nothing more was handled for the client.
+  pub record IsLeftOut (controller : Controller Time) (q : Request) (p : Answer)
+      (v w : EngineClient Device Versions Time Seat Turn Part ghosts) : Type 0 where
+    pub told_same : told_of w ≡ told_of v
+    pub number : w.number ≡ v.number
+    pub start_same : w.start ≡ v.start
+    pub table_same : w.table ≡ v.table
+    pub why : HasLeftQueue controller q p w ⊎ IsTurnedAway v.number (seen_by v.pass) (seen_by w.pass) q p
 
   abbrev pub writer_in : EngineClient Device Versions Time Seat Turn Part ghosts
       → Writer Request Answer (Leadership Device Versions Time Seat Turn Part ghosts) (Right Versions Seat Turn Part)

@@ -14,10 +14,11 @@ use Rattle.table_tree.specs.declared.parts.MemberNodes.{MemberNodes}
 use Rattle.engine_stage_laws.specs.Served.{AreServed}
 use Rattle.line_writers.specs.declared.line_writers.WriterList.{WriterList}
 use Rattle.line_writers.specs.Seats.{about_of, start_of}
-use Rattle.line_rule.specs.Laws.{logs_from}
+use Rattle.line_rule.specs.Laws.{asks_for, logs_from}
 use Rattle.engine_parts.specs.Runs.{run_of}
 use Rattle.engine_parts.specs.LogLaw.{LogCovers}
-use Rattle.engine_parts.specs.Handled.{AreHandled, commit_of}
+use Rattle.engine_parts.specs.Handled.{AreHandled, IsDropped, IsNoted, commit_of}
+use Rattle.engine_parts.specs.Items.{item_with}
 use Rattle.engine_parts.specs.Staged.{published_with}
 
 -- Where there is one stage the right to launch groups is with the log, and what is published is what the table shows.
@@ -65,12 +66,23 @@ pub record LeadershipIsStaged {Device Versions Time Seat Turn Part : Type 0} {gh
       leadership.held.value.path.log (published_with end parts published) leadership.held.value.path.last handled
   pub turn : TurnIs meaning about.table.value about.pipelined published leadership.turn
 
--- What every answered group keeps true (`kept_in`), and the law of a list's leaders (`law_in`).
+-- What every answered group keeps true (`kept_in`), with which answer a request leaves the queue at a stall
+-- (`dropped_in`), what a list asks of each request and its code (`wanted_in`), and the law of a list's leaders
+-- (`law_in`).
 module _ {Device Versions Time Seat Turn Part : Type 0} {ghosts : Ghosts Device} where
   abbrev pub kept_in : WriterList Request Answer (Leadership Device Versions Time Seat Turn Part ghosts)
       (Right Versions Seat Turn Part) (EngineAtOpening Device Versions Time ghosts)
       → List (Handling Request Answer) → Type 0
   kept_in list = AreHandled (about_of list).controller.value (about_of list).opened.value (about_of list).start
+
+  abbrev pub dropped_in : WriterList Request Answer (Leadership Device Versions Time Seat Turn Part ghosts)
+      (Right Versions Seat Turn Part) (EngineAtOpening Device Versions Time ghosts) → Request → Answer → Type 0
+  dropped_in list = IsDropped (about_of list).controller.value
+
+  abbrev pub wanted_in : WriterList Request Answer (Leadership Device Versions Time Seat Turn Part ghosts)
+      (Right Versions Seat Turn Part) (EngineAtOpening Device Versions Time ghosts) → Request → ℕ → Type 0
+  wanted_in list = asks_for (λ (q : Request). item_with q.batch.records q.options)
+      (λ (a : EngineAtOpening Device Versions Time ghosts) (q : Request). IsNoted a.controller.value q) (about_of list)
 
   abbrev pub law_in : Meaning Versions Seat Turn Part
       → WriterList Request Answer (Leadership Device Versions Time Seat Turn Part ghosts)

@@ -3,7 +3,12 @@ use Rattle.std.specs.Prelude.{◌≡◌, ℕ, ◌-◌, ◌≤◌, List, [], ◌�
 use Rattle.std.specs.List.{AllByRecursion}
 use Rattle.base_devices.specs.declared.disk.Disk.{Ghosts}
 use Rattle.table_calls.specs.Account.{IsReady}
-use Rattle.line_writers.specs.Seats.{bound_of, clients_of}
+use Rattle.line_rule.specs.declared.view.QueuedWriter.{QueuedWriter}
+use Rattle.line_rule.specs.declared.view.Handling.{Handling}
+use Rattle.line_rule.specs.Events.{is_hasty}
+use Rattle.line_rule.specs.Members.{asks}
+use Rattle.line_writers.specs.Rooms.{HasRoom}
+use Rattle.line_writers.specs.Seats.{bound_of, clients_of, Belongs}
 use Rattle.engine_controller.specs.Delays.{delays_of}
 use Rattle.engine_controller.specs.Passes.{seen_by, IsPassOf, client_of as pass_client}
 use Rattle.engine_rule.specs.Entries.{SeesMore}
@@ -12,10 +17,12 @@ use Rattle.engine_groups.specs.declared.engine.GroupEngine.{GroupEngine}
 use Rattle.engine_groups.specs.declared.engine.EngineClient.{EngineClient}
 use Rattle.model_base.specs.Controller.{ControllerCall}
 use Rattle.engine_parts.specs.declared.requests.Request.{Request}
+use Rattle.engine_parts.specs.declared.requests.Answer.{Answer}
 use Rattle.engine_parts.specs.Handled.{HandsBack, IsReplyAt, ShowsDelay, IsNoted, handled_with, InOrder}
 use Rattle.engine_parts.specs.Layout.{IsLaid, IsRoomy}
 use Rattle.engine_parts.specs.Led.{IsLedGroup, LeadsBy}
 use Rattle.engine_groups.specs.Clients.{IsEngine}
+use Rattle.engine_groups.specs.Stalling.{LeadsGroup, KeepsGroup}
 
 module _ {Device Versions Time Watch Seat Turn Part : Type 0} {ghosts : Ghosts Device}
     (meaning : Meaning Versions Seat Turn Part) (e : GroupEngine Device Versions Time Watch Seat Turn Part ghosts)
@@ -40,6 +47,16 @@ module _ {Device Versions Time Watch Seat Turn Part : Type 0} {ghosts : Ghosts D
       pub few : length c.lists.requests.list.items ≤ clients_of e.list
       pub no_replies : c.lists.replies.list.items ≡ []
       pub room : length c.lists.requests.list.items ≤ vec_capacity c.lists.replies.list
+      pub walk_room : HasRoom (clients_of e.list) c.lists.room
+      pub belongs : Belongs e.list c.writer
+      pub own : QueuedWriter Request
+      pub group : List (QueuedWriter Request)
+      pub left : List (QueuedWriter Request)
+      pub seen : List (Handling Request Answer)
+      pub leads_group : LeadsGroup e.list own group left seen c.writer
+      pub asks_are : c.lists.requests.list.items ≡ asks own group
+      -- the list and the engine agree on whether the group may not wait
+      pub alike : is_hasty own.code ≡ led.first.1.options.no_slowdown
 
     -- it has answered them, and asked the controller for them once
     pub record IsServed (v w : EngineClient Device Versions Time Seat Turn Part ghosts) : Type 0 where
@@ -49,8 +66,9 @@ module _ {Device Versions Time Watch Seat Turn Part : Type 0} {ghosts : Ghosts D
       pub number : w.number ≡ v.number
       pub start : w.start ≡ v.start
       pub table : w.table ≡ v.table
-      pub writer : w.writer ≡ v.writer
-      pub room_same : w.lists.room ≡ v.lists.room
+      -- where writes were stalled meanwhile, the walk of the leader is another one, but its group is the same
+      pub writer : KeepsGroup e.list v.writer w.writer
+      pub walk_room : HasRoom (clients_of e.list) w.lists.room
       pub in_order : InOrder v.lists.requests.list.items w.lists.replies.list.items
       pub handed_back : AllByRecursion HandsBack
           (handled_with v.lists.requests.list.items w.lists.replies.list.items)

@@ -80,7 +80,7 @@ impl<Device: Disk, Versions: Table<Nodes, Parts>, Time> LogOfGroups<
 > for Leadership<Device, Versions, Time> {
     type About = EngineAtOpening<Device, Versions, Time>;
 
-    ghost use Rattle.engine_parts.specs.Handled.{AreHandled, IsNoted};
+    ghost use Rattle.engine_parts.specs.Handled.{AreHandled, IsDropped, IsNoted};
     ghost use Rattle.engine_groups.specs.Law.{LeadershipCovers, RightStandsFor};
 
     ghost stands = { λ a l handled. LeadershipCovers Versions.Table a l handled };
@@ -88,6 +88,8 @@ impl<Device: Disk, Versions: Table<Nodes, Parts>, Time> LogOfGroups<
     ghost kept = { λ a handled. AreHandled a.controller.value a.opened.value a.start handled };
 
     ghost serves = { λ a right served. RightStandsFor Versions.Table a right served };
+
+    ghost drops = { λ a q p. IsDropped a.controller.value q p };
 
     ghost lawful = { λ a q. IsNoted a.controller.value q };
 

@@ -1,8 +1,10 @@
 //! A write path whose clients write in groups, over any table (`table_calls`) and any disk. A write goes into a
 //! lock-free list of writers. The oldest writer leads: it takes from the list the group that the grouping rule gives,
-//! asks the write controller how long the group has to wait, and waits, or refuses a group that may not wait. Then it
-//! gives its members runs of sequences, writes their batches to the log as one record, and puts their versions into
-//! the table, which publishes them as one group. Then it answers each member, and gives the log on to the next leader.
+//! asks the write controller how long the group has to wait, and waits, or refuses a group that may not wait. While it
+//! waits, writes are stalled: nobody links, and those that may not wait are refused where a look shows why
+//! (`stalling`, `entering`). Then it gives its members runs of sequences, writes their batches to the log as one record,
+//! and puts their versions into the table, which publishes them as one group. Then it answers each member, and gives
+//! the log on to the next leader.
 //!
 //! With two stages the leader gives the log on first, and its group waits in a second list for its turn at the table,
 //! in the order of the log (`leaving`, `engine_memtable`). Where the right to launch is shows whether there are two:
@@ -15,6 +17,7 @@
 //! - `specs/Law`: what the log, the note and the right of a leader say of all that was handled.
 //! - `specs/Clients`: an engine and its clients, and a client's account.
 //! - `specs/Serving`: a leader before and after its group is handled.
+//! - `specs/Stalling`: a leader that stalls writes while its group waits.
 //! - `specs/Leaving`: a leader that leaves or hands its group on.
 //! - `specs/AtStart`: what an engine is opened with.
 //! - `specs/Turns`: the right that a leader of the second list was given.
@@ -23,6 +26,7 @@
 mod calls;
 mod closing;
 mod engine;
+mod entering;
 mod laws;
 mod leader;
 mod leading;
@@ -32,6 +36,7 @@ mod pausing;
 mod reading;
 mod roles;
 mod seeing;
+mod stalling;
 mod tokens;
 mod writing;
 

@@ -5,7 +5,7 @@ ghost use Rattle.table_rule.specs.Histories.{Begins};
 ghost use Rattle.table_calls.specs.Account.{IsReady};
 ghost use Rattle.line_writers.specs.Seats.{Belongs, HasRole, IsIn, client_of, answers_told};
 ghost use Rattle.engine_parts.specs.declared.requests.Request.{Request as Asked};
-ghost use Rattle.engine_groups.specs.Law.{kept_in, law_in};
+ghost use Rattle.engine_groups.specs.Law.{dropped_in, kept_in, law_in};
 
 use crate::engine::GroupEngine;
 use crate::leader::{Leadership, Right};
@@ -25,8 +25,8 @@ impl<
     Time: Clock + Drop,
     Watch: Gate + Drop,
 > GroupEngine<Device, Versions, Time, Watch> {
-    /// Waits until the client leads a group, or has its reply. Until then it puts its own part into the table, in
-    /// parallel with its leader, where it is asked to.
+    /// Waits until the client leads a group, or has its reply, in a group or without one. Until then it puts its own
+    /// part into the table, in parallel with its leader, where it is asked to.
     pub(crate) fn await_own_role<R: Wait + rt::Clock>(
         &self,
         rt: &R,
@@ -45,7 +45,7 @@ impl<
         ensures role { Belongs self.now.list writer.new × ((q : Asked)
             → IsIn (law_in Versions.Table self.now.list) q (answers_told writer.old) writer.old
             → HasRole (law_in Versions.Table self.now.list) (kept_in self.now.list)
-            q (answers_told writer.old) result writer.new) }
+            (dropped_in self.now.list) q (answers_told writer.old) result writer.new) }
         ensures seat { Versions.ours self.now.table seat.new × IsReady (Versions.account seat.new)
             × ((Versions.account seat.new).number ≡ (Versions.account seat.old).number)
             × Begins (Versions.account seat.old).seen (Versions.account seat.new).seen }

@@ -3,8 +3,7 @@
 ghost use Rattle.std.specs.Prelude.{◌≡◌, true, ◌≤◌, IfOk, IfSome};
 ghost use mathlib.Core.List.{IsPrefix};
 ghost use Rattle.table_rule.specs.Histories.{Begins, last_of};
-ghost use Rattle.engine_controller.specs.Passes.{seen_by, seen_by_note, IsNoteOf};
-ghost use Rattle.engine_rule.specs.Entries.{SeesMore};
+ghost use Rattle.engine_controller.specs.Passes.{seen_by, seen_by_note, GoesOn, IsNoteOf};
 ghost use Rattle.engine_groups.specs.Clients.{IsClientOf};
 ghost use Rattle.engine_parts.specs.Runs.{IsAbove};
 
@@ -64,8 +63,8 @@ impl<
     Time: Clock + Drop,
     Watch: Gate + Drop,
 > GroupEngine<Device, Versions, Time, Watch> {
-    /// Lets the client see what its answer speaks of: its published group, or the delay because of which it was
-    /// refused.
+    /// Lets the client see what its answer speaks of: its published group, or the delay or the leader's look because of
+    /// which it was refused.
     pub(crate) fn see<R: Wait + rt::Clock>(
         &self,
         rt: &R,
@@ -79,7 +78,7 @@ impl<
         ensures same { (client.new.number ≡ client.old.number) × (client.new.start ≡ client.old.start)
             × (client.new.writer ≡ client.old.writer) × (client.new.table ≡ client.old.table) }
         ensures seen { Begins (Versions.account client.old.seat).seen (Versions.account client.new.seat).seen
-            × SeesMore client.old.number (seen_by client.old.pass) (seen_by client.new.pass) }
+            × GoesOn client.old.number (seen_by client.old.pass) (seen_by client.new.pass) }
         ensures published { IfOk answer.now (λ r. r.group_last
             ≤ last_of (Versions.opening self.now.table).start (Versions.account client.new.seat).seen) }
         ensures noted { IfSome note (λ n. IsPrefix (seen_by_note n) (seen_by client.new.pass)) }

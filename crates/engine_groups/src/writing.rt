@@ -1,8 +1,9 @@
-//! A client's write, from the outside in: `write` checks it and takes its memory, `submit` waits in the line, and a
-//! client that becomes a leader there (`lead`) serves its group (`answer_group`): it asks the write controller and has
-//! the group logged (`serve`, `log_phase`), has it put into the table, and gives the log on (`leave`, `hand_on`).
+//! A client's write, from the outside in: `write` checks it and takes its memory, and `submit` waits in the line, where
+//! `enter` links the request. A client that becomes a leader there (`lead`) serves its group (`answer_group`): it asks
+//! the write controller and has the group logged (`serve`, `log_phase`), has it put into the table, and gives the log
+//! on (`leave`, `hand_on`).
 
-ghost use Rattle.std.specs.Prelude.{◌≡◌, ◌+◌, true, false, ℕ, List, [], ◌∷◌, ◌++◌, Ok, Err, IfOk, IfErr, IfSome, is_none};
+ghost use Rattle.std.specs.Prelude.{◌≡◌, ◌⊎◌, ◌+◌, true, false, ℕ, List, [], ◌∷◌, ◌++◌, Ok, Err, IfOk, IfErr, IfSome, is_none};
 ghost use Rattle.table_rule.specs.Histories.{Begins};
 ghost use Rattle.line_rule.specs.declared.view.QueuedWriter.{QueuedWriter};
 ghost use Rattle.line_rule.specs.declared.view.Handling.{Handling};
@@ -17,8 +18,8 @@ ghost use Rattle.engine_parts.specs.declared.requests.Answer.{Answer as Told};
 ghost use Rattle.engine_groups.specs.Law.{LeadershipIsStaged, LeadershipCovers};
 ghost use Rattle.engine_parts.specs.Numbering.{AreHelpers, others_in};
 ghost use Rattle.engine_parts.specs.Staged.{IsStaged};
-ghost use Rattle.engine_parts.specs.Handled.{AreHandled, IsNoted, handled_with};
-ghost use Rattle.engine_groups.specs.Clients.{IsClientOf, IsIdle, IsSeated, IsAnswered, told_of, own_commits, opened_log};
+ghost use Rattle.engine_parts.specs.Handled.{AreHandled, handled_with};
+ghost use Rattle.engine_groups.specs.Clients.{IsClientOf, IsIdle, IsSeated, IsAnswered, IsAnsweredInGroup, IsLeftOut, told_of, own_commits, opened_log};
 ghost use Rattle.engine_groups.specs.Serving.{IsToServe, IsServed};
 ghost use Rattle.engine_groups.specs.Leaving.{IsToEnd};
 
@@ -30,7 +31,7 @@ use crate::seeing::await_above;
 use base_devices::{Clock, Disk};
 use engine_calls::{Gate, Receipt, Refused};
 use engine_parts::{
-    Answer, Delay, Request, SealedAnswer, SealedRequest, ask, log_phase, may_be_apart, may_proceed,
+    Answer, Delay, Request, SealedAnswer, SealedRequest, ask, log_phase, may_be_apart,
     refuse_stalled, refused_by,
 };
 use line_writers::Role;
@@ -106,7 +107,8 @@ impl<
             batch,
             nodes,
             options,
-            note: Some(self.controller.note(&mut client.pass)),
+            // It gets one as it is linked.
+            note: None,
         };
         // It is there between two calls, and comes back with the answer.
         let Some(envelope) = client.envelope.take() else {
@@ -125,7 +127,8 @@ impl<
         answer
     }
 
-    /// Puts a request into the list, and waits for its answer.
+    /// Puts a request into the list, and waits for its answer. Where writes are stalled, a request that may not wait
+    /// may be refused without a group.
     fn submit<R: Wait + rt::Clock>(
         &self,
         rt: &R,
@@ -133,20 +136,23 @@ impl<
         request: SealedRequest,
     ) -> SealedAnswer
         requires client { IsIdle Versions.Table self.now client.old }
-        requires note { IsNoted self.now.controller request }
         // a client that holds a stop token never waits in the list
         requires free { holds_stop (asked_by client.old.pass) ≡ false }
         ensures fits { IsIdle Versions.Table self.now client.new }
-        ensures answered { IsAnswered self.now.controller (opened_log self.now) (Versions.opening self.now.table).start
-            request result client.old client.new }
+        ensures answered { IsAnsweredInGroup self.now.controller (opened_log self.now)
+            (Versions.opening self.now.table).start request result client.old client.new
+            ⊎ IsLeftOut self.now.controller request result client.old client.new }
         ensures seen { Begins (Versions.account client.old.seat).seen (Versions.account client.new.seat).seen
             × SeesMore client.old.number (seen_by client.old.pass) (seen_by client.new.pass) }
     {
         let item = Item {
             size: request.as_request().batch.size(),
             options: request.as_request().options,
+            alone: false,
         };
-        self.list.link(rt, &mut client.writer, item, request);
+        if let Err(answer) = self.enter(rt, client, item, request) {
+            return answer;
+        }
         self.gate.linked(client.number);
         match self.await_own_role(rt, &mut client.writer, &mut client.seat) {
             Role::Done(reply) => reply,
@@ -247,7 +253,8 @@ impl<
     }
 
     /// Asks the write controller about the leader's group, and writes the group to the log as soon as writes aren't
-    /// stalled. Where they are stalled, a group that may not wait is refused as a whole.
+    /// held up. Where they are, a group that may not wait is refused as a whole, and any other stalls writes while it
+    /// waits.
     fn serve<R: Wait + rt::Clock>(
         &self,
         rt: &R,
@@ -270,21 +277,34 @@ impl<
         ensures beside { IfSome result.1 (λ _. AreHelpers (is_none leadership.turn)
             (others_in client.old.lists.requests.list.items) client.new.layout.members.items) }
     {
-        let requests = &mut client.lists.requests.list;
+        let requests = &mut client.lists.requests;
         let replies = &mut client.lists.replies.list;
         let controller = &self.controller;
         let pass = &mut client.pass;
         let asked = leadership.asked;
         let clock = &mut leadership.held.clock;
         // The leader learns what those before it and its members have seen, so that its delay comes after theirs.
-        let look = ask(rt, controller, pass, clock, asked, requests);
+        let look = ask(rt, controller, pass, clock, asked, &mut requests.list);
         let delay = Delay {
             pass: Snapshot::of(pass),
         };
-        let no_slowdown = requests[0].1.as_request().options.no_slowdown;
-        let proceeds = may_proceed(rt, controller, pass, clock, look, no_slowdown);
+        let no_slowdown = requests.list[0].1.as_request().options.no_slowdown;
+        let writer = &mut client.writer;
+        let room = &mut client.lists.room;
+        let proceeds = self.may_go_on(
+            rt,
+            writer,
+            requests,
+            room,
+            pass,
+            clock,
+            look,
+            &delay,
+            no_slowdown,
+        );
         // The next leader learns what this one has seen after its wait, so that no two groups share a delay.
         leadership.asked = controller.note(pass);
+        let requests = &mut requests.list;
         if !proceeds {
             refuse_stalled(controller, pass, look, &delay, requests, replies);
             return (leadership, None);

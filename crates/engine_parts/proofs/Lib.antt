@@ -11,3 +11,4 @@ pub mod Paying
 pub mod Serves
 pub mod Beside
 pub mod Roomy
+pub mod Stalls

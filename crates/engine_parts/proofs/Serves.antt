@@ -14,7 +14,7 @@ use Rattle.line_rule.specs.declared.view.Handling.{Handling}
 use Rattle.engine_controller.specs.Delays.{delays_of}
 use Rattle.engine_controller.specs.Passes.{EndsWith, seen_by_note, IsNoteOf}
 use Rattle.engine_controller.specs.declared.controller.Controller.{Controller}
-use Rattle.engine_controller.specs.declared.pass.Note.{Note}
+use Rattle.engine_controller.specs.Noted.{Noted}
 use Rattle.engine_controller.proofs.Account.{ends_begins, ends_tokens}
 use Rattle.engine_controller.proofs.Places.{ends_delays}
 use Rattle.engine_controller.proofs.Totals.{get_behind}
@@ -175,7 +175,7 @@ commits_unnoted (x ∷ requests) (y ∷ replies) = ap (λ (l : List Commit). com
 module _ {C : Type 0} (controller : Controller C) (d : Delay) where
   reply_shown : (x : ℕ × Request) (y : ℕ × Answer) → IsReplyOf d y → ShowsDelay controller (record { by = x.0; asked = x.1; reply = y.1 })
   reply_shown x y r = record {
-    note = subst (λ (o : Option Note). IfSome o (λ note. IsNoteOf controller note × (seen_by_note note ≡ seen_for y.1))) (sym r.1) tt;
+    note = subst (λ (o : Option Noted). IfSome o (λ note. IsNoteOf controller note × (seen_by_note note ≡ seen_for y.1))) (sym r.1) tt;
     held_up = λ numbers e. absurd (subst IsNotHeldUp e r.2);
   }
 
@@ -228,7 +228,7 @@ module _ {C : Type 0} (controller : Controller C) (d : Delay) (numbers : Look) w
       let note_is : y.1.note ≡ Some h.3.0 = h.3.1 in
       let told : answer_in y.1.answer ≡ held_up numbers = ap answer_in h.1 in
       record {
-        note = subst (λ (o : Option Note). IfSome o (λ note. IsNoteOf controller note × (seen_by_note note ≡ seen_for y.1))) (sym note_is) (h.3.2, h.3.3 ∙ sym (ap seen_at h.2));
+        note = subst (λ (o : Option Noted). IfSome o (λ note. IsNoteOf controller note × (seen_by_note note ≡ seen_for y.1))) (sym note_is) (h.3.2, h.3.3 ∙ sym (ap seen_at h.2));
         held_up = λ other e.
             let same : numbers ≡ other = told_same numbers other (sym told ∙ e) in
             (may_not, subst HoldUp same hold, (h.3.0, note_is), subst (λ (z : List ControllerCall × Look). IsDelayed (noted_in x.1.note) z.0 z.1) (λ i. (sym calls i, same i)) delayed);

@@ -14,7 +14,7 @@ use Rattle.table_rule.specs.declared.content.Version.{Version}
 use Rattle.engine_controller.specs.Delays.{delays_of}
 use Rattle.engine_controller.specs.Passes.{GoesOn, EndsWith, seen_by}
 use Rattle.engine_controller.specs.declared.controller.Controller.{Controller}
-use Rattle.engine_controller.specs.declared.pass.Note.{Note}
+use Rattle.engine_controller.specs.Noted.{Noted}
 use Rattle.engine_controller.specs.declared.pass.Pass.{Pass}
 use Rattle.engine_controller.specs.Rule.{seen_in}
 use Rattle.crossbeam_utils.specs.Seq.{cell_view}
@@ -81,7 +81,7 @@ pub learned_nothing : (client : ℕ) (seen middle : List ControllerCall) (reques
     → HasLearned client seen (requests ++ x ∷ []) middle
 learned_nothing client seen middle requests x l none = record {
   goes_on = l.goes_on;
-  members = all_append (Saw middle) requests (x ∷ []) l.members (subst (λ (o : Option Note). IsPrefix (noted_in o) middle) (sym none) (middle, refl), tt);
+  members = all_append (Saw middle) requests (x ∷ []) l.members (subst (λ (o : Option Noted). IsPrefix (noted_in o) middle) (sym none) (middle, refl), tt);
 }
 
 -- a request after its note was taken
@@ -95,15 +95,16 @@ versions_prop a b = hlevel props
 low_prop : (m n : ℕ) → IsProp (m ≤ n)
 low_prop m n = hlevel props
 
-abbrev pub noting : (q : Request) → Option Note → q.nodes ≡ reverse (new_versions q.batch.records) → 1 ≤ count_of q.batch.records → size_of_batch q.batch.records ≤ MAX_SIZE → Request
+abbrev pub noting : (q : Request) → Option Noted → q.nodes ≡ reverse (new_versions q.batch.records) → 1 ≤ count_of q.batch.records → size_of_batch q.batch.records ≤ MAX_SIZE → Request
 noting q n m s l = record { batch = q.batch; nodes = q.nodes; options = q.options; note = n; made_of = m; some = s; small = l }
 
-pub noting_none : (q : Request) (n : Option Note) (m : q.nodes ≡ reverse (new_versions q.batch.records)) (s : 1 ≤ count_of q.batch.records) (l : size_of_batch q.batch.records ≤ MAX_SIZE) → n ≡ None → noting q n m s l ≡ record q { note = None }
-noting_none q n m s l none = λ i. record {
+-- the request with this note
+pub noting_as : (q : Request) (n o : Option Noted) (m : q.nodes ≡ reverse (new_versions q.batch.records)) (s : 1 ≤ count_of q.batch.records) (l : size_of_batch q.batch.records ≤ MAX_SIZE) → n ≡ o → noting q n m s l ≡ record q { note = o }
+noting_as q n o m s l is = λ i. record {
   batch = q.batch;
   nodes = q.nodes;
   options = q.options;
-  note = none i;
+  note = is i;
   made_of = versions_prop q.nodes (reverse (new_versions q.batch.records)) m q.made_of i;
   some = low_prop 1 (count_of q.batch.records) s q.some i;
   small = low_prop (size_of_batch q.batch.records) MAX_SIZE l q.small i;

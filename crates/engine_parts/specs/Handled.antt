@@ -15,11 +15,11 @@ use Rattle.log_batch.specs.Contents.{Contents}
 use Rattle.log_batch.specs.declared.run.Run.{Run}
 use Rattle.line_rule.specs.declared.view.Handling.{Handling}
 use Rattle.model_base.specs.Controller as calls
-use Rattle.model_base.specs.Controller.{ControllerCall, Look, HoldUp}
-use Rattle.model_base.specs.Replies.{IsLater}
+use Rattle.model_base.specs.Controller.{ControllerCall, Look, HoldUp, ShowTokens}
+use Rattle.model_base.specs.Replies.{IsLater, WasHeldUp, MetStall}
 use Rattle.std.specs.declared.snapshot.Snapshot.{Snapshot}
 use Rattle.engine_controller.specs.declared.controller.Controller.{Controller}
-use Rattle.engine_controller.specs.declared.pass.Note.{Note}
+use Rattle.engine_controller.specs.Noted.{Noted}
 use Rattle.engine_controller.specs.Passes.{seen_by, seen_by_note, IsNoteOf}
 use Rattle.engine_rule.specs.Commits.{Answer as CommitAnswer, accepted, held_up, failed, no_room, Commit, AreAnswered}
 use Rattle.engine_rule.specs.Plans.{CommitRequest, last_with}
@@ -61,7 +61,7 @@ commit_of h = record {
 }
 
 -- what the request's note, if it has one, shows of the controller's history
-abbrev pub noted_in : Option Note → List ControllerCall
+abbrev pub noted_in : Option Noted → List ControllerCall
 noted_in None = []
 noted_in (Some note) = seen_by_note note
 
@@ -103,7 +103,7 @@ pub record IsDelayed (seen_by_note seen : List ControllerCall) (numbers : Look) 
 pub record ShowsDelay {Time : Type 0} (controller : Controller Time) (h : Handling Request Answer) : Type 0 where
   pub note : IfSome h.reply.note (λ note. IsNoteOf controller note × (seen_by_note note ≡ seen_for h.reply))
   pub held_up : (numbers : Look) → answer_in h.reply.answer ≡ held_up numbers
-      → (h.asked.options.no_slowdown ≡ true) × HoldUp numbers × ((note : Note) × (h.reply.note ≡ Some note))
+      → (h.asked.options.no_slowdown ≡ true) × HoldUp numbers × ((note : Noted) × (h.reply.note ≡ Some note))
       × IsDelayed (noted_in h.asked.note) (seen_for h.reply) numbers
 
 -- Calls have written a log from the opened one, and the first of them (`worked`) wrote the history of these commits.
@@ -192,7 +192,7 @@ abbrev pub IsHeldUp : {Time : Type 0} → Controller Time → Delay → Look →
 IsHeldUp controller delay numbers x y = (y.0 ≡ x.0)
     × (y.1.answer ≡ Err (held_up_with numbers x.1.batch))
     × (y.1.delay.value ≡ delay)
-    × ((note : Note) × (y.1.note ≡ Some note) × IsNoteOf controller note × (seen_by_note note ≡ seen_at delay))
+    × ((note : Noted) × (y.1.note ≡ Some note) × IsNoteOf controller note × (seen_by_note note ≡ seen_at delay))
 
 -- requests with their replies, which are in the same order
 abbrev pub handled_with : List (ℕ × Request) → List (ℕ × Answer) → List (Handling Request Answer)
@@ -211,3 +211,51 @@ InOrder (x ∷ requests) (y ∷ replies) = (y.0 ≡ x.0) × InOrder requests rep
 -- `known` is the controller's history up to the delay of the reply's group
 abbrev pub IsReplyAt : List ControllerCall → ℕ × Answer → Type 0
 IsReplyAt known y = seen_for y.1 ≡ known
+
+-- At a stall
+
+-- the last call of this history is a delay of this client's, with these numbers as its answer
+abbrev pub EndsInDelay : ℕ → Look → List ControllerCall → Type 0
+EndsInDelay client numbers seen = (before : List ControllerCall) × (now bytes : ℕ)
+    × (seen ≡ before ++ record { client = client; action = calls.delay now bytes; told = Some numbers } ∷ [])
+
+-- a leader that had been told that writes are held up looked after all of `known`, and its look has these numbers
+pub record LookedInStall (known seen : List ControllerCall) (numbers : Look) : Type 0 where
+  pub by : ℕ
+  pub place : ℕ
+  pub is_later : IsLater seen (length known) place
+      (record { client = by; action = calls.look; told = Some numbers })
+  pub stalled : WasHeldUp seen by place
+
+-- the client looked after all of `known`, and its look showed no tokens
+pub record SawNoTokens (client : ℕ) (known seen : List ControllerCall) : Type 0 where
+  pub place : ℕ
+  pub numbers : Look
+  pub is_later : IsLater seen (length known) place
+      (record { client = client; action = calls.look; told = Some numbers })
+  pub none : ShowTokens numbers → ⊥
+
+-- A request left the queue at a stall. It may not wait. Its answer hands the batch back, and has the numbers of a look
+-- of the leader, which show tokens. The note of the answer shows that look, after all that the request's own note
+-- shows.
+pub record IsDropped {Time : Type 0} (controller : Controller Time) (q : Request) (p : Answer) : Type 0 where
+  pub may_not_wait : q.options.no_slowdown ≡ true
+  pub numbers : Look
+  pub answer : p.answer ≡ Err (held_up_with numbers q.batch)
+  pub shown : ShowTokens numbers
+  pub note : Noted
+  pub noted : p.note ≡ Some note
+  pub own : IsNoteOf controller note
+  pub looked : LookedInStall (noted_in q.note) (seen_by_note note) numbers
+
+-- A request that met a stall was in no list. Its answer hands the batch back, and has the numbers of a look of the
+-- client itself, which had seen `known` before the call and has seen `seen` since.
+pub record IsTurnedAway (client : ℕ) (known seen : List ControllerCall) (q : Request) (p : Answer) : Type 0 where
+  pub may_not_wait : q.options.no_slowdown ≡ true
+  pub numbers : Look
+  pub answer : p.answer ≡ Err (held_up_with numbers q.batch)
+  pub no_note : p.note ≡ None
+  pub place : ℕ
+  pub is_later : IsLater seen (length known) place
+      (record { client = client; action = calls.look; told = Some numbers })
+  pub met : MetStall seen client client place numbers

@@ -1,13 +1,15 @@
 //! What a leader asks the write controller, and how its group waits or is refused.
 
-ghost use Rattle.std.specs.Prelude.{◌≡◌, ◌≤◌, ◌<◌, ℕ, List, [], false, true, length, map, vec_capacity};
+ghost use Rattle.std.specs.Prelude.{◌≡◌, ◌⊎◌, ◌≤◌, ◌<◌, ℕ, List, [], false, true, length, map, vec_capacity, IfOk, IfErr};
+ghost use mathlib.Core.List.{IsPrefix};
 ghost use Rattle.std.specs.List.{AllByRecursion, AllZip};
-ghost use Rattle.model_base.specs.Controller.{HoldUp};
+ghost use Rattle.model_base.specs.Controller.{HoldUp, ShowTokens};
 ghost use Rattle.model_base.specs.Grouping.{size_of};
+ghost use Rattle.model_base.specs.Replies.{WasHeldUp};
 ghost use Rattle.engine_controller.specs.Looks.{look_of};
-ghost use Rattle.engine_controller.specs.Passes.{client_of, seen_by, seen_by_note, IsPassOf, IsNoteOf, GoesOn};
+ghost use Rattle.engine_controller.specs.Passes.{client_of, last_held_up, seen_by, seen_by_note, IsPassOf, IsNoteOf, GoesOn};
 ghost use Rattle.engine_rule.specs.Plans.{item_of_request, LetsProceed};
-ghost use Rattle.engine_parts.specs.Handled.{commit_requests_of, seen_at, held_up_with, IsNoted, IsHeldUp};
+ghost use Rattle.engine_parts.specs.Handled.{commit_requests_of, seen_at, held_up_with, noted_in, IsNoted, IsHeldUp, IsDropped, SawNoTokens, IsTurnedAway};
 ghost use Rattle.engine_parts.specs.Asking.{HasAskedFor, HasLearned, OnlyLooks, all_seen};
 
 use crate::envelope::{SealedAnswer, SealedRequest};
@@ -85,7 +87,7 @@ fn bytes_of(requests: &[(u32, SealedRequest)]) -> u64
 }
 
 /// Whether writes are stalled: stopped, or slowed down where this group has to wait.
-fn is_stalled(look: Look) -> bool
+pub fn is_stalled(look: Look) -> bool
     ensures held_up { result ≡ true → HoldUp (look_of look) }
     ensures free { HoldUp (look_of look) → result ≡ true }
 {
@@ -115,6 +117,104 @@ pub fn may_proceed<Time: Clock, R: Wait>(
     }
     wait_while_stalled(rt, controller, pass, clock, look);
     true
+}
+
+/// Whether some client stops or slows writes.
+fn shows_tokens(look: Look) -> bool
+    ensures shown { result ≡ true → ShowTokens (look_of look) }
+    ensures none { ShowTokens (look_of look) → result ≡ true }
+{
+    look.stops() > 0 || look.delays() > 0
+}
+
+/// Lets the pass learn what a request's note shows, and leaves the note with the request.
+fn learn_of<Time: Clock, R: Wait>(
+    rt: &R,
+    controller: &Controller<Time>,
+    pass: &mut Pass,
+    request: &mut SealedRequest,
+)
+    requires pass { IsPassOf controller.now pass.old }
+    requires note { IsNoted controller.now request.old }
+    ensures pass { IsPassOf controller.now pass.new × (client_of pass.new ≡ client_of pass.old) }
+    ensures seen { GoesOn (client_of pass.old) (seen_by pass.old) (seen_by pass.new) }
+    ensures noted { IsPrefix (noted_in request.old.note) (seen_by pass.new) }
+    ensures same { request.new ≡ request.old }
+{
+    if let Some(note) = request.take_note() {
+        let (learned, kept) = controller.copies(note);
+        controller.learn(rt, pass, learned);
+        request.put_note(kept);
+    }
+}
+
+/// What a leader that stalls writes answers to a request of the queue that may not wait: it is refused, where a look
+/// shows that some client stops or slows writes. Else the request comes back as it was.
+pub fn drop_if_stalled<Time: Clock, R: Wait>(
+    rt: &R,
+    controller: &Controller<Time>,
+    pass: &mut Pass,
+    delay: &Delay,
+    mut request: SealedRequest,
+) -> Result<SealedAnswer, SealedRequest>
+    requires pass { IsPassOf controller.now pass.old }
+    requires stalls { WasHeldUp (seen_by pass.old) (client_of pass.old) (length (seen_by pass.old)) }
+    requires request { IsNoted controller.now request × (request.options.no_slowdown ≡ true) }
+    ensures pass { IsPassOf controller.now pass.new × (client_of pass.new ≡ client_of pass.old) }
+    ensures looks { OnlyLooks (client_of pass.old) (seen_by pass.old) (seen_by pass.new) }
+    ensures dropped { IfOk result (λ p. IsDropped controller.now request p) }
+    ensures back { IfErr result (λ q. q ≡ request) }
+    ensures none { IfErr result (λ _. SawNoTokens (client_of pass.old) (seen_by pass.old) (seen_by pass.new)) }
+{
+    // The look comes after all that the writer had seen, since the leader's pass has met the writer's.
+    learn_of(rt, controller, pass, &mut request);
+    let look = controller.look(rt, pass);
+    if !shows_tokens(look) {
+        return Err(request);
+    }
+    let (batch, envelope) = batch_of(request);
+    let answer = Answer {
+        answer: Err(refused_by(look, batch)),
+        delay: Snapshot::of(delay),
+        note: Some(controller.note(pass)),
+    };
+    Ok(envelope.tell(answer))
+}
+
+/// What a client answers itself that met a stall with a request that may not wait, and that no list has: it is refused,
+/// where a look shows that some client stops or slows writes, after another client was told that writes are held up.
+/// Else the request comes back as it was.
+pub fn turn_away_if_stalled<Time: Clock, R: Wait>(
+    rt: &R,
+    controller: &Controller<Time>,
+    pass: &mut Pass,
+    client: u32,
+    request: SealedRequest,
+) -> Result<SealedAnswer, SealedRequest>
+    requires pass { IsPassOf controller.now pass.old × (client_of pass.old ≡ client) }
+    requires may { request.options.no_slowdown ≡ true }
+    ensures pass { IsPassOf controller.now pass.new × (client_of pass.new ≡ client_of pass.old) }
+    ensures looks { OnlyLooks client (seen_by pass.old) (seen_by pass.new) }
+    ensures away { IfOk result (λ p. IsTurnedAway client (seen_by pass.old) (seen_by pass.new) request p) }
+    ensures back { IfErr result (λ q. q ≡ request) }
+    ensures again { IfErr result (λ _. SawNoTokens client (seen_by pass.old) (seen_by pass.new)
+        ⊎ ((last_held_up pass.new ≡ 0) ⊎ (last_held_up pass.new ≡ client))) }
+{
+    let (look, leader) = controller.look_at_stall(rt, pass);
+    if !shows_tokens(look) || leader == 0 || leader == client as u64 {
+        return Err(request);
+    }
+    let (batch, envelope) = batch_of(request);
+    // No delay was asked for it. The answer has a place for one, which says nothing here.
+    let delay = Delay {
+        pass: Snapshot::of(pass),
+    };
+    let answer = Answer {
+        answer: Err(refused_by(look, batch)),
+        delay: Snapshot::of(&delay),
+        note: None,
+    };
+    Ok(envelope.tell(answer))
 }
 
 /// Waits as long as the delay answered, and then while writes are stopped.

@@ -1,6 +1,6 @@
 //! The box in which a client's request goes to its leader, and in which the answer comes back.
 
-ghost use Rattle.std.specs.Prelude.{◌≡◌, true, None, vec_len, IfOk};
+ghost use Rattle.std.specs.Prelude.{◌≡◌, true, None, Some, vec_len, IfOk};
 ghost use Rattle.engine_parts.specs.Letters.{is_asked, is_told};
 
 use crate::requests::{Answer, Request};
@@ -136,6 +136,16 @@ impl SealedRequest {
     {
         match &mut *self.letter {
             Letter::Asked(request) => request.note.take(),
+            _ => unreachable!(),
+        }
+    }
+
+    /// Puts a note into the request, in place of the one that it may have.
+    pub fn put_note(&mut self, note: Note)
+        ensures { self.new ≡ record self.old { note = Some note } }
+    {
+        match &mut *self.letter {
+            Letter::Asked(request) => request.note = Some(note),
             _ => unreachable!(),
         }
     }

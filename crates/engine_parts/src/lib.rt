@@ -19,7 +19,9 @@ mod logging;
 mod numbering;
 mod requests;
 
-pub use asking::{ask, may_proceed, refuse_stalled, refused_by};
+pub use asking::{
+    ask, drop_if_stalled, is_stalled, may_proceed, refuse_stalled, refused_by, turn_away_if_stalled,
+};
 pub use envelope::{Envelope, SealedAnswer, SealedRequest};
 pub use layout::Layout;
 pub use logging::{LogPath, log_phase};

@@ -14,7 +14,7 @@ use Rattle.model_base.specs.Tokens.{holds_stop, tokens_of}
 use Rattle.model_base.specs.Trace.{Settings}
 use Rattle.model_base.specs.Outcomes.{entries_of_client}
 use Rattle.model_base.specs.Progress.{early_refusal}
-use Rattle.model_base.specs.Replies.{AreFullBelow, AreUpTo, IsFullBelow, IsLater}
+use Rattle.model_base.specs.Replies.{AreFullBelow, AreUpTo, IsFullBelow, IsLater, LooksAway, MetStall}
 use Rattle.model_base.proofs.Runs.{not_kept_out}
 use Rattle.table_rule.specs.declared.content.MemberVersions.{MemberVersions}
 use Rattle.table_rule.specs.Histories.{Begins, last_of as last_of_groups}
@@ -204,7 +204,7 @@ module _ (start : ℕ) (opening : Pairs) (k : ℕ) (old : List Commit) (c : Comm
       → IsRefused was c.records c.options (no.Incomplete numbers.stops numbers.delays numbers.wait) becomes
   refused_held_up numbers by moment bytes held_is impatient hold later = record {
     status = Some (slowed (place_of c));
-    may = (impatient, hold, (by, moment, bytes, later, slice_get_within now (place_of c) (record { client = by; action = delay moment bytes; told = Some numbers }) later.there));
+    may = (impatient, (by, moment, bytes, later, slice_get_within now (place_of c) (record { client = by; action = delay moment bytes; told = Some numbers }) later.there, hold));
     kept_out = not_kept_out (tokens_of k known) (slowed (place_of c)) free;
     number = refl;
     mine = mine_same k old c (held_up numbers) held_is refl;
@@ -278,8 +278,17 @@ pub refused_looked : (start : ℕ) (opening : Pairs) (k : ℕ) (own : List Commi
 refused_looked start opening k own records how before after known now numbers sees stopping ends impatient hold =
     let last = ends_last k known look (Some numbers) now ends in record {
       status = None;
-      may = (impatient, hold, (last.place, last.is_later, slice_get_within now last.place (record { client = k; action = look; told = Some numbers }) last.is_later.there));
-      kept_out = record { own = λ held. refl; only = λ none. stopping };
+      may = (
+        impatient,
+        (
+          k,
+          last.place,
+          last.is_later,
+          slice_get_within now last.place (record { client = k; action = look; told = Some numbers }) last.is_later.there,
+          subst (λ b. LooksAway b now k k last.place numbers) (sym stopping) (refl, hold),
+        ),
+      );
+      kept_out = λ held. refl;
       number = refl;
       mine = refl;
       ends = refl;
@@ -287,3 +296,28 @@ refused_looked start opening k own records how before after known now numbers se
       attempts = refl;
       seen = record { start = refl; opening = refl; published = sees; controller_calls = ends_begins k known look (Some numbers) now ends };
     }
+
+-- a client whose commit met a stall made no commit of the batch, and has its refusal from a look, its own or the leader's
+pub refused_stalled : (start : ℕ) (opening : Pairs) (k : ℕ) (own : List Commit) (records : List Record) (how : WriteOptions) (before after : List (List MemberVersions)) (known now : List ControllerCall) (numbers : Look) (by place : ℕ)
+    → Begins before after → SeesMore k known now → holds_stop (tokens_of k known) ≡ false → how.no_slowdown ≡ true → IsLater now (length known) place (record { client = by; action = look; told = Some numbers }) → MetStall now k by place numbers
+    → IsRefused (account_of start opening k own before known) records how (no.Incomplete numbers.stops numbers.delays numbers.wait) (account_of start opening k own after now)
+refused_stalled start opening k own records how before after known now numbers by place sees more free impatient later met = record {
+  status = None;
+  may = (
+    impatient,
+    (
+      by,
+      place,
+      later,
+      slice_get_within now place (record { client = by; action = look; told = Some numbers }) later.there,
+      subst (λ b. LooksAway b now k by place numbers) (sym free) met,
+    ),
+  );
+  kept_out = λ held. refl;
+  number = refl;
+  mine = refl;
+  ends = refl;
+  asked = more.tokens;
+  attempts = refl;
+  seen = record { start = refl; opening = refl; published = sees; controller_calls = more.begins };
+}

@@ -3,6 +3,8 @@ use Rattle.std.specs.Prelude.{◌≡◌, ℕ, ◌+◌, ◌≤◌, false, List, [
 use Rattle.std.specs.List.{AllByRecursion}
 use mathlib.Core.List.{IsPrefix}
 use Rattle.model_base.specs.declared.write.Refusal.{Refusal}
+use Rattle.model_base.specs.declared.write.WriteOptions.{WriteOptions}
+use Rattle.model_base.specs.Batch.{Record}
 use Rattle.model_base.specs.Map.{Pairs}
 use Rattle.model_base.specs.History.{Entry}
 use Rattle.model_base.specs.Attempts.{Attempt, WriteStatus, succeeded, slowed, faulted, full}
@@ -153,6 +155,11 @@ IsNewest k commits c = AreAnswered k.start None commits × (commits_of k.client 
 -- the commit was refused for this
 abbrev pub EndsRefused : ClientCall → Commit → Refusal → Type 0
 EndsRefused k c why = IsRefused (account_before k) c.records c.options why (account_with k c)
+
+-- the commit was refused for this, and is in no group
+abbrev pub StaysOutside : ClientCall → List Record → WriteOptions → Refusal → Type 0
+StaysOutside k records how why = IsRefused (account_before k) records how why
+    (account_of k.start k.opening k.client k.own k.after k.now)
 
 -- all these calls are of clients with the numbers from 1 to this
 abbrev pub AreCallsOf : ℕ → List ControllerCall → Type 0

@@ -94,7 +94,7 @@ HaveOwnClients (q ∷ requests) = AllByRecursion (λ (r : CommitRequest). q.clie
 
 -- what grouping sees of a request
 abbrev pub item_of_request : CommitRequest → Item
-item_of_request q = record { size = size_of_batch q.records; options = q.options }
+item_of_request q = record { size = size_of_batch q.records; options = q.options; alone = false }
 
 -- the requests are a whole group by the grouping rule, and no two are of the same client
 pub record IsWholeGroup (group_bytes : ℕ) (requests : List CommitRequest) : Type 0 where

@@ -10,17 +10,17 @@ ghost use Rattle.model_base.specs.Controller.{ControllerCall, Look, HoldUp, IsLe
 ghost use Rattle.model_base.specs.Groups.{Group};
 ghost use Rattle.model_base.specs.LogContents.{GroupCall};
 ghost use Rattle.model_base.specs.Progress.{early_refusal};
-ghost use Rattle.model_base.specs.Replies.{IsLater};
+ghost use Rattle.model_base.specs.Replies.{IsLater, MetStall};
 ghost use Rattle.model_base.specs.Tokens.{tokens_of, holds_stop};
 ghost use Rattle.model_base.specs.Trace.{Settings};
 ghost use Rattle.table_rule.specs.Histories.{Begins, made_by, last_of};
-ghost use Rattle.model_accounts.specs.Accounts.{Account, Wrote, IsRefused};
+ghost use Rattle.model_accounts.specs.Accounts.{Account, Wrote};
 ghost use Rattle.model_accounts.specs.Closing.{all_attempts, IsClosing, RoseInRun};
 ghost use Rattle.model_runs.specs.Written.{WritesLog, IsSyncedBy};
 ghost use Rattle.engine_controller.specs.Passes.{EndsWith};
 ghost use Rattle.engine_rule.specs.Commits.{Commit, accepted, held_up, failed, no_room, last_after_all, AreAnswered, commits_of};
 ghost use Rattle.engine_rule.specs.Asked.{place_of};
-ghost use Rattle.engine_rule.specs.Entries.{trace_of, entries_of, versions_made, account_of, ClientCall, account_before, account_with, HasSeenMore, IsFree, IsNewest, EndsRefused, AreCallsOf};
+ghost use Rattle.engine_rule.specs.Entries.{trace_of, entries_of, versions_made, account_of, ClientCall, account_before, account_with, HasSeenMore, IsFree, IsNewest, EndsRefused, StaysOutside, AreCallsOf};
 ghost use Rattle.engine_rule.specs.LogCalls.{WroteParts};
 ghost use Rattle.engine_rule.specs.Consistent.{Standing, IsConsistent, AreAccountsOf};
 
@@ -53,13 +53,17 @@ pub fn accounts_of_the_commits()
     ensures full { (k : ClientCall) (commits : List Commit) (c : Commit) (last : ℕ) → IsNewest k commits c
         → HasSeenMore k → IsFree k → c.answer ≡ no_room last → last_of k.start k.before ≤ last
         → EndsRefused k c (SequenceFull last) }
-    // a client that holds a stop token looked itself, and then made no commit of the batch
+    // a client that holds a stop token looked itself, and its commit is in no group
     ensures looked { (k : ClientCall) (records : List Record) (how : WriteOptions) (numbers : Look)
         → Begins k.before k.after → holds_stop (tokens_of k.client k.known) ≡ true
         → EndsWith k.client k.known look (Some numbers) k.now → how.no_slowdown ≡ true
-        → HoldUp numbers → IsRefused (account_before k) records how
-        (Incomplete numbers.stops numbers.delays numbers.wait)
-        (account_of k.start k.opening k.client k.own k.after k.now) }
+        → HoldUp numbers → StaysOutside k records how (Incomplete numbers.stops numbers.delays numbers.wait) }
+    // a commit that met a stall is in no group either: its client looked itself, or the leader that stalls writes did
+    ensures stalled { (k : ClientCall) (records : List Record) (how : WriteOptions) (numbers : Look) (by place : ℕ)
+        → HasSeenMore k → IsFree k → how.no_slowdown ≡ true
+        → IsLater k.now (length k.known) place (record { client = by; action = look; told = Some numbers })
+        → MetStall k.now k.client by place numbers
+        → StaysOutside k records how (Incomplete numbers.stops numbers.delays numbers.wait) }
 {}
 
 /// A commit that has a run, isn't kept out of the log, and asked for a sync, was written by a call that synced.

@@ -18,6 +18,14 @@ same_test true false h = cc
 same_test false true h = cc
 same_test false false h = refl
 
+not_true : (a : Bool) → not a ≡ true → a ≡ false
+not_true true h = cc
+not_true false h = refl
+
+true_not : (a : Bool) → a ≡ false → not a ≡ true
+true_not true e = cc
+true_not false e = refl
+
 and_both : (a b : Bool) → (a && b) ≡ true → (a ≡ true) × (b ≡ true)
 and_both true b h = (refl, h)
 and_both false b h = cc
@@ -28,9 +36,13 @@ fits_means max leader total i h =
     let a = and_both _ _ h in
     let b = and_both _ _ a.0 in
     let d = and_both _ _ b.0 in
+    let e = and_both _ _ d.0 in
+    let f = and_both _ _ e.0 in
     let test : nat_le total (cap max leader) ≡ true = a.1 in
     record {
-      sync = sync_test i.options.sync leader.options.sync d.0;
+      leader_takes = not_true leader.alone f.0;
+      not_alone = not_true i.alone f.1;
+      sync = sync_test i.options.sync leader.options.sync e.1;
       no_slowdown = same_test i.options.no_slowdown leader.options.no_slowdown d.1;
       no_log = same_test i.options.no_log leader.options.no_log b.1;
       within = grind (arith, nat_tests);
@@ -46,14 +58,14 @@ same_true true false e = cc
 same_true false true e = cc
 same_true false false e = refl
 
-all_true : (a b c d : Bool) → a ≡ true → b ≡ true → c ≡ true → d ≡ true → (a && b && c && d) ≡ true
-all_true a b c d ea eb ec ed = rw (ea, eb, ec, ed)
+all_true : (a b c d e f : Bool) → a ≡ true → b ≡ true → c ≡ true → d ≡ true → e ≡ true → f ≡ true → (a && b && c && d && e && f) ≡ true
+all_true a b c d e f ea eb ec ed ee ef = rw (ea, eb, ec, ed, ee, ef)
 
 pub fits_from : (max : ℕ) (leader : Item) (total : ℕ) (i : Item) → MayJoin max leader total i → fits max leader total i ≡ true
 fits_from max leader total i may =
     let within : total ≤ cap max leader = may.within in
     let test : nat_le total (cap max leader) ≡ true = grind (arith, nat_tests) in
-    all_true _ _ _ _ (sync_true i.options.sync leader.options.sync may.sync) (same_true _ _ may.no_slowdown) (same_true _ _ may.no_log) test
+    all_true _ _ _ _ _ _ (true_not leader.alone may.leader_takes) (true_not i.alone may.not_alone) (sync_true i.options.sync leader.options.sync may.sync) (same_true _ _ may.no_slowdown) (same_true _ _ may.no_log) test
 
 at_place : (max : ℕ) (leader : Item) (behind : List Item) (place : ℕ) (i : Item) → slice_get (leader ∷ behind) place ≡ Some i
     → fits_at max (leader ∷ behind) place ≡ fits max leader (size_of (take (place + 1) (leader ∷ behind))) i

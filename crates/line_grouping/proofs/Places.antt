@@ -78,5 +78,5 @@ last_true false b is = absurd (cc)
 -- a writer that fits keeps the sum below the bound
 pub fits_below : (max : ℕ) (leader : Item) (total : ℕ) (i : Item) → fits max leader total i ≡ true → total ≤ max
 fits_below max leader total i is =
-    let test : nat_le total (cap max leader) ≡ true = last_true ((not i.options.sync || leader.options.sync) && same_bool i.options.no_slowdown leader.options.no_slowdown && same_bool i.options.no_log leader.options.no_log) (nat_le total (cap max leader)) is in
+    let test : nat_le total (cap max leader) ≡ true = last_true (not leader.alone && not i.alone && (not i.options.sync || leader.options.sync) && same_bool i.options.no_slowdown leader.options.no_slowdown && same_bool i.options.no_log leader.options.no_log) (nat_le total (cap max leader)) is in
     let within : total ≤ cap max leader = grind (arith, nat_tests) in let k = cap_small max leader in omega arith

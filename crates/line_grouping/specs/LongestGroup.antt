@@ -1,11 +1,13 @@
 -- The rule of grouping in plain words: a group is the longest front of the queue in which all writers after the leader
 -- may join it.
-use Rattle.std.specs.Prelude.{◌≡◌, ℕ, ◌+◌, ◌<◌, ◌≤◌, true, List, ◌∷◌, length, take, slice_get, Some}
+use Rattle.std.specs.Prelude.{◌≡◌, ℕ, ◌+◌, ◌<◌, ◌≤◌, true, false, List, ◌∷◌, length, take, slice_get, Some}
 use Rattle.model_base.specs.declared.group.Item.{Item}
 use Rattle.model_base.specs.Grouping.{cap, size_of}
 
 -- a writer may join a leader's group, where the sizes, up to its own, add up to `total`
 pub record MayJoin (max : ℕ) (leader : Item) (total : ℕ) (i : Item) : Type 0 where
+  pub leader_takes : leader.alone ≡ false
+  pub not_alone : i.alone ≡ false
   pub sync : i.options.sync ≡ true → leader.options.sync ≡ true
   pub no_slowdown : i.options.no_slowdown ≡ leader.options.no_slowdown
   pub no_log : i.options.no_log ≡ leader.options.no_log

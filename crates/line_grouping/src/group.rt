@@ -34,7 +34,9 @@ pub fn fits(max: u64, leader: Item, sum: u64, writer: Item) -> bool
     ensures { result ≡ fits max leader (sum + writer.size) writer }
 {
     let cap = cap(max, leader);
-    (!writer.options.sync || leader.options.sync)
+    !leader.alone
+        && !writer.alone
+        && (!writer.options.sync || leader.options.sync)
         && writer.options.no_slowdown == leader.options.no_slowdown
         && writer.options.no_log == leader.options.no_log
         && sum <= cap

@@ -211,11 +211,11 @@ module _ {Request Reply : Type 0} (reply_of : Reply → CoreReply) (c : ℕ) whe
       go false is more = more
 
 module _ {Request : Type 0} (writer_of : QueuedWriter Request → Writer) (same : IsSame writer_of) where
-  absent_writers : (c : ℕ) (es : List (QueuedWriter Request)) → Absent c es → Out c (map writer_of es)
+  pub absent_writers : (c : ℕ) (es : List (QueuedWriter Request)) → Absent c es → Out c (map writer_of es)
   absent_writers c [] out = tt
   absent_writers c (e ∷ es) out = ((λ is. out.0 (sym (same e) ∙ is)), absent_writers c es out.1)
 
-  absent_back_to_front : (c : ℕ) (es : List (QueuedWriter Request)) → Absent c es → Absent c (reverse es)
+  pub absent_back_to_front : (c : ℕ) (es : List (QueuedWriter Request)) → Absent c es → Absent c (reverse es)
   absent_back_to_front c [] out = tt
   absent_back_to_front c (e ∷ es) out = subst (Absent c) (sym (reverse-append (e ∷ []) es)) (absent_append c (reverse es) (e ∷ []) (absent_back_to_front c es out.1) (out.0, tt))
 

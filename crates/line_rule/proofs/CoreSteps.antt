@@ -4,10 +4,10 @@ use Rattle.std.proofs.lemmas.List.{map-append, reverse-append}
 use mathlib.Core.Option.{Option, none, some}
 use Rattle.model_base.specs.Calls.{Reply as CoreReply, refused}
 use Rattle.model_core.specs.declared.event.Event.TheVariants as core
-use Rattle.model_core.specs.Core.{Options, Writer, LogPhase, free as nobody, led, built as in_hand, in_log, marked, handed, still, published, State, leads, first_group, in_hand as logged, Client, with_runs, has_run, all_answered, entries_of, client_at, with_client, next_call}
+use Rattle.model_core.specs.Core.{Options, Writer, LogPhase, free as nobody, led, built as in_hand, stalled, in_log, marked, handed, still, published, State, leads, first_group, in_hand as logged, Client, with_runs, has_run, all_answered, entries_of, client_at, with_client, next_call, refusal_in, may_link}
 use Rattle.model_core.specs.CoreLaw.{writers_in}
 use Rattle.model_core.specs.Halves.{list_half_of, left_with}
-use Rattle.model_core.specs.Step.{step, when, leave, boundary, to_second, next, exit, link, link_call, link_with, complete, complete_with, after_completion, elect, build, log_group, logged_group, with_group, fault, refuse, is_no_slowdown, group_size}
+use Rattle.model_core.specs.Step.{step, when, leave, boundary, to_second, next, exit, link, link_call, link_or_refuse, link_with, complete, complete_with, after_completion, elect, build, log_group, logged_group, with_group, fault, refuse, is_no_slowdown, group_size}
 use Rattle.line_rule.specs.declared.view.Back.{Back}
 use Rattle.line_rule.specs.declared.view.Back.TheVariants.{Away, Parting, Joining, Holding, Queued, Serving, Passing}
 use Rattle.line_rule.specs.declared.view.QueuedWriter.{QueuedWriter}
@@ -15,7 +15,7 @@ use Rattle.line_rule.specs.declared.view.Handling.{Handling}
 use Rattle.line_rule.specs.declared.view.Squad.{Squad}
 use Rattle.line_rule.specs.Chain.{all_answers, Absent, handling}
 use Rattle.line_rule.specs.CoreEvents.{IsSame, core_queue, core_log, answer_of, answer_in, HasReplies, HasItems, AllHave, IsCoreOf, IsRearranged, group_handed_on, IsGroupOf, HasGroups, IsUnlogged, IsLogOf, IsTaken, without_answer, IsSettled, IsCommit, HasLeft}
-use Rattle.line_rule.specs.Events.{Core, LogHolder, free, elected, grouped, comes, elects, builds, IsNotWith, was_for, without}
+use Rattle.line_rule.specs.Events.{Core, LogHolder, free, elected, grouped, halted, IsRunning, comes, elects, builds, IsNotWith, was_for, without}
 use Rattle.line_rule.specs.Handing.{IsJoined}
 use Rattle.line_rule.specs.Plays.{squad_with_end}
 use Rattle.line_rule.specs.SecondList.{SecondList, IsPut, IsAhead, after_handing_on as handed_over}
@@ -34,6 +34,7 @@ abbrev line_held : {Request : Type 0} → LogHolder Request → List (QueuedWrit
 line_held free = []
 line_held (elected c) = []
 line_held (grouped own group) = group ++ own ∷ []
+line_held (halted own group) = group ++ own ∷ []
 
 abbrev squad_in : {Request Reply : Type 0} → Squad Request Reply → Option (Squad Request Reply) → Squad Request Reply
 squad_in g none = g
@@ -57,9 +58,28 @@ module _ {Request Reply : Type 0} (writer_of : QueuedWriter Request → Writer) 
   unlogged h l f ws nobody not is = is
   unlogged h l f ws (led c) not is = is
   unlogged h l f ws (in_hand vs) not is = is
+  unlogged h l f ws (stalled vs) not is = is
   unlogged h l f ws (in_log vs) not is = absurd (not is.1.0 is.1.1 is.1.2)
   unlogged h l f ws (marked vs) not is = absurd (not is.2.0.own is.2.0.rest is.2.1)
   unlogged h l f ws (handed c) not is = absurd (not is.2.0 is.2.1 is.2.2)
+
+module _ {Request : Type 0} (writer_of : QueuedWriter Request → Writer) where
+  not_stalled : (h : LogHolder Request) → IsRunning h → (vs : List Writer) → Path LogPhase (stalled vs) (core_log writer_of h) → ⊥
+  not_stalled free run vs e = absurd (cc)
+  not_stalled (elected c) run vs e = absurd (cc)
+  not_stalled (grouped own group) run vs e = absurd (cc)
+  not_stalled (halted own group) run vs e = run
+
+module _ {Request Reply : Type 0} (writer_of : QueuedWriter Request → Writer) where
+  -- where nobody stalls writes, a commit that passed the checks is linked
+  unstalled : (h : LogHolder Request) (l : Lead2) (f : ℕ → Option (Squad Request Reply)) (ws : List Writer) (how : WriteOptions) (phase : LogPhase) → IsLogOf writer_of h l f ws phase → IsRunning h → (refusal_in phase how None ≡ None) × (may_link phase None ≡ true)
+  unstalled h l f ws how nobody is run = (refl, refl)
+  unstalled h l f ws how (led c) is run = (refl, refl)
+  unstalled h l f ws how (in_hand vs) is run = (refl, refl)
+  unstalled h l f ws how (stalled vs) is run = absurd (not_stalled writer_of h run vs is.0)
+  unstalled h l f ws how (in_log vs) is run = (refl, refl)
+  unstalled h l f ws how (marked vs) is run = (refl, refl)
+  unstalled h l f ws how (handed c) is run = (refl, refl)
 
 module _ {Request Reply : Type 0} where
   joined_ahead : (back : Back Request Reply) (g : Squad Request Reply) (c : ℕ) (lead : Lead2) → IsJoined g back → IsAhead back c lead → lead ≡ ahead c
@@ -141,6 +161,7 @@ module _ {Request Reply : Type 0} (writer_of : QueuedWriter Request → Writer) 
       by_phase nobody is log = let bad : none ≡ some g = sym (log.2.1 c) ∙ ev.0 in absurd (cc)
       by_phase (led d) is log = let bad : none ≡ some g = sym (log.2.1 c) ∙ ev.0 in absurd (cc)
       by_phase (in_hand vs) is log = let bad : none ≡ some g = sym (log.2.1 c) ∙ ev.0 in absurd (cc)
+      by_phase (stalled vs) is log = let bad : none ≡ some g = sym (log.2.1 c) ∙ ev.0 in absurd (cc)
       by_phase (in_log vs) is log = let bad : none ≡ some g = sym (log.2.1 c) ∙ ev.0 in absurd (cc)
       by_phase (handed d) is log = let bad : none ≡ some g = sym (log.1 c) ∙ ev.0 in absurd (cc)
 
@@ -171,6 +192,7 @@ module _ {Request Reply : Type 0} (writer_of : QueuedWriter Request → Writer) 
       by_phase nobody is log = let bad : level ≡ ahead own.by = sym log.2.0 ∙ here in absurd (cc)
       by_phase (led d) is log = let bad : level ≡ ahead own.by = sym log.2.0 ∙ here in absurd (cc)
       by_phase (in_hand vs) is log = let bad : level ≡ ahead own.by = sym log.2.0 ∙ here in absurd (cc)
+      by_phase (stalled vs) is log = let bad : level ≡ ahead own.by = sym log.2.0 ∙ here in absurd (cc)
       by_phase (in_log vs) is log = let bad : level ≡ ahead own.by = sym log.2.0 ∙ here in absurd (cc)
       by_phase (marked vs) is log = let bad : level ≡ ahead own.by = sym log.1 ∙ here in absurd (cc)
 
@@ -187,6 +209,7 @@ module _ {Request Reply : Type 0} (writer_of : QueuedWriter Request → Writer) 
       by_phase nobody log came = absurd (cc)
       by_phase (led d) log came = absurd (cc)
       by_phase (in_hand vs) log came = absurd (cc)
+      by_phase (stalled vs) log came = absurd (cc)
       by_phase (in_log vs) log came = absurd (cc)
       by_phase (marked vs) log came = absurd (cc)
 
@@ -221,9 +244,10 @@ module _ {Request Reply : Type 0} (writer_of : QueuedWriter Request → Writer) 
       let how : WriteOptions = commits.1 in
       let ready = next_call client in
       let w : Writer = record { client = c; options = how; records = ready.client.added; answer = None } in
+      let lets_in = unstalled writer_of a.0.1 a.1.1 a.1.2 ws how s.log r.log ev.0.0.1 in
       let new : State = record (with_client s c (record ready.client { idle = false })) { queue = s.queue ++ w ∷ [] } in (
         new,
-        (λ i. link o s c (commits.2 i)) ∙ ((λ i. if commits.3 i then link_call o s c ready.client (commits.4 i) else None) ∙ (λ i. Some (link_with o s c ready.client how (commits.5 i)))),
+        (λ i. link o s c (commits.2 i)) ∙ ((λ i. if commits.3 i then link_call o s c ready.client (commits.4 i) else None) ∙ ((λ i. link_or_refuse o s c ready.client how (refusal_in s.log how (commits.5 i))) ∙ ((λ i. link_or_refuse o s c ready.client how (lets_in.0 i)) ∙ (λ i. when (lets_in.1 i) (link_with o s c ready.client how None))))),
         record {
           queue = (λ i. r.queue i ++ sym commits.6 i ∷ []) ∙ (sym more ∙ ap (λ (k : Core Request Reply). core_queue writer_of k.0) (sym ev.0.1));
           log = same_log writer_of a.0.1 b.0.1 a.1.1 b.1.1 a.1.2 b.1.2 ws s.log (ap (λ (k : Core Request Reply). k.1) ev.0.1) (ap (λ (x : SecondList Request Reply). x.1) ev.1) (ap (λ (x : SecondList Request Reply). x.2) ev.1) r.log;
@@ -232,21 +256,22 @@ module _ {Request Reply : Type 0} (writer_of : QueuedWriter Request → Writer) 
         },
       )
 
-  settled : (l l' : Lead2) (f f' : ℕ → Option (Squad Request Reply)) → l' ≡ l → f' ≡ f → IsSettled l f → IsSettled l' f'
+  pub settled : (l l' : Lead2) (f f' : ℕ → Option (Squad Request Reply)) → l' ≡ l → f' ≡ f → IsSettled l f → IsSettled l' f'
   settled l l' f f' el ef is = (el ∙ is.0, λ k. ap (λ x. x k) ef ∙ is.1 k)
 
   -- what is owed, where no group is handed on
-  owed_plain : Stands → group_handed_on s.log ws ≡ [] → IsRearranged (handled a.0.3) waits
+  pub owed_plain : Stands → group_handed_on s.log ws ≡ [] → IsRearranged (handled a.0.3) waits
   owed_plain r none_on = rearranged_as was_owed waits (handled a.0.3) waits (sym (append-nil (handled a.0.3)) ∙ (λ i. handled a.0.3 ++ answered (sym none_on i))) refl r.owed
 
   -- where nothing is logged, no group is handed on
-  none_handed : (held : LogHolder Request) → s.log ≡ core_log writer_of held → group_handed_on s.log ws ≡ []
+  pub none_handed : (held : LogHolder Request) → s.log ≡ core_log writer_of held → group_handed_on s.log ws ≡ []
   none_handed held is = ap (λ l. group_handed_on l ws) is ∙ plain held
     where
       plain : (h : LogHolder Request) → group_handed_on (core_log writer_of h) ws ≡ []
       plain free = refl
       plain (elected c) = refl
       plain (grouped own group) = refl
+      plain (halted own group) = refl
 
   -- the oldest one leads
   pub leads_core : (e : QueuedWriter Request) → IsSame writer_of → Stands → HappensAlone (elects e) a b → IsTaken writer_of reply_of o (core.Elect e.by) s [] b
@@ -283,10 +308,10 @@ module _ {Request Reply : Type 0} (writer_of : QueuedWriter Request → Writer) 
       )
 
   -- the group in hand has its writers
-  in_hand_is : (vs : List Writer) → Stands → s.log ≡ in_hand vs → IsUnlogged writer_of a.0.1 a.1.1 a.1.2 ws (in_hand vs)
+  pub in_hand_is : (vs : List Writer) → Stands → s.log ≡ in_hand vs → IsUnlogged writer_of a.0.1 a.1.1 a.1.2 ws (in_hand vs)
   in_hand_is vs r is = subst (IsLogOf writer_of a.0.1 a.1.1 a.1.2 ws) is r.log
 
-  writers_are : (vs : List Writer) (own : QueuedWriter Request) (group : List (QueuedWriter Request)) → Stands → s.log ≡ in_hand vs → a.0.1 ≡ grouped own group → vs ≡ core_queue writer_of (group ++ own ∷ [])
+  pub writers_are : (vs : List Writer) (own : QueuedWriter Request) (group : List (QueuedWriter Request)) → Stands → s.log ≡ in_hand vs → a.0.1 ≡ grouped own group → vs ≡ core_queue writer_of (group ++ own ∷ [])
   writers_are vs own group r is held = one_built vs (core_queue writer_of (group ++ own ∷ [])) ((in_hand_is vs r is).0 ∙ ap (core_log writer_of) held)
 
   -- the core logs the group in hand
@@ -411,6 +436,7 @@ module _ {Request Reply : Type 0} (writer_of : QueuedWriter Request → Writer) 
       in_hand_out nobody log = tt
       in_hand_out (led d) log = tt
       in_hand_out (in_hand vs) log = tt
+      in_hand_out (stalled vs) log = tt
       in_hand_out (in_log vs) log = tt
       in_hand_out (marked vs) log = tt
       in_hand_out (handed d) log = group_out writer_of same e.by (log.2.1 ++ log.2.0 ∷ []) ws (let away = subst (IsNotWith e.by) log.2.2 unheld in absent_append e.by log.2.1 (log.2.0 ∷ []) away.1 (away.0, tt)) log.2.4

@@ -1,5 +1,5 @@
 -- The steps of `link` and of `await_role`: that each keeps the rule, and which event it is.
-use Rattle.std.proofs.Common.{◌≡◌, ◌≢◌, ℕ, ◌+◌, ◌*◌, ◌<◌, ◌≤◌, eqb, List, [], ◌∷◌, ◌++◌, length, get_or, set, refl, sym, ap, ◌∙◌, subst, inr, arith, length-set, append-nil, append_assoc, get_or-set_other, get_or-set_same}
+use Rattle.std.proofs.Common.{◌≡◌, ◌≢◌, ℕ, ◌+◌, ◌*◌, ◌<◌, ◌≤◌, ◌⊎◌, inl, eqb, List, [], ◌∷◌, ◌++◌, length, get_or, set, refl, sym, ap, ◌∙◌, subst, inr, arith, length-set, append-nil, append_assoc, get_or-set_other, get_or-set_same}
 use mathlib.Core.Logic.{dite}
 use mathlib.Core.Path.{Path}
 use mathlib.Core.Option.{Option, none, some}
@@ -16,9 +16,9 @@ use Rattle.line_rule.specs.declared.view.Back.TheVariants.{Away}
 use Rattle.line_rule.specs.declared.content.LineSlot.{LineSlot}
 use Rattle.line_rule.specs.declared.content.LineSlot.TheVariants.{Empty, Asked, Told, TheLog, TheRight}
 use Rattle.line_rule.specs.declared.view.LineStage.{LineStage}
-use Rattle.line_rule.specs.declared.view.LineStage.TheVariants.{Idle, Preparing, Waiting, Helping, Fresh, Leading, Cutting, Marking, Settling, Collecting}
+use Rattle.line_rule.specs.declared.view.LineStage.TheVariants.{Stalling, Idle, Preparing, Waiting, Helping, Fresh, Leading, Cutting, Marking, Settling, Collecting}
 use Rattle.line_rule.specs.Chain.{state_at, older_at, pack, newest_from, of}
-use Rattle.line_rule.specs.Standing.{Phase, idle, preparing, linked, chosen, leads, taken, completed, collecting, Mode, open_, waits, led, built, cut, marked, base_of, Holds, KnowsBack, Place}
+use Rattle.line_rule.specs.Standing.{held, pause_of, dismissed, dropped, Phase, idle, preparing, linked, chosen, leads, taken, completed, collecting, Mode, open_, waits, led, built, cut, marked, base_of, Holds, KnowsBack, Place}
 use Rattle.line_rule.specs.Laws.{Laws}
 use Rattle.line_rule.specs.Rule.{InChain, Waits, Knows, Recalls, hold, InPhase, LogHome, InMode, Listed, InSecond, due_untold}
 use Rattle.line_rule.specs.Events.{LineEvent, comes, elects, Core, HasCome}
@@ -30,6 +30,8 @@ use Rattle.line_rule.proofs.Exits.{owing_stays, cut_stays, away_now}
 use Rattle.line_rule.proofs.Accounts.{comes_more, comes_first}
 use Rattle.line_rule.proofs.Moves.{St, row_stays, mode_stays, knows_else, moved, Goes, allows, unmoved}
 use Rattle.line_rule.proofs.Keeps.{second_row, second_same}
+use Rattle.line_rule.proofs.Pauses.{running, queued_grows, names_small, names_grow, names_free, names_stay}
+use Rattle.line_rule.specs.declared.words.TheConstants.{STALL}
 
 module _ {Request Reply : Type 0} where
   abbrev pub own : List (LineHold Request Reply) → LineHold Request Reply
@@ -60,6 +62,7 @@ waits_in d (Waiting q past) = q
 waits_in d (Helping q) = q
 waits_in d (Fresh o s) = d
 waits_in d (Leading l) = d
+waits_in d (Stalling l t) = d
 waits_in d (Cutting l e) = d
 waits_in d (Marking l) = d
 waits_in d (Settling b) = d
@@ -90,6 +93,9 @@ IsOut (chosen e) = ⊥
 IsOut (leads e) = ⊥
 IsOut (taken l e) = ⊥
 IsOut (completed q p) = Unit {0}
+IsOut (held c e) = ⊥
+IsOut (dropped c e p) = ⊥
+IsOut (dismissed q p) = Unit {0}
 IsOut collecting = Unit {0}
 
 out_chain : {Request Reply : Type 0} (e : QueuedWriter Request) (ph : Phase Request Reply) → IsOut ph → InChain e ph → ⊥
@@ -100,6 +106,9 @@ out_chain e (chosen f) a b = a
 out_chain e (leads f) a b = a
 out_chain e (taken l f) a b = a
 out_chain e (completed q p) a b = b
+out_chain e (held c f) a b = a
+out_chain e (dropped c f p) a b = b
+out_chain e (dismissed q p) a b = b
 out_chain e collecting a b = b
 
 out_second : {Request Reply : Type 0} (place : ℕ → Place Request Reply) (k : ℕ) (ph : Phase Request Reply) → IsOut ph → InSecond place k ph → ⊥
@@ -110,6 +119,9 @@ out_second place k (chosen f) a b = a
 out_second place k (leads f) a b = a
 out_second place k (taken l f) a b = a
 out_second place k (completed q p) a b = b
+out_second place k (held c e) a b = a
+out_second place k (dropped c e p) a b = b
+out_second place k (dismissed q p) a b = b
 out_second place k collecting a b = b
 
 module _ {Request Reply Log Right : Type 0} (stands : Laws Request Reply Log Right) (n : ℕ) where
@@ -133,10 +145,11 @@ module _ {Request Reply Log Right : Type 0} (stands : Laws Request Reply Log Rig
       let was_taken : (l : ℕ) (e : QueuedWriter Request) → r.phase c ≡ taken l e → (ph' ≡ taken l e) × (due c ≡ r.due c) = λ l e bad. absurd (subst IsOut (sym now ∙ bad) out) in
       moved stands n s r c id ws hs h (hold c st mine) r.line r.hand r.handled r.mode ph' due told r.two record {
         at = at;
+        real = lo;
         same_client = sym client;
         wide = long_w;
         many = long_h;
-        newest_is = same_w 0 (λ e. omega arith) (λ e. omega arith) ∙ r.newest_is;
+        newest_is = names_stay s.words ws (newest_from (base_of r.mode) r.line) (pause_of r.mode) (same_w 0 (λ e. omega arith) (λ e. omega arith)) (same_w 3 (λ e. omega arith) (λ e. omega arith)) r.newest_is;
         links = links_stay (base_of r.mode) s.words ws c r.line (λ j ne. same_w (older_at j) (λ e. omega arith) (λ e. ne (omega arith))) absent r.links;
         distinct = r.distinct;
         within = r.within;
@@ -144,7 +157,7 @@ module _ {Request Reply Log Right : Type 0} (stands : Laws Request Reply Log Rig
         other_rows = λ j ne _ _ ok. row_stays stands n s.words ws s.homes hs j (due j) (same_w (state_at j) (λ e. ne (omega arith)) (λ e. omega arith)) (same_w (older_at j) (λ e. omega arith) (λ e. ne (omega arith))) (same_h j ne) (r.phase j)
             (subst (λ (d : List (Request × Reply)). InPhase stands s.words s.homes j d (r.phase j)) (sym (due_else j ne)) ok);
         row = row;
-        log_is = mode_stays stands n s.homes hs r.line r.hand r.handled r.phase r.due due c ph' (same_h 0 (λ e. omega arith)) was_chosen was_leads was_linked (λ l. taken_change r.phase r.due due c ph' l r.hand (was_taken l) due_else) nil r.mode r.log_is;
+        log_is = mode_stays stands n s.homes hs r.line r.hand r.handled r.phase r.due due c ph' (same_h 0 (λ e. omega arith)) was_chosen was_leads was_linked (λ l. taken_change r.phase r.due due c ph' l r.hand (was_taken l) due_else) (λ l e bad. absurd (subst IsOut (sym now ∙ bad) out)) nil r.mode r.log_is;
         one_chosen = λ j e. put_at r.phase c ph' (λ i f. f ≡ chosen e → r.mode ≡ waits i) j (λ _ bad. absurd (no_chosen e bad)) (λ _ ok. r.one_chosen j e ok);
         account = r.account;
         goes_on = ([], refl);
@@ -162,7 +175,7 @@ module _ {Request Reply Log Right : Type 0} (stands : Laws Request Reply Log Rig
         told_else = λ j ne. told_else j (λ e. ne (e ∙ sym client));
         mine = is_mine ∙ ap told (sym client);
         knows = subst (λ (i : ℕ). Knows r.line r.hand r.handled r.mode (put r.phase c ph') due i st) (sym client) (knows (put r.phase c ph') (put_here r.phase c ph'));
-        others = λ j ne. knows_else stands n r.line r.line r.hand r.handled r.mode r.mode r.phase r.due due c ph' j (λ e. ne (e ∙ sym client)) (ends_same r.line) (λ _. refl) was_linked (was_taken j) due_else;
+        others = λ j ne. knows_else stands n r.line r.line r.hand r.handled r.mode r.mode r.phase r.due due c ph' j (λ e. ne (e ∙ sym client)) (ends_same r.line) (λ _. refl) was_linked (was_taken j) due_else (λ e x bad. absurd (subst IsOut (sym now ∙ bad) out));
       }
 
   pub begins_is : (slots id : ℕ) (me : Sat Request Reply Log Right) (c k : ℕ) (mine : List (Request × Reply)) → k ≡ state_at c → At c Idle mine me → me.1 ≡ [] → StepIs stands n (λ _. Stays) slots id me k (λ _. 1) (λ _. after_begin (step slots k 1 0 none) me 1)
@@ -257,12 +270,16 @@ module _ {Request Reply Log Right : Type 0} (stands : Laws Request Reply Log Rig
   base_small open_ = omega arith
   base_small (waits c) = omega arith
   base_small (led c) = omega arith
-  base_small (built c g) = omega arith
+  base_small (built c g t) = omega arith
   base_small (cut c w) = omega arith
   base_small (marked c) = omega arith
 
   pub peeks_is : (slots id : ℕ) (me : Sat Request Reply Log Right) → StepIs stands n (λ _. Stays) slots id me 0 (λ y. y) (after_read_newest (step slots 0 0 0 none) me)
-  peeks_is slots id me s r long at fits = let few = r.few in let small = newest_small n (base_of r.mode) r.line (omega arith) (base_small r.mode) r.within in (me.0, keeps, tt, unmoved stands n Stays s 0 id me.1 me.0 at r refl, (refl, omega (arith, r.newest_is)))
+  peeks_is slots id me s r long at fits = let few = r.few in let small = newest_small n (base_of r.mode) r.line (omega arith) (base_small r.mode) r.within in (me.0, keeps, tt, unmoved stands n Stays s 0 id me.1 me.0 at r refl, (refl, below (names_small s.words (newest_from (base_of r.mode) r.line) (pause_of r.mode) r.newest_is)))
+    where
+      below : (get_or s.words 0 0 ≡ newest_from (base_of r.mode) r.line) ⊎ (get_or s.words 0 0 ≡ STALL) → get_or s.words 0 0 < 256
+      below (inl is) = let few = r.few in let small = newest_small n (base_of r.mode) r.line (omega arith) (base_small r.mode) r.within in omega arith
+      below (inr is) = omega arith
 
   pub peeks : (slots id : ℕ) (me : Sat Request Reply Log Right) → Allows (Listed stands n) slots id me 0 (λ y. y) (after_read_newest (step slots 0 0 0 none) me)
   peeks slots id me = allows stands n (λ _. Stays) slots id me 0 (λ y. y) (after_read_newest (step slots 0 0 0 none) me) (peeks_is slots id me)
@@ -271,7 +288,7 @@ module _ {Request Reply Log Right : Type 0} (stands : Laws Request Reply Log Rig
   log_free homes line hand handled phase due nil open_ zero_base ok = (refl, ok.1, ok.2)
   log_free homes line hand handled phase due nil (waits c) zero_base ok = absurd (not_snoc ok.0.0 ok.0.1 (sym nil ∙ ok.0.2))
   log_free homes line hand handled phase due nil (led c) zero_base ok = absurd (not_snoc ok.0.0 ok.0.1 (sym nil ∙ ok.0.2))
-  log_free homes line hand handled phase due nil (built c g) zero_base ok = absurd (not_snoc (ok.0.0 ++ hand) ok.0.1 (sym nil ∙ (ok.0.2 ∙ sym (append_assoc ok.0.0 hand (ok.0.1 ∷ [])))))
+  log_free homes line hand handled phase due nil (built c g t) zero_base ok = absurd (not_snoc (ok.0.0 ++ hand) ok.0.1 (sym nil ∙ (ok.0.2 ∙ sym (append_assoc ok.0.0 hand (ok.0.1 ∷ [])))))
   log_free homes line hand handled phase due nil (cut c w) zero_base ok = absurd (not_snoc ok.0.0 ok.0.1 (sym nil ∙ ok.0.2))
   log_free homes line hand handled phase due nil (marked c) zero_base ok = absurd (omega arith)
 
@@ -281,11 +298,11 @@ module _ {Request Reply Log Right : Type 0} (stands : Laws Request Reply Log Rig
   grown homes line hand handled phase due e0 here open_ ne ok = absurd (ne refl)
   grown homes line hand handled phase due e0 here (waits c) ne ok = ((e0 ∷ ok.0.0, ok.0.1, ap (λ l. e0 ∷ l) ok.0.2, (here, ok.0.3), ok.0.4, ok.0.5), ok.1, ok.2)
   grown homes line hand handled phase due e0 here (led c) ne ok = ((e0 ∷ ok.0.0, ok.0.1, ap (λ l. e0 ∷ l) ok.0.2, (here, ok.0.3), ok.0.4, ok.0.5), ok.1, ok.2)
-  grown homes line hand handled phase due e0 here (built c g) ne ok = ((e0 ∷ ok.0.0, ok.0.1, ap (λ l. e0 ∷ l) ok.0.2, (here, ok.0.3), ok.0.4, ok.0.5), ok.1, ok.2)
+  grown homes line hand handled phase due e0 here (built c g t) ne ok = ((e0 ∷ ok.0.0, ok.0.1, ap (λ l. e0 ∷ l) ok.0.2, queued_grows phase due c e0 ok.0.0 t here ok.0.3, ok.0.4, ok.0.5), ok.1, ok.2)
   grown homes line hand handled phase due e0 here (marked c) ne ok = ((here, ok.0), ok.1, ok.2, ok.3, ok.4)
   grown homes line hand handled phase due e0 here (cut c w) ne ok = ((e0 ∷ ok.0.0, ok.0.1, ap (λ l. e0 ∷ l) ok.0.2, (here, ok.0.3), ok.0.4, ok.0.5), ok.1, ok.2, ok.3)
 
-  module _ (slots id : ℕ) (me : Sat Request Reply Log Right) (c w old code : ℕ) (q : Request) (mine : List (Request × Reply)) (said : Option (LineSlot Request Reply Log Right)) (packs : w ≡ pack old code) (mid : At c (Preparing w) mine me) (slot : me.1 ≡ (c, Asked q) ∷ []) (is_asked : stands.asks q code)
+  module _ (slots id : ℕ) (me : Sat Request Reply Log Right) (c w old code : ℕ) (q : Request) (mine : List (Request × Reply)) (said : Option (LineSlot Request Reply Log Right)) (packs : w ≡ pack old code) (mid : At c (Preparing w) mine me) (slot : me.1 ≡ (c, Asked q) ∷ []) (is_asked : stands.asks q code) (unmarked : old ≢ STALL)
       (s : St stands n) (r : Listed stands n s) (at : get_elem? s.views id ≡ some me.0) (hit : get_or s.words 0 0 ≡ old) where
     abbrev e0 : QueuedWriter Request
     e0 = queued_writer c code q
@@ -296,6 +313,12 @@ module _ {Request Reply Log Right : Type 0} (stands : Laws Request Reply Log Rig
     abbrev h : LineHold Request Reply
     h = hold c (Preparing w) mine
 
+    not_stopped : get_or s.words 0 0 ≢ STALL
+    not_stopped e = unmarked (sym hit ∙ e)
+
+    first_is : get_or s.words 0 0 ≡ newest_from (base_of r.mode) r.line
+    first_is = names_free s.words (newest_from (base_of r.mode) r.line) (pause_of r.mode) not_stopped r.newest_is
+
     enters_first : old ≡ 0 → Goes stands n (IsLink old e0) s r 0 id me told_of c
     enters_first z =
         let at' : get_elem? s.views id ≡ some (h ∷ []) = at ∙ ap some mid in
@@ -305,7 +328,7 @@ module _ {Request Reply Log Right : Type 0} (stands : Laws Request Reply Log Rig
         let lo : 0 < c = fit.1 in
         let hi : c ≤ n = fit.2 in
         let wide : length s.words ≡ 2 * n + 4 = r.wide in
-        let none_there = nobody n (base_of r.mode) r.line r.within (sym r.newest_is ∙ (hit ∙ z)) in
+        let none_there = nobody n (base_of r.mode) r.line r.within (sym first_is ∙ (hit ∙ z)) in
         let empty : r.line ≡ [] = none_there.0 in
         let free = log_free s.homes r.line r.hand r.handled r.phase r.due empty r.mode none_there.1 r.log_is in
         let l : Log = free.2.0 in
@@ -326,6 +349,7 @@ module _ {Request Reply Log Right : Type 0} (stands : Laws Request Reply Log Rig
             ((λ _ _. ((acc.1.0, second_list_of r.two), (acc.1.1, refl), (acc.1.2, refl))), (λ _ nz. absurd (nz (hit ∙ z))), λ miss. absurd (miss hit)),
             moved stands n s r c id ws hs h h' (e0 ∷ []) r.hand r.handled (led c) ph r.due r.told r.two record {
               at = at';
+              real = lo;
               same_client = refl;
               wide = length-set s.words 0 c;
               many = length-set s.homes 0 none;
@@ -352,7 +376,7 @@ module _ {Request Reply Log Right : Type 0} (stands : Laws Request Reply Log Rig
               told_else = λ _ _. refl;
               mine = fit.3;
               knows = (refl, here, refl);
-              others = λ j ne. knows_else stands n r.line (e0 ∷ []) r.hand r.handled r.mode (led c) r.phase r.due r.due c ph j ne (e0 ∷ [], ap (λ t. e0 ∷ t) (sym empty)) (λ h. absurd (subst (Holds j) opened h)) (λ e bad. absurd (cc)) (λ e bad. absurd (cc)) (λ _ _. refl);
+              others = λ j ne. knows_else stands n r.line (e0 ∷ []) r.hand r.handled r.mode (led c) r.phase r.due r.due c ph j ne (e0 ∷ [], ap (λ t. e0 ∷ t) (sym empty)) (λ h. absurd (subst (Holds j) opened h)) (λ e bad. absurd (cc)) (λ e bad. absurd (cc)) (λ _ _. refl) (λ e x bad. absurd (cc));
             },
           ),
           λ c' w' q' mine' mid' slot'.
@@ -375,7 +399,7 @@ module _ {Request Reply Log Right : Type 0} (stands : Laws Request Reply Log Rig
         let hi : c ≤ n = fit.2 in
         let wide : length s.words ≡ 2 * n + 4 = r.wide in
         let many : length s.homes ≡ n + 2 = r.many in
-        let some_one : r.mode ≡ open_ → ⊥ = λ is_open. let none_there = (subst (InMode stands n s.homes r.line r.hand r.handled r.phase r.due) is_open r.log_is).0 in nz (sym hit ∙ (r.newest_is ∙ (λ i. newest_from (base_of (is_open i)) (none_there i)))) in
+        let some_one : r.mode ≡ open_ → ⊥ = λ is_open. let none_there = (subst (InMode stands n s.homes r.line r.hand r.handled r.phase r.due) is_open r.log_is).0 in nz (sym hit ∙ (first_is ∙ (λ i. newest_from (base_of (is_open i)) (none_there i)))) in
         let ws : List ℕ = set s.words 0 c in
         let hs = set s.homes c (some (Asked q)) in
         let past : List (LineEvent Request Reply) = comes e0 ∷ r.account.events in
@@ -385,23 +409,24 @@ module _ {Request Reply Log Right : Type 0} (stands : Laws Request Reply Log Rig
         let here : put r.phase c ph c ≡ ph = put_here r.phase c ph in
         let away : (e : QueuedWriter Request) → InChain e (r.phase c) → ⊥ = λ e is. subst (InChain e) now is in
         let out = away_now stands n s.homes r.line r.hand r.account.queue r.account.log r.handled r.phase r.due c w now (stand_absent r.phase c r.line away r.stand) r.mode r.log_is r.account.shows r.has_cut in
-        let acc = comes_more stands.bound r.line r.handled r.mode r.account e0 some_one (out.0, out.1, r.owing_is c ∙ (ap (λ f. due_untold f (r.due c)) now ∙ row.2)) in
+        let acc = comes_more stands.bound r.line r.handled r.mode r.account e0 some_one (out.0, out.1, r.owing_is c ∙ (ap (λ f. due_untold f (r.due c)) now ∙ row.2)) (running s.words (newest_from (base_of r.mode) r.line) r.line r.account.queue r.account.log not_stopped r.mode r.newest_is r.account.shows) in
         let came : HasCome c q mine past = (e0, r.account.events, refl, refl, refl, ap (λ (y : Core Request Reply). of c y.2) r.account.ran ∙ (r.shared_out c ∙ ((λ i. sym fit.3 i ++ row.2 i) ∙ append-nil mine))) in
         let now_is : Lists Request Reply = ((acc.0.queue, acc.0.log, r.handled, acc.0.owing), second_list_of r.two) in
         let after : IsNow stands n now_is (record { words = ws; homes = hs; views = set s.views id (h' ∷ []) }) =
         moved stands n s r c id ws hs h h' (e0 ∷ r.line) r.hand r.handled r.mode ph r.due r.told r.two record {
           at = at';
+          real = lo;
           same_client = refl;
           wide = length-set s.words 0 c;
           many = length-set s.homes c (some (Asked q));
-          newest_is = get_or-set_same s.words 0 c 0 (omega arith);
-          links = (same (older_at c) (λ e. omega arith) ∙ (row.1 ∙ (packs ∙ ap (λ (o : ℕ). pack o code) (sym hit ∙ r.newest_is))), links_same (base_of r.mode) s.words ws r.line (λ j. same (older_at j) (λ e. omega arith)) r.links);
+          newest_is = names_grow s.words ws (newest_from (base_of r.mode) r.line) c (pause_of r.mode) not_stopped (get_or-set_same s.words 0 c 0 (omega arith)) (same 3 (λ e. omega arith)) r.newest_is;
+          links = (same (older_at c) (λ e. omega arith) ∙ (row.1 ∙ (packs ∙ ap (λ (o : ℕ). pack o code) (sym hit ∙ first_is))), links_same (base_of r.mode) s.words ws r.line (λ j. same (older_at j) (λ e. omega arith)) r.links);
           distinct = (stand_absent r.phase c r.line away r.stand, r.distinct);
           within = (lo, hi, r.within);
           stand = (subst (InChain e0) (sym here) refl, stand_change r.phase c ph r.line (λ e is. absurd (away e is)) r.stand);
           other_rows = λ j ne lo' _. row_stays stands n s.words ws s.homes hs j (r.due j) (same (state_at j) (λ e. omega arith)) (same (older_at j) (λ e. omega arith)) (set_else s.homes c j (some (Asked q)) ne) (r.phase j);
           row = (refl, same (state_at c) (λ e. omega arith) ∙ row.0, set_here s.homes c (some (Asked q)) (omega arith), row.2);
-          log_is = grown hs r.line r.hand r.handled (put r.phase c ph) r.due e0 here r.mode some_one (mode_stays stands n s.homes hs r.line r.hand r.handled r.phase r.due r.due c ph (set_else s.homes c 0 (some (Asked q)) (λ e. omega arith)) (λ e bad. absurd (cc)) (λ j e _ bad _. absurd (cc)) (λ e bad. absurd (cc)) (λ l. taken_change r.phase r.due r.due c ph l r.hand (λ e bad. absurd (cc)) (λ _ _. refl)) (λ _ e. e) r.mode r.log_is);
+          log_is = grown hs r.line r.hand r.handled (put r.phase c ph) r.due e0 here r.mode some_one (mode_stays stands n s.homes hs r.line r.hand r.handled r.phase r.due r.due c ph (set_else s.homes c 0 (some (Asked q)) (λ e. omega arith)) (λ e bad. absurd (cc)) (λ j e _ bad _. absurd (cc)) (λ e bad. absurd (cc)) (λ l. taken_change r.phase r.due r.due c ph l r.hand (λ e bad. absurd (cc)) (λ _ _. refl)) (λ l e bad. absurd (cc)) (λ _ e. e) r.mode r.log_is);
           one_chosen = λ j e. put_at r.phase c ph (λ i f. f ≡ chosen e → r.mode ≡ waits i) j (λ _ bad. absurd (cc)) (λ _ ok. r.one_chosen j e ok);
           kept = r.kept;
           coded = λ e is. subst (λ (z : QueuedWriter Request). stands.asks z.asked z.code) is is_asked;
@@ -417,7 +442,7 @@ module _ {Request Reply Log Right : Type 0} (stands : Laws Request Reply Log Rig
           told_else = λ _ _. refl;
           mine = fit.3;
           knows = subst (Waits q) (sym here) refl;
-          others = λ j ne. knows_else stands n r.line (e0 ∷ r.line) r.hand r.handled r.mode r.mode r.phase r.due r.due c ph j ne (e0 ∷ [], refl) (λ _. refl) (λ e bad. absurd (cc)) (λ e bad. absurd (cc)) (λ _ _. refl);
+          others = λ j ne. knows_else stands n r.line (e0 ∷ r.line) r.hand r.handled r.mode r.mode r.phase r.due r.due c ph j ne (e0 ∷ [], refl) (λ _. refl) (λ e bad. absurd (cc)) (λ e bad. absurd (cc)) (λ _ _. refl) (λ e x bad. absurd (cc));
         } in (
           h' ∷ [],
           gives,
@@ -432,16 +457,16 @@ module _ {Request Reply Log Right : Type 0} (stands : Laws Request Reply Log Rig
               ),
         )
 
-  pub enters_is : (slots id : ℕ) (me : Sat Request Reply Log Right) (c w old code : ℕ) (q : Request) (mine : List (Request × Reply)) (said : Option (LineSlot Request Reply Log Right)) → w ≡ pack old code → At c (Preparing w) mine me → me.1 ≡ (c, Asked q) ∷ [] → stands.asks q code
+  pub enters_is : (slots id : ℕ) (me : Sat Request Reply Log Right) (c w old code : ℕ) (q : Request) (mine : List (Request × Reply)) (said : Option (LineSlot Request Reply Log Right)) → w ≡ pack old code → At c (Preparing w) mine me → me.1 ≡ (c, Asked q) ∷ [] → stands.asks q code → old ≢ STALL
       → StepIs stands n (IsLink old (queued_writer c code q)) slots id me 0 (λ y. either (eqb y old) c y) (after_link stands.logs (step slots 0 old c said) me)
-  enters_is slots id me c w old code q mine said packs mid slot is_asked s r long at fits = exchanged (get_or s.words 0 0) old c (Goes stands n (IsLink old (queued_writer c code q)) s r 0 id me (after_link stands.logs (step slots 0 old c said) me))
-      (λ hit. dite (ℕ_discrete old 0) (enters_first slots id me c w old code q mine said packs mid slot is_asked s r at hit) (enters_later slots id me c w old code q mine said packs mid slot is_asked s r at hit))
+  enters_is slots id me c w old code q mine said packs mid slot is_asked unmarked s r long at fits = exchanged (get_or s.words 0 0) old c (Goes stands n (IsLink old (queued_writer c code q)) s r 0 id me (after_link stands.logs (step slots 0 old c said) me))
+      (λ hit. dite (ℕ_discrete old 0) (enters_first slots id me c w old code q mine said packs mid slot is_asked unmarked s r at hit) (enters_later slots id me c w old code q mine said packs mid slot is_asked unmarked s r at hit))
       (λ miss. (me.0, keeps, tt, unmoved stands n (IsLink old (queued_writer c code q) (get_or s.words 0 0)) s 0 id me.1 me.0 at r ((λ hit _. absurd (miss hit)), (λ hit _. absurd (miss hit)), λ _. refl), λ _ _ _ _ _ _. ((λ hit _. absurd (miss hit)), (λ hit _. absurd (miss hit)), λ _. refl)))
 
-  pub enters : (slots id : ℕ) (me : Sat Request Reply Log Right) (c w old code : ℕ) (q : Request) (mine : List (Request × Reply)) (said : Option (LineSlot Request Reply Log Right)) → w ≡ pack old code → At c (Preparing w) mine me → me.1 ≡ (c, Asked q) ∷ [] → stands.asks q code
+  pub enters : (slots id : ℕ) (me : Sat Request Reply Log Right) (c w old code : ℕ) (q : Request) (mine : List (Request × Reply)) (said : Option (LineSlot Request Reply Log Right)) → w ≡ pack old code → At c (Preparing w) mine me → me.1 ≡ (c, Asked q) ∷ [] → stands.asks q code → old ≢ STALL
       → Allows (Listed stands n) slots id me 0 (λ y. either (eqb y old) c y) (after_link stands.logs (step slots 0 old c said) me)
-  enters slots id me c w old code q mine said packs mid slot is_asked = allows stands n (IsLink old (queued_writer c code q)) slots id me 0 (λ y. either (eqb y old) c y) (after_link stands.logs (step slots 0 old c said) me) (enters_is slots id me c w old code q mine said packs mid slot is_asked)
+  enters slots id me c w old code q mine said packs mid slot is_asked unmarked = allows stands n (IsLink old (queued_writer c code q)) slots id me 0 (λ y. either (eqb y old) c y) (after_link stands.logs (step slots 0 old c said) me) (enters_is slots id me c w old code q mine said packs mid slot is_asked unmarked)
 
-  pub enters_as : (stood : Log → List (Handling Request Reply) → Type 0) → stands.logs ≡ stood → (slots id : ℕ) (me : Sat Request Reply Log Right) (c w old code : ℕ) (q : Request) (mine : List (Request × Reply)) (said : Option (LineSlot Request Reply Log Right)) → w ≡ pack old code → At c (Preparing w) mine me → me.1 ≡ (c, Asked q) ∷ [] → stands.asks q code
+  pub enters_as : (stood : Log → List (Handling Request Reply) → Type 0) → stands.logs ≡ stood → (slots id : ℕ) (me : Sat Request Reply Log Right) (c w old code : ℕ) (q : Request) (mine : List (Request × Reply)) (said : Option (LineSlot Request Reply Log Right)) → w ≡ pack old code → At c (Preparing w) mine me → me.1 ≡ (c, Asked q) ∷ [] → stands.asks q code → old ≢ STALL
       → Allows (Listed stands n) slots id me 0 (λ y. either (eqb y old) c y) (after_link stood (step slots 0 old c said) me)
-  enters_as stood is slots id me c w old code q mine said packs mid slot is_asked = subst (λ z. Allows (Listed stands n) slots id me 0 (λ y. either (eqb y old) c y) (after_link z (step slots 0 old c said) me)) is (enters slots id me c w old code q mine said packs mid slot is_asked)
+  enters_as stood is slots id me c w old code q mine said packs mid slot is_asked unmarked = subst (λ z. Allows (Listed stands n) slots id me 0 (λ y. either (eqb y old) c y) (after_link z (step slots 0 old c said) me)) is (enters slots id me c w old code q mine said packs mid slot is_asked unmarked)

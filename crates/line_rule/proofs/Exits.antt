@@ -7,15 +7,30 @@ use Rattle.line_rule.specs.declared.view.QueuedWriter.{QueuedWriter}
 use Rattle.line_rule.specs.declared.view.Handling.{Handling}
 use Rattle.line_rule.specs.Chain.{of, heads, handling, answers, all_answers, Absent}
 use Rattle.line_rule.specs.Events.{LogHolder, wrote, was_for, IsOfGroup, without, IsNotWith}
-use Rattle.line_rule.specs.Standing.{Phase, idle, preparing, linked, chosen, leads, taken, completed, collecting, Mode, open_, waits, led, built, cut, marked, Holds}
+use Rattle.line_rule.specs.Standing.{Phase, idle, preparing, linked, chosen, leads, taken, completed, held, dropped, dismissed, collecting, Mode, open_, waits, led, built, cut, marked, Holds}
 use Rattle.line_rule.specs.Laws.{Laws}
 use Rattle.line_rule.specs.declared.content.LineSlot.{LineSlot}
 use mathlib.Core.Option.{Option as Home}
 use Rattle.line_rule.specs.Rule.{HasCut, due_untold, Shows, InMode}
 use Rattle.line_rule.proofs.Chains.{put, put_at}
+use Rattle.line_rule.proofs.Pauses.{not_with}
 use Rattle.line_rule.proofs.Groups.{of-append, of_other, taken_absent}
 
 module _ {Request Reply : Type 0} where
+  -- the client has been told its reply, or will be told the one with which it left the queue
+  abbrev pub IsTold : Phase Request Reply → Type 0
+  IsTold idle = ⊥
+  IsTold (preparing w) = ⊥
+  IsTold (linked e) = ⊥
+  IsTold (chosen e) = ⊥
+  IsTold (leads e) = ⊥
+  IsTold (taken c e) = ⊥
+  IsTold (completed q p) = Unit {0}
+  IsTold (held c e) = ⊥
+  IsTold (dropped c e p) = Unit {0}
+  IsTold (dismissed q p) = Unit {0}
+  IsTold collecting = ⊥
+
   answers_of : (gs : List (QueuedWriter Request × Reply)) → map was_for (answers gs) ≡ map wrote (reverse (heads gs))
   answers_of [] = refl
   answers_of (g ∷ gs) = map-append was_for (answers gs) (handling g.0 g.1 ∷ []) ∙ (ap (λ l. l ++ wrote g.0 ∷ []) (answers_of gs)
@@ -46,18 +61,21 @@ module _ {Request Reply : Type 0} where
         (λ is. subst (λ (j : ℕ). of j owing ≡ due_untold ph (due' j)) (sym is) (ok m ∙ sym here))
         (λ ne. ok k ∙ ap (due_untold (phase k)) (sym (else_due k ne)))
 
-    untold_more : (ph : Phase Request Reply) (d x : List (Request × Reply)) → ((q : Request) (p : Reply) → ph ≡ completed q p → x ≡ []) → due_untold ph d ++ x ≡ due_untold ph (d ++ x)
+    untold_more : (ph : Phase Request Reply) (d x : List (Request × Reply)) → (IsTold ph → x ≡ []) → due_untold ph d ++ x ≡ due_untold ph (d ++ x)
     untold_more idle d x un = refl
     untold_more (preparing w) d x un = refl
     untold_more (linked e) d x un = refl
     untold_more (chosen e) d x un = refl
     untold_more (leads e) d x un = refl
     untold_more (taken c e) d x un = refl
-    untold_more (completed q p) d x un = un q p refl
+    untold_more (completed q p) d x un = un tt
+    untold_more (held c e) d x un = refl
+    untold_more (dropped c e p) d x un = ap (λ l. (e.asked, p) ∷ l) (un tt)
+    untold_more (dismissed q p) d x un = un tt
     untold_more collecting d x un = refl
 
     -- a group leaves
-    pub owing_grows : (owing' new : List (Handling Request Reply)) (m : ℕ) (ph : Phase Request Reply) → owing' ≡ owing ++ new → ((d : List (Request × Reply)) → due_untold ph d ≡ due_untold (phase m) d) → ((k : ℕ) (q : Request) (p : Reply) → phase k ≡ completed q p → of k new ≡ []) → (k : ℕ) → of k owing' ≡ due_untold (put phase m ph k) (due k ++ of k new)
+    pub owing_grows : (owing' new : List (Handling Request Reply)) (m : ℕ) (ph : Phase Request Reply) → owing' ≡ owing ++ new → ((d : List (Request × Reply)) → due_untold ph d ≡ due_untold (phase m) d) → ((k : ℕ) → IsTold (phase k) → of k new ≡ []) → (k : ℕ) → of k owing' ≡ due_untold (put phase m ph k) (due k ++ of k new)
     owing_grows owing' new m ph same here un k = ap (of k) same ∙ (of-append k owing new ∙ (ap (λ l. l ++ of k new) (ok k) ∙ (untold_more (phase k) (due k) (of k new) (un k)
         ∙ put_at phase m ph (λ j f. due_untold (phase j) (due k ++ of k new) ≡ due_untold f (due k ++ of k new)) k
         (λ is. ap (λ (j : ℕ). due_untold (phase j) (due k ++ of k new)) is ∙ sym (here (due k ++ of k new)))
@@ -75,7 +93,7 @@ module _ {Request Reply : Type 0} where
   cut_stays log log' hand phase m ph same open_ to ok = tt
   cut_stays log log' hand phase m ph same (waits c) to ok = tt
   cut_stays log log' hand phase m ph same (led c) to ok = tt
-  cut_stays log log' hand phase m ph same (built c g) to ok = tt
+  cut_stays log log' hand phase m ph same (built c g t) to ok = tt
   cut_stays log log' hand phase m ph same (cut c w) to ok = (ok.0, ok.1, put_at phase m ph (λ k f. phase k ≡ leads ok.0 → f ≡ leads ok.0) c (λ is here. to is ok.0 (ap phase (sym is) ∙ here)) (λ _ here. here) ok.2, same ∙ ok.3)
   cut_stays log log' hand phase m ph same (marked c) to ok = (ok.0, ok.1, put_at phase m ph (λ k f. phase k ≡ leads ok.0 → f ≡ leads ok.0) c (λ is here. to is ok.0 (ap phase (sym is) ∙ here)) (λ _ here. here) ok.2, same ∙ ok.3)
 
@@ -96,10 +114,10 @@ module _ {Request Reply Log Right : Type 0} (stands : Laws Request Reply Log Rig
   away_now homes line hand queue log handled phase due c w now out (waits d) ok sh has = (subst (Absent c) sh.0 out, subst (IsNotWith c) (sym sh.1) tt)
   away_now homes line hand queue log handled phase due c w now out (led d) ok sh has =
       (subst (Absent c) sh.0 out, subst (IsNotWith c) (sym sh.1) (λ e. let bad : phase c ≡ leads ok.0.1 = ap phase (sym e) ∙ ok.0.4 in absurd (cc)))
-  away_now homes line hand queue log handled phase due c w now out (built d g) ok sh has =
+  away_now homes line hand queue log handled phase due c w now out (built d g t) ok sh has =
       let parts : Absent c (queue ++ (g ++ sh.0.0 ∷ [])) = subst (Absent c) sh.0.1 out in
       let group : Absent c (g ++ sh.0.0 ∷ []) = absent_back c queue (g ++ sh.0.0 ∷ []) parts in
-      (absent_front c queue (g ++ sh.0.0 ∷ []) parts, subst (IsNotWith c) (sym sh.1) ((absent_back c g (sh.0.0 ∷ []) group).0, absent_front c g (sh.0.0 ∷ []) group))
+      (absent_front c queue (g ++ sh.0.0 ∷ []) parts, subst (IsNotWith c) (sym sh.1) (not_with c sh.0.0 g t ((absent_back c g (sh.0.0 ∷ []) group).0, absent_front c g (sh.0.0 ∷ []) group)))
   away_now homes line hand queue log handled phase due c w now out (cut d x) ok sh has =
       (subst (Absent c) sh.0 out, subst (IsNotWith c) (sym has.3) ((λ e. let bad : phase c ≡ leads has.0 = ap phase (sym e ∙ has.1) ∙ has.2 in absurd (cc)), taken_absent phase due d c hand (λ e bad _. absurd (cc)) ok.1))
   away_now homes line hand queue log handled phase due c w now out (marked d) ok sh has =

@@ -9,22 +9,25 @@ use Rattle.line_rule.specs.declared.view.Squad.{Squad}
 use Rattle.line_rule.specs.declared.view.Back.{Back}
 use Rattle.line_rule.specs.declared.view.Back.TheVariants.{Away, Parting, Joining, Holding, Queued, Serving, Passing}
 use Rattle.line_rule.specs.declared.view.LineStage.{LineStage}
-use Rattle.line_rule.specs.declared.view.LineStage.TheVariants.{Idle, Preparing, Waiting, Helping, Fresh, Leading, Cutting, Marking, Settling, Collecting}
+use Rattle.line_rule.specs.declared.view.LineStage.TheVariants.{Stalling, Idle, Preparing, Waiting, Helping, Fresh, Leading, Cutting, Marking, Settling, Collecting}
 use Rattle.line_rule.specs.declared.content.LineSlot.{LineSlot}
 use Rattle.line_rule.specs.Chain.{AllCoded, Absent, newest, Links}
 use Rattle.line_rule.specs.Events.{LogHolder, grouped, IsNotWith}
-use Rattle.line_rule.specs.Standing.{Phase, linked, chosen, leads, taken, Mode, open_, waits, led, built, cut, marked, Place, away, parted, queued, called, serves, served, Turn, still, calls, held_by, passes, Two, ahead, line_of, flat, In, InStep, KnowsBack}
+use Rattle.line_rule.specs.Standing.{Phase, linked, chosen, leads, taken, dropped, Mode, open_, waits, led, built, cut, marked, Place, away, parted, queued, called, serves, served, Turn, still, calls, held_by, passes, Two, ahead, line_of, flat, In, InStep, KnowsBack}
 use Rattle.line_rule.specs.Laws.{Laws}
-use Rattle.line_rule.specs.Rule.{hold_at, AllGroups, AllTaken, Knows, HasCut, InMode, InPhase, InTurn, Level, Listed, Shows}
+use Rattle.line_rule.specs.Rule.{hold_at, InChain, AllGroups, AllTaken, Knows, HasCut, InMode, InPhase, InTurn, Level, Listed, Shows}
 use Rattle.line_rule.specs.Plays.{HandsOn, IsCut, debt}
 use Rattle.line_rule.specs.SecondList.{served_in, last_served}
 use Rattle.line_rule.specs.Steps.{now_of}
 use Rattle.line_rule.specs.Handing.{Sees, IsWalked, IsOwn, IsJoined, IsServed, IsNewestGroup, IsOldestGroup}
+use Rattle.line_rule.specs.declared.view.Stall.TheVariants.{Owes}
+use Rattle.line_rule.proofs.Chains.{stand_absent}
 use Rattle.line_rule.proofs.Holding.{few_served}
 use Rattle.line_rule.proofs.Groups.{absent_append, absent_front, absent_back, taken_absent}
 use Rattle.line_rule.proofs.Leads.{one_leads, coded_in}
 use Rattle.line_rule.proofs.Squads.{in_one, behind_in, flat_snoc, with_absent, absent_groups, member_absent}
 use Rattle.line_rule.proofs.Settles.{handled_out, one_taker}
+use Rattle.line_rule.proofs.Pauses.{not_with}
 
 module _ {Request Reply : Type 0} where
   -- a leader that gives the log on, in a list with a second one, has its group there, or nothing more was given a run
@@ -44,6 +47,7 @@ module _ {Request Reply : Type 0} where
   own_cut log line hand handled mode phase due c lead (Helping q) is ok has = absurd is
   own_cut log line hand handled mode phase due c lead (Fresh o n) is ok has = absurd is
   own_cut log line hand handled mode phase due c lead (Leading l) is ok has = absurd is
+  own_cut log line hand handled mode phase due c lead (Stalling l t) is ok has = absurd is
   own_cut log line hand handled mode phase due c lead (Cutting l e) is ok has =
       let t = subst (HasCut log hand phase) ok.0 has in
       let same : t.0 ≡ l.own = one_leads t.0 l.own (sym t.2 ∙ ok.1) in
@@ -87,6 +91,7 @@ module _ {Request Reply Log Right : Type 0} (stands : Laws Request Reply Log Rig
       by_stage (Helping q) ok own = tt
       by_stage (Fresh o seen) ok own = own o ok.1
       by_stage (Leading l) ok own = own l.own ok.1
+      by_stage (Stalling l t) ok own = own l.own ok.1
       by_stage (Cutting l e) ok own = own l.own ok.1
       by_stage (Marking l) ok own = own l.own ok.1
       by_stage (Settling d) ok own = own d.own ok.1
@@ -134,10 +139,10 @@ module _ {Request Reply Log Right : Type 0} (stands : Laws Request Reply Log Rig
       by_mode open_ ok shows has = subst (IsNotWith k) (sym shows.1) tt
       by_mode (waits c) ok shows has = subst (IsNotWith k) (sym shows.1) tt
       by_mode (led c) ok shows has = subst (IsNotWith k) (sym shows.1) (not_led c ok.2)
-      by_mode (built c g) ok shows has =
-          let out : Absent k (r.account.queue ++ (g ++ shows.0.0 ∷ [])) = subst (Absent k) shows.0.1 (handled_out stands n s.homes r.line r.hand r.handled r.phase r.due k y owed no_l no_c (built c g) ok) in
+      by_mode (built c g t) ok shows has =
+          let out : Absent k (r.account.queue ++ (g ++ shows.0.0 ∷ [])) = subst (Absent k) shows.0.1 (handled_out stands n s.homes r.line r.hand r.handled r.phase r.due k y owed no_l no_c (built c g t) ok) in
           let group : Absent k (g ++ shows.0.0 ∷ []) = absent_back k r.account.queue (g ++ shows.0.0 ∷ []) out in
-          subst (IsNotWith k) (sym shows.1) ((absent_back k g (shows.0.0 ∷ []) group).0, absent_front k g (shows.0.0 ∷ []) group)
+          subst (IsNotWith k) (sym shows.1) (not_with k shows.0.0 g t ((absent_back k g (shows.0.0 ∷ []) group).0, absent_front k g (shows.0.0 ∷ []) group))
       by_mode (cut c w) ok shows has = in_hand_out c has.0 has.1 ok.2 ok.1 has.3
       by_mode (marked c) ok shows has = in_hand_out c has.0 has.1 ok.3 ok.2 has.3
 
@@ -157,7 +162,7 @@ module _ {Request Reply Log Right : Type 0} (stands : Laws Request Reply Log Rig
       by_mode open_ shows = subst (AllCoded stands.asks) shows.0 whole
       by_mode (waits c) shows = subst (AllCoded stands.asks) shows.0 whole
       by_mode (led c) shows = subst (AllCoded stands.asks) shows.0 whole
-      by_mode (built c g) shows = front r.account.queue (g ++ shows.0.0 ∷ []) (subst (AllCoded stands.asks) shows.0.1 whole)
+      by_mode (built c g t) shows = front r.account.queue (g ++ shows.0.0 ∷ []) (subst (AllCoded stands.asks) shows.0.1 whole)
       by_mode (cut c w) shows = subst (AllCoded stands.asks) shows.0 whole
       by_mode (marked c) shows = subst (AllCoded stands.asks) shows.0 whole
 
@@ -222,3 +227,23 @@ module _ {Request Reply Log Right : Type 0} (stands : Laws Request Reply Log Rig
             (with_absent r.phase c d f.rest (λ e bad. let no : Path (Phase Request Reply) (leads own) (taken d e) = sym now ∙ bad in absurd (cc)) led_d.2)
             ((λ own_is. let no : Path (Place Request Reply) (served f) away = sym is ∙ (ap r.two.place (sym led_d.0 ∙ own_is) ∙ fit.5.0) in absurd (cc)), tt))),
       )
+
+  -- nor is a writer that left the queue while writes are stalled
+  pub told_dropped : (w : ℕ) (lead : Lead Request Reply) (x : QueuedWriter Request) (p : Reply) (b : Back Request Reply) → Sees s id (hold_at c (Stalling lead (Owes w x p)) mine b) → IsNotWith x.by (now_of stands n s r).0.1 × Absent x.by (flat (now_of stands n s r).1.0)
+  told_dropped w lead x p b sees =
+      let fit = (r.seats id (hold_at c (Stalling lead (Owes w x p)) mine b ∷ []) sees).0 in
+      let now : r.phase x.by ≡ dropped c x p = fit.4.5 in
+      let shows = subst (Shows r.line r.account.queue r.account.log) fit.4.0 r.account.shows in
+      let out : Absent x.by (r.account.queue ++ (lead.group ++ shows.0.0 ∷ [])) = subst (Absent x.by) shows.0.1 (stand_absent r.phase x.by r.line (λ e is_in. subst (InChain e) now is_in) r.stand) in
+      let group : Absent x.by (lead.group ++ shows.0.0 ∷ []) = absent_back x.by r.account.queue (lead.group ++ shows.0.0 ∷ []) out in
+      let no_leads : (e : QueuedWriter Request) → r.phase x.by ≡ leads e → ⊥ = λ e bad. let no : Path (Phase Request Reply) (dropped c x p) (leads e) = sym now ∙ bad in absurd (cc) in
+      let no_taken : (d : ℕ) (e : QueuedWriter Request) → r.phase x.by ≡ taken d e → ⊥ = λ d e bad. let no : Path (Phase Request Reply) (dropped c x p) (taken d e) = sym now ∙ bad in absurd (cc) in (
+        subst (IsNotWith x.by) (sym shows.1) ((absent_back x.by lead.group (shows.0.0 ∷ []) group).0, absent_front x.by lead.group (shows.0.0 ∷ []) group),
+        in_neither x.by (out_of_groups x.by no_leads no_taken r.two.groups r.second.members)
+            (λ d f is. let led_d = r.second.outgoing d f is in
+            absent_append x.by f.rest (f.own ∷ []) (with_absent r.phase x.by d f.rest (no_taken d) led_d.2) ((λ own_is. no_leads f.own (ap r.phase (sym own_is ∙ led_d.0) ∙ led_d.1)), tt)),
+      )
+    where
+      out_of_groups : (m : ℕ) → ((e : QueuedWriter Request) → r.phase m ≡ leads e → ⊥) → ((d : ℕ) (e : QueuedWriter Request) → r.phase m ≡ taken d e → ⊥) → (gs : List (Squad Request Reply)) → AllGroups r.phase r.two.place gs → Absent m (flat gs)
+      out_of_groups m no_l no_t [] ok = tt
+      out_of_groups m no_l no_t (g ∷ gs) ok = absent_append m (line_of g) (flat gs) (absent_append m g.rest (g.own ∷ []) (with_absent r.phase m g.own.by g.rest (no_t g.own.by) ok.2) ((λ is. no_l g.own (ap r.phase (sym is) ∙ ok.0)), tt)) (out_of_groups m no_l no_t gs ok.3)

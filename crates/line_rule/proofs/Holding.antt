@@ -20,7 +20,7 @@ module _ {Request Reply Log Right : Type 0} (stands : Laws Request Reply Log Rig
   home_in homes line hand handled phase due open_ ok = ok.2
   home_in homes line hand handled phase due (waits c) ok = ok.2
   home_in homes line hand handled phase due (led c) ok = tt
-  home_in homes line hand handled phase due (built c group) ok = tt
+  home_in homes line hand handled phase due (built c group t) ok = tt
   home_in homes line hand handled phase due (cut c next) ok = tt
   home_in homes line hand handled phase due (marked c) ok = tt
 

@@ -15,16 +15,16 @@ use Rattle.line_rule.specs.declared.view.LineHold.{LineHold}
 use Rattle.line_rule.specs.declared.content.LineSlot.TheVariants.{Asked}
 use Rattle.line_rule.specs.declared.view.Back.TheVariants.{Serving}
 use Rattle.line_rule.specs.declared.view.LineStage.{LineStage}
-use Rattle.line_rule.specs.declared.view.LineStage.TheVariants.{Idle, Preparing, Waiting, Helping, Fresh, Leading, Cutting, Marking, Settling, Collecting}
+use Rattle.line_rule.specs.declared.view.LineStage.TheVariants.{Stalling, Idle, Preparing, Waiting, Helping, Fresh, Leading, Cutting, Marking, Settling, Collecting}
 use Rattle.line_rule.specs.Chain.{AllCoded, state_at, older_at, newest_from, LinksFrom, Absent, Distinct, Within, EndsWith}
-use Rattle.line_rule.specs.Standing.{Phase, idle, preparing, linked, chosen, leads, taken, completed, collecting, Mode, waits, led, built, base_of, Holds, flat}
+use Rattle.line_rule.specs.Standing.{held, calm, dismissed, dropped, Phase, idle, preparing, linked, chosen, leads, taken, completed, collecting, Mode, waits, led, built, base_of, Holds, flat}
 use Rattle.line_rule.specs.Laws.{Laws}
 use Rattle.line_rule.specs.Rule.{InChain, Stand, Waits, AllLinked, AllTaken, Knows, hold, hold_at, InPhase, InMode, Listed, InSecond, due_untold}
 use Rattle.line_rule.proofs.Fitting.{split_group}
 use Rattle.line_rule.specs.Events.{LineEvent, builds, Core, Legal}
 use Rattle.line_rule.specs.SecondList.{second_list_of}
 use Rattle.line_rule.specs.Steps.{Stays, IsBuild, now_of, IsNow, Becomes, StepIs}
-use Rattle.line_rule.specs.Plays.{Sat, lead_at_build, At, lead_with_walk, lead_with_one_more, in_hand, AllBelow, Walks, Builds, SeesTo, after_build, after_read_older, after_fetch}
+use Rattle.line_rule.specs.Plays.{Sat, lead_at_build, At, lead_with_walk, lead_with_one_more, in_hand, AllBelow, Walks, Builds, ReadsQueue, SeesTo, after_build, after_read_older, after_fetch}
 use Rattle.line_rule.proofs.Chains.{put, put_at, put_here, put_else, links_same, ends_same, stand_change, linked_change, taken_change}
 use Rattle.line_rule.proofs.Exits.{owing_stays}
 use Rattle.line_rule.proofs.Accounts.{builds_now, stays_now}
@@ -33,6 +33,7 @@ use Rattle.line_rule.proofs.Keeps.{second_same}
 use Rattle.std.proofs.lemmas.List.{append_cancel_right}
 use Rattle.line_rule.proofs.Groups.{links_at, walk_bound, distinct_apart, distinct_back, within_at, linked_at, linked_front, linked_absent}
 use Rattle.line_rule.proofs.Enters.{one_hold}
+use Rattle.line_rule.proofs.Pauses.{first_calm}
 
 last_or : {A : Type 0} → A → List A → A
 last_or d [] = d
@@ -65,6 +66,9 @@ module _ {Request Reply : Type 0} where
   IsQueued (leads e) = ⊥
   IsQueued (taken l e) = Unit {0}
   IsQueued (completed q p) = ⊥
+  IsQueued (held c e) = Unit {0}
+  IsQueued (dropped c e p) = Unit {0}
+  IsQueued (dismissed q p) = ⊥
   IsQueued collecting = ⊥
 
   pub still_waits : (line line' hand hand' : List (QueuedWriter Request)) (handled handled' : List (Handling Request Reply)) (mode mode' : Mode Request) (phase phase' : ℕ → Phase Request Reply) (due due' : ℕ → List (Request × Reply)) (k : ℕ) (ph : Phase Request Reply) → phase k ≡ ph → IsQueued ph
@@ -75,6 +79,7 @@ module _ {Request Reply : Type 0} where
   still_waits line line' hand hand' handled handled' mode mode' phase phase' due due' k ph now queued to keep (Helping q) ok = (to q (subst (Waits q) now ok.0), (ok.1.0, keep (q, ok.1.0) ok.1.1))
   still_waits line line' hand hand' handled handled' mode mode' phase phase' due due' k ph now queued to keep (Fresh o n) ok = absurd (subst IsQueued (sym now ∙ ok.1) queued)
   still_waits line line' hand hand' handled handled' mode mode' phase phase' due due' k ph now queued to keep (Leading lead) ok = absurd (subst IsQueued (sym now ∙ ok.1) queued)
+  still_waits line line' hand hand' handled handled' mode mode' phase phase' due due' k ph now queued to keep (Stalling lead t) ok = absurd (subst IsQueued (sym now ∙ ok.1) queued)
   still_waits line line' hand hand' handled handled' mode mode' phase phase' due due' k ph now queued to keep (Cutting lead e) ok = absurd (subst IsQueued (sym now ∙ ok.1) queued)
   still_waits line line' hand hand' handled handled' mode mode' phase phase' due due' k ph now queued to keep (Marking lead) ok = absurd (subst IsQueued (sym now ∙ ok.1) queued)
   still_waits line line' hand hand' handled handled' mode mode' phase phase' due due' k ph now queued to keep (Settling d) ok = absurd (subst IsQueued (sym now ∙ ok.1) queued)
@@ -87,6 +92,7 @@ module _ {Request Reply : Type 0} where
   lead_in d (Helping q) = d
   lead_in d (Fresh o n) = d
   lead_in d (Leading l) = l
+  lead_in d (Stalling l t) = l
   lead_in d (Cutting l e) = l
   lead_in d (Marking l) = l
   lead_in d (Settling b) = d
@@ -103,6 +109,7 @@ module _ {Request Reply : Type 0} where
   fresh_entry d (Helping q) = d
   fresh_entry d (Fresh o s) = o
   fresh_entry d (Leading l) = d
+  fresh_entry d (Stalling l t) = d
   fresh_entry d (Cutting l e) = d
   fresh_entry d (Marking l) = d
   fresh_entry d (Settling b) = d
@@ -115,6 +122,7 @@ module _ {Request Reply : Type 0} where
   fresh_seen d (Helping q) = d
   fresh_seen d (Fresh o s) = s
   fresh_seen d (Leading l) = d
+  fresh_seen d (Stalling l t) = d
   fresh_seen d (Cutting l e) = d
   fresh_seen d (Marking l) = d
   fresh_seen d (Settling b) = d
@@ -133,6 +141,7 @@ module _ {Request Reply Log Right : Type 0} (stands : Laws Request Reply Log Rig
     pub own_due : r.due c ≡ []
     pub own_by : lead.own.by ≡ c
     pub base : base_of r.mode ≡ 0
+    pub first : get_or s.words 0 0 ≡ newest_from (base_of r.mode) r.line
 
   pub leader : (s : St stands n) (r : Listed stands n s) (c : ℕ) (lead : Lead Request Reply) → 0 < c → c ≤ n → Knows r.line r.hand r.handled r.mode r.phase r.due c (Leading lead) → Leads s r c lead
   leader s r c lead lo hi ok =
@@ -145,6 +154,7 @@ module _ {Request Reply Log Right : Type 0} (stands : Laws Request Reply Log Rig
         members = subst (AllTaken r.phase r.due c) (sym ok.4) m.1;
         own_due = m.2;
         base = ap base_of ok.0;
+        first = first_calm s.words r.line r.mode (built c lead.group calm) ok.0 refl r.newest_is;
         own_by = subst (InPhase stands s.words s.homes c (r.due c)) ok.1 (r.rows c lo hi);
       }
 
@@ -173,7 +183,7 @@ module _ {Request Reply Log Right : Type 0} (stands : Laws Request Reply Log Rig
           k.queue,
           refl,
           refl,
-          r.newest_is ∙ (λ i. newest_from (k.base i) (k.parts i)),
+          k.first ∙ (λ i. newest_from (k.base i) (k.parts i)),
           (let b = walk_bound n now (subst (Within n) k.parts r.within) (subst Distinct k.parts r.distinct) in let m = r.many in omega arith),
           all_below slots now (let m = r.many in omega arith) (subst (Within n) k.parts r.within),
         ),
@@ -218,12 +228,13 @@ module _ {Request Reply Log Right : Type 0} (stands : Laws Request Reply Log Rig
         (
           ((acc.0.queue, acc.0.log, r.handled, acc.0.owing), second_list_of r.two),
           (group, left, (acc.1, refl)),
-          moved stands n s r c id ws s.homes h (hold c (Leading lead) mine) r.line r.hand r.handled (built c group) ph r.due r.told r.two record {
+          moved stands n s r c id ws s.homes h (hold c (Leading lead) mine) r.line r.hand r.handled (built c group calm) ph r.due r.told r.two record {
             at = at';
+            real = fit.1;
             same_client = refl;
             wide = length-set s.words 0 (get_or s.words 0 0);
             many = refl;
-            newest_is = same 0 ∙ (r.newest_is ∙ ap (λ b. newest_from b r.line) base);
+            newest_is = same 0 ∙ (first_calm s.words r.line r.mode (led c) led_c refl r.newest_is ∙ ap (λ b. newest_from b r.line) base);
             links = links_same 0 s.words ws r.line (λ j. same (older_at j)) (subst (λ b. LinksFrom b s.words r.line) base r.links);
             distinct = r.distinct;
             within = r.within;
@@ -235,7 +246,7 @@ module _ {Request Reply Log Right : Type 0} (stands : Laws Request Reply Log Rig
               subst (AllTaken (put r.phase c ph) r.due c) (sym m.1) tt,
               m.2,
             );
-            one_chosen = λ j e. put_at r.phase c ph (λ i g. g ≡ chosen e → Path (Mode Request) (built c group) (waits i)) j (λ _ bad. absurd (cc)) (λ _ ok. let was : r.mode ≡ waits j = r.one_chosen j e ok in absurd (cc));
+            one_chosen = λ j e. put_at r.phase c ph (λ i g. g ≡ chosen e → Path (Mode Request) (built c group calm) (waits i)) j (λ _ bad. absurd (cc)) (λ _ ok. let was : r.mode ≡ waits j = r.one_chosen j e ok in absurd (cc));
             kept = r.kept;
             coded = λ e is. r.coded c e (subst (InChain e) (sym fit.4.1) is);
             account = acc.0;
@@ -243,14 +254,14 @@ module _ {Request Reply Log Right : Type 0} (stands : Laws Request Reply Log Rig
             recalls = ([], acc.2);
             has_cut = tt;
             owing_is = owing_stays r.phase r.due r.account.owing r.owing_is acc.0.owing r.due c ph (ap (λ (y : Core Request Reply). y.3) acc.1.1) (ap (λ f. due_untold f (r.due c)) (sym fit.4.1)) (λ _ _. refl);
-            second = second_same stands n s.words ws s.homes s.homes r.phase c ph r.mode (built c group) (stands.given r.handled) (stands.given r.handled) r.two (inl fit.4.1) (λ j _. same j) refl (λ k h. inr (ap r.two.place (sym h) ∙ fit.5.0)) (λ k h. inl (subst (Holds k) (sym led_c) h)) (λ k _ h. subst (Holds k) led_c h) (λ v. v) r.second;
+            second = second_same stands n s.words ws s.homes s.homes r.phase c ph r.mode (built c group calm) (stands.given r.handled) (stands.given r.handled) r.two (inl fit.4.1) (λ j _. same j) refl (λ k h. inr (ap r.two.place (sym h) ∙ fit.5.0)) (λ k h. inl (subst (Holds k) (sym led_c) h)) (λ k _ h. subst (Holds k) led_c h) (λ v. v) r.second;
             back = fit.5;
             else_back = λ _ _ _ ok. ok;
             shared_out = r.shared_out;
             told_else = λ _ _. refl;
             mine = fit.3;
             knows = (refl, here, ([], parts), fit.4.2, sym m.1);
-            others = λ j ne. knows_else stands n r.line r.line r.hand r.handled r.mode (built c group) r.phase r.due r.due c ph j ne (ends_same r.line) (λ h. absurd (ne (sym (subst (Holds j) led_c h)))) (λ e bad. absurd (cc)) (λ e bad. absurd (cc)) (λ _ _. refl);
+            others = λ j ne. knows_else stands n r.line r.line r.hand r.handled r.mode (built c group calm) r.phase r.due r.due c ph j ne (ends_same r.line) (λ h. absurd (ne (sym (subst (Holds j) led_c h)))) (λ e bad. absurd (cc)) (λ e bad. absurd (cc)) (λ _ _. refl) (λ e x bad. absurd (cc));
           },
         ),
         λ c' o' seen' mine' mid'. let e = one_hold c c' (Fresh o seen) (Fresh o' seen') mine mine' me.0 mid mid' in
@@ -263,7 +274,7 @@ module _ {Request Reply Log Right : Type 0} (stands : Laws Request Reply Log Rig
               refl,
               (cuts.3, distinct_back left (group ++ o ∷ []) (subst Distinct parts r.distinct), all_coded s r left (group ++ o ∷ []) (subst (Stand r.phase) parts r.stand)),
               (r.account.events, r.account.owing, refl, subst (Legal stands.bound) acc.2 acc.0.legal, r.account.ran ∙ (λ i. (acc.1.0.1 i, acc.1.0.0 i, sym fit.4.2 i, r.account.owing))),
-              r.newest_is ∙ (λ i. newest_from (base i) (parts i)),
+              first_calm s.words r.line r.mode (led c) led_c refl r.newest_is ∙ (λ i. newest_from (base i) (parts i)),
               (let b = walk_bound n now (subst (Within n) parts r.within) (subst Distinct parts r.distinct) in let m = r.many in omega arith),
               all_below slots now (let m = r.many in omega arith) (subst (Within n) parts r.within),
             ),
@@ -276,11 +287,25 @@ module _ {Request Reply Log Right : Type 0} (stands : Laws Request Reply Log Rig
   reads_as asked is max is_max slots id me c o seen mine mid =
       subst (λ z. Allows (Listed stands n) slots id me 0 (λ y. y) (after_build asked z (step slots 0 0 0 none) me)) is_max (subst (λ z. Allows (Listed stands n) slots id me 0 (λ y. y) (after_build z stands.bound (step slots 0 0 0 none) me)) is (reads slots id me c o seen mine mid))
 
+  -- what a leader has read of the queue is its older end
+  sees_queue : (s : St stands n) (r : Listed stands n s) (id c : ℕ) (stage : LineStage Request Reply) (mine : List (Request × Reply)) (walk : List (QueuedWriter Request)) → get_elem? s.views id ≡ some (hold c stage mine ∷ []) → ReadsQueue stage walk → (base_of r.mode ≡ 0) × EndsWith r.line walk
+  sees_queue s r id c Idle mine walk at is = absurd is
+  sees_queue s r id c (Preparing w) mine walk at is = absurd is
+  sees_queue s r id c (Waiting q past) mine walk at is = absurd is
+  sees_queue s r id c (Helping q) mine walk at is = absurd is
+  sees_queue s r id c (Fresh own seen) mine walk at is = absurd is
+  sees_queue s r id c (Leading lead) mine walk at is = let fit = (r.seats id (hold c (Leading lead) mine ∷ []) at).0 in (ap base_of fit.4.0, subst (EndsWith r.line) is fit.4.2)
+  sees_queue s r id c (Stalling lead t) mine walk at is = let fit = (r.seats id (hold c (Stalling lead t) mine ∷ []) at).0 in (ap base_of fit.4.0, subst (EndsWith r.line) is fit.4.2)
+  sees_queue s r id c (Cutting lead e) mine walk at is = absurd is
+  sees_queue s r id c (Marking lead) mine walk at is = absurd is
+  sees_queue s r id c (Settling debt) mine walk at is = absurd is
+  sees_queue s r id c Collecting mine walk at is = absurd is
+
   -- the walk is the older end of a chain of links
   sees_chain : (s : St stands n) (r : Listed stands n s) (id : ℕ) (me : Sat Request Reply Log Right) → get_elem? s.views id ≡ some me.0 → (end c : ℕ) (walk : List (QueuedWriter Request)) → SeesTo end c me walk → (chain : List (QueuedWriter Request)) × LinksFrom end s.words chain × EndsWith chain walk
   sees_chain s r id me at end c walk (inl h) =
-      let fit = (r.seats id (hold c (Leading h.1.0) h.1.1 ∷ []) (at ∙ ap some h.1.2)).0 in
-      (r.line, subst (λ b. LinksFrom b s.words r.line) (ap base_of fit.4.0 ∙ sym h.0) r.links, subst (EndsWith r.line) h.1.3 fit.4.2)
+      let q = sees_queue s r id c h.1.0 h.1.1 walk (at ∙ ap some h.1.2) h.1.3 in
+      (r.line, subst (λ b. LinksFrom b s.words r.line) (q.0 ∙ sym h.0) r.links, q.1)
   sees_chain s r id me at end c walk (inr (inl h)) =
       let fit = (r.seats id (hold_at c (Marking h.1.0) h.1.1 h.1.2 ∷ []) (at ∙ ap some h.1.3)).0 in
       (r.line, subst (λ b. LinksFrom b s.words r.line) (ap base_of fit.4.0 ∙ sym h.0) r.links, subst (EndsWith r.line) h.1.4 fit.4.2)
@@ -326,7 +351,7 @@ module _ {Request Reply Log Right : Type 0} (stands : Laws Request Reply Log Rig
       let hi : x.by ≤ n = range.1 in
       let row = subst (InPhase stands s.words s.homes x.by (r.due x.by)) now (r.rows x.by lo hi) in
       let apart : Absent x.by q = distinct_apart q x H (subst Distinct parts r.distinct) in
-      let led_c : r.mode ≡ built c lead.group = fit.4.0 in
+      let led_c : r.mode ≡ built c lead.group calm = fit.4.0 in
       let mine_now : r.phase c ≡ leads lead.own = fit.4.1 in
       let other : c ≢ x.by = λ e. let bad : leads lead.own ≡ linked x = sym mine_now ∙ (ap r.phase e ∙ now) in absurd (cc) in
       let ws : List ℕ = set s.words k (get_or s.words k 0) in
@@ -336,19 +361,20 @@ module _ {Request Reply Log Right : Type 0} (stands : Laws Request Reply Log Rig
       let here : put r.phase x.by ph x.by ≡ ph = put_here r.phase x.by ph in
       let h' : LineHold Request Reply = hold c (Leading (lead_with_one_more lead x)) mine in
       let no_taken : (l : ℕ) (e : QueuedWriter Request) → r.phase x.by ≡ taken l e → ⊥ = λ l e bad. absurd (cc) in
-      let acc = stays_now stands.bound r.line r.handled r.mode r.account (built c lead.group) led_c in (
+      let acc = stays_now stands.bound r.line r.handled r.mode r.account (built c lead.group calm) led_c in (
         h' ∷ [],
         takes x.by (Asked x.asked),
         row.2,
         (
           ((acc.0.queue, acc.0.log, r.handled, acc.0.owing), second_list_of r.two),
           (λ i. (acc.1 i, second_list_of r.two)),
-          moved stands n s r x.by id ws hs h h' r.line (x ∷ r.hand) r.handled (built c lead.group) ph r.due r.told r.two record {
+          moved stands n s r x.by id ws hs h h' r.line (x ∷ r.hand) r.handled (built c lead.group calm) ph r.due r.told r.two record {
             at = at';
+            real = lo;
             same_client = refl;
             wide = length-set s.words k (get_or s.words k 0);
             many = length-set s.homes x.by none;
-            newest_is = same 0 ∙ (r.newest_is ∙ ap (λ b. newest_from b r.line) f.base);
+            newest_is = same 0 ∙ (f.first ∙ ap (λ b. newest_from b r.line) f.base);
             links = links_same 0 s.words ws r.line (λ j. same (older_at j)) (subst (λ b. LinksFrom b s.words r.line) f.base r.links);
             distinct = r.distinct;
             within = r.within;
@@ -360,7 +386,7 @@ module _ {Request Reply Log Right : Type 0} (stands : Laws Request Reply Log Rig
               (here, row.3, taken_change r.phase r.due r.due x.by ph c r.hand (λ e bad. absurd (no_taken c e bad)) (λ _ _. refl) (subst (AllTaken r.phase r.due c) fit.4.4 f.members)),
               f.own_due,
             );
-            one_chosen = λ j e. put_at r.phase x.by ph (λ i g. g ≡ chosen e → Path (Mode Request) (built c lead.group) (waits i)) j (λ _ bad. absurd (cc)) (λ _ ok. sym led_c ∙ r.one_chosen j e ok);
+            one_chosen = λ j e. put_at r.phase x.by ph (λ i g. g ≡ chosen e → Path (Mode Request) (built c lead.group calm) (waits i)) j (λ _ bad. absurd (cc)) (λ _ ok. sym led_c ∙ r.one_chosen j e ok);
             kept = r.kept;
             coded = λ e is. r.coded x.by e (subst (InChain e) (sym now) is);
             account = acc.0;
@@ -368,7 +394,7 @@ module _ {Request Reply Log Right : Type 0} (stands : Laws Request Reply Log Rig
             recalls = recalls_more r.account.events acc.0.events ([], acc.2) (Leading lead) fit.6;
             has_cut = tt;
             owing_is = owing_stays r.phase r.due r.account.owing r.owing_is acc.0.owing r.due x.by ph (ap (λ (y : Core Request Reply). y.3) acc.1) (ap (λ f. due_untold f (r.due x.by)) (sym now)) (λ _ _. refl);
-            second = second_same stands n s.words ws s.homes hs r.phase x.by ph r.mode (built c lead.group) (stands.given r.handled) (stands.given r.handled) r.two (inr (λ there. subst (InSecond r.two.place x.by) now there)) (λ j _. same j) (set_else s.homes x.by (n + 1) none (λ e. omega arith)) (λ k h. inr (ap r.two.place (sym h) ∙ fit.5.0)) (λ k h. inl (subst (Holds k) (sym led_c) h)) (λ k _ h. subst (Holds k) led_c h) (λ v. v) r.second;
+            second = second_same stands n s.words ws s.homes hs r.phase x.by ph r.mode (built c lead.group calm) (stands.given r.handled) (stands.given r.handled) r.two (inr (λ there. subst (InSecond r.two.place x.by) now there)) (λ j _. same j) (set_else s.homes x.by (n + 1) none (λ e. omega arith)) (λ k h. inr (ap r.two.place (sym h) ∙ fit.5.0)) (λ k h. inl (subst (Holds k) (sym led_c) h)) (λ k _ h. subst (Holds k) led_c h) (λ v. v) r.second;
             back = fit.5;
             else_back = λ _ _ _ ok. ok;
             shared_out = r.shared_out;
@@ -376,12 +402,13 @@ module _ {Request Reply Log Right : Type 0} (stands : Laws Request Reply Log Rig
             mine = fit.3;
             knows = (refl, put_else r.phase x.by ph c other ∙ mine_now, ends, fit.4.3, ap (λ l. x ∷ l) fit.4.4);
             others = λ j ne. dite (ℕ_discrete j x.by)
-                (λ e. subst (λ (i : ℕ). (st : LineStage Request Reply) → Knows r.line r.hand r.handled r.mode r.phase r.due i st → Knows r.line (x ∷ r.hand) r.handled (built c lead.group) (put r.phase x.by ph) r.due i st) (sym e)
-                (still_waits r.line r.line r.hand (x ∷ r.hand) r.handled r.handled r.mode (built c lead.group) r.phase (put r.phase x.by ph) r.due r.due x.by (linked x) now tt (λ u is. subst (Waits u) (sym here) is) (λ _ owed. owed)))
-                (λ away. knows_stays stands n r.line r.line r.hand (x ∷ r.hand) r.handled r.handled r.mode (built c lead.group) r.phase (put r.phase x.by ph) r.due r.due j (put_else r.phase x.by ph j away)
+                (λ e. subst (λ (i : ℕ). (st : LineStage Request Reply) → Knows r.line r.hand r.handled r.mode r.phase r.due i st → Knows r.line (x ∷ r.hand) r.handled (built c lead.group calm) (put r.phase x.by ph) r.due i st) (sym e)
+                (still_waits r.line r.line r.hand (x ∷ r.hand) r.handled r.handled r.mode (built c lead.group calm) r.phase (put r.phase x.by ph) r.due r.due x.by (linked x) now tt (λ u is. subst (Waits u) (sym here) is) (λ _ owed. owed)))
+                (λ away. knows_stays stands n r.line r.line r.hand (x ∷ r.hand) r.handled r.handled r.mode (built c lead.group calm) r.phase (put r.phase x.by ph) r.due r.due j (put_else r.phase x.by ph j away)
                 (λ h. absurd (ne (sym (subst (Holds j) led_c h))))
                 (λ e y is_taken owed. (put_at r.phase x.by ph (λ i g. r.phase i ≡ taken j e → g ≡ taken j e) e.by (λ is t. absurd (no_taken j e (ap r.phase (sym is) ∙ t))) (λ _ t. t) is_taken, owed))
-                (λ y owed. owed));
+                (λ y owed. owed)
+                (λ e y is. put_at r.phase x.by ph (λ i g. r.phase i ≡ dropped j e y → g ≡ dropped j e y) e.by (λ is t. let bad : Path (Phase Request Reply) (linked x) (dropped j e y) = sym now ∙ (ap r.phase (sym is) ∙ t) in absurd (cc)) (λ _ t. t) is));
           },
         ),
         λ c' lead' mine' pre' x' mid' is_walk' is_word'.

@@ -15,7 +15,7 @@ use Rattle.line_rule.specs.declared.content.LineSlot.{LineSlot}
 use Rattle.line_rule.specs.declared.content.LineSlot.TheVariants.{Empty, Asked, Told, TheLog, TheRight}
 use Rattle.line_rule.specs.declared.view.LineStage.TheVariants.{Leading, Settling}
 use Rattle.line_rule.specs.Chain.{state_at, older_at, newest, newest_from, Absent, Distinct, of, heads, handling, answers, all_answers}
-use Rattle.line_rule.specs.Standing.{Phase, idle, preparing, linked, chosen, leads, taken, completed, collecting, Mode, open_, waits, built, Holds, ahead}
+use Rattle.line_rule.specs.Standing.{held, calm, dismissed, dropped, Phase, idle, preparing, linked, chosen, leads, taken, completed, collecting, Mode, open_, waits, built, Holds, ahead}
 use Rattle.line_rule.specs.Laws.{Laws}
 use Rattle.line_rule.specs.Rule.{InChain, AllTaken, AllOwed, hold, InPhase, Listed, due_untold}
 use Rattle.line_rule.specs.Events.{exits, Core, IsOfGroup}
@@ -23,7 +23,7 @@ use Rattle.line_rule.specs.SecondList.{second_list_of}
 use Rattle.line_rule.specs.Steps.{Lists, HappensWhere, IsExit, IsNow, StepIs}
 use Rattle.line_rule.specs.Plays.{Sat, At, in_hand, debt, slots_of, Walks, after_leave}
 use Rattle.line_rule.proofs.Chains.{put, put_at, put_here, put_else, owed_change}
-use Rattle.line_rule.proofs.Exits.{group_handled, owing_grows}
+use Rattle.line_rule.proofs.Exits.{IsTold, group_handled, owing_grows}
 use Rattle.line_rule.proofs.Accounts.{leaves_now}
 use Rattle.line_rule.proofs.Moves.{St, row_stays, knows_stays, moved, Goes, allows}
 use Rattle.line_rule.proofs.Keeps.{second_same, level_same}
@@ -71,6 +71,9 @@ module _ {Request Reply Log Right : Type 0} (stands : Laws Request Reply Log Rig
   row_due ws hs k d d' (leads f) to keep ok = ok
   row_due ws hs k d d' (taken l f) to keep ok = (ok.0, ok.1, ok.2, (λ eight. let t = ok.3 eight in (t.0, (t.1.0, keep (f.asked, t.1.0) t.1.1))))
   row_due ws hs k d d' (completed q p) to keep ok = (ok.0, ok.1, to (λ c e b. absurd (cc)) (λ e b. absurd (cc)) ∙ ok.2)
+  row_due ws hs k d d' (held c e) to keep ok = (ok.0, ok.1, to (λ c e b. absurd (cc)) (λ e b. absurd (cc)) ∙ ok.2)
+  row_due ws hs k d d' (dropped c e p) to keep ok = (ok.0, ok.1, to (λ c e b. absurd (cc)) (λ e b. absurd (cc)) ∙ ok.2, ok.3)
+  row_due ws hs k d d' (dismissed q p) to keep ok = (ok.0, ok.1, to (λ c e b. absurd (cc)) (λ e b. absurd (cc)) ∙ ok.2, ok.3)
   row_due ws hs k d d' collecting to keep ok = to (λ c e b. absurd (cc)) (λ e b. absurd (cc)) ∙ ok
 
   -- what follows where the leader c has handled its group
@@ -107,8 +110,8 @@ module _ {Request Reply Log Right : Type 0} (stands : Laws Request Reply Log Rig
     pub else_due : (j : ℕ) → j ≢ c → (x : Request × Reply) → r.due j ≡ x ∷ [] → due' j ≡ x ∷ []
     else_due j ne x owed = due_same j ne (λ f _ none_due. absurd (cc)) ∙ owed
 
-    pub done_none : (k : ℕ) (q : Request) (x : Reply) → r.phase k ≡ completed q x → of k new ≡ []
-    done_none k q x done = new_none k o p gs (λ e. let bad : r.phase k ≡ leads o = ap r.phase (sym e ∙ by_c) ∙ now in absurd (cc)) (group_out k (λ e bad _. absurd (cc)))
+    pub done_none : (k : ℕ) → IsTold (r.phase k) → of k new ≡ []
+    done_none k done = new_none k o p gs (λ e. let bad : r.phase k ≡ leads o = ap r.phase (sym e ∙ by_c) ∙ now in subst IsTold bad done) (group_out k (λ e bad _. subst IsTold bad done))
 
     pub else_row : (ws : List ℕ) (hs : List (Option (LineSlot Request Reply Log Right))) (k : ℕ) → k ≢ c → InPhase stands ws hs k (r.due k) (r.phase k) → InPhase stands ws hs k (due' k) (r.phase k)
     else_row ws hs k ne ok = row_due ws hs k (r.due k) (due' k) (r.phase k) (λ no _. due_same k ne (λ e bad _. no c e bad)) (else_due k ne) ok
@@ -123,12 +126,12 @@ module _ {Request Reply Log Right : Type 0} (stands : Laws Request Reply Log Rig
         let fit = (r.seats id (h ∷ []) at').0 in
         let f = leader stands n s r c lead fit.1 fit.2 fit.4 in
         let lo : 0 < c = fit.1 in
-        let led_c : r.mode ≡ built c lead.group = fit.4.0 in
+        let led_c : r.mode ≡ built c lead.group calm = fit.4.0 in
         let now : r.phase c ≡ leads lead.own = fit.4.1 in
         let wide : length s.words ≡ 2 * n + 4 = r.wide in
         let many : length s.homes ≡ n + 2 = r.many in
         let whole : Distinct (f.queue ++ in_hand lead) = subst Distinct f.parts r.distinct in
-        let none_newer : f.queue ≡ [] = none_before_group f.queue lead.taken lead.own whole ((λ i. newest_from (sym f.base i) (sym f.parts i)) ∙ (sym r.newest_is ∙ (hit ∙ is_old))) in
+        let none_newer : f.queue ≡ [] = none_before_group f.queue lead.taken lead.own whole ((λ i. newest_from (sym f.base i) (sym f.parts i)) ∙ (sym f.first ∙ (hit ∙ is_old))) in
         let members : AllTaken r.phase r.due c (heads gs) = subst (AllTaken r.phase r.due c) (sym group) f.members in
         let apart : Distinct (heads gs) = subst Distinct (sym group) (distinct_front lead.taken (lead.own ∷ []) (distinct_back f.queue (in_hand lead) whole)) in
         let ws : List ℕ = set s.words 0 0 in
@@ -146,6 +149,7 @@ module _ {Request Reply Log Right : Type 0} (stands : Laws Request Reply Log Rig
         let moved_to : IsNow stands n now_is (record { words = ws; homes = hs; views = set s.views id (h' ∷ []) }) =
         moved stands n s r c id ws hs h h' [] [] (r.handled ++ more) open_ ph owe r.told r.two record {
           at = at';
+          real = fit.1;
           same_client = refl;
           wide = length-set s.words 0 0;
           many = length-set s.homes 0 (some (TheLog l));
@@ -182,7 +186,8 @@ module _ {Request Reply Log Right : Type 0} (stands : Laws Request Reply Log Rig
           others = λ j ne. knows_stays stands n r.line [] r.hand [] r.handled (r.handled ++ more) r.mode open_ r.phase phase' r.due owe j (put_else r.phase c ph j ne)
               (λ h. absurd (ne (sym (subst (Holds j) led_c h))))
               (λ e x is owed. (put_at r.phase c ph (λ i g. r.phase i ≡ taken j e → g ≡ taken j e) e.by (λ w t. let bad : r.phase e.by ≡ leads lead.own = ap r.phase w ∙ now in absurd (cc)) (λ _ t. t) is, else_owed s r c lead.own gs p f.own_by now members f.own_due apart j ne e x is owed))
-              (else_due s r c lead.own gs p f.own_by now members f.own_due apart j ne);
+              (else_due s r c lead.own gs p f.own_by now members f.own_due apart j ne)
+              (λ e x is. put_at r.phase c ph (λ i g. r.phase i ≡ dropped j e x → g ≡ dropped j e x) e.by (λ w t. let bad : r.phase e.by ≡ leads lead.own = ap r.phase w ∙ now in absurd (cc)) (λ _ t. t) is);
         } in (
           h' ∷ [],
           gives,

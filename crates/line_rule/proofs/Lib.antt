@@ -1,5 +1,6 @@
 pub mod Chains
 pub mod Keeps
+pub mod Pauses
 pub mod Moves
 pub mod Accounts
 pub mod Exits
@@ -9,6 +10,9 @@ pub mod Groups
 pub mod Fitting
 pub mod Leads
 pub mod Leaves
+pub mod Stalls
+pub mod Drops
+pub mod Departs
 pub mod Squads
 pub mod Seconds
 pub mod Onward
@@ -22,5 +26,6 @@ pub mod CoreLaws
 pub mod CoreExits
 pub mod CoreGroups
 pub mod CoreSteps
+pub mod CoreStalls
 pub mod Handings
 pub mod Owed

@@ -1,5 +1,5 @@
 -- The looks of a writer that waits for its role, or for its reply: that each keeps the rule, and which event it is.
-use Rattle.std.proofs.Common.{◌≡◌, ◌≢◌, ℕ, ◌+◌, ◌<◌, ◌≤◌, List, [], ◌∷◌, ◌++◌, get_or, set, refl, sym, ap, ◌∙◌, subst, inr, arith, length-set, append-nil}
+use Rattle.std.proofs.Common.{◌≡◌, ◌≢◌, ℕ, ◌+◌, ◌<◌, ◌≤◌, List, [], ◌∷◌, ◌++◌, get_or, set, refl, sym, ap, ◌∙◌, subst, inl, inr, arith, length-set, append-nil}
 use mathlib.Core.Logic.{dite}
 use mathlib.Core.Path.{Path}
 use mathlib.Core.Option.{none, some}
@@ -15,19 +15,20 @@ use Rattle.line_rule.specs.declared.content.LineSlot.TheVariants.{Asked, Told, T
 use Rattle.line_rule.specs.declared.view.LineStage.{LineStage}
 use Rattle.line_rule.specs.declared.view.LineStage.TheVariants.{Waiting, Helping, Fresh, Collecting}
 use Rattle.line_rule.specs.Chain.{state_at, older_at, newest_from, LinksFrom}
-use Rattle.line_rule.specs.Standing.{Phase, idle, preparing, linked, chosen, leads, taken, completed, collecting, Mode, waits, led, base_of, Holds}
+use Rattle.line_rule.specs.Standing.{held, dismissed, dropped, Phase, idle, preparing, linked, chosen, leads, taken, completed, collecting, Mode, waits, led, base_of, Holds}
 use Rattle.line_rule.specs.Laws.{Laws}
 use Rattle.line_rule.specs.Rule.{InChain, Waits, hold, InPhase, InMode, Listed, InSecond, due_untold}
 use Rattle.line_rule.specs.Events.{LineEvent, elects, Core}
 use Rattle.line_rule.specs.SecondList.{second_list_of}
 use Rattle.line_rule.specs.Steps.{Stays, HappensWhere, IsElect, now_of, IsNow, StepIs}
-use Rattle.line_rule.specs.Plays.{Sat, At, Elected, Replied, after_read_state, after_read_reply}
+use Rattle.line_rule.specs.Plays.{Dismissed, Sat, At, Elected, Replied, after_read_state, after_read_reply}
 use Rattle.line_rule.proofs.Chains.{put, put_at, put_here, put_else, links_same, ends_same, stand_change, linked_change}
 use Rattle.line_rule.proofs.Exits.{owing_stays}
 use Rattle.line_rule.proofs.Accounts.{leads_now}
 use Rattle.line_rule.proofs.Moves.{St, row_stays, knows_else, reviewed, moved, Goes, allows, unmoved}
 use Rattle.line_rule.proofs.Keeps.{second_same}
 use Rattle.line_rule.proofs.Enters.{aside, one_chosen_entry, one_helps, one_hold, one_waits, waits_one}
+use Rattle.line_rule.proofs.Pauses.{first_calm}
 
 module _ {Request Reply Log Right : Type 0} (stands : Laws Request Reply Log Right) (n : ℕ) where
   -- the client finds its reply, and takes it
@@ -62,7 +63,7 @@ module _ {Request Reply Log Right : Type 0} (stands : Laws Request Reply Log Rig
   module _ (slots id : ℕ) (me : Sat Request Reply Log Right) (c k : ℕ) (q : Request) (past : List (LineEvent Request Reply)) (mine : List (Request × Reply)) (is : k ≡ state_at c) (mid : At c (Waiting q past) mine me) (empty : me.1 ≡ [])
       (s : St stands n) (r : Listed stands n s) (at : get_elem? s.views id ≡ some me.0) where
     abbrev saw : ℕ → Sat Request Reply Log Right → Type 0
-    saw = after_read_state stands.logs stands.kept (step slots k 0 0 none) me
+    saw = after_read_state stands.logs stands.kept stands.drops (step slots k 0 0 none) me
 
     abbrev hw : LineHold Request Reply
     hw = hold c (Waiting q past) mine
@@ -104,10 +105,11 @@ module _ {Request Reply Log Right : Type 0} (stands : Laws Request Reply Log Rig
             ((λ _. (e, row.0, asks, (acc.1, refl))), λ y. absurd (y two)),
             moved stands n s r c id ws hs hw h' r.line r.hand r.handled (led c) ph r.due r.told r.two record {
               at = at';
+              real = fit.1;
               same_client = refl;
               wide = length-set s.words k x;
               many = length-set (set s.homes c none) 0 none ∙ length-set s.homes c none;
-              newest_is = same 0 ∙ (r.newest_is ∙ ap (λ b. newest_from b r.line) (ap base_of mode_was));
+              newest_is = same 0 ∙ (first_calm s.words r.line r.mode (waits c) mode_was refl r.newest_is ∙ ap (λ b. newest_from b r.line) (ap base_of mode_was));
               links = links_same 0 s.words ws r.line (λ j. same (older_at j)) (subst (λ b. LinksFrom b s.words r.line) (ap base_of mode_was) r.links);
               distinct = r.distinct;
               within = r.within;
@@ -130,7 +132,7 @@ module _ {Request Reply Log Right : Type 0} (stands : Laws Request Reply Log Rig
               back = fit.5;
               else_back = λ _ _ _ ok. ok;
               knows = (refl, here, refl);
-              others = λ j ne. knows_else stands n r.line r.line r.hand r.handled r.mode (led c) r.phase r.due r.due c ph j ne (ends_same r.line) (λ h. absurd (subst (Holds j) mode_was h)) (λ f bad. absurd (cc)) (λ f bad. absurd (cc)) (λ _ _. refl);
+              others = λ j ne. knows_else stands n r.line r.line r.hand r.handled r.mode (led c) r.phase r.due r.due c ph j ne (ends_same r.line) (λ h. absurd (subst (Holds j) mode_was h)) (λ f bad. absurd (cc)) (λ f bad. absurd (cc)) (λ _ _. refl) (λ f x bad. absurd (cc));
             },
           ),
           λ c' q' past' mine' mid'.
@@ -177,9 +179,39 @@ module _ {Request Reply Log Right : Type 0} (stands : Laws Request Reply Log Rig
               let o = one_hold c c' (Waiting q past) (Waiting q' past') mine mine' me.0 mid mid' in
               let same_q : q ≡ q' = one_waits q q' past past' o.1 in (
                 (λ y. absurd (omega (arith, t.2))),
-                (λ _. subst (λ (u : ℕ × Request × List (Request × Reply)). Replied stands.kept u.0 u.1 u.2 (t.0, (c, Told p) ∷ me.1)) (λ i. (o.0 i, same_q i, o.2 i)) t.4),
+                (λ _. inl (subst (λ (u : ℕ × Request × List (Request × Reply)). Replied stands.kept u.0 u.1 u.2 (t.0, (c, Told p) ∷ me.1)) (λ i. (o.0 i, same_q i, o.2 i)) t.4)),
                 (λ y. absurd (omega (arith, t.2))),
                 λ _ y. absurd (y t.2),
+              ),
+        )
+
+    -- the client finds the reply with which it left the queue, and takes it
+    looks_dismissed : (q0 : Request) (p : Reply) → r.phase c ≡ dismissed q0 p → q0 ≡ q → Goes stands n (HappensWhere 2 (IsElect c q)) s r k id me saw x
+    looks_dismissed q0 p now asks =
+        let at' : get_elem? s.views id ≡ some (hw ∷ []) = at ∙ ap some mid in
+        let fit = (r.seats id (hw ∷ []) at').0 in
+        let row = subst (InPhase stands s.words s.homes c (r.due c)) now (r.rows c fit.1 fit.2) in
+        let ws : List ℕ = set s.words k x in
+        let hs = set s.homes c none in
+        let h' : LineHold Request Reply = hold c Collecting mine in
+        let same : (j : ℕ) → get_or ws j 0 ≡ get_or s.words j 0 = λ j. ap (λ (t : List ℕ). get_or t j 0) (set-get_or s.words k 0) in
+        let sixteen : x ≡ 16 = ap (λ (j : ℕ). get_or s.words j 0) is ∙ row.0 in (
+          h' ∷ [],
+          takes c (Told p),
+          row.1,
+          (
+            now_of stands n s r,
+            ((λ y. absurd (omega (arith, sixteen))), λ _. refl),
+            aside stands n s r c id ws hs hw Collecting mine (dismissed q0 p) collecting r.due r.told at' refl now tt tt (length-set s.words k x) (length-set s.homes c none)
+                (λ j _ _. same j) (λ j ne. set_else s.homes c j none ne) refl (λ four. sym (same (state_at c)) ∙ four) row.2 (λ _ _. refl) (λ _ _. refl) refl fit.3 (λ _ e. e) (λ phase here. here) row.2 tt,
+          ),
+          λ c' q' past' mine' mid'.
+              let o = one_hold c c' (Waiting q past) (Waiting q' past') mine mine' me.0 mid mid' in
+              let same_q : q ≡ q' = one_waits q q' past past' o.1 in (
+                (λ y. absurd (omega (arith, sixteen))),
+                (λ _. inr (subst (λ (u : ℕ × Request × List (Request × Reply)). Dismissed stands.drops u.0 u.1 u.2 (h' ∷ [], (c, Told p) ∷ me.1)) (λ i. (o.0 i, same_q i, o.2 i)) (p, refl, ap (λ t. (c, Told p) ∷ t) empty, subst (λ z. stands.drops z p) asks row.3))),
+                (λ y. absurd (omega (arith, sixteen))),
+                λ _ y. absurd (y sixteen),
               ),
         )
 
@@ -193,16 +225,19 @@ module _ {Request Reply Log Right : Type 0} (stands : Laws Request Reply Log Rig
         (λ eight. let t = ok.3 (sym at_c ∙ eight) in looks_helps eight (subst (Waits q) (sym now) w) (t.1.0, t.1.1 ∙ ap (λ (u : Request). (u, t.1.0) ∷ []) w))
         (λ other. looks_on (λ y. ok.1 (sym at_c ∙ y)) (λ y. ok.2 (sym at_c ∙ y)) other)
     looks_at (completed q0 p) now w ok = looks_done q0 p now w
+    looks_at (held l e) now w ok = let one : x ≡ 1 = ap (λ (j : ℕ). get_or s.words j 0) is ∙ ok.1 in looks_on (λ y. omega arith) (λ y. omega arith) (λ y. omega arith)
+    looks_at (dropped l e p) now w ok = let one : x ≡ 1 = ap (λ (j : ℕ). get_or s.words j 0) is ∙ ok.1 in looks_on (λ y. omega arith) (λ y. omega arith) (λ y. omega arith)
+    looks_at (dismissed q0 p) now w ok = looks_dismissed q0 p now w
     looks_at collecting now w ok = absurd w
 
     looks_all : Goes stands n (HappensWhere 2 (IsElect c q)) s r k id me saw x
     looks_all = let fit = (r.seats id (hw ∷ []) (at ∙ ap some mid)).0 in looks_at (r.phase c) refl fit.4 (r.rows c fit.1 fit.2)
 
-  pub looks_is : (slots id : ℕ) (me : Sat Request Reply Log Right) (c k : ℕ) (q : Request) (past : List (LineEvent Request Reply)) (mine : List (Request × Reply)) → k ≡ state_at c → At c (Waiting q past) mine me → me.1 ≡ [] → StepIs stands n (HappensWhere 2 (IsElect c q)) slots id me k (λ y. y) (after_read_state stands.logs stands.kept (step slots k 0 0 none) me)
+  pub looks_is : (slots id : ℕ) (me : Sat Request Reply Log Right) (c k : ℕ) (q : Request) (past : List (LineEvent Request Reply)) (mine : List (Request × Reply)) → k ≡ state_at c → At c (Waiting q past) mine me → me.1 ≡ [] → StepIs stands n (HappensWhere 2 (IsElect c q)) slots id me k (λ y. y) (after_read_state stands.logs stands.kept stands.drops (step slots k 0 0 none) me)
   looks_is slots id me c k q past mine is mid empty s r long at fits = looks_all slots id me c k q past mine is mid empty s r at
 
-  pub looks : (slots id : ℕ) (me : Sat Request Reply Log Right) (c k : ℕ) (q : Request) (past : List (LineEvent Request Reply)) (mine : List (Request × Reply)) → k ≡ state_at c → At c (Waiting q past) mine me → me.1 ≡ [] → Allows (Listed stands n) slots id me k (λ y. y) (after_read_state stands.logs stands.kept (step slots k 0 0 none) me)
-  looks slots id me c k q past mine is mid empty = allows stands n (HappensWhere 2 (IsElect c q)) slots id me k (λ y. y) (after_read_state stands.logs stands.kept (step slots k 0 0 none) me) (looks_is slots id me c k q past mine is mid empty)
+  pub looks : (slots id : ℕ) (me : Sat Request Reply Log Right) (c k : ℕ) (q : Request) (past : List (LineEvent Request Reply)) (mine : List (Request × Reply)) → k ≡ state_at c → At c (Waiting q past) mine me → me.1 ≡ [] → Allows (Listed stands n) slots id me k (λ y. y) (after_read_state stands.logs stands.kept stands.drops (step slots k 0 0 none) me)
+  looks slots id me c k q past mine is mid empty = allows stands n (HappensWhere 2 (IsElect c q)) slots id me k (λ y. y) (after_read_state stands.logs stands.kept stands.drops (step slots k 0 0 none) me) (looks_is slots id me c k q past mine is mid empty)
 
   -- the same of a client that works in parallel with its leader
   module _ (slots id : ℕ) (me : Sat Request Reply Log Right) (c k : ℕ) (q : Request) (mine : List (Request × Reply)) (is : k ≡ state_at c) (mid : At c (Helping q) mine me) (empty : me.1 ≡ [])
@@ -231,18 +266,21 @@ module _ {Request Reply Log Right : Type 0} (stands : Laws Request Reply Log Rig
               ),
         )
 
-    beside_at : (ph : Phase Request Reply) → r.phase c ≡ ph → Waits q ph → InPhase stands s.words s.homes c (r.due c) ph → Goes stands n (λ _. Stays) s r k id me saw_beside found
-    beside_at idle now w ok = absurd w
-    beside_at (preparing v) now w ok = absurd w
-    beside_at (linked e) now w ok = let one : found ≡ 1 = ap (λ (j : ℕ). get_or s.words j 0) is ∙ ok.1 in beside_on (λ y. omega arith)
-    beside_at (chosen e) now w ok = let two : found ≡ 2 = ap (λ (j : ℕ). get_or s.words j 0) is ∙ ok.1 in beside_on (λ y. omega arith)
-    beside_at (leads e) now w ok = absurd w
-    beside_at (taken l e) now w ok = let at_c : found ≡ get_or s.words (state_at c) 0 = ap (λ (j : ℕ). get_or s.words j 0) is in beside_on (λ y. ok.2 (sym at_c ∙ y))
-    beside_at (completed q0 p) now w ok = beside_done q0 p now w
-    beside_at collecting now w ok = absurd w
+    beside_at : (ph : Phase Request Reply) → r.phase c ≡ ph → Waits q ph → InPhase stands s.words s.homes c (r.due c) ph → ((p : Reply) × (r.due c ≡ (q, p) ∷ [])) → Goes stands n (λ _. Stays) s r k id me saw_beside found
+    beside_at idle now w ok owed = absurd w
+    beside_at (preparing v) now w ok owed = absurd w
+    beside_at (linked e) now w ok owed = let one : found ≡ 1 = ap (λ (j : ℕ). get_or s.words j 0) is ∙ ok.1 in beside_on (λ y. omega arith)
+    beside_at (chosen e) now w ok owed = let two : found ≡ 2 = ap (λ (j : ℕ). get_or s.words j 0) is ∙ ok.1 in beside_on (λ y. omega arith)
+    beside_at (leads e) now w ok owed = absurd w
+    beside_at (taken l e) now w ok owed = let at_c : found ≡ get_or s.words (state_at c) 0 = ap (λ (j : ℕ). get_or s.words j 0) is in beside_on (λ y. ok.2 (sym at_c ∙ y))
+    beside_at (completed q0 p) now w ok owed = beside_done q0 p now w
+    beside_at (held l e) now w ok owed = let one : found ≡ 1 = ap (λ (j : ℕ). get_or s.words j 0) is ∙ ok.1 in beside_on (λ y. omega arith)
+    beside_at (dropped l e p) now w ok owed = let one : found ≡ 1 = ap (λ (j : ℕ). get_or s.words j 0) is ∙ ok.1 in beside_on (λ y. omega arith)
+    beside_at (dismissed q0 p) now w ok owed = let bad : Path (List (Request × Reply)) [] ((q, owed.0) ∷ []) = sym ok.2 ∙ owed.1 in absurd (cc)
+    beside_at collecting now w ok owed = absurd w
 
     beside_all : Goes stands n (λ _. Stays) s r k id me saw_beside found
-    beside_all = let fit = (r.seats id (hold c (Helping q) mine ∷ []) (at ∙ ap some mid)).0 in beside_at (r.phase c) refl fit.4.0 (r.rows c fit.1 fit.2)
+    beside_all = let fit = (r.seats id (hold c (Helping q) mine ∷ []) (at ∙ ap some mid)).0 in beside_at (r.phase c) refl fit.4.0 (r.rows c fit.1 fit.2) fit.4.1
 
   pub looks_beside_is : (slots id : ℕ) (me : Sat Request Reply Log Right) (c k : ℕ) (q : Request) (mine : List (Request × Reply)) → k ≡ state_at c → At c (Helping q) mine me → me.1 ≡ [] → StepIs stands n (λ _. Stays) slots id me k (λ y. y) (after_read_reply stands.kept (step slots k 0 0 none) me)
   looks_beside_is slots id me c k q mine is mid empty s r long at fits = beside_all slots id me c k q mine is mid empty s r at
@@ -252,6 +290,9 @@ module _ {Request Reply Log Right : Type 0} (stands : Laws Request Reply Log Rig
   looks_beside_as kept is_kept slots id me c k q mine at mid empty =
       subst (λ z. Allows (Listed stands n) slots id me k (λ y. y) (after_read_reply z (step slots k 0 0 none) me)) is_kept (allows stands n (λ _. Stays) slots id me k (λ y. y) (after_read_reply stands.kept (step slots k 0 0 none) me) (looks_beside_is slots id me c k q mine at mid empty))
 
-  pub looks_as : (stood : Log → List (Handling Request Reply) → Type 0) (kept : List (Handling Request Reply) → Type 0) → stands.logs ≡ stood → stands.kept ≡ kept → (slots id : ℕ) (me : Sat Request Reply Log Right) (c k : ℕ) (q : Request) (past : List (LineEvent Request Reply)) (mine : List (Request × Reply)) → k ≡ state_at c → At c (Waiting q past) mine me → me.1 ≡ []
-      → Allows (Listed stands n) slots id me k (λ y. y) (after_read_state stood kept (step slots k 0 0 none) me)
-  looks_as stood kept is is_kept slots id me c k q past mine at mid empty = subst (λ z. Allows (Listed stands n) slots id me k (λ y. y) (after_read_state z kept (step slots k 0 0 none) me)) is (subst (λ z. Allows (Listed stands n) slots id me k (λ y. y) (after_read_state stands.logs z (step slots k 0 0 none) me)) is_kept (looks slots id me c k q past mine at mid empty))
+  pub looks_as : (stood : Log → List (Handling Request Reply) → Type 0) (kept : List (Handling Request Reply) → Type 0) (drops : Request → Reply → Type 0) → stands.logs ≡ stood → stands.kept ≡ kept → stands.drops ≡ drops → (slots id : ℕ) (me : Sat Request Reply Log Right) (c k : ℕ) (q : Request) (past : List (LineEvent Request Reply)) (mine : List (Request × Reply)) → k ≡ state_at c → At c (Waiting q past) mine me → me.1 ≡ []
+      → Allows (Listed stands n) slots id me k (λ y. y) (after_read_state stood kept drops (step slots k 0 0 none) me)
+  looks_as stood kept drops is is_kept is_drops slots id me c k q past mine at mid empty =
+      subst (λ z. Allows (Listed stands n) slots id me k (λ y. y) (after_read_state z kept drops (step slots k 0 0 none) me)) is
+      (subst (λ z. Allows (Listed stands n) slots id me k (λ y. y) (after_read_state stands.logs z drops (step slots k 0 0 none) me)) is_kept
+      (subst (λ z. Allows (Listed stands n) slots id me k (λ y. y) (after_read_state stands.logs stands.kept z (step slots k 0 0 none) me)) is_drops (looks slots id me c k q past mine at mid empty)))

@@ -24,7 +24,7 @@ use Rattle.line_rule.specs.declared.content.LineSlot.{LineSlot}
 use Rattle.line_rule.specs.declared.content.LineSlot.TheVariants.{Told, TheLog}
 use Rattle.line_rule.specs.declared.view.LineStage.TheVariants.{Leading, Cutting, Marking, Settling}
 use Rattle.line_rule.specs.Chain.{state_at, older_at, pack, newest, newest_from, Links, LinksFrom, Absent, Distinct, Within, of, heads, all_answers}
-use Rattle.line_rule.specs.Standing.{Phase, linked, chosen, leads, taken, Mode, open_, waits, built, cut, marked, base_of, Holds, parted, ahead}
+use Rattle.line_rule.specs.Standing.{calm, dropped, Phase, linked, chosen, leads, taken, Mode, open_, waits, built, cut, marked, base_of, Holds, parted, ahead}
 use Rattle.line_rule.specs.Laws.{Laws}
 use Rattle.line_rule.specs.Rule.{InChain, AllLinked, AllTaken, hold, InPhase, InMode, Listed, InSecond, hold_at, HasCut, due_untold}
 use Rattle.line_rule.specs.Events.{exits, Core, grouped}
@@ -40,26 +40,28 @@ use Rattle.line_rule.proofs.Groups.{walk_bound, distinct_apart, distinct_front, 
 use Rattle.line_rule.proofs.Enters.{one_hold}
 use Rattle.line_rule.proofs.Leads.{all_below, one_lead, lead_in, leader, walks_now, same_last, middle, one_leads}
 use Rattle.line_rule.proofs.Leaves.{same_group, others_of, shared_more, own_owed, all_owed, else_owed, else_due, else_row, done_none}
+use Rattle.line_rule.proofs.Pauses.{first_calm}
+use Rattle.line_rule.specs.declared.words.TheConstants.{MARK}
 
 module _ {Request Reply Log Right : Type 0} (stands : Laws Request Reply Log Right) (n : ℕ) where
   module _ (from : List (Handling Request Reply)) (slots id : ℕ) (me : Sat Request Reply Log Right) (c old : ℕ) (lead : Lead Request Reply) (mine : List (Request × Reply)) (said : Option (LineSlot Request Reply Log Right)) (mid : At c (Leading lead) mine me) (is_old : old ≡ newest (in_hand lead)) (all : lead.taken ≡ lead.group)
       (s : St stands n) (r : Listed stands n s) (at : get_elem? s.views id ≡ some me.0) (hit : get_or s.words 0 0 ≡ old) where
-    marks_last : Goes stands n (HappensWhere old (IsBoundary c (squad_at_cut lead from))) s r 0 id me (after_mark from (step slots 0 old 255 said) me) 255
+    marks_last : Goes stands n (HappensWhere old (IsBoundary c (squad_at_cut lead from))) s r 0 id me (after_mark from (step slots 0 old MARK said) me) MARK
     marks_last =
         let h : LineHold Request Reply = hold c (Leading lead) mine in
         let at' : get_elem? s.views id ≡ some (h ∷ []) = at ∙ ap some mid in
         let fit = (r.seats id (h ∷ []) at').0 in
         let f = leader stands n s r c lead fit.1 fit.2 fit.4 in
-        let led_c : r.mode ≡ built c lead.group = fit.4.0 in
+        let led_c : r.mode ≡ built c lead.group calm = fit.4.0 in
         let now : r.phase c ≡ leads lead.own = fit.4.1 in
         let wide : length s.words ≡ 2 * n + 4 = r.wide in
         let whole : Distinct (f.queue ++ in_hand lead) = subst Distinct f.parts r.distinct in
         let hand_apart : Distinct r.hand = subst Distinct fit.4.4 (distinct_front lead.taken (lead.own ∷ []) (distinct_back f.queue (in_hand lead) whole)) in
-        let none_newer : f.queue ≡ [] = none_before_group f.queue lead.taken lead.own whole ((λ i. newest_from (sym f.base i) (sym f.parts i)) ∙ (sym r.newest_is ∙ (hit ∙ is_old))) in
-        let ws : List ℕ = set s.words 0 255 in
+        let none_newer : f.queue ≡ [] = none_before_group f.queue lead.taken lead.own whole ((λ i. newest_from (sym f.base i) (sym f.parts i)) ∙ (sym f.first ∙ (hit ∙ is_old))) in
+        let ws : List ℕ = set s.words 0 MARK in
         let g : Squad Request Reply = squad_at_cut lead from in
         let h' : LineHold Request Reply = hold_at c (Marking (lead_with_walk lead [])) mine (Parting g 0) in
-        let same : (j : ℕ) → j ≢ 0 → get_or ws j 0 ≡ get_or s.words j 0 = λ j ne. get_or-set_other s.words 0 j 255 0 (λ e. ne (omega arith)) in
+        let same : (j : ℕ) → j ≢ 0 → get_or ws j 0 ≡ get_or s.words j 0 = λ j ne. get_or-set_other s.words 0 j MARK 0 (λ e. ne (omega arith)) in
         let ph : Phase Request Reply = leads lead.own in
         let phase' : ℕ → Phase Request Reply = put r.phase c ph in
         let here : phase' c ≡ ph = put_here r.phase c ph in
@@ -72,10 +74,11 @@ module _ {Request Reply Log Right : Type 0} (stands : Laws Request Reply Log Rig
             ((λ _. is_boundary r.two c g _ _ acc.1 (sym (ap (λ (y : Core Request Reply). y.1) acc.1) ∙ (acc.2 ∙ ap (grouped lead.own) (sym all))) fit.5.0 f.own_by), λ miss. absurd (miss hit)),
             moved stands n s r c id ws s.homes h h' [] r.hand r.handled (marked c) ph r.due r.told (parts_two r.two c g 0) record {
               at = at';
+              real = fit.1;
               same_client = refl;
-              wide = length-set s.words 0 255;
+              wide = length-set s.words 0 MARK;
               many = refl;
-              newest_is = get_or-set_same s.words 0 255 0 (omega arith);
+              newest_is = get_or-set_same s.words 0 MARK 0 (omega arith);
               links = tt;
               distinct = tt;
               within = tt;
@@ -105,7 +108,8 @@ module _ {Request Reply Log Right : Type 0} (stands : Laws Request Reply Log Rig
               others = λ j ne. knows_stays stands n r.line [] r.hand r.hand r.handled r.handled r.mode (marked c) r.phase phase' r.due r.due j (put_else r.phase c ph j ne)
                   (λ h. absurd (ne (sym (subst (Holds j) led_c h))))
                   (λ e y is owed. (put_at r.phase c ph (λ i g. r.phase i ≡ taken j e → g ≡ taken j e) e.by (λ w t. let bad : r.phase e.by ≡ leads lead.own = ap r.phase w ∙ now in absurd (cc)) (λ _ t. t) is, owed))
-                  (λ y owed. owed);
+                  (λ y owed. owed)
+                  (λ e y is. put_at r.phase c ph (λ i g. r.phase i ≡ dropped j e y → g ≡ dropped j e y) e.by (λ w t. let bad : r.phase e.by ≡ leads lead.own = ap r.phase w ∙ now in absurd (cc)) (λ _ t. t) is);
             },
           ),
           λ c' lead' mine' mid'.
@@ -114,8 +118,8 @@ module _ {Request Reply Log Right : Type 0} (stands : Laws Request Reply Log Rig
         )
 
   pub marks_is : (from : List (Handling Request Reply)) (slots id : ℕ) (me : Sat Request Reply Log Right) (c old : ℕ) (lead : Lead Request Reply) (mine : List (Request × Reply)) (said : Option (LineSlot Request Reply Log Right)) → At c (Leading lead) mine me → old ≡ newest (in_hand lead) → lead.taken ≡ lead.group
-      → StepIs stands n (HappensWhere old (IsBoundary c (squad_at_cut lead from))) slots id me 0 (λ y. either (eqb y old) 255 y) (after_mark from (step slots 0 old 255 said) me)
-  marks_is from slots id me c old lead mine said mid is_old all s r long at fits = exchanged (get_or s.words 0 0) old 255 (Goes stands n (HappensWhere old (IsBoundary c (squad_at_cut lead from))) s r 0 id me (after_mark from (step slots 0 old 255 said) me))
+      → StepIs stands n (HappensWhere old (IsBoundary c (squad_at_cut lead from))) slots id me 0 (λ y. either (eqb y old) MARK y) (after_mark from (step slots 0 old MARK said) me)
+  marks_is from slots id me c old lead mine said mid is_old all s r long at fits = exchanged (get_or s.words 0 0) old MARK (Goes stands n (HappensWhere old (IsBoundary c (squad_at_cut lead from))) s r 0 id me (after_mark from (step slots 0 old MARK said) me))
       (λ hit. marks_last from slots id me c old lead mine said mid is_old all s r at hit)
       (λ miss.
       let t = walks_now stands n slots id me c lead mine mid s r at long in (
@@ -130,17 +134,17 @@ module _ {Request Reply Log Right : Type 0} (stands : Laws Request Reply Log Rig
       ))
 
   pub marks : (from : List (Handling Request Reply)) (slots id : ℕ) (me : Sat Request Reply Log Right) (c old : ℕ) (lead : Lead Request Reply) (mine : List (Request × Reply)) (said : Option (LineSlot Request Reply Log Right)) → At c (Leading lead) mine me → old ≡ newest (in_hand lead) → lead.taken ≡ lead.group
-      → Allows (Listed stands n) slots id me 0 (λ y. either (eqb y old) 255 y) (after_mark from (step slots 0 old 255 said) me)
-  marks from slots id me c old lead mine said mid is_old all = allows stands n (HappensWhere old (IsBoundary c (squad_at_cut lead from))) slots id me 0 (λ y. either (eqb y old) 255 y) (after_mark from (step slots 0 old 255 said) me) (marks_is from slots id me c old lead mine said mid is_old all)
+      → Allows (Listed stands n) slots id me 0 (λ y. either (eqb y old) MARK y) (after_mark from (step slots 0 old MARK said) me)
+  marks from slots id me c old lead mine said mid is_old all = allows stands n (HappensWhere old (IsBoundary c (squad_at_cut lead from))) slots id me 0 (λ y. either (eqb y old) MARK y) (after_mark from (step slots 0 old MARK said) me) (marks_is from slots id me c old lead mine said mid is_old all)
 
-  none_behind : (n b : ℕ) (line : List (QueuedWriter Request)) → n < 255 → Within n line → newest_from b line ≡ 255 → line ≡ []
+  none_behind : (n b : ℕ) (line : List (QueuedWriter Request)) → n < MARK → Within n line → newest_from b line ≡ MARK → line ≡ []
   none_behind m b [] few ok is = refl
   none_behind m b (e ∷ es) few ok is = let h = ok.1 in absurd (omega arith)
 
   pub frees_is : (slots id : ℕ) (me : Sat Request Reply Log Right) (c : ℕ) (lead : Lead Request Reply) (mine : List (Request × Reply)) (b : Back Request Reply) (gs : List (QueuedWriter Request × Reply)) (p : Reply) (l : Log) (tail : List (ℕ × LineSlot Request Reply Log Right)) (said : Option (LineSlot Request Reply Log Right)) → AtWith c (Marking lead) mine b me → heads gs ≡ lead.taken
       → me.1 ≡ (0, TheLog l) ∷ slots_of gs ((c, Told p) ∷ tail) → stands.logs l (lead.seen ++ all_answers lead.own p gs) → Hands stands n b lead.seen (lead.seen ++ all_answers lead.own p gs)
-      → StepIs stands n (HappensWhere 255 (IsNext b lead.own p gs)) slots id me 0 (λ y. either (eqb y 255) 0 y) (after_free (step slots 0 255 0 said) me)
-  frees_is slots id me c lead mine b gs p l tail said mid group slot stood unnumbered s r long at fits = exchanged (get_or s.words 0 0) 255 0 (Goes stands n (HappensWhere 255 (IsNext b lead.own p gs)) s r 0 id me (after_free (step slots 0 255 0 said) me))
+      → StepIs stands n (HappensWhere MARK (IsNext b lead.own p gs)) slots id me 0 (λ y. either (eqb y MARK) 0 y) (after_free (step slots 0 MARK 0 said) me)
+  frees_is slots id me c lead mine b gs p l tail said mid group slot stood unnumbered s r long at fits = exchanged (get_or s.words 0 0) MARK 0 (Goes stands n (HappensWhere MARK (IsNext b lead.own p gs)) s r 0 id me (after_free (step slots 0 MARK 0 said) me))
       (λ hit.
       let h : LineHold Request Reply = hold_at c (Marking lead) mine b in
       let at' : get_elem? s.views id ≡ some (h ∷ []) = at ∙ ap some mid in
@@ -168,11 +172,12 @@ module _ {Request Reply Log Right : Type 0} (stands : Laws Request Reply Log Rig
       let two' = onward_two stands n b r.two in
       let was_cut = subst (HasCut r.account.log r.hand r.phase) is_marked r.has_cut in
       let same_lead : was_cut.0 ≡ lead.own = one_leads was_cut.0 lead.own (sym was_cut.2 ∙ now) in
-      let acc = frees_now stands.bound r.line r.handled r.mode r.account c lead.own (heads gs) more is_marked (none_behind n (base_of r.mode) r.line r.few r.within (sym r.newest_is ∙ hit)) (was_cut.3 ∙ (λ i. grouped (same_lead i) (hand_is i))) (group_handled lead.own p gs) in
+      let acc = frees_now stands.bound r.line r.handled r.mode r.account c lead.own (heads gs) more is_marked (none_behind n (base_of r.mode) r.line (let few = r.few in omega arith) r.within (sym (first_calm s.words r.line r.mode (marked c) is_marked refl r.newest_is) ∙ hit)) (was_cut.3 ∙ (λ i. grouped (same_lead i) (hand_is i))) (group_handled lead.own p gs) in
       let now_is : Lists Request Reply = ((acc.0.queue, acc.0.log, r.handled ++ more, acc.0.owing), second_list_of two') in
       let moved_to : IsNow stands n now_is (record { words = ws; homes = hs; views = set s.views id (h' ∷ []) }) =
       moved stands n s r c id ws hs h h' [] [] (r.handled ++ more) open_ ph owe r.told two' record {
         at = at';
+        real = fit.1;
         same_client = refl;
         wide = length-set s.words 0 0;
         many = length-set s.homes 0 (some (TheLog l));
@@ -209,7 +214,8 @@ module _ {Request Reply Log Right : Type 0} (stands : Laws Request Reply Log Rig
         others = λ j ne. knows_stays stands n r.line [] r.hand [] r.handled (r.handled ++ more) r.mode open_ r.phase phase' r.due owe j (put_else r.phase c ph j ne)
             (λ h. absurd (ne (sym (subst (Holds j) is_marked h))))
             (λ e x is owed. (put_at r.phase c ph (λ i g. r.phase i ≡ taken j e → g ≡ taken j e) e.by (λ w t. let bad : r.phase e.by ≡ leads lead.own = ap r.phase w ∙ now in absurd (cc)) (λ _ t. t) is, else_owed stands n s r c lead.own gs p by_c now members m.3 apart j ne e x is owed))
-            (else_due stands n s r c lead.own gs p by_c now members m.3 apart j ne);
+            (else_due stands n s r c lead.own gs p by_c now members m.3 apart j ne)
+            (λ e y is. put_at r.phase c ph (λ i g. r.phase i ≡ dropped j e y → g ≡ dropped j e y) e.by (λ w t. let bad : r.phase e.by ≡ leads lead.own = ap r.phase w ∙ now in absurd (cc)) (λ _ t. t) is);
       } in (
         h' ∷ [],
         gives,
@@ -227,7 +233,7 @@ module _ {Request Reply Log Right : Type 0} (stands : Laws Request Reply Log Rig
       let h : LineHold Request Reply = hold_at c (Marking lead) mine b in
       let at' : get_elem? s.views id ≡ some (h ∷ []) = at ∙ ap some mid in
       let fit = (r.seats id (h ∷ []) at').0 in
-      let base : base_of r.mode ≡ 255 = ap base_of fit.4.0 in
+      let base : base_of r.mode ≡ MARK = ap base_of fit.4.0 in
       let w : List (LineHold Request Reply) = hold_at c (Marking (lead_with_walk lead r.line)) mine b ∷ [] in (
         w,
         keeps,
@@ -244,7 +250,7 @@ module _ {Request Reply Log Right : Type 0} (stands : Laws Request Reply Log Rig
             r.line,
             refl,
             refl,
-            r.newest_is ∙ ap (λ (k : ℕ). newest_from k r.line) base,
+            first_calm s.words r.line r.mode (marked c) fit.4.0 refl r.newest_is ∙ ap (λ (k : ℕ). newest_from k r.line) base,
             (let k = walk_bound n r.line r.within r.distinct in let m = r.many in omega arith),
             all_below stands n slots r.line (let m = r.many in omega arith) r.within,
           ),
@@ -253,8 +259,8 @@ module _ {Request Reply Log Right : Type 0} (stands : Laws Request Reply Log Rig
 
   pub frees : (slots id : ℕ) (me : Sat Request Reply Log Right) (c : ℕ) (lead : Lead Request Reply) (mine : List (Request × Reply)) (b : Back Request Reply) (gs : List (QueuedWriter Request × Reply)) (p : Reply) (l : Log) (tail : List (ℕ × LineSlot Request Reply Log Right)) (said : Option (LineSlot Request Reply Log Right)) → AtWith c (Marking lead) mine b me → heads gs ≡ lead.taken
       → me.1 ≡ (0, TheLog l) ∷ slots_of gs ((c, Told p) ∷ tail) → stands.logs l (lead.seen ++ all_answers lead.own p gs) → Hands stands n b lead.seen (lead.seen ++ all_answers lead.own p gs)
-      → Allows (Listed stands n) slots id me 0 (λ y. either (eqb y 255) 0 y) (after_free (step slots 0 255 0 said) me)
-  frees slots id me c lead mine b gs p l tail said mid group slot stood unnumbered = allows stands n (HappensWhere 255 (IsNext b lead.own p gs)) slots id me 0 (λ y. either (eqb y 255) 0 y) (after_free (step slots 0 255 0 said) me) (frees_is slots id me c lead mine b gs p l tail said mid group slot stood unnumbered)
+      → Allows (Listed stands n) slots id me 0 (λ y. either (eqb y MARK) 0 y) (after_free (step slots 0 MARK 0 said) me)
+  frees slots id me c lead mine b gs p l tail said mid group slot stood unnumbered = allows stands n (HappensWhere MARK (IsNext b lead.own p gs)) slots id me 0 (λ y. either (eqb y MARK) 0 y) (after_free (step slots 0 MARK 0 said) me) (frees_is slots id me c lead mine b gs p l tail said mid group slot stood unnumbered)
 
   newest_snoc : (b d : ℕ) (q : List (QueuedWriter Request)) (x : QueuedWriter Request) → newest_from b (q ++ x ∷ []) ≡ newest_from d (q ++ x ∷ [])
   newest_snoc b d [] x = refl
@@ -302,11 +308,12 @@ module _ {Request Reply Log Right : Type 0} (stands : Laws Request Reply Log Rig
           (λ i. (acc.1 i, second_list_of r.two)),
           moved stands n s r c id ws s.homes h h' r.line r.hand r.handled (cut c x.by) ph r.due r.told r.two record {
             at = at';
+            real = fit.1;
             same_client = refl;
             wide = length-set s.words k new;
             many = refl;
-            newest_is = same 0 (λ e. omega arith) ∙ (r.newest_is ∙ (ap (newest_from (base_of r.mode)) parts ∙ (newest_snoc (base_of r.mode) 0 q x ∙ ap (newest_from 0) (sym parts))));
-            links = subst (LinksFrom 0 ws) (sym parts) (aim_links s.words ws x.by q x 255 0 same_older apart (ap (λ (j : ℕ). get_or ws j 0) (sym is_word) ∙ (get_or-set_same s.words k new 0 (omega arith) ∙ cleared)) (subst (LinksFrom 255 s.words) parts (subst (λ d. LinksFrom d s.words r.line) (ap base_of is_marked) r.links)));
+            newest_is = same 0 (λ e. omega arith) ∙ (first_calm s.words r.line r.mode (marked c) is_marked refl r.newest_is ∙ (ap (newest_from (base_of r.mode)) parts ∙ (newest_snoc (base_of r.mode) 0 q x ∙ ap (newest_from 0) (sym parts))));
+            links = subst (LinksFrom 0 ws) (sym parts) (aim_links s.words ws x.by q x MARK 0 same_older apart (ap (λ (j : ℕ). get_or ws j 0) (sym is_word) ∙ (get_or-set_same s.words k new 0 (omega arith) ∙ cleared)) (subst (LinksFrom MARK s.words) parts (subst (λ d. LinksFrom d s.words r.line) (ap base_of is_marked) r.links)));
             distinct = r.distinct;
             within = r.within;
             stand = stand_change r.phase c ph r.line (λ e is_in. subst (InChain e) now is_in) r.stand;
@@ -338,7 +345,8 @@ module _ {Request Reply Log Right : Type 0} (stands : Laws Request Reply Log Rig
             others = λ j ne. knows_stays stands n r.line r.line r.hand r.hand r.handled r.handled r.mode (cut c x.by) r.phase phase' r.due r.due j (put_else r.phase c ph j ne)
                 (λ h. absurd (ne (sym (subst (Holds j) is_marked h))))
                 (λ e y is owed. (put_at r.phase c ph (λ i g. r.phase i ≡ taken j e → g ≡ taken j e) e.by (λ w t. let bad : r.phase e.by ≡ leads lead.own = ap r.phase w ∙ now in absurd (cc)) (λ _ t. t) is, owed))
-                (λ y owed. owed);
+                (λ y owed. owed)
+                (λ e y is. put_at r.phase c ph (λ i g. r.phase i ≡ dropped j e y → g ≡ dropped j e y) e.by (λ w t. let bad : r.phase e.by ≡ leads lead.own = ap r.phase w ∙ now in absurd (cc)) (λ _ t. t) is);
           },
         ),
         λ c' lead' mine' b' pre' x' mid' is_walk' is_word'.

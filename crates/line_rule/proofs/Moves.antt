@@ -1,5 +1,5 @@
 -- What of the rule stays true when one row and one seat move, and what the list is then.
-use Rattle.std.proofs.Common.{◌≡◌, ◌≢◌, ℕ, ◌<◌, ◌≤◌, List, [], ◌∷◌, ◌++◌, length, get_or, set, refl, sym, ap, ◌∙◌, subst, ⊎_elim, append_assoc}
+use Rattle.std.proofs.Common.{◌≡◌, ◌≢◌, ℕ, ◌<◌, ◌≤◌, List, [], ◌∷◌, ◌++◌, length, get_or, set, refl, sym, ap, ◌∙◌, subst, ⊎_elim, append_assoc, arith}
 use mathlib.Core.Option.{Option, some}
 use lib.ListN.{get_elem?}
 use lib.Seq.{set-get_or}
@@ -11,9 +11,9 @@ use Rattle.line_rule.specs.declared.view.LineHold.{LineHold}
 use Rattle.line_rule.specs.declared.view.Back.{Back}
 use Rattle.line_rule.specs.declared.content.LineSlot.{LineSlot}
 use Rattle.line_rule.specs.declared.view.LineStage.{LineStage}
-use Rattle.line_rule.specs.declared.view.LineStage.TheVariants.{Idle, Preparing, Waiting, Helping, Fresh, Leading, Cutting, Marking, Settling, Collecting}
+use Rattle.line_rule.specs.declared.view.LineStage.TheVariants.{Idle, Preparing, Waiting, Helping, Fresh, Leading, Stalling, Cutting, Marking, Settling, Collecting}
 use Rattle.line_rule.specs.Chain.{state_at, older_at, newest_from, LinksFrom, Distinct, Within, EndsWith, of}
-use Rattle.line_rule.specs.Standing.{Phase, idle, preparing, linked, chosen, leads, taken, completed, collecting, Mode, open_, waits, led, built, cut, marked, base_of, Holds, Two, KnowsBack}
+use Rattle.line_rule.specs.Standing.{Phase, idle, preparing, linked, chosen, leads, taken, completed, held, dropped, dismissed, collecting, calm, Names, pause_in, pause_of, Mode, open_, waits, led, built, cut, marked, base_of, Holds, Two, KnowsBack}
 use Rattle.line_rule.specs.Laws.{Laws}
 use Rattle.line_rule.specs.Events.{LineEvent, GoesOn}
 use Rattle.line_rule.specs.Rule.{InChain, Stand, Waits, AllTaken, Knows, Recalls, AllFit, InPhase, InMode, Account, Listed, Second, HasCut, due_untold, hold_at}
@@ -21,6 +21,7 @@ use Rattle.line_rule.specs.Plays.{Sat}
 use Rattle.line_rule.specs.Steps.{Lists, now_of, IsNow, Becomes, StepIs}
 use Rattle.line_rule.specs.SecondList.{second_list_of}
 use Rattle.line_rule.proofs.Chains.{put, put_at, put_else, linked_change, owed_change, ends_trans}
+use Rattle.line_rule.proofs.Pauses.{queued_change, owes_stay}
 
 module _ {Request Reply : Type 0} where
   pub goes_further : (a b c : List (LineEvent Request Reply)) → GoesOn b a → GoesOn c b → GoesOn c a
@@ -33,6 +34,7 @@ module _ {Request Reply : Type 0} where
   recalls_more was now on (Helping q) ok = tt
   recalls_more was now on (Fresh own seen) ok = tt
   recalls_more was now on (Leading lead) ok = goes_further lead.past was now ok on
+  recalls_more was now on (Stalling lead t) ok = goes_further lead.past was now ok on
   recalls_more was now on (Cutting lead e) ok = tt
   recalls_more was now on (Marking lead) ok = tt
   recalls_more was now on (Settling debt) ok = tt
@@ -54,35 +56,38 @@ module _ {Request Reply Log Right : Type 0} (stands : Laws Request Reply Log Rig
   row_stays words ws homes hs k due a b c (leads e) ok = ok
   row_stays words ws homes hs k due a b c (taken l e) ok = (ok.0, (λ e. ok.1 (sym a ∙ e)), (λ e. ok.2 (sym a ∙ e)), (λ e. ok.3 (sym a ∙ e)))
   row_stays words ws homes hs k due a b c (completed q p) ok = (a ∙ ok.0, c ∙ ok.1, ok.2)
+  row_stays words ws homes hs k due a b c (held l e) ok = (ok.0, a ∙ ok.1, ok.2)
+  row_stays words ws homes hs k due a b c (dropped l e p) ok = (ok.0, a ∙ ok.1, ok.2, ok.3)
+  row_stays words ws homes hs k due a b c (dismissed q p) ok = (a ∙ ok.0, c ∙ ok.1, ok.2, ok.3)
   row_stays words ws homes hs k due a b c collecting ok = ok
 
   pub mode_stays : (homes hs : Homes) (line hand : List (QueuedWriter Request)) (handled : List (Handling Request Reply)) (phase : ℕ → Phase Request Reply) (due due' : ℕ → List (Request × Reply)) (m : ℕ) (ph : Phase Request Reply) → get_elem? hs 0 ≡ get_elem? homes 0
       → ((e : QueuedWriter Request) → phase m ≡ chosen e → ph ≡ chosen e) → ((c : ℕ) (e : QueuedWriter Request) → c ≡ m → phase m ≡ leads e → due c ≡ [] → ph ≡ leads e) → ((e : QueuedWriter Request) → phase m ≡ linked e → ph ≡ linked e)
-      → ((c : ℕ) → AllTaken phase due c hand → AllTaken (put phase m ph) due' c hand) → ((c : ℕ) → due c ≡ [] → due' c ≡ [])
+      → ((c : ℕ) → AllTaken phase due c hand → AllTaken (put phase m ph) due' c hand) → ((c : ℕ) (e : QueuedWriter Request) → phase m ≡ held c e → ph ≡ held c e) → ((c : ℕ) → due c ≡ [] → due' c ≡ [])
       → (mode : Mode Request) → InMode stands n homes line hand handled phase due mode → InMode stands n hs line hand handled (put phase m ph) due' mode
-  mode_stays homes hs line hand handled phase due due' m ph same to_c to_l to_k to_t nil open_ ok = (ok.0, ok.1, (ok.2.0, same ∙ ok.2.1, ok.2.2))
-  mode_stays homes hs line hand handled phase due due' m ph same to_c to_l to_k to_t nil (waits c) ok = (
+  mode_stays homes hs line hand handled phase due due' m ph same to_c to_l to_k to_t to_g nil open_ ok = (ok.0, ok.1, (ok.2.0, same ∙ ok.2.1, ok.2.2))
+  mode_stays homes hs line hand handled phase due due' m ph same to_c to_l to_k to_t to_g nil (waits c) ok = (
     (ok.0.0, ok.0.1, ok.0.2, linked_change phase m ph ok.0.0 to_k ok.0.3, put_at phase m ph (λ k f. phase k ≡ chosen ok.0.1 → f ≡ chosen ok.0.1) c (λ is here. to_c ok.0.1 (ap phase (sym is) ∙ here)) (λ _ here. here) ok.0.4, ok.0.5),
     ok.1,
     (ok.2.0, same ∙ ok.2.1, ok.2.2),
   )
-  mode_stays homes hs line hand handled phase due due' m ph same to_c to_l to_k to_t nil (led c) ok = (
+  mode_stays homes hs line hand handled phase due due' m ph same to_c to_l to_k to_t to_g nil (led c) ok = (
     (ok.0.0, ok.0.1, ok.0.2, linked_change phase m ph ok.0.0 to_k ok.0.3, put_at phase m ph (λ k f. phase k ≡ leads ok.0.1 → due k ≡ [] → f ≡ leads ok.0.1) c (λ is here owes. to_l c ok.0.1 is (ap phase (sym is) ∙ here) owes) (λ _ here _. here) ok.0.4 ok.2, ok.0.5),
     ok.1,
     nil c ok.2,
   )
-  mode_stays homes hs line hand handled phase due due' m ph same to_c to_l to_k to_t nil (built c g) ok = (
-    (ok.0.0, ok.0.1, ok.0.2, linked_change phase m ph ok.0.0 to_k ok.0.3, put_at phase m ph (λ k f. phase k ≡ leads ok.0.1 → due k ≡ [] → f ≡ leads ok.0.1) c (λ is here owes. to_l c ok.0.1 is (ap phase (sym is) ∙ here) owes) (λ _ here _. here) ok.0.4 ok.2, ok.0.5),
+  mode_stays homes hs line hand handled phase due due' m ph same to_c to_l to_k to_t to_g nil (built c g t) ok = (
+    (ok.0.0, ok.0.1, ok.0.2, queued_change phase due due' m ph c ok.0.0 t to_k (to_g c) nil ok.0.3, put_at phase m ph (λ k f. phase k ≡ leads ok.0.1 → due k ≡ [] → f ≡ leads ok.0.1) c (λ is here owes. to_l c ok.0.1 is (ap phase (sym is) ∙ here) owes) (λ _ here _. here) ok.0.4 ok.2, ok.0.5),
     to_t c ok.1,
     nil c ok.2,
   )
-  mode_stays homes hs line hand handled phase due due' m ph same to_c to_l to_k to_t nil (cut c w) ok = (
+  mode_stays homes hs line hand handled phase due due' m ph same to_c to_l to_k to_t to_g nil (cut c w) ok = (
     (ok.0.0, ok.0.1, ok.0.2, linked_change phase m ph ok.0.0 to_k ok.0.3, put_at phase m ph (λ k f. phase k ≡ linked ok.0.1 → f ≡ linked ok.0.1) w (λ is here. to_k ok.0.1 (ap phase (sym is) ∙ here)) (λ _ here. here) ok.0.4, ok.0.5),
     to_t c ok.1,
     nil c ok.2,
     ok.3,
   )
-  mode_stays homes hs line hand handled phase due due' m ph same to_c to_l to_k to_t nil (marked c) ok = (
+  mode_stays homes hs line hand handled phase due due' m ph same to_c to_l to_k to_t to_g nil (marked c) ok = (
     linked_change phase m ph line to_k ok.0,
     (ok.1.0, put_at phase m ph (λ k f. phase k ≡ leads ok.1.0 → due k ≡ [] → f ≡ leads ok.1.0) c (λ is here owes. to_l c ok.1.0 is (ap phase (sym is) ∙ here) owes) (λ _ here _. here) ok.1.1 ok.3, ok.1.2, ok.1.3, ok.1.4),
     to_t c ok.2,
@@ -97,38 +102,42 @@ module _ {Request Reply Log Right : Type 0} (stands : Laws Request Reply Log Rig
   pub knows_stays : (line line' hand hand' : List (QueuedWriter Request)) (handled handled' : List (Handling Request Reply)) (mode mode' : Mode Request) (phase phase' : ℕ → Phase Request Reply) (due due' : ℕ → List (Request × Reply)) (k : ℕ) → phase' k ≡ phase k
       → (Holds k mode → (mode' ≡ mode) × EndsWith line' line × (handled' ≡ handled) × (hand' ≡ hand) × ((e : QueuedWriter Request) → mode ≡ cut k e.by → phase e.by ≡ linked e → phase' e.by ≡ linked e))
       → ((e : QueuedWriter Request) (x : Request × Reply) → phase e.by ≡ taken k e → due e.by ≡ x ∷ [] → (phase' e.by ≡ taken k e) × (due' e.by ≡ x ∷ []))
-      → ((x : Request × Reply) → due k ≡ x ∷ [] → due' k ≡ x ∷ [])
+      → ((x : Request × Reply) → due k ≡ x ∷ [] → due' k ≡ x ∷ []) → ((x : QueuedWriter Request) (p : Reply) → phase x.by ≡ dropped k x p → phase' x.by ≡ dropped k x p)
       → (st : LineStage Request Reply) → Knows line hand handled mode phase due k st → Knows line' hand' handled' mode' phase' due' k st
-  knows_stays line line' hand hand' handled handled' mode mode' phase phase' due due' k same to_h to_o to_d Idle ok = same ∙ ok
-  knows_stays line line' hand hand' handled handled' mode mode' phase phase' due due' k same to_h to_o to_d (Preparing w) ok = same ∙ ok
-  knows_stays line line' hand hand' handled handled' mode mode' phase phase' due due' k same to_h to_o to_d (Waiting q past) ok = subst (Waits q) (sym same) ok
-  knows_stays line line' hand hand' handled handled' mode mode' phase phase' due due' k same to_h to_o to_d (Helping q) ok = (subst (Waits q) (sym same) ok.0, (ok.1.0, to_d (q, ok.1.0) ok.1.1))
-  knows_stays line line' hand hand' handled handled' mode mode' phase phase' due due' k same to_h to_o to_d (Fresh own seen) ok = let t = to_h (holds_by k mode (led k) ok.0 refl) in (t.0 ∙ ok.0, same ∙ ok.1, ok.2 ∙ sym t.2)
-  knows_stays line line' hand hand' handled handled' mode mode' phase phase' due due' k same to_h to_o to_d (Leading lead) ok = let t = to_h (holds_by k mode (built k lead.group) ok.0 refl) in (t.0 ∙ ok.0, same ∙ ok.1, ends_trans line' line lead.walk t.1 ok.2, ok.3 ∙ sym t.2, ok.4 ∙ sym t.3)
-  knows_stays line line' hand hand' handled handled' mode mode' phase phase' due due' k same to_h to_o to_d (Cutting lead e) ok = let t = to_h (holds_by k mode (cut k e.by) ok.0 refl) in (t.0 ∙ ok.0, same ∙ ok.1, t.4 e ok.0 ok.2, ok.3 ∙ sym t.2, ok.4 ∙ sym t.3)
-  knows_stays line line' hand hand' handled handled' mode mode' phase phase' due due' k same to_h to_o to_d (Marking lead) ok = let t = to_h (holds_by k mode (marked k) ok.0 refl) in (t.0 ∙ ok.0, same ∙ ok.1, ends_trans line' line lead.walk t.1 ok.2, ok.3 ∙ sym t.2, ok.4 ∙ sym t.3)
-  knows_stays line line' hand hand' handled handled' mode mode' phase phase' due due' k same to_h to_o to_d (Settling debt) ok =
+  knows_stays line line' hand hand' handled handled' mode mode' phase phase' due due' k same to_h to_o to_d to_x Idle ok = same ∙ ok
+  knows_stays line line' hand hand' handled handled' mode mode' phase phase' due due' k same to_h to_o to_d to_x (Preparing w) ok = same ∙ ok
+  knows_stays line line' hand hand' handled handled' mode mode' phase phase' due due' k same to_h to_o to_d to_x (Waiting q past) ok = subst (Waits q) (sym same) ok
+  knows_stays line line' hand hand' handled handled' mode mode' phase phase' due due' k same to_h to_o to_d to_x (Helping q) ok = (subst (Waits q) (sym same) ok.0, (ok.1.0, to_d (q, ok.1.0) ok.1.1))
+  knows_stays line line' hand hand' handled handled' mode mode' phase phase' due due' k same to_h to_o to_d to_x (Fresh own seen) ok = let t = to_h (holds_by k mode (led k) ok.0 refl) in (t.0 ∙ ok.0, same ∙ ok.1, ok.2 ∙ sym t.2)
+  knows_stays line line' hand hand' handled handled' mode mode' phase phase' due due' k same to_h to_o to_d to_x (Leading lead) ok = let t = to_h (holds_by k mode (built k lead.group calm) ok.0 refl) in (t.0 ∙ ok.0, same ∙ ok.1, ends_trans line' line lead.walk t.1 ok.2, ok.3 ∙ sym t.2, ok.4 ∙ sym t.3)
+  knows_stays line line' hand hand' handled handled' mode mode' phase phase' due due' k same to_h to_o to_d to_x (Stalling lead t) ok =
+      let u = to_h (holds_by k mode (built k lead.group (pause_in t)) ok.0 refl) in (u.0 ∙ ok.0, same ∙ ok.1, ends_trans line' line lead.walk u.1 ok.2, ok.3 ∙ sym u.2, ok.4 ∙ sym u.3, owes_stay phase phase' k t to_x ok.5)
+  knows_stays line line' hand hand' handled handled' mode mode' phase phase' due due' k same to_h to_o to_d to_x (Cutting lead e) ok = let t = to_h (holds_by k mode (cut k e.by) ok.0 refl) in (t.0 ∙ ok.0, same ∙ ok.1, t.4 e ok.0 ok.2, ok.3 ∙ sym t.2, ok.4 ∙ sym t.3)
+  knows_stays line line' hand hand' handled handled' mode mode' phase phase' due due' k same to_h to_o to_d to_x (Marking lead) ok = let t = to_h (holds_by k mode (marked k) ok.0 refl) in (t.0 ∙ ok.0, same ∙ ok.1, ends_trans line' line lead.walk t.1 ok.2, ok.3 ∙ sym t.2, ok.4 ∙ sym t.3)
+  knows_stays line line' hand hand' handled handled' mode mode' phase phase' due due' k same to_h to_o to_d to_x (Settling debt) ok =
       (owed_change phase phase' due due' k debt.rest to_o ok.0, same ∙ ok.1, to_d (debt.own.asked, debt.reply) ok.2, ok.3)
-  knows_stays line line' hand hand' handled handled' mode mode' phase phase' due due' k same to_h to_o to_d Collecting ok = same ∙ ok
+  knows_stays line line' hand hand' handled handled' mode mode' phase phase' due due' k same to_h to_o to_d to_x Collecting ok = same ∙ ok
 
   -- the same where the row m alone changes, and the list only grows at its newer end
   pub knows_else : (line line' hand : List (QueuedWriter Request)) (handled : List (Handling Request Reply)) (mode mode' : Mode Request) (phase : ℕ → Phase Request Reply) (due due' : ℕ → List (Request × Reply)) (m : ℕ) (ph : Phase Request Reply) (k : ℕ) → k ≢ m → EndsWith line' line
-      → (Holds k mode → mode' ≡ mode) → ((e : QueuedWriter Request) → phase m ≡ linked e → ph ≡ linked e) → ((e : QueuedWriter Request) → phase m ≡ taken k e → (ph ≡ taken k e) × (due' m ≡ due m)) → ((j : ℕ) → j ≢ m → due' j ≡ due j)
+      → (Holds k mode → mode' ≡ mode) → ((e : QueuedWriter Request) → phase m ≡ linked e → ph ≡ linked e) → ((e : QueuedWriter Request) → phase m ≡ taken k e → (ph ≡ taken k e) × (due' m ≡ due m)) → ((j : ℕ) → j ≢ m → due' j ≡ due j) → ((e : QueuedWriter Request) (p : Reply) → phase m ≡ dropped k e p → ph ≡ dropped k e p)
       → (st : LineStage Request Reply) → Knows line hand handled mode phase due k st → Knows line' hand handled mode' (put phase m ph) due' k st
-  knows_else line line' hand handled mode mode' phase due due' m ph k ne ends to_h to_k to_t due_else =
+  knows_else line line' hand handled mode mode' phase due due' m ph k ne ends to_h to_k to_t due_else to_x =
       knows_stays line line' hand hand handled handled mode mode' phase (put phase m ph) due due' k (put_else phase m ph k ne)
       (λ h. (to_h h, ends, refl, refl, λ e cu here. put_at phase m ph (λ j f. phase j ≡ linked e → f ≡ linked e) e.by (λ is now. to_k e (ap phase (sym is) ∙ now)) (λ _ now. now) here))
       (λ e x here owed. put_at phase m ph (λ j f. phase j ≡ taken k e → due j ≡ x ∷ [] → (f ≡ taken k e) × (due' j ≡ x ∷ [])) e.by
       (λ is now d. let t = to_t e (ap phase (sym is) ∙ now) in (t.0, ap due' is ∙ (t.1 ∙ (ap due (sym is) ∙ d)))) (λ ne now d. (now, due_else e.by ne ∙ d)) here owed)
       (λ x owed. due_else k ne ∙ owed)
+      (λ e p here. put_at phase m ph (λ j f. phase j ≡ dropped k e p → f ≡ dropped k e p) e.by (λ is now. to_x e p (ap phase (sym is) ∙ now)) (λ _ now. now) here)
 
   -- the row m becomes ph, and the seat id goes from h to h'
   pub record Move (s : St) (r : Listed stands n s) (m id : ℕ) (ws : List ℕ) (hs : Homes) (h h' : LineHold Request Reply) (line hand : List (QueuedWriter Request)) (handled : List (Handling Request Reply)) (mode : Mode Request) (ph : Phase Request Reply) (due told : ℕ → List (Request × Reply)) (two : Two Request Reply) : Type 0 where
     pub at : get_elem? s.views id ≡ some (h ∷ [])
+    pub real : 0 < m
     pub same_client : h'.client ≡ h.client
     pub wide : length ws ≡ length s.words
     pub many : length hs ≡ length s.homes
-    pub newest_is : get_or ws 0 0 ≡ newest_from (base_of mode) line
+    pub newest_is : Names ws (newest_from (base_of mode) line) (pause_of mode)
     pub links : LinksFrom (base_of mode) ws line
     pub distinct : Distinct line
     pub within : Within n line
@@ -176,6 +185,7 @@ module _ {Request Reply Log Right : Type 0} (stands : Laws Request Reply Log Rig
           told = told;
           seat = r.seat;
           few = r.few;
+          nobody = put_else r.phase m ph 0 (λ e. let lo = v.real in omega arith) ∙ r.nobody;
           wide = v.wide ∙ r.wide;
           many = v.many ∙ r.many;
           newest_is = v.newest_is;
@@ -239,6 +249,7 @@ module _ {Request Reply Log Right : Type 0} (stands : Laws Request Reply Log Rig
           told = r.told;
           seat = r.seat;
           few = r.few;
+          nobody = r.nobody;
           wide = r.wide;
           many = r.many;
           newest_is = r.newest_is;

@@ -24,6 +24,7 @@ use Rattle.line_rule.proofs.Chains.{put, put_here, put_else, nobody}
 use Rattle.line_rule.proofs.Accounts.{opens_now}
 use Rattle.line_rule.proofs.Moves.{St}
 use Rattle.line_rule.proofs.Groups.{within_at}
+use Rattle.line_rule.specs.declared.words.TheConstants.{STALL}
 
 module _ {A : Type 0} where
   pub at_end : (l : List A) (a b : A) (j : ℕ) → get_elem? (l ++ a ∷ []) j ≡ some b → (get_elem? l j ≡ some b) ⊎ ((j ≡ length l) × (a ≡ b))
@@ -63,7 +64,7 @@ module _ {Request Reply Log Right : Type 0} (stands : Laws Request Reply Log Rig
   even_level true even = even refl
   even_level false even = (refl, refl)
 
-  pub opens : (words : List ℕ) (slots : List (LineSlot Request Reply Log Right)) (l : Log) (rt : Right) → n < 255 → length words ≡ 2 * n + 4 → (get_or words 0 0 ≡ 0) × (get_or words 1 0 ≡ 0) → slots ≡ TheLog l ∷ (replicate n Empty ++ TheRight rt ∷ []) → stands.logs l [] → stands.rights rt stands.opened → (stands.piped ≡ true → stands.opened ≡ stands.given []) → Listed stands n (opening words slots (newcomers n))
+  pub opens : (words : List ℕ) (slots : List (LineSlot Request Reply Log Right)) (l : Log) (rt : Right) → n < STALL → length words ≡ 2 * n + 4 → (get_or words 0 0 ≡ 0) × (get_or words 1 0 ≡ 0) → slots ≡ TheLog l ∷ (replicate n Empty ++ TheRight rt ∷ []) → stands.logs l [] → stands.rights rt stands.opened → (stands.piped ≡ true → stands.opened ≡ stands.given []) → Listed stands n (opening words slots (newcomers n))
   opens words slots l rt few wide zero_first are stood right_stood even =
       let at_slot : (i : ℕ) → 0 < i → i ≤ n → get_elem? (map some slots) i ≡ some (some Empty) = λ i lo hi. ap (λ z. get_elem? (map some z) i) are ∙ past i lo hi in
       record {
@@ -76,6 +77,7 @@ module _ {Request Reply Log Right : Type 0} (stands : Laws Request Reply Log Rig
         told = λ _. [];
         seat = λ _. 0;
         few = few;
+        nobody = refl;
         wide = wide;
         many = ap (λ z. length (map some z)) are ∙ (ap suc (length-same n Empty (TheRight rt)) ∙ (omega arith));
         newest_is = zero_first.0;
@@ -121,7 +123,7 @@ module _ {Request Reply Log Right : Type 0} (stands : Laws Request Reply Log Rig
       first (suc j) v e = absurd (some-ne-none v (sym e))
 
   -- nobody has come yet
-  pub opens_is : (words : List ℕ) (slots : List (LineSlot Request Reply Log Right)) (l : Log) (rt : Right) → n < 255 → length words ≡ 2 * n + 4 → (get_or words 0 0 ≡ 0) × (get_or words 1 0 ≡ 0) → slots ≡ TheLog l ∷ (replicate n Empty ++ TheRight rt ∷ []) → stands.logs l [] → stands.rights rt stands.opened → (stands.piped ≡ true → stands.opened ≡ stands.given []) → IsNow stands n (([], free, [], []), ([], level, λ _. none)) (opening words slots (newcomers n))
+  pub opens_is : (words : List ℕ) (slots : List (LineSlot Request Reply Log Right)) (l : Log) (rt : Right) → n < STALL → length words ≡ 2 * n + 4 → (get_or words 0 0 ≡ 0) × (get_or words 1 0 ≡ 0) → slots ≡ TheLog l ∷ (replicate n Empty ++ TheRight rt ∷ []) → stands.logs l [] → stands.rights rt stands.opened → (stands.piped ≡ true → stands.opened ≡ stands.given []) → IsNow stands n (([], free, [], []), ([], level, λ _. none)) (opening words slots (newcomers n))
   unfolding opens
   opens_is words slots l rt few wide zero_first are stood right_stood even = (opens words slots l rt few wide zero_first are stood right_stood even, refl)
 
@@ -155,6 +157,7 @@ module _ {Request Reply Log Right : Type 0} (stands : Laws Request Reply Log Rig
         told = r.told;
         seat = put r.seat c k;
         few = r.few;
+        nobody = r.nobody;
         wide = r.wide;
         many = r.many;
         newest_is = r.newest_is;
@@ -229,6 +232,7 @@ module _ {Request Reply Log Right : Type 0} (stands : Laws Request Reply Log Rig
         told = r.told;
         seat = f;
         few = r.few;
+        nobody = r.nobody;
         wide = r.wide;
         many = r.many;
         newest_is = r.newest_is;
@@ -276,7 +280,7 @@ module _ {Request Reply Log Right : Type 0} (stands : Laws Request Reply Log Rig
       let bad : Path (Phase Request Reply) (leads ok.0.1) idle = sym ok.0.4 ∙ (ap phase (sym ok.0.5) ∙ nobody ok.0.1.by i.0 i.1) in absurd (cc)
   all_home homes line hand handled phase due within nobody (marked c) ok =
       let bad : Path (Phase Request Reply) (leads ok.1.0) idle = sym ok.1.1 ∙ nobody c ok.1.3 ok.1.4 in absurd (cc)
-  all_home homes line hand handled phase due within nobody (built c g) ok =
+  all_home homes line hand handled phase due within nobody (built c g t) ok =
       let i = within_at n (ok.0.0 ++ hand) ok.0.1 [] (subst (Within n) (ok.0.2 ∙ sym (append_assoc ok.0.0 hand (ok.0.1 ∷ []))) within) in
       let bad : Path (Phase Request Reply) (leads ok.0.1) idle = sym ok.0.4 ∙ (ap phase (sym ok.0.5) ∙ nobody ok.0.1.by i.0 i.1) in absurd (cc)
   all_home homes line hand handled phase due within nobody (cut c w) ok =
@@ -292,7 +296,7 @@ module _ {Request Reply Log Right : Type 0} (stands : Laws Request Reply Log Rig
       let bad : Path (Phase Request Reply) (leads ok.0.1) idle = sym ok.0.4 ∙ (ap phase (sym ok.0.5) ∙ nobody ok.0.1.by i.0 i.1) in absurd (cc)
   all_held homes line hand handled phase due within nobody (marked c) ok k h =
       let bad : Path (Phase Request Reply) (leads ok.1.0) idle = sym ok.1.1 ∙ nobody c ok.1.3 ok.1.4 in absurd (cc)
-  all_held homes line hand handled phase due within nobody (built c g) ok k h =
+  all_held homes line hand handled phase due within nobody (built c g t) ok k h =
       let i = within_at n (ok.0.0 ++ hand) ok.0.1 [] (subst (Within n) (ok.0.2 ∙ sym (append_assoc ok.0.0 hand (ok.0.1 ∷ []))) within) in
       let bad : Path (Phase Request Reply) (leads ok.0.1) idle = sym ok.0.4 ∙ (ap phase (sym ok.0.5) ∙ nobody ok.0.1.by i.0 i.1) in absurd (cc)
   all_held homes line hand handled phase due within nobody (cut c w) ok k h =

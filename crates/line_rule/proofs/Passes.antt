@@ -20,9 +20,9 @@ use Rattle.line_rule.specs.declared.view.Back.TheVariants.{Away, Parting, Joinin
 use Rattle.line_rule.specs.declared.content.LineSlot.{LineSlot}
 use Rattle.line_rule.specs.declared.content.LineSlot.TheVariants.{TheRight}
 use Rattle.line_rule.specs.declared.view.LineStage.{LineStage}
-use Rattle.line_rule.specs.declared.view.LineStage.TheVariants.{Idle, Preparing, Waiting, Helping, Fresh, Leading, Cutting, Marking, Settling, Collecting}
-use Rattle.line_rule.specs.Chain.{state_at, older_at, pack, newest, LinksFrom, Absent}
-use Rattle.line_rule.specs.Standing.{Phase, linked, chosen, leads, Mode, open_, waits, led, built, cut, marked, base_of, Holds, InFront, Place, away, parted, queued, called, serves, served, calls, held_by, passes, ahead, Two, line_of, flat, Behind, KnowsBack}
+use Rattle.line_rule.specs.declared.view.LineStage.TheVariants.{Stalling, Idle, Preparing, Waiting, Helping, Fresh, Leading, Cutting, Marking, Settling, Collecting}
+use Rattle.line_rule.specs.Chain.{newest_from, state_at, older_at, pack, newest, LinksFrom, Absent}
+use Rattle.line_rule.specs.Standing.{pause_of, Phase, linked, chosen, leads, Mode, open_, waits, led, built, cut, marked, base_of, Holds, InFront, Place, away, parted, queued, called, serves, served, calls, held_by, passes, ahead, Two, line_of, flat, Behind, KnowsBack}
 use Rattle.line_rule.specs.Laws.{Laws}
 use Rattle.line_rule.specs.Rule.{Knows, AllFit, hold_at, InPhase, InMode, Listed, InTurn, Second}
 use Rattle.line_rule.specs.Steps.{Stays, HappensWhere, IsSecond, now_of, IsNow, StepIs}
@@ -34,6 +34,7 @@ use Rattle.line_rule.proofs.Moves.{St, Homes, row_stays, Goes, allows, unmoved}
 use Rattle.line_rule.proofs.Seconds.{second_aims, second_behind, second_alone, second_serves, none_first}
 use Rattle.line_rule.proofs.Squads.{is_level, one_ahead, one_holder, snoc_some}
 use Rattle.line_rule.proofs.Onward.{back_map, parts_two, parts_else, one_hold_at, second_put, served_put, none_served, apart_put, behind_apart}
+use Rattle.line_rule.proofs.Pauses.{queued_out, names_stay}
 
 module _ {Request Reply : Type 0} where
   abbrev pub squad_of : Squad Request Reply → Back Request Reply → Squad Request Reply
@@ -53,6 +54,7 @@ module _ {Request Reply : Type 0} where
   cut_knows line hand handled mode phase due c lead (Helping q) is ok = absurd is
   cut_knows line hand handled mode phase due c lead (Fresh o n) is ok = absurd is
   cut_knows line hand handled mode phase due c lead (Leading l) is ok = absurd is
+  cut_knows line hand handled mode phase due c lead (Stalling l t) is ok = absurd is
   cut_knows line hand handled mode phase due c lead (Cutting l e) is ok = (subst (Holds c) (sym ok.0) refl, ap (λ (z : Lead Request Reply). z.seen) (sym is) ∙ ok.3)
   cut_knows line hand handled mode phase due c lead (Marking l) is ok = (subst (Holds c) (sym ok.0) refl, ap (λ (z : Lead Request Reply). z.seen) (sym is) ∙ ok.3)
   cut_knows line hand handled mode phase due c lead (Settling b) is ok = absurd is
@@ -73,7 +75,7 @@ module _ {Request Reply Log Right : Type 0} (stands : Laws Request Reply Log Rig
   home_stays homes hs line hand handled phase due same open_ ok = (ok.0, ok.1, (ok.2.0, same ∙ ok.2.1, ok.2.2))
   home_stays homes hs line hand handled phase due same (waits c) ok = (ok.0, ok.1, (ok.2.0, same ∙ ok.2.1, ok.2.2))
   home_stays homes hs line hand handled phase due same (led c) ok = ok
-  home_stays homes hs line hand handled phase due same (built c g) ok = ok
+  home_stays homes hs line hand handled phase due same (built c g t) ok = ok
   home_stays homes hs line hand handled phase due same (cut c w) ok = ok
   home_stays homes hs line hand handled phase due same (marked c) ok = ok
 
@@ -84,8 +86,8 @@ module _ {Request Reply Log Right : Type 0} (stands : Laws Request Reply Log Rig
       subst (Absent k) (sym ok.0.2) (absent_append k ok.0.0 (ok.0.1 ∷ []) (linked_out phase k ok.0.0 (λ e bad. absurd (cc)) ok.0.3) ((λ e. let bad : phase k ≡ chosen ok.0.1 = ap phase (sym e ∙ ok.0.5) ∙ ok.0.4 in absurd (cc)), tt))
   out_of_line homes line hand handled phase due k x now (led c) un ok =
       subst (Absent k) (sym ok.0.2) (absent_append k ok.0.0 (ok.0.1 ∷ []) (linked_out phase k ok.0.0 (λ e bad. absurd (cc)) ok.0.3) ((λ e. un (sym ok.0.5 ∙ e)), tt))
-  out_of_line homes line hand handled phase due k x now (built c g) un ok =
-      subst (Absent k) (sym ok.0.2) (absent_append k ok.0.0 (hand ++ ok.0.1 ∷ []) (linked_out phase k ok.0.0 (λ e bad. absurd (cc)) ok.0.3)
+  out_of_line homes line hand handled phase due k x now (built c g t) un ok =
+      subst (Absent k) (sym ok.0.2) (absent_append k ok.0.0 (hand ++ ok.0.1 ∷ []) (queued_out phase due c k ok.0.0 t (λ e bad. absurd (cc)) (λ e bad _. absurd (cc)) ok.0.3)
       (absent_append k hand (ok.0.1 ∷ []) (taken_absent phase due c k hand (λ e bad _. absurd (cc)) ok.1) ((λ e. un (sym ok.0.5 ∙ e)), tt)))
   out_of_line homes line hand handled phase due k x now (cut c w) un ok =
       subst (Absent k) (sym ok.0.2) (absent_append k ok.0.0 (ok.0.1 ∷ []) (linked_out phase k ok.0.0 (λ e bad. absurd (cc)) ok.0.3) ((λ e. let bad : phase k ≡ linked ok.0.1 = ap phase (sym e ∙ ok.0.5) ∙ ok.0.4 in absurd (cc)), tt))
@@ -97,6 +99,7 @@ module _ {Request Reply Log Right : Type 0} (stands : Laws Request Reply Log Rig
     pub wide : length ws ≡ length s.words
     pub many : length hs ≡ length s.homes
     pub first : get_or ws 0 0 ≡ get_or s.words 0 0
+    pub third : get_or ws 3 0 ≡ get_or s.words 3 0
     pub links : LinksFrom (base_of r.mode) ws r.line
     pub rows : (k : ℕ) → 0 < k → k ≤ n → InPhase stands ws hs k (r.due k) (r.phase k)
     pub home : get_elem? hs 0 ≡ get_elem? s.homes 0
@@ -126,9 +129,10 @@ module _ {Request Reply Log Right : Type 0} (stands : Laws Request Reply Log Rig
             two = two;
             seat = r.seat;
             few = r.few;
+            nobody = r.nobody;
             wide = v.wide ∙ r.wide;
             many = v.many ∙ r.many;
-            newest_is = v.first ∙ r.newest_is;
+            newest_is = names_stay s.words ws (newest_from (base_of r.mode) r.line) (pause_of r.mode) v.first v.third r.newest_is;
             links = v.links;
             distinct = r.distinct;
             within = r.within;
@@ -189,6 +193,7 @@ module _ {Request Reply Log Right : Type 0} (stands : Laws Request Reply Log Rig
             wide = length-set s.words k new;
             many = refl;
             first = same 0 (λ e. omega arith);
+            third = same 3 (λ e. omega arith);
             links = links_stay (base_of r.mode) s.words ws c r.line older out r.links;
             rows = rows_else s.words ws s.homes s.homes r.due r.phase c g.own now (λ j _. same (state_at j) (λ e. omega arith)) older (λ _ _. refl) r.rows;
             home = refl;
@@ -257,6 +262,7 @@ module _ {Request Reply Log Right : Type 0} (stands : Laws Request Reply Log Rig
               wide = length-set s.words 1 new;
               many = refl;
               first = same 0 (λ e. omega arith);
+              third = same 3 (λ e. omega arith);
               links = links_same (base_of r.mode) s.words ws r.line (λ j. same (older_at j) (λ e. omega arith)) r.links;
               rows = λ k lo hi. row_stays stands n s.words ws s.homes s.homes k (r.due k) (same (state_at k) (λ e. omega arith)) (same (older_at k) (λ e. omega arith)) refl (r.phase k) (r.rows k lo hi);
               home = refl;
@@ -298,6 +304,7 @@ module _ {Request Reply Log Right : Type 0} (stands : Laws Request Reply Log Rig
               wide = length-set s.words 1 new;
               many = length-set s.homes (n + 1) none;
               first = same 0 (λ e. omega arith);
+              third = same 3 (λ e. omega arith);
               links = links_same (base_of r.mode) s.words ws r.line (λ j. same (older_at j) (λ e. omega arith)) r.links;
               rows = λ k lo hi. row_stays stands n s.words ws s.homes hs k (r.due k) (same (state_at k) (λ e. omega arith)) (same (older_at k) (λ e. omega arith)) (home_else k hi) (r.phase k) (r.rows k lo hi);
               home = home_else 0 (omega arith);
@@ -350,6 +357,7 @@ module _ {Request Reply Log Right : Type 0} (stands : Laws Request Reply Log Rig
         wide = refl;
         many = length-set s.homes (n + 1) none;
         first = refl;
+        third = refl;
         links = r.links;
         rows = λ j lo hi. row_stays stands n s.words s.words s.homes hs j (r.due j) refl refl (home_else j hi) (r.phase j) (r.rows j lo hi);
         home = home_else 0 (omega arith);

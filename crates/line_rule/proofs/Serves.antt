@@ -108,6 +108,7 @@ module _ {Request Reply Log Right : Type 0} (stands : Laws Request Reply Log Rig
         wide = length-set s.words 1 0;
         many = length-set s.homes (n + 1) (some (TheRight right));
         first = same 0 (λ e. omega arith);
+        third = same 3 (λ e. omega arith);
         links = links_same (base_of r.mode) s.words ws r.line (λ j. same (older_at j) (λ e. omega arith)) r.links;
         rows = λ j lo hi. row_stays stands n s.words ws s.homes hs j (r.due j) (same (state_at j) (λ e. omega arith)) (same (older_at j) (λ e. omega arith)) (home_else j hi) (r.phase j) (r.rows j lo hi);
         home = home_else 0 (omega arith);
@@ -135,6 +136,7 @@ module _ {Request Reply Log Right : Type 0} (stands : Laws Request Reply Log Rig
         wide = refl;
         many = refl;
         first = refl;
+        third = refl;
         links = r.links;
         rows = r.rows;
         home = refl;
@@ -197,6 +199,7 @@ module _ {Request Reply Log Right : Type 0} (stands : Laws Request Reply Log Rig
             wide = length-set s.words k new;
             many = refl;
             first = same 0 (λ e. omega arith);
+            third = same 3 (λ e. omega arith);
             links = links_stay (base_of r.mode) s.words ws x.by r.line older out r.links;
             rows = rows_else stands n s.words ws s.homes s.homes r.due r.phase x.by x cl.3 (λ j _. same (state_at j) (λ e. omega arith)) older (λ _ _. refl) r.rows;
             home = refl;
@@ -244,6 +247,7 @@ module _ {Request Reply Log Right : Type 0} (stands : Laws Request Reply Log Rig
         wide = length-set s.words k 4;
         many = length-set s.homes (n + 1) (some (TheRight right));
         first = same 0 (λ e. omega arith);
+        third = same 3 (λ e. omega arith);
         links = links_same (base_of r.mode) s.words ws r.line (λ j. same (older_at j) (λ e. omega arith)) r.links;
         rows = rows_else stands n s.words ws s.homes hs r.due r.phase w cl.0.own cl.4 (λ j ne. same (state_at j) (λ e. ne (omega arith))) (λ j _. same (older_at j) (λ e. omega arith)) home_else r.rows;
         home = home_else 0 (omega arith);
@@ -311,6 +315,7 @@ module _ {Request Reply Log Right : Type 0} (stands : Laws Request Reply Log Rig
         wide = length-set s.words k 8;
         many = refl;
         first = same 0 (λ e. omega arith);
+        third = same 3 (λ e. omega arith);
         links = links_same (base_of r.mode) s.words ws r.line older r.links;
         rows = λ j lo hi. dite (ℕ_discrete j m)
             (λ e. let here : r.phase j ≡ taken c y.0 = ap r.phase e ∙ now in let at8 : get_or ws (state_at j) 0 ≡ 8 = ap (λ (i : ℕ). get_or ws (state_at i) 0) e ∙ is8 in

@@ -18,9 +18,9 @@ use Rattle.line_rule.proofs.Onward.{one_hold_at, taken_with, links_back, within_
 use Rattle.line_rule.specs.declared.content.LineSlot.{LineSlot}
 use Rattle.line_rule.specs.declared.content.LineSlot.TheVariants.{Empty, Told, TheLog}
 use Rattle.line_rule.specs.declared.view.LineStage.{LineStage}
-use Rattle.line_rule.specs.declared.view.LineStage.TheVariants.{Idle, Preparing, Waiting, Helping, Fresh, Leading, Cutting, Marking, Settling, Collecting}
+use Rattle.line_rule.specs.declared.view.LineStage.TheVariants.{Stalling, Idle, Preparing, Waiting, Helping, Fresh, Leading, Cutting, Marking, Settling, Collecting}
 use Rattle.line_rule.specs.Chain.{state_at, older_at, pack, newest_from, Links, LinksFrom, Absent, Distinct, Within, of, heads, all_answers, handling}
-use Rattle.line_rule.specs.Standing.{Phase, idle, linked, chosen, leads, taken, completed, Mode, open_, waits, led, built, cut, marked, base_of, Holds, ahead}
+use Rattle.line_rule.specs.Standing.{pause_of, calm, dropped, Phase, idle, linked, chosen, leads, taken, completed, Mode, open_, waits, led, built, cut, marked, base_of, Holds, ahead}
 use Rattle.line_rule.specs.Laws.{Laws}
 use Rattle.line_rule.specs.Rule.{InChain, Stand, Waits, AllLinked, AllTaken, AllOwed, Knows, hold, InPhase, InMode, Listed, InSecond, hold_at, HasCut, due_untold}
 use Rattle.line_rule.specs.Events.{exits, completes, Core, grouped, without}
@@ -33,6 +33,7 @@ use Rattle.line_rule.proofs.Accounts.{cuts_now, wakes_now, completes_now}
 use Rattle.line_rule.proofs.Moves.{row_stays, mode_stays, knows_stays, knows_else, moved, allows}
 use Rattle.line_rule.proofs.Keeps.{second_stays, second_row, put_same, kept_else}
 use Rattle.std.proofs.lemmas.List.{append_cancel_right}
+use Rattle.line_rule.proofs.Pauses.{queued_out, names_stay, first_calm}
 use Rattle.line_rule.proofs.Groups.{distinct_apart, distinct_front, distinct_back, within_front, within_at, linked_at, linked_front, linked_absent, taken_absent, linked_out, absent_append, stand_front, stand_apart, links_cut, newest_cut}
 use Rattle.line_rule.proofs.Enters.{one_hold}
 use Rattle.line_rule.proofs.Leads.{still_waits, one_lead, lead_in, leader, same_last, middle, snoc, one_leads}
@@ -52,6 +53,7 @@ module _ {Request Reply : Type 0} where
   debt_in d (Helping q) = d
   debt_in d (Fresh o n) = d
   debt_in d (Leading l) = d
+  debt_in d (Stalling l t) = d
   debt_in d (Cutting l e) = d
   debt_in d (Marking l) = d
   debt_in d (Settling b) = b
@@ -73,8 +75,8 @@ module _ {Request Reply Log Right : Type 0} (stands : Laws Request Reply Log Rig
       subst (Absent k) (sym ok.0.2) (absent_append k ok.0.0 (ok.0.1 ∷ []) (linked_out phase k ok.0.0 no_l ok.0.3) ((λ e. no_c ok.0.1 (ap phase (sym e ∙ ok.0.5) ∙ ok.0.4)), tt))
   handled_out homes line hand handled phase due k x owed no_l no_c (led c) ok =
       subst (Absent k) (sym ok.0.2) (absent_append k ok.0.0 (ok.0.1 ∷ []) (linked_out phase k ok.0.0 no_l ok.0.3) ((λ e. let bad : due k ≡ [] = ap due (sym e ∙ ok.0.5) ∙ ok.2 in absurd (cc)), tt))
-  handled_out homes line hand handled phase due k x owed no_l no_c (built c g) ok =
-      subst (Absent k) (sym ok.0.2) (absent_append k ok.0.0 (hand ++ ok.0.1 ∷ []) (linked_out phase k ok.0.0 no_l ok.0.3)
+  handled_out homes line hand handled phase due k x owed no_l no_c (built c g t) ok =
+      subst (Absent k) (sym ok.0.2) (absent_append k ok.0.0 (hand ++ ok.0.1 ∷ []) (queued_out phase due c k ok.0.0 t no_l (λ e _ none_due. absurd (cc)) ok.0.3)
       (absent_append k hand (ok.0.1 ∷ []) (taken_absent phase due c k hand (λ e _ none_due. absurd (cc)) ok.1) ((λ e. let bad : due k ≡ [] = ap due (sym e ∙ ok.0.5) ∙ ok.2 in absurd (cc)), tt)))
   handled_out homes line hand handled phase due k x owed no_l no_c (cut c w) ok =
       subst (Absent k) (sym ok.0.2) (absent_append k ok.0.0 (ok.0.1 ∷ []) (linked_out phase k ok.0.0 no_l ok.0.3) ((λ e. no_l ok.0.1 (ap phase (sym e ∙ ok.0.5) ∙ ok.0.4)), tt))
@@ -85,7 +87,7 @@ module _ {Request Reply Log Right : Type 0} (stands : Laws Request Reply Log Rig
   no_log homes line hand handled phase due k y owed open_ ok h = h
   no_log homes line hand handled phase due k y owed (waits c) ok h = h
   no_log homes line hand handled phase due k y owed (led c) ok h = let nil : due k ≡ [] = ap due (sym h) ∙ ok.2 in absurd (cc)
-  no_log homes line hand handled phase due k y owed (built c g) ok h = let nil : due k ≡ [] = ap due (sym h) ∙ ok.2 in absurd (cc)
+  no_log homes line hand handled phase due k y owed (built c g t) ok h = let nil : due k ≡ [] = ap due (sym h) ∙ ok.2 in absurd (cc)
   no_log homes line hand handled phase due k y owed (cut c w) ok h = let nil : due k ≡ [] = ap due (sym h) ∙ ok.2 in absurd (cc)
   no_log homes line hand handled phase due k y owed (marked c) ok h = let nil : due k ≡ [] = ap due (sym h) ∙ ok.3 in absurd (cc)
 
@@ -117,10 +119,11 @@ module _ {Request Reply Log Right : Type 0} (stands : Laws Request Reply Log Rig
       let after : IsNow stands n now_is (record { words = ws; homes = hs; views = set s.views id (h' ∷ []) }) =
       moved stands n s r m id ws hs h h' r.line r.hand r.handled r.mode ph r.due r.told r.two record {
         at = at';
+        real = lo;
         same_client = refl;
         wide = length-set s.words k 16;
         many = length-set s.homes m (some (Told g.1));
-        newest_is = same 0 (λ e. omega arith) ∙ r.newest_is;
+        newest_is = names_stay s.words ws (newest_from (base_of r.mode) r.line) (pause_of r.mode) (same 0 (λ e. omega arith)) (same 3 (λ e. omega arith)) r.newest_is;
         links = links_same (base_of r.mode) s.words ws r.line (λ j. same (older_at j) (λ e. omega arith)) r.links;
         distinct = r.distinct;
         within = r.within;
@@ -128,7 +131,7 @@ module _ {Request Reply Log Right : Type 0} (stands : Laws Request Reply Log Rig
         other_rows = λ j ne lo' _. row_stays stands n s.words ws s.homes hs j (r.due j) (same (state_at j) (λ e. ne (omega arith))) (same (older_at j) (λ e. omega arith)) (set_else s.homes m j (some (Told g.1)) ne) (r.phase j);
         row = (ap (λ (i : ℕ). get_or ws i 0) (sym is) ∙ get_or-set_same s.words k 16 0 (omega arith), set_here s.homes m (some (Told g.1)) (omega arith), owed);
         log_is = mode_stays stands n s.homes hs r.line r.hand r.handled r.phase r.due r.due m ph (set_else s.homes m 0 (some (Told g.1)) (λ e. omega arith)) (λ e bad. absurd (cc)) (λ j e _ bad _. absurd (cc)) (λ e bad. absurd (cc))
-            (λ l ok. taken_apart r.phase r.due r.due m ph l r.hand (taken_absent r.phase r.due l m r.hand (λ e _ none_due. absurd (cc)) ok) (λ _ _. refl) ok) (λ _ e. e) r.mode r.log_is;
+            (λ l ok. taken_apart r.phase r.due r.due m ph l r.hand (taken_absent r.phase r.due l m r.hand (λ e _ none_due. absurd (cc)) ok) (λ _ _. refl) ok) (λ l e bad. absurd (cc)) (λ _ e. e) r.mode r.log_is;
         one_chosen = λ j e. put_at r.phase m ph (λ i f. f ≡ chosen e → r.mode ≡ waits i) j (λ _ bad. absurd (cc)) (λ _ ok. r.one_chosen j e ok);
         kept = r.kept;
         coded = λ e is. absurd is;
@@ -148,7 +151,7 @@ module _ {Request Reply Log Right : Type 0} (stands : Laws Request Reply Log Rig
             (λ e. subst (λ (i : ℕ). (st : LineStage Request Reply) → Knows r.line r.hand r.handled r.mode r.phase r.due i st → Knows r.line r.hand r.handled r.mode phase' r.due i st) (sym e)
             (still_waits r.line r.line r.hand r.hand r.handled r.handled r.mode r.mode r.phase phase' r.due r.due m (taken c g.0) now tt (λ u w. subst (Waits u) (sym here) w) (λ _ o. o)))
             (λ away. knows_else stands n r.line r.line r.hand r.handled r.mode r.mode r.phase r.due r.due m ph j away (ends_same r.line) (λ _. refl) (λ e bad. absurd (cc))
-            (λ e bad. let two : Path (Phase Request Reply) (taken j e) (taken c g.0) = sym bad ∙ now in absurd (ne (one_taker j c e g.0 two))) (λ _ _. refl));
+            (λ e bad. let two : Path (Phase Request Reply) (taken j e) (taken c g.0) = sym bad ∙ now in absurd (ne (one_taker j c e g.0 two))) (λ _ _. refl) (λ e x bad. absurd (cc)));
       } in (
         h' ∷ [],
         gives,
@@ -197,10 +200,11 @@ module _ {Request Reply Log Right : Type 0} (stands : Laws Request Reply Log Rig
       let after : IsNow stands n now_is (record { words = ws; homes = hs; views = set s.views id (h' ∷ []) }) =
       moved stands n s r c id ws hs h h' r.line r.hand r.handled r.mode ph due told r.two record {
         at = at';
+        real = fit.1;
         same_client = refl;
         wide = length-set s.words k 16;
         many = length-set s.homes c (some Empty);
-        newest_is = same 0 (λ e. omega arith) ∙ r.newest_is;
+        newest_is = names_stay s.words ws (newest_from (base_of r.mode) r.line) (pause_of r.mode) (same 0 (λ e. omega arith)) (same 3 (λ e. omega arith)) r.newest_is;
         links = links_same (base_of r.mode) s.words ws r.line (λ j. same (older_at j) (λ e. omega arith)) r.links;
         distinct = r.distinct;
         within = r.within;
@@ -209,7 +213,7 @@ module _ {Request Reply Log Right : Type 0} (stands : Laws Request Reply Log Rig
             (subst (λ (d : List (Request × Reply)). InPhase stands s.words s.homes j d (r.phase j)) (sym (due_else j ne)) ok);
         row = (set_here s.homes c (some Empty) (omega arith), none_due);
         log_is = mode_stays stands n s.homes hs r.line r.hand r.handled r.phase r.due due c ph (set_else s.homes c 0 (some Empty) (λ e. omega arith)) (λ e bad. absurd (cc)) (λ j e is_c bad nil. let two : r.due c ≡ [] = ap r.due (sym is_c) ∙ nil in absurd (cc)) (λ e bad. absurd (cc))
-            (λ l ok. taken_apart r.phase r.due due c ph l r.hand (taken_absent r.phase r.due l c r.hand (λ e _ nil. absurd (cc)) ok) due_else ok)
+            (λ l ok. taken_apart r.phase r.due due c ph l r.hand (taken_absent r.phase r.due l c r.hand (λ e _ nil. absurd (cc)) ok) due_else ok) (λ l e bad. absurd (cc))
             (λ j e. put_at r.due c [] (λ i d. r.due i ≡ [] → d ≡ []) j (λ _ _. refl) (λ _ z. z) e) r.mode r.log_is;
         one_chosen = λ j e. put_at r.phase c ph (λ i f. f ≡ chosen e → r.mode ≡ waits i) j (λ _ bad. absurd (cc)) (λ _ ok. r.one_chosen j e ok);
         kept = r.kept;
@@ -228,7 +232,7 @@ module _ {Request Reply Log Right : Type 0} (stands : Laws Request Reply Log Rig
         told_else = λ j ne. put_else r.told c got j ne;
         mine = sym told_is;
         knows = here;
-        others = λ j ne. knows_else stands n r.line r.line r.hand r.handled r.mode r.mode r.phase r.due due c ph j ne (ends_same r.line) (λ _. refl) (λ e bad. absurd (cc)) (λ e bad. absurd (cc)) due_else;
+        others = λ j ne. knows_else stands n r.line r.line r.hand r.handled r.mode r.mode r.phase r.due due c ph j ne (ends_same r.line) (λ _. refl) (λ e bad. absurd (cc)) (λ e bad. absurd (cc)) due_else (λ e x bad. absurd (cc));
       } in (
         h' ∷ [],
         gives,
@@ -264,7 +268,7 @@ module _ {Request Reply Log Right : Type 0} (stands : Laws Request Reply Log Rig
       let hi : x.by ≤ n = range.1 in
       let whole : Distinct (q ++ x ∷ H) = subst Distinct parts r.distinct in
       let apart : Absent x.by q = distinct_apart q x H whole in
-      let led_c : r.mode ≡ built c lead.group = fit.4.0 in
+      let led_c : r.mode ≡ built c lead.group calm = fit.4.0 in
       let now : r.phase c ≡ leads lead.own = fit.4.1 in
       let other : x.by ≢ c = λ e. let bad : r.phase x.by ≡ leads lead.own = ap r.phase e ∙ now in absurd (cc) in
       let wide : length s.words ≡ 2 * n + 4 = r.wide in
@@ -290,10 +294,11 @@ module _ {Request Reply Log Right : Type 0} (stands : Laws Request Reply Log Rig
           is_cut_as ch r.two c lead _ _ acc.1 (sym (ap (λ (y : Core Request Reply). y.1) acc.1) ∙ (acc.2 ∙ ap (grouped lead.own) (sym all))) fit.5.0 f.own_by,
           moved stands n s r c id ws s.homes h h' line r.hand r.handled (cut c x.by) ph r.due r.told (cut_two ch r.two c lead) record {
             at = at';
+            real = fit.1;
             same_client = refl;
             wide = length-set s.words k new;
             many = refl;
-            newest_is = same 0 (λ e. omega arith) ∙ (r.newest_is ∙ ((λ i. newest_from (f.base i) (parts i)) ∙ newest_cut q x H));
+            newest_is = same 0 (λ e. omega arith) ∙ (f.first ∙ ((λ i. newest_from (f.base i) (parts i)) ∙ newest_cut q x H));
             links = links_cut s.words ws q x H same_older (ap (λ (j : ℕ). get_or ws j 0) (sym is_word) ∙ (get_or-set_same s.words k new 0 (omega arith) ∙ cleared)) apart (subst (Links s.words) parts (subst (λ b. LinksFrom b s.words r.line) f.base r.links));
             distinct = distinct_front (q ++ x ∷ []) H (subst Distinct split r.distinct);
             within = within_front n (q ++ x ∷ []) H (subst (Within n) split r.within);
@@ -330,7 +335,8 @@ module _ {Request Reply Log Right : Type 0} (stands : Laws Request Reply Log Rig
             others = λ j ne. knows_stays stands n r.line line r.hand r.hand r.handled r.handled r.mode (cut c x.by) r.phase phase' r.due r.due j (put_else r.phase c ph j ne)
                 (λ h. absurd (ne (sym (subst (Holds j) led_c h))))
                 (λ e y is owed. (put_at r.phase c ph (λ i g. r.phase i ≡ taken j e → g ≡ taken j e) e.by (λ w t. let bad : r.phase e.by ≡ leads lead.own = ap r.phase w ∙ now in absurd (cc)) (λ _ t. t) is, owed))
-                (λ y owed. owed);
+                (λ y owed. owed)
+                (λ e y is. put_at r.phase c ph (λ i g. r.phase i ≡ dropped j e y → g ≡ dropped j e y) e.by (λ w t. let bad : r.phase e.by ≡ leads lead.own = ap r.phase w ∙ now in absurd (cc)) (λ _ t. t) is);
           },
         ),
         λ c' lead' mine' pre' x' mid' is_walk' is_word'.
@@ -393,10 +399,11 @@ module _ {Request Reply Log Right : Type 0} (stands : Laws Request Reply Log Rig
       let after : IsNow stands n now_is (record { words = ws; homes = hs; views = set s.views id (h' ∷ []) }) =
       moved stands n s r x.by id ws hs h h' r.line [] (r.handled ++ more) (waits x.by) ph owe r.told two' record {
         at = at';
+        real = lo;
         same_client = refl;
         wide = length-set s.words k 2;
         many = length-set s.homes 0 (some (TheLog l));
-        newest_is = same 0 (λ e. omega arith) ∙ (r.newest_is ∙ ap (λ b. newest_from b r.line) (ap base_of cut_c));
+        newest_is = same 0 (λ e. omega arith) ∙ (first_calm s.words r.line r.mode (cut c x.by) cut_c refl r.newest_is ∙ ap (λ b. newest_from b r.line) (ap base_of cut_c));
         links = links_same 0 s.words ws r.line (λ j. same (older_at j) (λ e. omega arith)) (subst (λ b. LinksFrom b s.words r.line) (ap base_of cut_c) r.links);
         distinct = r.distinct;
         within = r.within;
@@ -438,7 +445,8 @@ module _ {Request Reply Log Right : Type 0} (stands : Laws Request Reply Log Rig
             (λ away. knows_stays stands n r.line r.line r.hand [] r.handled (r.handled ++ more) r.mode (waits x.by) r.phase phase' r.due owe j (put_else r.phase x.by ph j away)
             (λ h. absurd (ne (sym (subst (Holds j) cut_c h))))
             (λ e y is owed. (put_at r.phase x.by ph (λ i g. i ≡ e.by → r.phase i ≡ taken j e → g ≡ taken j e) e.by (λ w _ t. absurd (no_x j e w t)) (λ _ _ t. t) refl is, else_owed stands n s r c lead.own gs p by_c now members m.2 apart j ne e y is owed))
-            (else_due stands n s r c lead.own gs p by_c now members m.2 apart j ne));
+            (else_due stands n s r c lead.own gs p by_c now members m.2 apart j ne)
+            (λ e y is. put_at r.phase x.by ph (λ i g. i ≡ e.by → r.phase i ≡ dropped j e y → g ≡ dropped j e y) e.by (λ w _ t. let bad : r.phase e.by ≡ linked x = ap r.phase w ∙ now_x in absurd (cc)) (λ _ _ t. t) refl is));
       } in (
         h' ∷ [],
         gives,

@@ -118,7 +118,7 @@ module _ {Request : Type 0} where
   one_holder open_ a b x y = absurd x
   one_holder (waits c) a b x y = absurd x
   one_holder (led c) a b x y = sym x ∙ y
-  one_holder (built c g) a b x y = sym x ∙ y
+  one_holder (built c g t) a b x y = sym x ∙ y
   one_holder (cut c w) a b x y = sym x ∙ y
   one_holder (marked c) a b x y = sym x ∙ y
 

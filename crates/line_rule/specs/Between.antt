@@ -10,7 +10,7 @@ use Rattle.line_rule.specs.declared.content.LineSlot.{LineSlot}
 use Rattle.line_rule.specs.declared.view.Squad.{Squad}
 use Rattle.line_rule.specs.Chain.{newest_from, Links, LinksFrom, Distinct, Within}
 use Rattle.line_rule.specs.Events.{LineEvent, LogHolder, Legal, core_of}
-use Rattle.line_rule.specs.Standing.{Mode, open_, waits, led, built, cut, marked, base_of, Holds, Turn, still, calls, held_by, passes, Lead2, ahead, flat, InStep}
+use Rattle.line_rule.specs.Standing.{Mode, open_, waits, led, built, cut, marked, base_of, pause_of, Names, Holds, Turn, still, calls, held_by, passes, Lead2, ahead, flat, InStep}
 use Rattle.line_rule.specs.Laws.{Laws}
 use Rattle.line_rule.specs.Rule.{LogHome, RightHome, Shows, Recalls}
 use Rattle.line_rule.specs.Steps.{Lists}
@@ -34,7 +34,7 @@ module _ {Request Reply Log Right : Type 0} (stands : Laws Request Reply Log Rig
   LogAtHome open_ = LogHome stands homes handled
   LogAtHome (waits c) = LogHome stands homes handled
   LogAtHome (led c) = Unit {0}
-  LogAtHome (built c group) = Unit {0}
+  LogAtHome (built c group t) = Unit {0}
   LogAtHome (cut c next) = Unit {0}
   LogAtHome (marked c) = Unit {0}
 
@@ -62,7 +62,8 @@ module _ {Request Reply Log Right : Type 0} (stands : Laws Request Reply Log Rig
       pub owing : List (Handling Request Reply)
       pub mode : Mode Request
       pub events : List (LineEvent Request Reply)
-      pub newest : slice_index s.words 0 ≡ newest_from (base_of mode) walk
+      -- while writes are stalled, the walk begins at the writer that the word `older_at 0` names
+      pub newest : Names s.words (newest_from (base_of mode) walk) (pause_of mode)
       pub links : LinksFrom (base_of mode) s.words walk
       pub short : length walk ≤ n
       pub distinct : Distinct walk

@@ -3,11 +3,11 @@
 use Rattle.std.specs.Prelude.{◌≡◌, ℕ, List, [], ◌∷◌, ◌++◌, map, reverse, Option as Answer, Some, ◌==◌, true, false, find, None}
 use Rattle.model_core.specs.declared.event.Event.{Event as CoreEvent}
 use Rattle.model_base.specs.Calls.{Reply as CoreReply, commit}
-use Rattle.model_core.specs.Core.{Options, Writer, LogPhase, free as nobody, led, built as in_hand, in_log, State as CoreState, item_of as item_of_writer, Client, marked, handed, client_at, next_call, refusal_of, with_runs}
+use Rattle.model_core.specs.Core.{Options, Writer, LogPhase, free as nobody, led, built as in_hand, stalled, in_log, State as CoreState, item_of as item_of_writer, Client, marked, handed, client_at, next_call, refusal_of, with_runs}
 use Rattle.model_core.specs.Halves.{ListHalf, list_half_of}
 use Rattle.line_rule.specs.declared.view.QueuedWriter.{QueuedWriter}
 use Rattle.line_rule.specs.declared.view.Handling.{Handling}
-use Rattle.line_rule.specs.Events.{LogHolder, free, elected, grouped}
+use Rattle.line_rule.specs.Events.{LogHolder, free, elected, grouped, halted}
 use Rattle.line_rule.specs.Grouping.{item_of}
 use Rattle.line_rule.specs.Chain.{all_answers}
 use Rattle.std.specs.List.{AllZip}
@@ -39,6 +39,7 @@ module _ {Request : Type 0} (writer_of : QueuedWriter Request → Writer) where
   core_log free = nobody
   core_log (elected c) = led c
   core_log (grouped own group) = in_hand (core_queue (group ++ own ∷ []))
+  core_log (halted own group) = stalled (core_queue (group ++ own ∷ []))
 
 -- the client and the answer of a writer of the core
 abbrev pub answer_of : Writer → ℕ × Answer CoreReply
@@ -82,6 +83,7 @@ abbrev pub group_handed_on : LogPhase → List Writer → List Writer
 group_handed_on nobody ws = []
 group_handed_on (led c) ws = []
 group_handed_on (in_hand vs) ws = []
+group_handed_on (stalled vs) ws = []
 group_handed_on (in_log vs) ws = []
 group_handed_on (marked vs) ws = []
 group_handed_on (handed c) ws = ws
@@ -111,6 +113,7 @@ module _ {Request Reply : Type 0} (writer_of : QueuedWriter Request → Writer) 
   IsLogOf held lead apart ws nobody = IsUnlogged held lead apart ws nobody
   IsLogOf held lead apart ws (led c) = IsUnlogged held lead apart ws (led c)
   IsLogOf held lead apart ws (in_hand vs) = IsUnlogged held lead apart ws (in_hand vs)
+  IsLogOf held lead apart ws (stalled vs) = IsUnlogged held lead apart ws (stalled vs)
   IsLogOf held lead apart ws (in_log vs) = (vs ≡ ws)
       × ((own : QueuedWriter Request) × (group : List (QueuedWriter Request)) × (held ≡ grouped own group)
       × IsGroupOf writer_of (group ++ own ∷ []) ws) × IsSettled lead apart

@@ -1,18 +1,20 @@
 -- The events of the list, and the state after them, as plain lists.
-use Rattle.std.specs.Prelude.{◌≡◌, ◌≢◌, ℕ, ◌==◌, not, List, [], ◌∷◌, ◌++◌, map, filter, reverse}
+use Rattle.std.specs.Prelude.{true, false, ◌≡◌, ◌≢◌, ℕ, Bool, ◌==◌, not, List, [], ◌∷◌, ◌++◌, map, filter, reverse}
 -- named here too, for those that cite the definitions below
 pub use Rattle.line_rule.specs.declared.view.LineEvent.{LineEvent}
-pub use Rattle.line_rule.specs.declared.view.LineEvent.TheVariants.{Comes as comes, Elects as elects, Builds as builds, Exits as exits, Completes as completes}
+pub use Rattle.line_rule.specs.declared.view.LineEvent.TheVariants.{Comes as comes, Elects as elects, Builds as builds, Stalls as stalls, Drops as drops, Resumes as resumes, Exits as exits, Completes as completes}
 use Rattle.line_rule.specs.declared.view.QueuedWriter.{QueuedWriter}
 use Rattle.line_rule.specs.declared.view.Handling.{Handling}
-use Rattle.line_rule.specs.Chain.{Absent, of}
-use Rattle.line_rule.specs.Grouping.{IsGroup}
+use Rattle.line_rule.specs.Chain.{Absent, of, handling}
+use Rattle.line_rule.specs.Grouping.{IsGroup, item_of}
 
--- nobody has the log, or this client leads, or this writer leads and has these others in its group
+-- nobody has the log, or this client leads, or this writer leads and has these others in its group, and perhaps stalls
+-- writes
 pub data LogHolder (Request : Type 0) : Type 0 where
   free : LogHolder Request
   elected : ℕ → LogHolder Request
   grouped : QueuedWriter Request → List (QueuedWriter Request) → LogHolder Request
+  halted : QueuedWriter Request → List (QueuedWriter Request) → LogHolder Request
 
 -- the queue, newest first, who has the log, what was handled, and for what of it the clients haven't got their replies
 -- yet
@@ -25,6 +27,18 @@ abbrev pub IsNotWith : {Request : Type 0} → ℕ → LogHolder Request → Type
 IsNotWith c free = Unit {0}
 IsNotWith c (elected leader) = leader ≢ c
 IsNotWith c (grouped own group) = Absent c (own ∷ group)
+IsNotWith c (halted own group) = Absent c (own ∷ group)
+
+-- nobody stalls writes
+abbrev pub IsRunning : {Request : Type 0} → LogHolder Request → Type 0
+IsRunning free = Unit {0}
+IsRunning (elected leader) = Unit {0}
+IsRunning (grouped own group) = Unit {0}
+IsRunning (halted own group) = ⊥
+
+-- whether a writer with this code may not be slowed down
+abbrev pub is_hasty : ℕ → Bool
+is_hasty code = (item_of code).options.no_slowdown
 
 -- the client and the request of a writer
 abbrev pub wrote : {Request : Type 0} → QueuedWriter Request → ℕ × Request
@@ -51,14 +65,22 @@ module _ {Request Reply : Type 0} where
   after k (comes e) = (e ∷ k.0, k.1, k.2, k.3)
   after k (elects e) = (k.0, elected e.by, k.2, k.3)
   after k (builds max own group left) = (left, grouped own group, k.2, k.3)
+  after k (stalls own group) = (k.0, halted own group, k.2, k.3)
+  after k (drops newer e older p) = (newer ++ older, k.1, k.2, k.3 ++ handling e p ∷ [])
+  after k (resumes own group) = (k.0, grouped own group, k.2, k.3)
   after k (exits new) = (k.0, free, k.2 ++ new, k.3 ++ new)
   after k (completes h) = (k.0, k.1, k.2, without h.by k.3)
 
   abbrev pub Enabled : Core Request Reply → LineEvent Request Reply → Type 0
-  Enabled k (comes e) = IsAway e.by k
+  Enabled k (comes e) = IsAway e.by k × IsRunning k.1
   Enabled k (elects e) = (k.1 ≡ free) × ((q : List (QueuedWriter Request)) × (k.0 ≡ q ++ e ∷ []))
   Enabled k (builds max own group left) = (k.1 ≡ elected own.by) × (k.0 ≡ left ++ (group ++ own ∷ []))
       × IsGroup max own group left
+  Enabled k (stalls own group) = (k.1 ≡ grouped own group) × (is_hasty own.code ≡ false)
+  Enabled k (drops newer e older p) = ((own : QueuedWriter Request) × (group : List (QueuedWriter Request))
+      × (k.1 ≡ halted own group)) × (k.0 ≡ newer ++ e ∷ older) × Absent e.by (newer ++ older)
+      × (is_hasty e.code ≡ true)
+  Enabled k (resumes own group) = k.1 ≡ halted own group
   Enabled k (exits new) = (own : QueuedWriter Request) × (group : List (QueuedWriter Request))
       × (k.1 ≡ grouped own group)
       × IsOfGroup own group new
@@ -74,6 +96,9 @@ module _ {Request Reply : Type 0} where
   IsBounded bound (comes e) = Unit {0}
   IsBounded bound (elects e) = Unit {0}
   IsBounded bound (builds max own group left) = max ≡ bound
+  IsBounded bound (stalls own group) = Unit {0}
+  IsBounded bound (drops newer e older p) = Unit {0}
+  IsBounded bound (resumes own group) = Unit {0}
   IsBounded bound (exits new) = Unit {0}
   IsBounded bound (completes h) = Unit {0}
 

@@ -1,19 +1,19 @@
 -- Which writers of the queue a leader takes: those of the grouping rule, where each word holds the code of a writer's
 -- item.
-use Rattle.std.specs.Prelude.{◌≡◌, ℕ, ◌+◌, ◌*◌, ◌/◌, List, [], ◌∷◌, ◌++◌, length, reverse, map}
+use Rattle.std.specs.Prelude.{◌≡◌, ℕ, ◌+◌, ◌*◌, ◌/◌, ◌%◌, ◌==◌, List, [], ◌∷◌, ◌++◌, length, reverse, map}
 use Rattle.model_base.specs.declared.group.Item.{Item}
-use Rattle.model_base.specs.OptionBits.{option_bits, options_of_bits}
+use Rattle.model_base.specs.OptionBits.{bit_of, option_bits, options_of_bits}
 use Rattle.model_base.specs.Grouping.{group_len}
 use Rattle.line_rule.specs.declared.view.QueuedWriter.{QueuedWriter}
 use Rattle.line_rule.specs.Chain.{Distinct, AllCoded}
 
--- an item as a number: the options' bits, and eight times the size
+-- an item as a number: the options' bits, 8 for an item that goes alone, and sixteen times the size
 abbrev pub code_of : Item → ℕ
-code_of i = option_bits i.options + 8 * i.size
+code_of i = option_bits i.options + 8 * bit_of i.alone + 16 * i.size
 
 -- the item that a number represents
 abbrev pub item_of : ℕ → Item
-item_of code = record { size = code / 8; options = options_of_bits code }
+item_of code = record { size = code / 16; options = options_of_bits code; alone = code / 8 % 2 == 1 }
 
 -- the code of a request
 abbrev pub code_by : {Request : Type 0} → (Request → Item) → Request → ℕ

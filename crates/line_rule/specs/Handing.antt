@@ -8,7 +8,7 @@ use Rattle.line_rule.specs.declared.view.Squad.{Squad}
 use Rattle.line_rule.specs.declared.view.Back.{Back}
 use Rattle.line_rule.specs.declared.view.Back.TheVariants.{Away, Parting, Joining, Holding, Queued, Serving, Passing}
 use Rattle.line_rule.specs.declared.view.LineStage.{LineStage}
-use Rattle.line_rule.specs.declared.view.LineStage.TheVariants.{Idle, Preparing, Waiting, Helping, Fresh, Leading, Cutting, Marking, Settling, Collecting}
+use Rattle.line_rule.specs.declared.view.LineStage.TheVariants.{Idle, Preparing, Waiting, Helping, Fresh, Leading, Stalling, Cutting, Marking, Settling, Collecting}
 use Rattle.line_rule.specs.declared.content.LineSlot.{LineSlot}
 use Rattle.line_rule.specs.Chain.{Absent, newest, Links}
 use Rattle.line_rule.specs.Events.{IsNotWith}
@@ -29,6 +29,7 @@ module _ {Request Reply : Type 0} where
   IsOwn c (Helping q) = Unit {0}
   IsOwn c (Fresh own seen) = own.by ≡ c
   IsOwn c (Leading lead) = lead.own.by ≡ c
+  IsOwn c (Stalling lead t) = lead.own.by ≡ c
   IsOwn c (Cutting lead next) = lead.own.by ≡ c
   IsOwn c (Marking lead) = lead.own.by ≡ c
   IsOwn c (Settling debt) = debt.own.by ≡ c

@@ -26,6 +26,8 @@ pub record Laws (Request Reply Log Right : Type 0) : Type 1 where
   -- what holds of what was handled, wherever the log is
   pub kept : List (Handling Request Reply) → Type 0
   pub keeps : (l : Log) (hs : List (Handling Request Reply)) → logs l hs → kept hs
+  -- what a writer that leaves the queue is replied to its request
+  pub drops : Request → Reply → Type 0
   -- what the list's law asks of a request and its code
   pub asks : Request → ℕ → Type 0
 
@@ -76,12 +78,18 @@ abbrev pub kept_picked : {Request Reply About : Type 0} → (About → List (Han
 kept_picked kept None = λ hs. Unit {0}
 kept_picked kept (Some about) = kept about
 
-abbrev pub laws : {Request Reply Log Right : Type 0} → (Request → ℕ → Type 0)
+-- the same of what a writer that leaves the queue is replied
+abbrev pub drops_picked : {Request Reply About : Type 0} → (About → Request → Reply → Type 0) → Picked About
+    → Request → Reply → Type 0
+drops_picked drops None = λ q p. Unit {0}
+drops_picked drops (Some about) = drops about
+
+abbrev pub laws : {Request Reply Log Right : Type 0} → (Request → ℕ → Type 0) → (Request → Reply → Type 0)
     → (Log → List (Handling Request Reply) → Type 0)
     → (List (Handling Request Reply) → Type 0) → (Log → ℕ) → (Reply → ℕ × ℕ)
     → (Right → List (Handling Request Reply) → Type 0) → ℕ → Bool
     → ℕ → Laws Request Reply Log Right
-laws asks stands kept number run serves start piped bound = record {
+laws asks drops stands kept number run serves start piped bound = record {
   logs = logs_from stands kept number run start;
   rights = serves;
   given = given_runs run;
@@ -90,6 +98,7 @@ laws asks stands kept number run serves start piped bound = record {
   bound = bound;
   kept = kept;
   keeps = λ l hs h. h.1;
+  drops = drops;
   asks = asks;
 }
 
@@ -97,5 +106,5 @@ laws asks stands kept number run serves start piped bound = record {
 abbrev pub laws_for : {Request Reply Log Right About : Type 0} → (Request → Item) → (Reply → ℕ × ℕ)
     → Ghosts Log Request Reply Right About → Start About → Laws Request Reply Log Right
 laws_for item_of run log k =
-    laws (asks_for item_of log.lawful k.about) (log.stands k.about) (log.kept k.about) log.number_of run
-    (log.serves k.about) k.log k.pipelined k.group_bytes
+    laws (asks_for item_of log.lawful k.about) (log.drops k.about) (log.stands k.about) (log.kept k.about)
+    log.number_of run (log.serves k.about) k.log k.pipelined k.group_bytes

@@ -5,6 +5,7 @@ pub mod Standing
 pub mod Laws
 pub mod Rule
 pub mod Plays
+pub mod Stalls
 pub mod Steps
 pub mod Between
 pub mod CoreEvents

@@ -9,7 +9,7 @@ use Rattle.line_rule.specs.declared.view.LineHold.{LineHold}
 use Rattle.line_rule.specs.declared.content.LineSlot.{LineSlot}
 use Rattle.line_rule.specs.declared.content.LineSlot.TheVariants.{Empty, Asked, Told, TheLog, TheRight}
 use Rattle.line_rule.specs.declared.view.LineStage.{LineStage}
-use Rattle.line_rule.specs.declared.view.LineStage.TheVariants.{Idle, Preparing, Waiting, Helping, Fresh, Leading, Cutting, Marking, Settling, Collecting}
+use Rattle.line_rule.specs.declared.view.LineStage.TheVariants.{Idle, Preparing, Waiting, Helping, Fresh, Leading, Stalling, Cutting, Marking, Settling, Collecting}
 use Rattle.line_rule.specs.declared.view.Debt.{Debt}
 use Rattle.line_rule.specs.Chain.{older_at, pack, newest, newest_from, heads, of}
 use Rattle.line_rule.specs.Grouping.{IsWhole}
@@ -108,6 +108,7 @@ IsCut lead (Waiting q past) = ⊥
 IsCut lead (Helping q) = ⊥
 IsCut lead (Fresh o n) = ⊥
 IsCut lead (Leading l) = ⊥
+IsCut lead (Stalling l t) = ⊥
 IsCut lead (Cutting l e) = l ≡ lead
 IsCut lead (Marking l) = l ≡ lead
 IsCut lead (Settling b) = ⊥
@@ -126,6 +127,21 @@ slots_of (g ∷ gs) t = (g.0.by, Told g.1) ∷ slots_of gs t
 abbrev pub AllBelow : {Request : Type 0} → ℕ → List (QueuedWriter Request) → Type 0
 AllBelow slots [] = Unit {0}
 AllBelow slots (e ∷ es) = (0 < e.by) × (e.by + 1 < slots) × AllBelow slots es
+
+module _ {Request Reply : Type 0} where
+  -- a leader at this stage has read these writers of the queue
+  abbrev pub ReadsQueue : LineStage Request Reply → List (QueuedWriter Request) → Type 0
+  ReadsQueue Idle walk = ⊥
+  ReadsQueue (Preparing w) walk = ⊥
+  ReadsQueue (Waiting q past) walk = ⊥
+  ReadsQueue (Helping q) walk = ⊥
+  ReadsQueue (Fresh own seen) walk = ⊥
+  ReadsQueue (Leading lead) walk = lead.walk ≡ walk
+  ReadsQueue (Stalling lead t) walk = lead.walk ≡ walk
+  ReadsQueue (Cutting lead e) walk = ⊥
+  ReadsQueue (Marking lead) walk = ⊥
+  ReadsQueue (Settling debt) walk = ⊥
+  ReadsQueue Collecting walk = ⊥
 
 module _ {Request Reply Log Right : Type 0} where
   -- the seat of one client, which is at this stage
@@ -177,14 +193,21 @@ module _ {Request Reply Log Right : Type 0} where
   Replied kept c q mine m' = (p : Reply) × At c Collecting (mine ++ (q, p) ∷ []) m' × (m'.1 ≡ (c, Told p) ∷ [])
       × ((handled : List (Handling Request Reply)) × kept handled × (of c handled ≡ mine ++ (q, p) ∷ []))
 
+  -- the client has left the queue, and has the reply that this was with, in its own slot
+  abbrev pub Dismissed : (Request → Reply → Type 0) → ℕ → Request → List (Request × Reply)
+      → Sat Request Reply Log Right → Type 0
+  Dismissed drops c q mine m' = (p : Reply) × At c Collecting mine m' × (m'.1 ≡ (c, Told p) ∷ []) × drops q p
+
   -- a load of the client's own state: at STATE_PARALLEL it works in parallel with its leader
   abbrev pub after_read_state : (Log → List (Handling Request Reply) → Type 0)
-      → (List (Handling Request Reply) → Type 0) → Step (LineSlot Request Reply Log Right)
+      → (List (Handling Request Reply) → Type 0) → (Request → Reply → Type 0)
+      → Step (LineSlot Request Reply Log Right)
       → Sat Request Reply Log Right → ℕ → Sat Request Reply Log Right → Type 0
-  after_read_state stood kept st m r m' = (c : ℕ) (q : Request) (past : List (LineEvent Request Reply))
+  after_read_state stood kept drops st m r m' = (c : ℕ) (q : Request) (past : List (LineEvent Request Reply))
       (mine : List (Request × Reply))
       → At c (Waiting q past) mine m
-      → (r ≡ STATE_LEADS_LOG → Elected stood c q mine m') × (r ≡ STATE_DONE → Replied kept c q mine m')
+      → (r ≡ STATE_LEADS_LOG → Elected stood c q mine m')
+      × (r ≡ STATE_DONE → Replied kept c q mine m' ⊎ Dismissed drops c q mine m')
       × (r ≡ STATE_PARALLEL → At c (Helping q) mine m' × (m'.1 ≡ m.1))
       × (r ≢ STATE_LEADS_LOG → r ≢ STATE_DONE → r ≢ STATE_PARALLEL → m' ≡ m)
 
@@ -228,8 +251,8 @@ module _ {Request Reply Log Right : Type 0} where
 
   -- the leader has read these writers of the queue
   abbrev pub SeesQueue : ℕ → Sat Request Reply Log Right → List (QueuedWriter Request) → Type 0
-  SeesQueue c m walk = (lead : Lead Request Reply) × (mine : List (Request × Reply))
-      × At c (Leading lead) mine m × (lead.walk ≡ walk)
+  SeesQueue c m walk = (stage : LineStage Request Reply) × (mine : List (Request × Reply))
+      × At c stage mine m × ReadsQueue stage walk
 
   -- the leader has read these writers, which came after its mark
   abbrev pub SeesMarked : ℕ → Sat Request Reply Log Right → List (QueuedWriter Request) → Type 0

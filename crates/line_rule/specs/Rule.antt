@@ -5,23 +5,25 @@ use Rattle.std.specs.Prelude.{Bool, true, false, ◌≡◌, ◌≢◌, ℕ, zero
 use mathlib.Core.Option.{Option, some}
 use lib.ListN.{get_elem?}
 use Rattle.atomic_table.specs.Table.{State}
-use Rattle.line_rule.specs.declared.words.TheConstants.{MARK, STATE_DONE, STATE_IN_LIST, STATE_LEADS_LOG, STATE_LEADS_TABLE, STATE_PARALLEL}
+use Rattle.line_rule.specs.declared.words.TheConstants.{STALL, STATE_DONE, STATE_IN_LIST, STATE_LEADS_LOG, STATE_LEADS_TABLE, STATE_PARALLEL}
 use Rattle.line_rule.specs.declared.view.QueuedWriter.{QueuedWriter}
 use Rattle.line_rule.specs.declared.view.Handling.{Handling}
 use Rattle.line_rule.specs.declared.view.LineHold.{LineHold}
 use Rattle.line_rule.specs.declared.view.Squad.{Squad}
+use Rattle.line_rule.specs.declared.view.Stall.{Stall}
+use Rattle.line_rule.specs.declared.view.Stall.TheVariants.{Aimed, Stopped, Holds as Held, Owes}
 use Rattle.line_rule.specs.declared.view.Back.{Back}
 use Rattle.line_rule.specs.declared.view.Back.TheVariants.{Away}
 use Rattle.line_rule.specs.declared.content.LineSlot.{LineSlot}
 use Rattle.line_rule.specs.declared.content.LineSlot.TheVariants.{Empty, Asked, Told, TheLog, TheRight}
 use Rattle.line_rule.specs.declared.view.LineStage.{LineStage}
-use Rattle.line_rule.specs.declared.view.LineStage.TheVariants.{Idle, Preparing, Waiting, Helping, Fresh, Leading, Cutting, Marking, Settling, Collecting}
-use Rattle.line_rule.specs.Events.{LineEvent, LogHolder, free, elected, grouped, core_of, Legal, GoesOn}
+use Rattle.line_rule.specs.declared.view.LineStage.TheVariants.{Idle, Preparing, Waiting, Helping, Fresh, Leading, Stalling, Cutting, Marking, Settling, Collecting}
+use Rattle.line_rule.specs.Events.{LineEvent, LogHolder, free, elected, grouped, halted, core_of, Legal, GoesOn}
 use Rattle.line_rule.specs.Chain.{state_at, older_at, newest, newest_from, Links, LinksFrom, Distinct, Within, EndsWith, of, heads}
-use Rattle.line_rule.specs.Standing.{Phase, idle, preparing, linked, chosen, leads, taken, completed, collecting, Mode, open_, waits, led, built, cut, marked, base_of, Holds, InFront, Place, away, parted, queued, called, serves, served, Turn, still, calls, held_by, passes, ahead, Two, line_of, flat, In, Apart, InStep, KnowsBack}
+use Rattle.line_rule.specs.Standing.{Phase, idle, preparing, linked, chosen, leads, taken, completed, held, dropped, dismissed, collecting, Pause, calm, aimed, stopped, holding, owing, Names, pause_in, Mode, open_, waits, led, built, cut, marked, base_of, pause_of, Holds, InFront, Place, away, parted, queued, called, serves, served, Turn, still, calls, held_by, passes, ahead, Two, line_of, flat, In, Apart, InStep, KnowsBack}
 use Rattle.line_rule.specs.Laws.{Laws}
 -- named here too, since those who make the steps cite them together with the definitions of the rule
-pub use Rattle.line_rule.specs.Laws.{Unnumbered, given_runs, last_run, logs_from, logs_picked, serves_picked, kept_picked, asks_for, asks_picked}
+pub use Rattle.line_rule.specs.Laws.{Unnumbered, given_runs, last_run, logs_from, logs_picked, serves_picked, kept_picked, drops_picked, asks_for, asks_picked}
 
 module _ {Request Reply : Type 0} where
   -- by the client's phase the writer e is in the list
@@ -33,6 +35,9 @@ module _ {Request Reply : Type 0} where
   InChain e (leads f) = f ≡ e
   InChain e (taken c f) = f ≡ e
   InChain e (completed q p) = ⊥
+  InChain e (held c f) = f ≡ e
+  InChain e (dropped c f p) = ⊥
+  InChain e (dismissed q p) = ⊥
   InChain e collecting = ⊥
 
   abbrev pub Stand : (ℕ → Phase Request Reply) → List (QueuedWriter Request) → Type 0
@@ -48,6 +53,9 @@ module _ {Request Reply : Type 0} where
   InSecond place k (leads e) = place k ≢ away
   InSecond place k (taken c e) = place c ≢ away
   InSecond place k (completed q p) = ⊥
+  InSecond place k (held c e) = ⊥
+  InSecond place k (dropped c e p) = ⊥
+  InSecond place k (dismissed q p) = ⊥
   InSecond place k collecting = ⊥
 
   abbrev pub AllWith : (ℕ → Phase Request Reply) → ℕ → List (QueuedWriter Request) → Type 0
@@ -73,9 +81,13 @@ module _ {Request Reply : Type 0} where
   Waits q (leads e) = ⊥
   Waits q (taken c e) = e.asked ≡ q
   Waits q (completed r p) = r ≡ q
+  Waits q (held c e) = e.asked ≡ q
+  Waits q (dropped c e p) = e.asked ≡ q
+  Waits q (dismissed r p) = r ≡ q
   Waits q collecting = ⊥
 
-  -- of what was handled for a client and not yet taken out by it, what it hasn't been told
+  -- of what was handled for a client and not yet taken out by it, what it hasn't been told; or its reply, where it has
+  -- left the queue
   abbrev pub due_untold : Phase Request Reply → List (Request × Reply) → List (Request × Reply)
   due_untold idle due = due
   due_untold (preparing w) due = due
@@ -84,11 +96,24 @@ module _ {Request Reply : Type 0} where
   due_untold (leads e) due = due
   due_untold (taken c e) due = due
   due_untold (completed q p) due = []
+  due_untold (held c e) due = due
+  due_untold (dropped c e p) due = (e.asked, p) ∷ []
+  due_untold (dismissed q p) due = []
   due_untold collecting due = due
 
   abbrev pub AllLinked : (ℕ → Phase Request Reply) → List (QueuedWriter Request) → Type 0
   AllLinked phase [] = Unit {0}
   AllLinked phase (e ∷ es) = (phase e.by ≡ linked e) × AllLinked phase es
+
+  -- they wait in the list, but for the one whose request the leader c has, while it stalls writes
+  module _ (phase : ℕ → Phase Request Reply) (due : ℕ → List (Request × Reply)) (c : ℕ) (queue : List (QueuedWriter Request)) where
+    abbrev pub AllQueued : Pause Request → Type 0
+    AllQueued calm = AllLinked phase queue
+    AllQueued (aimed w) = AllLinked phase queue
+    AllQueued (stopped w) = AllLinked phase queue
+    AllQueued (holding w x) = (newer older : List (QueuedWriter Request)) × (queue ≡ newer ++ x ∷ older)
+        × AllLinked phase newer × AllLinked phase older × (phase x.by ≡ held c x) × (due x.by ≡ [])
+    AllQueued (owing w x) = AllLinked phase queue
 
   -- the leader c has their requests, and has handled none of them
   abbrev pub AllTaken : (ℕ → Phase Request Reply) → (ℕ → List (Request × Reply)) → ℕ → List (QueuedWriter Request)
@@ -103,6 +128,13 @@ module _ {Request Reply : Type 0} where
   AllOwed phase due c (g ∷ gs) = (phase g.0.by ≡ taken c g.0) × (due g.0.by ≡ (g.0.asked, g.1) ∷ [])
       × AllOwed phase due c gs
 
+  -- the writer to which a leader that stalls writes owes a reply
+  abbrev pub OwesTo : (ℕ → Phase Request Reply) → ℕ → Stall Request Reply → Type 0
+  OwesTo phase c (Aimed w) = Unit {0}
+  OwesTo phase c (Stopped w) = Unit {0}
+  OwesTo phase c (Held w x) = Unit {0}
+  OwesTo phase c (Owes w x p) = phase x.by ≡ dropped c x p
+
   module _ (line hand : List (QueuedWriter Request)) (handled : List (Handling Request Reply)) (mode : Mode Request)
       (phase : ℕ → Phase Request Reply) (due : ℕ
       → List (Request × Reply)) (c : ℕ) where
@@ -112,8 +144,10 @@ module _ {Request Reply : Type 0} where
     Knows (Waiting q past) = Waits q (phase c)
     Knows (Helping q) = Waits q (phase c) × ((p : Reply) × (due c ≡ (q, p) ∷ []))
     Knows (Fresh own seen) = (mode ≡ led c) × (phase c ≡ leads own) × (seen ≡ handled)
-    Knows (Leading lead) = (mode ≡ built c lead.group) × (phase c ≡ leads lead.own) × EndsWith line lead.walk
+    Knows (Leading lead) = (mode ≡ built c lead.group calm) × (phase c ≡ leads lead.own) × EndsWith line lead.walk
         × (lead.seen ≡ handled) × (lead.taken ≡ hand)
+    Knows (Stalling lead t) = (mode ≡ built c lead.group (pause_in t)) × (phase c ≡ leads lead.own)
+        × EndsWith line lead.walk × (lead.seen ≡ handled) × (lead.taken ≡ hand) × OwesTo phase c t
     Knows (Cutting lead e) = (mode ≡ cut c e.by) × (phase c ≡ leads lead.own) × (phase e.by ≡ linked e)
         × (lead.seen ≡ handled) × (lead.taken ≡ hand)
     Knows (Marking lead) = (mode ≡ marked c) × (phase c ≡ leads lead.own) × EndsWith line lead.walk
@@ -131,6 +165,7 @@ module _ {Request Reply : Type 0} where
   Recalls events (Helping q) = Unit {0}
   Recalls events (Fresh own seen) = Unit {0}
   Recalls events (Leading lead) = GoesOn events lead.past
+  Recalls events (Stalling lead t) = GoesOn events lead.past
   Recalls events (Cutting lead e) = Unit {0}
   Recalls events (Marking lead) = Unit {0}
   Recalls events (Settling debt) = Unit {0}
@@ -170,11 +205,20 @@ module _ {Request Reply : Type 0} where
   HasCut log hand phase open_ = Unit {0}
   HasCut log hand phase (waits c) = Unit {0}
   HasCut log hand phase (led c) = Unit {0}
-  HasCut log hand phase (built c g) = Unit {0}
+  HasCut log hand phase (built c g t) = Unit {0}
   HasCut log hand phase (cut c w) = (own : QueuedWriter Request) × (own.by ≡ c) × (phase c ≡ leads own)
       × (log ≡ grouped own hand)
   HasCut log hand phase (marked c) = (own : QueuedWriter Request) × (own.by ≡ c) × (phase c ≡ leads own)
       × (log ≡ grouped own hand)
+
+-- who has the log, where its leader stalls writes or doesn't
+abbrev pub held_in : {Request : Type 0} → Pause Request → QueuedWriter Request → List (QueuedWriter Request)
+    → LogHolder Request
+held_in calm own g = grouped own g
+held_in (aimed w) own g = grouped own g
+held_in (stopped w) own g = halted own g
+held_in (holding w x) own g = halted own g
+held_in (owing w x) own g = halted own g
 
 -- some legal events led here, and what the words show is the state after them
 module _ {Request : Type 0} (line queue : List (QueuedWriter Request)) (log : LogHolder Request) where
@@ -182,7 +226,8 @@ module _ {Request : Type 0} (line queue : List (QueuedWriter Request)) (log : Lo
   Shows open_ = (line ≡ queue) × (log ≡ free)
   Shows (waits c) = (line ≡ queue) × (log ≡ free)
   Shows (led c) = (line ≡ queue) × (log ≡ elected c)
-  Shows (built c g) = (x : (own : QueuedWriter Request) × (line ≡ queue ++ (g ++ own ∷ []))) × (log ≡ grouped x.0 g)
+  Shows (built c g t) = (x : (own : QueuedWriter Request) × (line ≡ queue ++ (g ++ own ∷ [])))
+      × (log ≡ held_in t x.0 g)
   Shows (cut c w) = (line ≡ queue)
       × ((own : QueuedWriter Request) × (g : List (QueuedWriter Request)) × (log ≡ grouped own g))
   Shows (marked c) = (line ≡ queue)
@@ -217,6 +262,11 @@ module _ {Request Reply Log Right : Type 0} (stands : Laws Request Reply Log Rig
         × ((p : Reply) × (due ≡ (e.asked, p) ∷ [])))
     InPhase (completed q p) = (slice_index words (state_at i) ≡ STATE_DONE) × (get_elem? homes i ≡ some (some (Told p)))
         × (due ≡ (q, p) ∷ [])
+    InPhase (held c e) = (e.by ≡ i) × (slice_index words (state_at i) ≡ STATE_IN_LIST) × (due ≡ [])
+    InPhase (dropped c e p) = (e.by ≡ i) × (slice_index words (state_at i) ≡ STATE_IN_LIST) × (due ≡ [])
+        × stands.drops e.asked p
+    InPhase (dismissed q p) = (slice_index words (state_at i) ≡ STATE_DONE) × (get_elem? homes i ≡ some (some (Told p)))
+        × (due ≡ []) × stands.drops q p
     InPhase collecting = due ≡ []
 
   abbrev pub LogHome : List (Option (LineSlot Request Reply Log Right)) → List (Handling Request Reply) → Type 0
@@ -282,9 +332,10 @@ module _ {Request Reply Log Right : Type 0} (stands : Laws Request Reply Log Rig
     InMode (led c) = ((queue : List (QueuedWriter Request)) × (own : QueuedWriter Request) × (line ≡ queue ++ own ∷ [])
         × AllLinked phase queue
         × (phase c ≡ leads own) × (own.by ≡ c)) × (hand ≡ []) × (due c ≡ [])
-    InMode (built c g) = ((queue : List (QueuedWriter Request)) × (own : QueuedWriter Request)
+    InMode (built c g t) = ((queue : List (QueuedWriter Request)) × (own : QueuedWriter Request)
         × (line ≡ queue ++ (hand ++ own ∷ []))
-        × AllLinked phase queue × (phase c ≡ leads own) × (own.by ≡ c)) × AllTaken phase due c hand × (due c ≡ [])
+        × AllQueued phase due c queue t × (phase c ≡ leads own) × (own.by ≡ c))
+        × AllTaken phase due c hand × (due c ≡ [])
     InMode (cut c w) = ((queue : List (QueuedWriter Request)) × (e : QueuedWriter Request) × (line ≡ queue ++ e ∷ [])
         × AllLinked phase queue
         × (phase w ≡ linked e) × (e.by ≡ w)) × AllTaken phase due c hand × (due c ≡ []) × Distinct hand
@@ -306,10 +357,11 @@ module _ {Request Reply Log Right : Type 0} (stands : Laws Request Reply Log Rig
       pub told : ℕ → List (Request × Reply)
       pub two : Two Request Reply
       pub seat : ℕ → ℕ
-      pub few : n < MARK
+      pub few : n < STALL
+      pub nobody : phase 0 ≡ idle
       pub wide : length s.words ≡ 2 * n + 4
       pub many : length s.homes ≡ n + 2
-      pub newest_is : slice_index s.words 0 ≡ newest_from (base_of mode) line
+      pub newest_is : Names s.words (newest_from (base_of mode) line) (pause_of mode)
       pub links : LinksFrom (base_of mode) s.words line
       pub distinct : Distinct line
       pub within : Within n line

@@ -1,12 +1,14 @@
 -- The phase of each client, who has the log, and where the groups of the second list and its right are.
-use Rattle.std.specs.Prelude.{◌≡◌, ◌≢◌, ℕ, List, [], ◌∷◌, ◌++◌}
-use Rattle.line_rule.specs.declared.words.TheConstants.{MARK}
+use Rattle.std.specs.Prelude.{◌≡◌, ◌≢◌, ℕ, List, [], ◌∷◌, ◌++◌, slice_index}
+use Rattle.line_rule.specs.declared.words.TheConstants.{MARK, STALL}
 use Rattle.line_rule.specs.declared.view.QueuedWriter.{QueuedWriter}
 use Rattle.line_rule.specs.declared.view.Handling.{Handling}
 use Rattle.line_rule.specs.declared.view.Squad.{Squad}
+use Rattle.line_rule.specs.declared.view.Stall.{Stall}
+use Rattle.line_rule.specs.declared.view.Stall.TheVariants.{Aimed, Stopped, Holds as Held, Owes}
 use Rattle.line_rule.specs.declared.view.Back.{Back}
 use Rattle.line_rule.specs.declared.view.Back.TheVariants.{Away, Parting, Joining, Holding, Queued, Serving, Passing}
-use Rattle.line_rule.specs.Chain.{EndsWith}
+use Rattle.line_rule.specs.Chain.{EndsWith, older_at}
 
 -- how far a client is
 pub data Phase (Request Reply : Type 0) : Type 0 where
@@ -17,7 +19,20 @@ pub data Phase (Request Reply : Type 0) : Type 0 where
   leads : QueuedWriter Request → Phase Request Reply
   taken : ℕ → QueuedWriter Request → Phase Request Reply
   completed : Request → Reply → Phase Request Reply
+  held : ℕ → QueuedWriter Request → Phase Request Reply
+  dropped : ℕ → QueuedWriter Request → Reply → Phase Request Reply
+  dismissed : Request → Reply → Phase Request Reply
   collecting : Phase Request Reply
+
+-- whether a leader in the list stalls writes, and how far it is: not at all; it has named the newest writer in the word
+-- `older_at 0`; the list ends at the stall's marker, and that word has its newest writer; the leader has the request of
+-- this writer of the queue besides; or that writer has left the queue, and the leader owes it a reply
+pub data Pause (Request : Type 0) : Type 0 where
+  calm : Pause Request
+  aimed : ℕ → Pause Request
+  stopped : ℕ → Pause Request
+  holding : ℕ → QueuedWriter Request → Pause Request
+  owing : ℕ → QueuedWriter Request → Pause Request
 
 -- where the log is: at home with nobody in the list, at home for the oldest writer, out with a leader in the list, or
 -- with one that has cut its group off and has yet to wake the oldest writer
@@ -25,7 +40,7 @@ pub data Mode (Request : Type 0) : Type 0 where
   open_ : Mode Request
   waits : ℕ → Mode Request
   led : ℕ → Mode Request
-  built : ℕ → List (QueuedWriter Request) → Mode Request
+  built : ℕ → List (QueuedWriter Request) → Pause Request → Mode Request
   cut : ℕ → ℕ → Mode Request
   marked : ℕ → Mode Request
 
@@ -34,16 +49,41 @@ abbrev pub base_of : {Request : Type 0} → Mode Request → ℕ
 base_of open_ = 0
 base_of (waits c) = 0
 base_of (led c) = 0
-base_of (built c g) = 0
+base_of (built c g t) = 0
 base_of (cut c w) = 0
 base_of (marked c) = MARK
+
+-- whether writes are stalled
+abbrev pub pause_of : {Request : Type 0} → Mode Request → Pause Request
+pause_of open_ = calm
+pause_of (waits c) = calm
+pause_of (led c) = calm
+pause_of (built c g t) = t
+pause_of (cut c w) = calm
+pause_of (marked c) = calm
+
+-- the words that name the newest writer, where it is this one
+module _ {Request : Type 0} (words : List ℕ) (newest : ℕ) where
+  abbrev pub Names : Pause Request → Type 0
+  Names calm = slice_index words 0 ≡ newest
+  Names (aimed w) = (slice_index words 0 ≡ newest) × (slice_index words (older_at 0) ≡ w)
+  Names (stopped w) = (slice_index words 0 ≡ STALL) × (slice_index words (older_at 0) ≡ w) × (w ≡ newest)
+  Names (holding w x) = (slice_index words 0 ≡ STALL) × (slice_index words (older_at 0) ≡ w) × (w ≡ newest)
+  Names (owing w x) = (slice_index words 0 ≡ STALL) × (slice_index words (older_at 0) ≡ w) × (w ≡ newest)
+
+-- the stall of a leader's view
+abbrev pub pause_in : {Request Reply : Type 0} → Stall Request Reply → Pause Request
+pause_in (Aimed w) = aimed w
+pause_in (Stopped w) = stopped w
+pause_in (Held w x) = holding w x
+pause_in (Owes w x p) = owing w x
 
 -- the client has the log
 abbrev pub Holds : {Request : Type 0} → ℕ → Mode Request → Type 0
 Holds k open_ = ⊥
 Holds k (waits c) = ⊥
 Holds k (led c) = c ≡ k
-Holds k (built c g) = c ≡ k
+Holds k (built c g t) = c ≡ k
 Holds k (cut c w) = c ≡ k
 Holds k (marked c) = c ≡ k
 
@@ -52,7 +92,7 @@ abbrev pub InFront : {Request : Type 0} → ℕ → Mode Request → Type 0
 InFront k open_ = ⊥
 InFront k (waits c) = ⊥
 InFront k (led c) = c ≡ k
-InFront k (built c g) = c ≡ k
+InFront k (built c g t) = c ≡ k
 InFront k (cut c w) = ⊥
 InFront k (marked c) = ⊥
 

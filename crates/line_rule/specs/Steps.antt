@@ -8,7 +8,7 @@ use Rattle.line_rule.specs.declared.view.QueuedWriter.{QueuedWriter}
 use Rattle.line_rule.specs.declared.view.LineHold.{LineHold}
 use Rattle.line_rule.specs.declared.content.LineSlot.{LineSlot}
 use Rattle.line_rule.specs.Chain.{handling, all_answers}
-use Rattle.line_rule.specs.Events.{LineEvent, comes, elects, builds, exits, completes, Core, Enabled, after, grouped}
+use Rattle.line_rule.specs.Events.{LineEvent, comes, elects, builds, stalls, drops, resumes, exits, completes, Core, Enabled, after, grouped}
 use Rattle.line_rule.specs.Laws.{Laws}
 use Rattle.line_rule.specs.Rule.{Listed}
 use Rattle.line_rule.specs.Plays.{Sat, squad_at_cut, squad_with_end}
@@ -59,6 +59,17 @@ module _ {Request Reply : Type 0} where
   -- own builds its group, under this bound
   abbrev pub IsBuild : ℕ → QueuedWriter Request → Lists Request Reply → Lists Request Reply → Type 0
   IsBuild max own a b = (group left : List (QueuedWriter Request)) × HappensAlone (builds max own group left) a b
+
+  -- own, whose group has the log, stalls writes; and ends that
+  abbrev pub IsStall : Lead Request Reply → Lists Request Reply → Lists Request Reply → Type 0
+  IsStall lead = HappensAlone (stalls lead.own lead.group)
+
+  abbrev pub IsResume : Lead Request Reply → Lists Request Reply → Lists Request Reply → Type 0
+  IsResume lead = HappensAlone (resumes lead.own lead.group)
+
+  -- e leaves the queue, with this reply
+  abbrev pub IsDrop : QueuedWriter Request → Reply → Lists Request Reply → Lists Request Reply → Type 0
+  IsDrop e p a b = (newer older : List (QueuedWriter Request)) × HappensAlone (drops newer e older p) a b
 
   -- own's group leaves, with these replies of its other members and this one of its own
   abbrev pub IsExit : QueuedWriter Request → Reply → List (QueuedWriter Request × Reply) → Lists Request Reply

@@ -5,13 +5,13 @@ ghost use Rattle.model_base.specs.declared.group.Item.{Item};
 
 use model_base::{Item, MAX_SIZE, WriteOptions};
 
-/// The options' bits, and eight times the size.
+/// The options' bits, 8 for an item that goes alone, and sixteen times the size.
 pub fn code_of(item: Item) -> u64
     requires { item.size ≤ MAX_SIZE }
     ensures code { result ≡ code_of item }
     ensures small { result < 2 ^ 40 }
 {
-    u64::from(item.options.bits()) + 8 * item.size
+    u64::from(item.options.bits()) + 8 * u64::from(item.alone) + 16 * item.size
 }
 
 /// The item that a number represents.
@@ -19,8 +19,9 @@ pub fn item_of(code: u64) -> Item
     ensures { result ≡ item_of code }
 {
     Item {
-        size: code / 8,
+        size: code / 16,
         options: WriteOptions::of_bits(code),
+        alone: code / 8 % 2 == 1,
     }
 }
 

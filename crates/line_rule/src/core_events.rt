@@ -10,11 +10,12 @@ ghost use Rattle.model_core.specs.Step.{step, is_no_slowdown};
 ghost use Rattle.line_rule.specs.declared.view.Back.{Back};
 ghost use Rattle.line_rule.specs.declared.view.QueuedWriter.{QueuedWriter};
 ghost use Rattle.line_rule.specs.declared.view.Handling.{Handling};
+ghost use Rattle.line_rule.specs.declared.view.Lead.{Lead};
 ghost use Rattle.line_rule.specs.declared.view.Squad.{Squad};
 ghost use Rattle.line_rule.specs.Chain.{AllCoded, all_answers};
 ghost use Rattle.line_rule.specs.Events.{grouped, comes, elects};
 ghost use Rattle.line_rule.specs.Standing.{ahead, line_of};
-ghost use Rattle.line_rule.specs.Steps.{Lists, HappensAlone, IsBuild, IsComplete, IsBoundary, IsSecond, IsNext, IsServedOut};
+ghost use Rattle.line_rule.specs.Steps.{Lists, HappensAlone, IsBuild, IsStall, IsDrop, IsResume, IsComplete, IsBoundary, IsSecond, IsNext, IsServedOut};
 ghost use Rattle.line_rule.specs.Handing.{IsInNone, IsJoined};
 ghost use Rattle.line_rule.specs.CoreEvents.{IsSame, HasItems, HasReplies, LeavesWith, AllLeaveWith, IsGroupOf, IsCoreOf, StandsAs, IsTaken, IsCommit, HasLeft, IsToLog};
 ghost use Rattle.line_rule.specs.Grouping.{code_by};
@@ -32,6 +33,9 @@ use crate::code::codes_stand_for_items;
 /// core logs the group in hand, if a member has a run and no append has failed, while the lists stay as they are. A
 /// group in hand leaves without being logged: by a log if no member has a run, by a fault, or by a refusal if its
 /// leader asks for no slowdown. A client that has left gets its reply.
+///
+/// A leader that has a group in hand that may be slowed down stalls writes, and ends that. In between nobody comes and
+/// the group isn't logged, and writers of the queue that may not be slowed down leave it.
 ///
 /// Where there is one stage, a logged group leaves by the core's exit, once it is published. Where groups are handed
 /// on, a logged group is cut off from the first list by `boundary`, goes to the end of the second queue by `second`,
@@ -108,6 +112,19 @@ pub fn list_and_core<Request, Reply>()
         (stops delays wait : ℕ) → StandsAs writer_of reply_of old a s → s.log ≡ in_hand built
         → is_no_slowdown built ≡ true → AllLeaveWith reply_of (refused (no.Incomplete stops delays wait)) own a b
         → IsTaken writer_of reply_of o (core.Refuse own.by stops delays wait) s [] b }
+    ensures stall { (writer_of : QueuedWriter Request → Writer) (reply_of : Reply → CoreReply) (o : Options)
+        (s : State) (a b : Lists Request Reply) (old built : List Writer) (lead : Lead Request Reply)
+        → StandsAs writer_of reply_of old a s → s.log ≡ in_hand built → is_no_slowdown built ≡ false
+        → IsStall lead a b → IsTaken writer_of reply_of o (core.Stall lead.own.by) s [] b }
+    ensures leave { (writer_of : QueuedWriter Request → Writer) (reply_of : Reply → CoreReply) (o : Options)
+        (s : State) (a b : Lists Request Reply) (ws : List Writer) (e : QueuedWriter Request) (p : Reply)
+        (stops delays : ℕ) → StandsAs writer_of reply_of ws a s → HasItems writer_of a.0.0
+        → reply_of p ≡ refused (no.Incomplete stops delays 0) → IsDrop e p a b
+        → IsTaken writer_of reply_of o (core.Leave e.by stops delays) s [] b }
+    ensures unstall { (writer_of : QueuedWriter Request → Writer) (reply_of : Reply → CoreReply) (o : Options)
+        (s : State) (a b : Lists Request Reply) (ws : List Writer) (lead : Lead Request Reply)
+        → StandsAs writer_of reply_of ws a s → IsResume lead a b
+        → IsTaken writer_of reply_of o (core.Unstall lead.own.by) s [] b }
     ensures complete { (writer_of : QueuedWriter Request → Writer) (reply_of : Reply → CoreReply) (o : Options)
         (s : State) (a b : Lists Request Reply) (ws : List Writer) (e : QueuedWriter Request) (p : Reply)
         (client : Client) → StandsAs writer_of reply_of ws a s → IsComplete e p a b → IsInNone e.by a

@@ -1,5 +1,5 @@
 //! What the list is at opening and between any two steps, and what each step makes of it.
-ghost use Rattle.std.specs.Prelude.{◌≡◌, ℕ, ◌<◌, List, [], ◌∷◌, ◌++◌};
+ghost use Rattle.std.specs.Prelude.{◌≡◌, ◌≢◌, ℕ, ◌<◌, List, [], ◌∷◌, ◌++◌};
 ghost use Rattle.atomic_table.specs.Table.{opening, Splits, Joins};
 ghost use Rattle.line_rule.specs.declared.content.LineSlot.TheVariants.{Empty, Asked, Told};
 ghost use Rattle.line_rule.specs.declared.content.Start.{Start};
@@ -21,7 +21,7 @@ ghost use Rattle.line_rule.specs.Between.{Between, AreLists};
 ghost use Rattle.line_rule.specs.Before.{ListState, NameNobody, slots_at_opening, lists_at_opening, IsClient, IsNextAfter, IsNextOwed, IsAt, HasWholeGroup, HasFirst, HasHandledAnd};
 
 use crate::rule::{GivesRun, HasGroupingItem, LogOfGroups};
-use crate::words::{STATE_DONE, STATE_IN_LIST, STATE_LEADS_LOG};
+use crate::words::{STALL, STATE_DONE, STATE_IN_LIST, STATE_LEADS_LOG};
 
 /// Between any two steps the walk from the newest writer is the queue and then, until it is cut off, the group in
 /// hand; it has no more writers than there are clients. The log is at home, or with the leader. The queue, the log's
@@ -57,7 +57,7 @@ pub fn opening_and_seats<
 >()
     ensures open { (z : Start Log.About) (words : List ℕ) (l : Log) (right : Right)
         → let law = laws_for Request.item_of Reply.run_of Log.LogOfGroups z in
-        z.clients < 255 → NameNobody z.clients words → law.logs l [] → law.rights right []
+        z.clients < STALL → NameNobody z.clients words → law.logs l [] → law.rights right []
         → IsNow law z.clients lists_at_opening
         (opening words (slots_at_opening z.clients l right) (newcomers z.clients)) }
     ensures split { (z : Start Log.About) (now : Lists Request Reply) (id k : ℕ) (v : List (LineHold Request Reply))
@@ -93,13 +93,13 @@ pub fn steps_and_events<
         slots id me (older_at c) new after_name_older }
     ensures link { (z : Start Log.About) (slots id c saw code : ℕ) (me : Sat Request Reply Log Right) (q : Request)
         → let law = laws_for Request.item_of Reply.run_of Log.LogOfGroups z in
-        IsAt c (Preparing (pack saw code)) me → me.1 ≡ (c, Asked q) ∷ [] → law.asks q code
+        IsAt c (Preparing (pack saw code)) me → me.1 ≡ (c, Asked q) ∷ [] → law.asks q code → saw ≢ STALL
         → ExchangeIs law z.clients (IsLink saw (queued_writer c code q)) slots id me 0 saw c (after_link law.logs) }
     ensures read_state { (z : Start Log.About) (slots id c : ℕ) (me : Sat Request Reply Log Right) (q : Request)
         (past : List (LineEvent Request Reply)) → let law = laws_for Request.item_of Reply.run_of Log.LogOfGroups z in
         IsAt c (Waiting q past) me → me.1 ≡ []
         → LoadIs law z.clients (HappensWhere STATE_LEADS_LOG (IsElect c q)) slots id me (state_at c)
-        (after_read_state law.logs law.kept) }
+        (after_read_state law.logs law.kept law.drops) }
     ensures read_reply { (z : Start Log.About) (slots id c : ℕ) (me : Sat Request Reply Log Right) (q : Request)
         → let law = laws_for Request.item_of Reply.run_of Log.LogOfGroups z in IsAt c (Helping q) me → me.1 ≡ []
         → LoadIs law z.clients (λ _. Stays) slots id me (state_at c) (after_read_reply law.kept) }

@@ -10,8 +10,9 @@
 //!
 //! | Word | Name | What it holds |
 //! |---|---|---|
-//! | 0 | NEWEST | the newest writer's number, 0 where there is none, or [`MARK`], a leader's mark |
+//! | 0 | NEWEST | the newest writer's number, 0 where there is none, [`MARK`], a leader's mark, or [`STALL`], while writes are stalled |
 //! | 1 | NEWEST of the second list | the newest writer of its newest group, or 0 |
+//! | 3 | OLDER 0 | the newest writer's number, while writes are stalled |
 //! | [`state_word`] `i` | STATE `i` | [`STATE_IN_LIST`], [`STATE_LEADS_LOG`], [`STATE_LEADS_TABLE`] (it leads in the second list), [`STATE_PARALLEL`] or [`STATE_DONE`] |
 //! | [`older_word`] `i` | OLDER `i` | an [`Older`]: the number of the next older writer (0 where there is none, or [`MARK`]), and the code of its own item |
 //!
@@ -25,8 +26,9 @@
 //!
 //! # Steps
 //!
-//! A seat is a client's. A leader has the log, and the slots of its group. [`steps_and_events`] and
-//! [`second_steps_and_events`] say which event of the list each step is, or that it is none. [`list_and_core`] says
+//! A seat is a client's. A leader has the log, and the slots of its group. [`steps_and_events`],
+//! [`second_steps_and_events`] and [`stall_steps_and_events`] say which event of the list each step is, or that it is
+//! none. [`list_and_core`] says
 //! which event of the write path's core each event of the lists is.
 //!
 //! Each request in the list is lawful for what the list's law is about (`lawful` of [`LogOfGroups`]): the client that
@@ -59,6 +61,14 @@
 //! | compare-exchange of the second NEWEST to 0 ([`LeaveSecond`]) | the right's holder | gives the right back | exit of the pipelined stage |
 //! | store of OLDER `k` ([`ClearSecond`]) | the right's holder | clears the link of the next group's oldest writer | |
 //! | store of `STATE_LEADS_TABLE` to STATE `k` ([`CallNext`]) | the right's holder | gives the right on to that writer | exit of the pipelined stage |
+//! | load of any word ([`Withdraw`]) | client `i`, which is about to link | gives its empty slot back | |
+//! | store of OLDER 0 ([`AimStall`]) | the leader that has its whole group | names the newest writer that it saw | |
+//! | compare-exchange of NEWEST from that writer to `STALL` ([`PutStall`]) | the same leader | nobody links from here on | stall |
+//! | load of OLDER `k` ([`Hold`]) | the leader that stalls writes | takes the slot of a writer of the queue | |
+//! | store of OLDER `k`, of the same value ([`GiveBack`]) | the same leader | gives that slot back | |
+//! | store of OLDER of the next newer writer ([`PassBy`]), or of OLDER 0 ([`PassFirst`]) | the same leader | the writer whose slot it has leaves the queue | leave |
+//! | store of `STATE_DONE` to STATE `k` ([`Dismiss`]) | the same leader | gives that slot with the reply | complete |
+//! | compare-exchange of NEWEST from `STALL` to what OLDER 0 holds ([`Resume`]) | the same leader | writers link again | unstall |
 //!
 //! A compare-exchange that fails is a load. Seats are made and joined only at opening and closing, which leaves the
 //! list as it is ([`opening_and_seats`]).
@@ -70,6 +80,7 @@ mod core_events;
 mod law;
 mod rule;
 mod second_law;
+mod stall_law;
 mod steps;
 mod view;
 mod words;
@@ -83,15 +94,18 @@ pub use rule::{
     PickedRight, SplitFirst,
 };
 pub use second_law::{handing_on, second_steps_and_events};
+pub use stall_law::stall_steps_and_events;
 pub use steps::{
-    AimSecond, Begin, Build, CallNext, ClearSecond, Complete, CutAway, CutBehindMark, CutOff,
-    Fetch, Free, JoinSecond, Leave, LeaveSecond, Link, MakeParallel, Mark, NameOlder, ReadNewest,
-    ReadOlder, ReadReply, ReadState, Retire, ReturnSlot, Summon, Wake,
+    AimSecond, AimStall, Begin, Build, CallNext, ClearSecond, Complete, CutAway, CutBehindMark,
+    CutOff, Dismiss, Fetch, Free, GiveBack, Hold, JoinSecond, Leave, LeaveSecond, Link,
+    MakeParallel, Mark, NameOlder, PassBy, PassFirst, PutStall, ReadNewest, ReadOlder, ReadReply,
+    ReadState, Resume, Retire, ReturnSlot, Summon, Wake, Withdraw,
 };
 pub use view::{
     Back, Debt, Handling, Lead, LineEvent, LineHold, LineStage, LineView, QueuedWriter, Squad,
+    Stall,
 };
 pub use words::{
-    MARK, Older, STATE_DONE, STATE_IN_LIST, STATE_LEADS_LOG, STATE_LEADS_TABLE, STATE_PARALLEL,
-    older_word, state_word,
+    MARK, Older, STALL, STATE_DONE, STATE_IN_LIST, STATE_LEADS_LOG, STATE_LEADS_TABLE,
+    STATE_PARALLEL, older_word, state_word,
 };

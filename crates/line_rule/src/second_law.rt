@@ -10,7 +10,8 @@ ghost use Rattle.line_rule.specs.declared.view.Handling.{Handling};
 ghost use Rattle.line_rule.specs.declared.view.Lead.{Lead};
 ghost use Rattle.line_rule.specs.declared.view.Squad.{Squad};
 ghost use Rattle.line_rule.specs.declared.view.LineStage.{LineStage};
-ghost use Rattle.line_rule.specs.declared.view.LineStage.TheVariants.{Cutting, Marking, Settling};
+ghost use Rattle.line_rule.specs.declared.view.LineStage.TheVariants.{Stalling, Cutting, Marking, Settling};
+ghost use Rattle.line_rule.specs.declared.view.Stall.TheVariants.{Owes};
 ghost use Rattle.line_rule.specs.Chain.{AllCoded, state_at, older_at, pack, newest};
 ghost use Rattle.line_rule.specs.Standing.{line_of};
 ghost use Rattle.line_rule.specs.Laws.{laws_for};
@@ -101,7 +102,8 @@ pub fn second_steps_and_events<
 /// until it gives the log on, the log is with that group, so nobody is elected. When a leader gives the log on, in a
 /// list with a second one, its group is there, as the newest one and with all that was given runs, or nothing more was
 /// given a run. The group of the leader that has the right is the oldest one. A client that gets its reply from a
-/// leader that is in neither list, and such a leader itself, is neither in the second list nor of the group in hand.
+/// leader that is in neither list, such a leader itself, and a writer that left the queue while writes are stalled is
+/// neither in the second list nor of the group in hand.
 /// The leader that a stage names is the client itself. The walk from the second list's newest writer is its groups,
 /// except for an oldest one whose leader has cut it off and still has the right. The codes of the queue are those of
 /// its requests.
@@ -137,6 +139,11 @@ pub fn handing_on<
         (own : QueuedWriter Request) (p : Reply) → let law = laws_for Request.item_of Reply.run_of Log.LogOfGroups z in
         (r : Listed law z.clients s) → SeesAt s id c (Settling (debt [] own p)) Away
         → IsInNone own.by (now_of law z.clients s r) }
+    ensures dropped { (z : Start Log.About) (s : ListState Request Reply Log Right) (id c w : ℕ)
+        (lead : Lead Request Reply) (x : QueuedWriter Request) (p : Reply) (back : Back Request Reply)
+        → let law = laws_for Request.item_of Reply.run_of Log.LogOfGroups z in
+        (r : Listed law z.clients s) → SeesAt s id c (Stalling lead (Owes w x p)) back
+        → IsInNone x.by (now_of law z.clients s r) }
     ensures walked { (z : Start Log.About) (s : ListState Request Reply Log Right)
         (r : Listed (laws_for Request.item_of Reply.run_of Log.LogOfGroups z) z.clients s)
         → IsWalked (now_of (laws_for Request.item_of Reply.run_of Log.LogOfGroups z) z.clients s r) s.words }

@@ -1,7 +1,8 @@
 //! The steps of the list: which words and slots each may change, and what its seat knows then.
 ghost use Rattle.std.specs.Prelude.{◌≡◌};
-ghost use Rattle.line_rule.specs.Laws.{logs_picked, serves_picked, kept_picked, asks_picked};
+ghost use Rattle.line_rule.specs.Laws.{logs_picked, serves_picked, kept_picked, drops_picked, asks_picked};
 ghost use Rattle.line_rule.specs.Plays.{after_begin, after_read_newest, after_name_older, after_link, after_read_state, after_read_reply, after_return_slot, after_build, after_read_older, after_fetch, after_leave, after_complete, after_retire, after_cut_as, after_cut_off, after_wake, after_mark, after_free, after_aim_second, after_join_second, after_summon, after_leave_second, after_clear_second, after_call_next, after_make_parallel, after_cut_behind_mark};
+ghost use Rattle.line_rule.specs.Stalls.{after_withdraw, after_aim_stall, after_stall, after_hold, after_give_back, after_pass_by, after_pass_first, after_dismiss, after_resume};
 ghost use mathlib.Core.Option.{some};
 
 use crate::content::LineSlot;
@@ -65,7 +66,7 @@ impl<
     About: PickedAbout<Log::About>,
 > Play<LineSlot<Request, Reply, Log, Right>, LineView<Request, Reply>> for ReadState<About> {
     ghost then = { after_read_state (logs_picked Reply.run_of Log.LogOfGroups About.number About.about)
-        (kept_picked Log.kept About.about) };
+        (kept_picked Log.kept About.about) (drops_picked Log.drops About.about) };
 }
 
 /// A writer that works in parallel with its leader reads its state: it has its reply, or not yet.
@@ -294,4 +295,98 @@ impl<Request, Reply, Log, Right> Play<
     LineView<Request, Reply>,
 > for CutBehindMark {
     ghost then = { after_cut_behind_mark };
+}
+
+/// A writer that is about to link goes back instead: it gives its empty slot back.
+pub struct Withdraw;
+
+impl<Request, Reply, Log, Right> Play<
+    LineSlot<Request, Reply, Log, Right>,
+    LineView<Request, Reply>,
+> for Withdraw {
+    ghost then = { after_withdraw };
+}
+
+/// A leader names the newest writer that it saw, to stall writes.
+pub struct AimStall;
+
+impl<Request, Reply, Log, Right> Play<
+    LineSlot<Request, Reply, Log, Right>,
+    LineView<Request, Reply>,
+> for AimStall {
+    ghost then = { after_aim_stall };
+}
+
+/// A leader stalls writes, if nobody came since it named the newest writer.
+pub struct PutStall;
+
+impl<Request, Reply, Log, Right> Play<
+    LineSlot<Request, Reply, Log, Right>,
+    LineView<Request, Reply>,
+> for PutStall {
+    ghost then = { after_stall };
+}
+
+/// A leader that stalls writes takes the request of a writer of the queue. What the law asks of each request holds of
+/// it; the caller picks what the law is about.
+pub struct Hold<About>(PhantomData<About>);
+
+impl<
+    Request: HasGroupingItem,
+    Reply,
+    Log: LogOfGroups<Request, Reply, Right>,
+    Right,
+    About: PickedAbout<Log::About>,
+> Play<LineSlot<Request, Reply, Log, Right>, LineView<Request, Reply>> for Hold<About> {
+    ghost then = { after_hold (asks_picked Request.item_of Log.lawful About.about) };
+}
+
+/// It gives that request back.
+pub struct GiveBack;
+
+impl<Request, Reply, Log, Right> Play<
+    LineSlot<Request, Reply, Log, Right>,
+    LineView<Request, Reply>,
+> for GiveBack {
+    ghost then = { after_give_back };
+}
+
+/// It lets that writer go, by the link of the next newer one.
+pub struct PassBy;
+
+impl<Request, Reply, Log, Right> Play<
+    LineSlot<Request, Reply, Log, Right>,
+    LineView<Request, Reply>,
+> for PassBy {
+    ghost then = { after_pass_by };
+}
+
+/// It lets that writer go, which is the newest one.
+pub struct PassFirst;
+
+impl<Request, Reply, Log, Right> Play<
+    LineSlot<Request, Reply, Log, Right>,
+    LineView<Request, Reply>,
+> for PassFirst {
+    ghost then = { after_pass_first };
+}
+
+/// The writer that was let go gets its reply, which is in its slot.
+pub struct Dismiss;
+
+impl<Request, Reply, Log, Right> Play<
+    LineSlot<Request, Reply, Log, Right>,
+    LineView<Request, Reply>,
+> for Dismiss {
+    ghost then = { after_dismiss };
+}
+
+/// A leader ends the stall.
+pub struct Resume;
+
+impl<Request, Reply, Log, Right> Play<
+    LineSlot<Request, Reply, Log, Right>,
+    LineView<Request, Reply>,
+> for Resume {
+    ghost then = { after_resume };
 }

@@ -18,8 +18,9 @@ pub struct Handling<Request, Reply> {
 }
 
 /// An event of the list: a writer comes; the oldest one leads; it builds its group, under a bound, and the other
-/// writers of the queue are left; the log is given back or on, and the group leaves with what was handled; the client
-/// of a handling gets its reply. No value of it is made.
+/// writers of the queue are left; it stalls writes; a writer of the queue leaves it with a reply, while newer and older
+/// ones stay; the stall ends; the log is given back or on, and the group leaves with what was handled; the client of a
+/// handling, or one that left the queue, gets its reply. No value of it is made.
 pub enum LineEvent<Request, Reply> {
     Comes(QueuedWriter<Request>),
     Elects(QueuedWriter<Request>),
@@ -29,6 +30,14 @@ pub enum LineEvent<Request, Reply> {
         LinkedList<QueuedWriter<Request>>,
         LinkedList<QueuedWriter<Request>>,
     ),
+    Stalls(QueuedWriter<Request>, LinkedList<QueuedWriter<Request>>),
+    Drops(
+        LinkedList<QueuedWriter<Request>>,
+        QueuedWriter<Request>,
+        LinkedList<QueuedWriter<Request>>,
+        Reply,
+    ),
+    Resumes(QueuedWriter<Request>, LinkedList<QueuedWriter<Request>>),
     Exits(LinkedList<Handling<Request, Reply>>),
     Completes(Handling<Request, Reply>),
 }
@@ -52,6 +61,16 @@ pub struct Debt<Request, Reply> {
     pub reply: Reply,
 }
 
+/// How far a leader has come that stalls writes: `older_word(0)` has this number; the list ends at `STALL` besides; the
+/// leader has the request of this writer of the queue besides; or that writer has left the queue, and the leader owes
+/// it this reply. No value of it is made.
+pub enum Stall<Request, Reply> {
+    Aimed(u64),
+    Stopped(u64),
+    Holds(u64, QueuedWriter<Request>),
+    Owes(u64, QueuedWriter<Request>, Reply),
+}
+
 /// The stage at which a client is. One that waits knows the events of the list up to its own coming, the latest first.
 /// No value of it is made.
 pub enum LineStage<Request, Reply> {
@@ -61,6 +80,7 @@ pub enum LineStage<Request, Reply> {
     Helping(Request),
     Fresh(QueuedWriter<Request>, LinkedList<Handling<Request, Reply>>),
     Leading(Lead<Request, Reply>),
+    Stalling(Lead<Request, Reply>, Stall<Request, Reply>),
     Cutting(Lead<Request, Reply>, QueuedWriter<Request>),
     Marking(Lead<Request, Reply>),
     Settling(Debt<Request, Reply>),

@@ -23,6 +23,10 @@ pub const STATE_DONE: u64 = 16;
 /// `WriteThread::ExitAsBatchGroupLeader`.
 pub const MARK: u64 = 255;
 
+/// A leader that holds writes up leaves this in the place of the newest writer, whose number `older_word(0)` then has.
+/// No client has this number. RocksDB puts a writer of its own there, the dummy of `WriteThread::BeginWriteStall`.
+pub const STALL: u64 = 254;
+
 /// The word of a client's state.
 pub fn state_word(client: u64) -> usize
     requires { client < 2 ^ 32 }

@@ -12,6 +12,7 @@ use Rattle.line_rule.specs.Chain.{newest, newest_from}
 use Rattle.line_rule.specs.Plays.{Sat, AtWith, AllBelow, WalksMarked, WalksSecond, lead_with_walk}
 use Rattle.line_writers.specs.Roles.{HasRead}
 use Rattle.line_writers.proofs.Surveys.{below_at, oldest_newer, some_newest}
+use Rattle.line_rule.specs.declared.words.TheConstants.{MARK}
 
 pub record BehindMarked {Request Reply Log Right : Type 0} (c slots : ℕ) (lead : Lead Request Reply) (mine : List (Request × Reply)) (b : Back Request Reply) (found : ℕ) (was now : Sat Request Reply Log Right) : Type 0 where
   pub walk : List (QueuedWriter Request)
@@ -20,7 +21,7 @@ pub record BehindMarked {Request Reply Log Right : Type 0} (c slots : ℕ) (lead
   pub at : AtWith c (Marking (lead_with_walk lead walk)) mine b now
   pub slots_same : now.1 ≡ was.1
   pub parts : walk ≡ pre ++ x ∷ []
-  pub read : HasRead 255 slots c found now
+  pub read : HasRead MARK slots c found now
   pub range : (0 < x.by) × (x.by + 1 < slots)
   pub long : length walk ≡ length pre + 1
 
@@ -28,11 +29,11 @@ last_one : {Request : Type 0} (e : QueuedWriter Request) (es : List (QueuedWrite
 last_one e [] = ([], e, refl)
 last_one e (f ∷ fs) = let r = last_one f fs in (e ∷ r.0, r.1, ap (λ l. e ∷ l) r.2)
 
-some_first : {Request : Type 0} (walk : List (QueuedWriter Request)) (found : ℕ) → found ≡ newest_from 255 walk → found ≢ 255 → (y : QueuedWriter Request) × (ys : List (QueuedWriter Request)) × (walk ≡ y ∷ ys)
+some_first : {Request : Type 0} (walk : List (QueuedWriter Request)) (found : ℕ) → found ≡ newest_from MARK walk → found ≢ MARK → (y : QueuedWriter Request) × (ys : List (QueuedWriter Request)) × (walk ≡ y ∷ ys)
 some_first [] found is ne = absurd (ne is)
 some_first (y ∷ ys) found is ne = (y, ys, refl)
 
-pub behind_marked : {Request Reply Log Right : Type 0} (c slots : ℕ) (lead : Lead Request Reply) (mine : List (Request × Reply)) (b : Back Request Reply) (found : ℕ) (was now : Sat Request Reply Log Right) → WalksMarked slots c lead mine b found was now → found ≢ 255 → BehindMarked c slots lead mine b found was now
+pub behind_marked : {Request Reply Log Right : Type 0} (c slots : ℕ) (lead : Lead Request Reply) (mine : List (Request × Reply)) (b : Back Request Reply) (found : ℕ) (was now : Sat Request Reply Log Right) → WalksMarked slots c lead mine b found was now → found ≢ MARK → BehindMarked c slots lead mine b found was now
 behind_marked c slots lead mine b found was now w ne =
     let f = some_first w.0 found w.3 ne in let n = last_one f.0 f.1 in
     let parts : w.0 ≡ n.0 ++ n.1 ∷ [] = f.2 ∙ n.2 in
@@ -44,7 +45,7 @@ behind_marked c slots lead mine b found was now w ne =
       at = w.1;
       slots_same = w.2;
       parts = parts;
-      read = (w.0, f.0, f.1, inr (inl (refl, (lead_with_walk lead w.0, mine, b, w.1, refl))), f.2, w.3 ∙ ap (newest_from 255) f.2, w.4, w.5);
+      read = (w.0, f.0, f.1, inr (inl (refl, (lead_with_walk lead w.0, mine, b, w.1, refl))), f.2, w.3 ∙ ap (newest_from MARK) f.2, w.4, w.5);
       range = (r.0, r.1);
       long = ap length parts ∙ (length-append n.0 (n.1 ∷ []));
     }

@@ -92,9 +92,9 @@ module _ {Request Reply Log Right : Type 0} (law : Request → ℕ → Type 0) (
     pub holds : now.1 ≡ blanks (bys tk) ((c, Empty) ∷ (0, Empty) ∷ [])
     pub walk_is : walk ≡ pairs pre
     pub asked_is : asked ≡ asks own tk
-    pub fit : fitting max leader ((leader / 8)) (reverse (codes (left ++ group))) ≡ length tk + fitting max leader sum (reverse (codes pre))
+    pub fit : fitting max leader ((leader / 16)) (reverse (codes (left ++ group))) ≡ length tk + fitting max leader sum (reverse (codes pre))
 
-  pub gathers : (walk : List (ℕ × ℕ)) (asked : List (ℕ × Request)) → Gathering law n max leader c was walk asked → Gathered was walk asked (leader / 8)
+  pub gathers : (walk : List (ℕ × ℕ)) (asked : List (ℕ × Request)) → Gathering law n max leader c was walk asked → Gathered was walk asked (leader / 16)
   gathers walk asked h = record {
     own = h.0;
     group = h.1;
@@ -132,7 +132,7 @@ module _ {Request Reply Log Right : Type 0} (law : Request → ℕ → Type 0) (
         let here : At c (Leading (lead_with_group own seen past left group)) mine now = v.reads ∙ ((λ i. hold c (Leading (gathering v.own v.seen v.past W v.group (sym tk i))) v.mine ∷ []) ∙ (λ i. hold c (Leading (full (l i))) (e.2 i) ∷ [])) in
         let known : past_in now.0 ≡ past = ap past_in here in (
           (
-            subst (λ z. At c (Leading (lead_with_group own seen z left group)) mine now) (sym known) here,
+            (left, subst (λ z. At c (Leading (lead_with_group own seen z left group)) mine now) (sym known) here),
             ap (λ (z : QueuedWriter Request). z.by) (sym own_is) ∙ v.by,
             lo,
             subst (Within n) (tk ∙ group_is) (within_back n v.left v.group v.within),
@@ -144,7 +144,7 @@ module _ {Request Reply Log Right : Type 0} (law : Request → ℕ → Type 0) (
         )
 
     length_is : length v.group ≡ length v.tk + fitting max leader sum (reverse (codes v.pre))
-    length_is = of_group max v.own v.group v.left v.is_group.0 ∙ (ap (λ (k : ℕ). fitting max k (k / 8) (reverse (codes (v.left ++ v.group)))) v.lead_code ∙ v.fit)
+    length_is = of_group max v.own v.group v.left v.is_group.0 ∙ (ap (λ (k : ℕ). fitting max k (k / 16) (reverse (codes (v.left ++ v.group)))) v.lead_code ∙ v.fit)
 
     pub stops_empty : walk ≡ [] → length v.group ≡ length v.tk
     stops_empty nil = let none : v.pre ≡ [] = no_pairs v.pre (sym v.walk_is ∙ nil) in length_is ∙ (ap (λ z. length v.tk + fitting max leader sum (reverse (codes z))) none ∙ omega arith)
@@ -153,11 +153,11 @@ module _ {Request Reply Log Right : Type 0} (law : Request → ℕ → Type 0) (
       abbrev pub top : (pre : List (QueuedWriter Request)) × (x : QueuedWriter Request) × (v.pre ≡ pre ++ x ∷ []) × (rest ≡ pairs pre) × (x.by ≡ b) × (x.code ≡ k)
       top = pops v.pre rest b k (sym v.walk_is ∙ popped)
 
-      next_fit : fitting max leader sum (reverse (codes v.pre)) ≡ cond (fits_next max leader sum k) (fitting max leader (sum + k / 8) (reverse (codes top.0)) + 1) 0
+      next_fit : fitting max leader sum (reverse (codes v.pre)) ≡ cond (fits_next max leader sum k) (fitting max leader (sum + k / 16) (reverse (codes top.0)) + 1) 0
       next_fit = ap (λ z. fitting max leader sum (reverse (codes z))) top.2 ∙ (ap (fitting max leader sum) (codes_back top.0 top.1) ∙ ap (λ (j : ℕ). fitting max leader sum (j ∷ reverse (codes top.0))) top.5)
 
       pub stops_full : fits_next max leader sum k ≡ false → length v.group ≡ length v.tk
-      stops_full no_more = length_is ∙ (ap (λ z. length v.tk + z) (next_fit ∙ ap (λ z. cond z (fitting max leader (sum + k / 8) (reverse (codes top.0)) + 1) 0) no_more) ∙ omega arith)
+      stops_full no_more = length_is ∙ (ap (λ z. length v.tk + z) (next_fit ∙ ap (λ z. cond z (fitting max leader (sum + k / 16) (reverse (codes top.0)) + 1) 0) no_more) ∙ omega arith)
 
       walk_parts : v.left ++ (v.group ++ v.own ∷ []) ≡ top.0 ++ top.1 ∷ (v.tk ++ v.own ∷ [])
       walk_parts = sym (append_assoc v.left v.group (v.own ∷ [])) ∙ (ap (λ z. z ++ v.own ∷ []) (v.queue ∙ ap (λ z. z ++ v.tk) top.2) ∙ (append_assoc (top.0 ++ top.1 ∷ []) v.tk (v.own ∷ []) ∙ append_assoc top.0 (top.1 ∷ []) (v.tk ++ v.own ∷ [])))
@@ -169,7 +169,7 @@ module _ {Request Reply Log Right : Type 0} (law : Request → ℕ → Type 0) (
       next_range = let w = within_at n top.0 top.1 v.tk (subst (Within n) (v.queue ∙ (ap (λ z. z ++ v.tk) top.2 ∙ append_assoc top.0 (top.1 ∷ []) v.tk)) v.within) in subst (λ (j : ℕ). (0 < j) × (j ≤ n)) top.4 w
 
       pub goes_on : (now' : Sat Request Reply Log Right) (q : Request) → fits_next max leader sum k ≡ true → At c (Leading (lead_with_one_more (gathering v.own v.seen v.past (v.left ++ (v.group ++ v.own ∷ [])) v.group v.tk) top.1)) v.mine now' → now'.1 ≡ (top.1.by, Empty) ∷ now.1 → q ≡ top.1.asked
-          → Gathered now' rest (asked ++ (b, q) ∷ []) (sum + k / 8)
+          → Gathered now' rest (asked ++ (b, q) ∷ []) (sum + k / 16)
       goes_on now' q more at slots is = record {
         own = v.own;
         group = v.group;
@@ -190,7 +190,7 @@ module _ {Request Reply Log Right : Type 0} (law : Request → ℕ → Type 0) (
         holds = slots ∙ ap (λ z. (top.1.by, Empty) ∷ z) v.holds;
         walk_is = top.3;
         asked_is = (λ i. v.asked_is i ++ (sym top.4 i, is i) ∷ []);
-        fit = v.fit ∙ (ap (λ z. length v.tk + z) (next_fit ∙ ap (λ z. cond z (fitting max leader (sum + k / 8) (reverse (codes top.0)) + 1) 0) more) ∙ omega arith);
+        fit = v.fit ∙ (ap (λ z. length v.tk + z) (next_fit ∙ ap (λ z. cond z (fitting max leader (sum + k / 16) (reverse (codes top.0)) + 1) 0) more) ∙ omega arith);
       }
 
 -- the leader is the oldest of the walk

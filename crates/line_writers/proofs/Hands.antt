@@ -32,7 +32,7 @@ behind c slots lead mine found old was now w is_old ne =
       at = w.1;
       slots_same = w.2;
       parts = parts;
-      read = (w.0 ++ in_hand lead, f.0, f.1, inl (refl, (lead_with_walk lead (w.0 ++ in_hand lead), mine, w.1, refl)), f.2, w.3 ∙ ap newest f.2, w.4, w.5);
+      read = (w.0 ++ in_hand lead, f.0, f.1, inl (refl, (Leading (lead_with_walk lead (w.0 ++ in_hand lead)), mine, w.1, refl)), f.2, w.3 ∙ ap newest f.2, w.4, w.5);
       range = (b.0, b.1);
       long = ap length parts ∙ (length-append n.0 (n.1 ∷ in_hand lead) ∙ omega arith);
     }

@@ -12,7 +12,12 @@ pub mod Contents
 pub mod Closes
 pub mod Ways
 pub mod Frees
+pub mod Same
 pub mod Sends
 pub mod Turns
 pub mod Views
 pub mod Members
+pub mod Halts
+pub mod Skips
+pub mod Queues
+pub mod Gone

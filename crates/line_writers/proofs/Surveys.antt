@@ -2,11 +2,12 @@
 use Rattle.std.proofs.Common.{◌≡◌, ◌≢◌, ℕ, suc, ◌+◌, ◌^◌, ◌<◌, ◌≤◌, List, [], ◌∷◌, ◌++◌, length, get_or, refl, sym, ap, ◌∙◌, subst, inl, inr, arith, append_assoc, length-append}
 use Rattle.line_rule.specs.declared.view.QueuedWriter.{QueuedWriter}
 use Rattle.line_rule.specs.declared.view.Lead.{Lead}
-use Rattle.line_rule.specs.declared.view.LineStage.TheVariants.{Leading, Marking}
+use Rattle.line_rule.specs.declared.view.LineStage.{LineStage}
+use Rattle.line_rule.specs.declared.view.LineStage.TheVariants.{Idle, Preparing, Waiting, Helping, Fresh, Leading, Stalling, Cutting, Marking, Settling, Collecting}
 use Rattle.line_rule.specs.declared.view.Back.TheVariants.{Away, Serving}
 use Rattle.line_rule.specs.Chain.{pack, newest, newest_from, pairs}
-use Rattle.line_rule.specs.Plays.{Sat, AllBelow, SeesTo}
-use Rattle.line_rule.proofs.Leads.{lead_in, one_lead}
+use Rattle.line_rule.specs.Plays.{Sat, AllBelow, ReadsQueue, SeesTo}
+use Rattle.line_rule.proofs.Leads.{lead_in}
 use Rattle.line_rule.proofs.Onward.{one_hold_at}
 use Rattle.line_rule.proofs.Serves.{walk_of}
 use Rattle.line_writers.specs.Roles.{HasRead, CodesFit}
@@ -83,19 +84,32 @@ at_end end c slots m walk few (inl h) = let z = h.0 in (omega arith, λ k lo hi 
 at_end end c slots m walk few (inr (inl h)) = let z = h.0 in (omega arith, λ k lo hi e. omega arith)
 at_end end c slots m walk few (inr (inr h)) = let z = h.0 in (omega arith, λ k lo hi e. omega arith)
 
+reads_one : {Request Reply : Type 0} (st : LineStage Request Reply) (a b : List (QueuedWriter Request)) → ReadsQueue st a → ReadsQueue st b → a ≡ b
+reads_one Idle a b i j = absurd i
+reads_one (Preparing w) a b i j = absurd i
+reads_one (Waiting q past) a b i j = absurd i
+reads_one (Helping q) a b i j = absurd i
+reads_one (Fresh own seen) a b i j = absurd i
+reads_one (Leading lead) a b i j = sym i ∙ j
+reads_one (Stalling lead t) a b i j = sym i ∙ j
+reads_one (Cutting lead e) a b i j = absurd i
+reads_one (Marking lead) a b i j = absurd i
+reads_one (Settling debt) a b i j = absurd i
+reads_one Collecting a b i j = absurd i
+
 -- two walks that the leader has read are the same
 pub one_walk : {Request Reply Log Right : Type 0} (end c : ℕ) (m : Sat Request Reply Log Right) (a b : List (QueuedWriter Request)) → SeesTo end c m a → SeesTo end c m b → a ≡ b
 one_walk end c m a b (inl u) (inl v) = let x = u.1 in let y = v.1 in
-    let e = one_hold_at c c (Leading x.0) (Leading y.0) x.1 y.1 Away Away m.0 x.2 y.2 in sym x.3 ∙ (ap (λ (l : Lead _ _). l.walk) (one_lead x.0 y.0 e.1) ∙ y.3)
+    let e = one_hold_at c c x.0 y.0 x.1 y.1 Away Away m.0 x.2 y.2 in reads_one y.0 a b (subst (λ st. ReadsQueue st a) e.1 x.3) y.3
 one_walk end c m a b (inl u) (inr (inl v)) = let z = u.0 in let w = v.0 in absurd (omega arith)
 one_walk end c m a b (inl u) (inr (inr v)) = let x = u.1 in let y = v.1 in
-    let e = one_hold_at c c (Leading x.0) y.0 x.1 y.1 Away (Serving y.2 b) m.0 x.2 y.3 in let bad = e.3 in absurd (cc)
+    let e = one_hold_at c c x.0 y.0 x.1 y.1 Away (Serving y.2 b) m.0 x.2 y.3 in let bad = e.3 in absurd (cc)
 one_walk end c m a b (inr (inl u)) (inl v) = let z = u.0 in let w = v.0 in absurd (omega arith)
 one_walk end c m a b (inr (inl u)) (inr (inl v)) = let x = u.1 in let y = v.1 in
     let e = one_hold_at c c (Marking x.0) (Marking y.0) x.1 y.1 x.2 y.2 m.0 x.3 y.3 in sym x.4 ∙ (ap (λ (l : Lead _ _). l.walk) (ap (lead_in x.0) e.1) ∙ y.4)
 one_walk end c m a b (inr (inl u)) (inr (inr v)) = let z = u.0 in let w = v.0 in absurd (omega arith)
 one_walk end c m a b (inr (inr u)) (inl v) = let x = u.1 in let y = v.1 in
-    let e = one_hold_at c c x.0 (Leading y.0) x.1 y.1 (Serving x.2 a) Away m.0 x.3 y.2 in let bad = e.3 in absurd (cc)
+    let e = one_hold_at c c x.0 y.0 x.1 y.1 (Serving x.2 a) Away m.0 x.3 y.2 in let bad = e.3 in absurd (cc)
 one_walk end c m a b (inr (inr u)) (inr (inl v)) = let z = u.0 in let w = v.0 in absurd (omega arith)
 one_walk end c m a b (inr (inr u)) (inr (inr v)) = let x = u.1 in let y = v.1 in
     let e = one_hold_at c c x.0 y.0 x.1 y.1 (Serving x.2 a) (Serving y.2 b) m.0 x.3 y.3 in ap (walk_of a) e.3

@@ -1,5 +1,6 @@
 -- The kind of the slot that is on top.
-use Rattle.std.proofs.Common.{ℕ, List, [], ◌∷◌}
+use Rattle.std.proofs.Common.{◌≡◌, ℕ, List, [], ◌∷◌, ap}
+use mathlib.Core.Path.{Path}
 use Rattle.line_rule.specs.declared.content.LineSlot.{LineSlot}
 use Rattle.line_rule.specs.declared.content.LineSlot.TheVariants.{Empty, Asked, Told, TheLog, TheRight}
 
@@ -36,3 +37,17 @@ module _ {Request Reply Log Right : Type 0} where
   abbrev pub right_on : Right → List (ℕ × LineSlot Request Reply Log Right) → Right
   right_on d [] = d
   right_on d (x ∷ xs) = right_of_slot d x.1
+
+  abbrev pub told_in : Reply → LineSlot Request Reply Log Right → Reply
+  told_in d Empty = d
+  told_in d (Asked q) = d
+  told_in d (Told p) = p
+  told_in d (TheLog l) = d
+  told_in d (TheRight r) = d
+
+  abbrev pub told_at : Reply → List (ℕ × LineSlot Request Reply Log Right) → Reply
+  told_at d [] = d
+  told_at d (x ∷ xs) = told_in d x.1
+
+  pub told_one : (k j : ℕ) (p p' : Reply) → Path (List (ℕ × LineSlot Request Reply Log Right)) ((k, Told p) ∷ []) ((j, Told p') ∷ []) → p ≡ p'
+  told_one k j p p' e = ap (told_at p) e

@@ -5,7 +5,7 @@ use Rattle.line_rule.specs.declared.view.QueuedWriter.{QueuedWriter}
 use Rattle.line_rule.specs.declared.view.Handling.{Handling}
 use Rattle.line_rule.specs.declared.view.LineHold.{LineHold}
 use Rattle.line_rule.specs.declared.view.LineStage.{LineStage}
-use Rattle.line_rule.specs.declared.view.LineStage.TheVariants.{Idle, Preparing, Waiting, Helping, Fresh, Leading, Cutting, Marking, Settling, Collecting}
+use Rattle.line_rule.specs.declared.view.LineStage.TheVariants.{Idle, Preparing, Waiting, Helping, Fresh, Leading, Stalling, Cutting, Marking, Settling, Collecting}
 use Rattle.line_rule.specs.declared.view.LineEvent.{LineEvent}
 use Rattle.line_rule.specs.Chain.{heads, all_answers}
 use Rattle.line_rule.specs.Members.{pays}
@@ -22,6 +22,7 @@ module _ {Request Reply : Type 0} where
   seen_at (Helping q) = []
   seen_at (Fresh own seen) = seen
   seen_at (Leading lead) = lead.seen
+  seen_at (Stalling lead t) = lead.seen
   seen_at (Cutting lead next) = lead.seen
   seen_at (Marking lead) = lead.seen
   seen_at (Settling d) = []
@@ -38,6 +39,7 @@ module _ {Request Reply : Type 0} where
   handled_at (Helping q) replies = []
   handled_at (Fresh own seen) replies = []
   handled_at (Leading lead) replies = lead.seen ++ handled_by lead.taken lead.own (reverse replies)
+  handled_at (Stalling lead t) replies = []
   handled_at (Cutting lead next) replies = []
   handled_at (Marking lead) replies = []
   handled_at (Settling d) replies = []

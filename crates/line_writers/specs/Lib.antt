@@ -3,3 +3,4 @@ pub mod Roles
 pub mod Rooms
 pub mod Seats
 pub mod Second
+pub mod Stalled

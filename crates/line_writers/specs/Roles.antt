@@ -1,5 +1,5 @@
 -- The states that a writer can be in, and what it has in them.
-use Rattle.std.specs.Prelude.{◌≡◌, ◌≢◌, ℕ, ◌+◌, ◌-◌, ◌^◌, ◌<◌, ◌≤◌, Bool, true, false, List, [], ◌∷◌, ◌++◌, length}
+use Rattle.std.specs.Prelude.{◌≡◌, ◌≢◌, ℕ, ◌+◌, ◌-◌, ◌^◌, ◌<◌, ◌≤◌, ◌⊎◌, Bool, true, false, List, [], ◌∷◌, ◌++◌, length}
 use Rattle.atomic_table.specs.Seated.{TableId}
 use Rattle.line_rule.specs.declared.view.QueuedWriter.{QueuedWriter}
 use Rattle.line_rule.specs.declared.view.Handling.{Handling}
@@ -8,7 +8,7 @@ use Rattle.line_rule.specs.declared.view.Lead.{Lead}
 use Rattle.line_rule.specs.declared.content.LineSlot.{LineSlot}
 use Rattle.line_rule.specs.declared.content.LineSlot.TheVariants.{Empty, Asked, Told, TheLog, TheRight}
 use Rattle.line_rule.specs.declared.view.LineStage.{LineStage}
-use Rattle.line_rule.specs.declared.view.LineStage.TheVariants.{Idle, Preparing, Waiting, Helping, Fresh, Leading, Cutting, Marking, Settling, Collecting}
+use Rattle.line_rule.specs.declared.view.LineStage.TheVariants.{Idle, Preparing, Waiting, Helping, Fresh, Leading, Stalling, Cutting, Marking, Settling, Collecting}
 use Rattle.line_rule.specs.declared.view.Debt.{Debt}
 use Rattle.line_rule.specs.declared.view.Squad.{Squad}
 use Rattle.line_rule.specs.declared.view.Back.{Back}
@@ -59,6 +59,7 @@ module _ {Request Reply : Type 0} where
   past_at (Helping q) = []
   past_at (Fresh own seen) = []
   past_at (Leading lead) = lead.past
+  past_at (Stalling lead t) = lead.past
   past_at (Cutting lead next) = []
   past_at (Marking lead) = []
   past_at (Settling d) = []
@@ -92,24 +93,30 @@ module _ {Request Reply Log Right : Type 0} where
   HasReply kept c q mine p m = At c Idle (mine ++ (q, p) ∷ []) m × (m.1 ≡ [])
       × ((handled : List (Handling Request Reply)) × kept handled × (of c handled ≡ mine ++ (q, p) ∷ []))
 
-  -- one that leads has the log, which covers all that was handled before; one that is done has its reply
-  abbrev pub Becomes : (Log → List (Handling Request Reply) → Type 0) → (List (Handling Request Reply) → Type 0) → ℕ
-      → Request → List (Request × Reply)
+  -- the client is in no list, and left the queue with this reply, so nothing more was handled for it
+  abbrev pub HasLeft : (Request → Reply → Type 0) → ℕ → Request → List (Request × Reply) → Reply
+      → Sat Request Reply Log Right → Type 0
+  HasLeft drops c q mine p m = At c Idle mine m × (m.1 ≡ []) × drops q p
+
+  -- one that leads has the log, which covers all that was handled before; one that is done has its reply, or has left
+  -- the queue
+  abbrev pub Becomes : (Log → List (Handling Request Reply) → Type 0) → (List (Handling Request Reply) → Type 0)
+      → (Request → Reply → Type 0) → ℕ → Request → List (Request × Reply)
       → Role Log Reply → Sat Request Reply Log Right → Type 0
-  Becomes stood kept c q mine (Role.LogLeader l) m = (own : QueuedWriter Request)
+  Becomes stood kept drops c q mine (Role.LogLeader l) m = (own : QueuedWriter Request)
       × (seen : List (Handling Request Reply))
       × Chosen c own seen mine m × (own.asked ≡ q) × stood l seen × (of c seen ≡ mine)
-  Becomes stood kept c q mine (Role.Done p) m = HasReply kept c q mine p m
+  Becomes stood kept drops c q mine (Role.Done p) m = HasReply kept c q mine p m ⊎ HasLeft drops c q mine p m
 
   -- the same for a list with the second one: there, one that works in parallel with its leader is still in the list
-  abbrev pub Turns : (Log → List (Handling Request Reply) → Type 0) → (List (Handling Request Reply) → Type 0) → ℕ
-      → Task → Request
+  abbrev pub Turns : (Log → List (Handling Request Reply) → Type 0) → (List (Handling Request Reply) → Type 0)
+      → (Request → Reply → Type 0) → ℕ → Task → Request
       → List (Request × Reply) → PipelinedRole Log Right Reply → Sat Request Reply Log Right → Type 0
-  Turns stood kept c task q mine (LogLeader l) m = (own : QueuedWriter Request) × (seen : List (Handling Request Reply))
-      × Chosen c own seen mine m × (own.asked ≡ q) × stood l seen × (of c seen ≡ mine)
-  Turns stood kept c task q mine (MemLeader right) m = ⊥
-  Turns stood kept c task q mine Parallel m = IsLinked stood c task q mine m
-  Turns stood kept c task q mine (Done p) m = HasReply kept c q mine p m
+  Turns stood kept drops c task q mine (LogLeader l) m = (own : QueuedWriter Request)
+      × (seen : List (Handling Request Reply)) × Chosen c own seen mine m × (own.asked ≡ q) × stood l seen × (of c seen ≡ mine)
+  Turns stood kept drops c task q mine (MemLeader right) m = ⊥
+  Turns stood kept drops c task q mine Parallel m = IsLinked stood c task q mine m
+  Turns stood kept drops c task q mine (Done p) m = HasReply kept c q mine p m ⊎ HasLeft drops c q mine p m
 
   -- the leader has read the writers from number `at` down to this end
   abbrev pub HasRead : ℕ → ℕ → ℕ → ℕ → Sat Request Reply Log Right → Type 0
@@ -124,12 +131,13 @@ module _ {Request Reply Log Right : Type 0} where
 
   -- the leader has its group and all its requests, and the law holds of them; the last event that the leader knows is
   -- the building of this group, from the whole queue, under the bound `max`; `left` are the writers that the group left
-  -- in the queue
+  -- in the queue; and since then the leader may have read another queue in front of its group, as where it stalled
+  -- writes
   abbrev pub Grouped : (Request → ℕ → Type 0) → ℕ → ℕ → ℕ → QueuedWriter Request → List (QueuedWriter Request)
       → List (QueuedWriter Request) → List (Handling Request Reply)
       → List (Request × Reply) → Sat Request Reply Log Right → Type 0
-  Grouped law n max c own group left seen mine m =
-      At c (Leading (lead_with_group own seen (past_in m.0) left group)) mine m
+  Grouped law n max c own group left seen mine m = ((queue : List (QueuedWriter Request))
+      × At c (Leading (lead_with_group own seen (past_in m.0) queue group)) mine m)
       × (own.by ≡ c) × (0 < c) × Within n group × IsWhole law max own group left
       × (m.1 ≡ blanks (bys group) ((c, Empty) ∷ (0, Empty) ∷ [])) × HasBuilt max own group left seen (past_in m.0)
 

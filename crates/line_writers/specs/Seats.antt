@@ -4,7 +4,8 @@ use Rattle.atomic_table.specs.Seated.{TableId}
 use Rattle.line_rule.specs.declared.view.LineHold.{LineHold}
 use Rattle.line_rule.specs.declared.view.QueuedWriter.{QueuedWriter}
 use Rattle.line_rule.specs.declared.view.Handling.{Handling}
-use Rattle.line_rule.specs.declared.view.LineStage.TheVariants.{Idle}
+use Rattle.line_rule.specs.declared.view.LineStage.TheVariants.{Idle, Preparing}
+use Rattle.line_rule.specs.declared.content.LineSlot.TheVariants.{Asked}
 use Rattle.line_rule.specs.Chain.{of}
 use Rattle.line_rule.specs.declared.content.Start.{Start}
 use Rattle.line_rule.specs.declared.rule.LogOfGroups.{Ghosts}
@@ -78,6 +79,11 @@ module _ {Request Reply Log Right About : Type 0} where
       → List (Handling Request Reply) → Type 0
   kept_of kept list = kept (about_of list)
 
+  -- with which reply a writer of this list leaves the queue
+  abbrev pub drops_of : (About → Request → Reply → Type 0) → WriterList Request Reply Log Right About
+      → Request → Reply → Type 0
+  drops_of drops list = drops (about_of list)
+
   -- where there is a second list, nothing that was handled in between was given a run, as with a group that is refused
   abbrev pub flat_of : (Reply → ℕ × ℕ) → WriterList Request Reply Log Right About → List (Handling Request Reply)
       → List (Handling Request Reply) → Type 0
@@ -112,6 +118,11 @@ module _ {Request Reply Log Right : Type 0} where
       → Writer Request Reply Log Right → Type 0
   IsIn stood q mine w = IsLinked stood w.client w.task q mine w.seat.me
 
+  -- its request q is in its slot, and it is in no list yet
+  abbrev pub IsEntering : Request → List (Request × Reply) → Writer Request Reply Log Right → Type 0
+  IsEntering q mine w = (older : ℕ) × At w.client (Preparing older) mine w.seat.me
+      × (w.seat.me.1 ≡ (w.client, Asked q) ∷ [])
+
   -- it waits for its role
   abbrev pub AwaitsRole : Writer Request Reply Log Right → Type 0
   AwaitsRole w = w.task ≡ Awaits
@@ -121,9 +132,9 @@ module _ {Request Reply Log Right : Type 0} where
   IsHelping w = w.task ≡ Helps
 
   abbrev pub HasRole : (Log → List (Handling Request Reply) → Type 0) → (List (Handling Request Reply) → Type 0)
-      → Request → List (Request × Reply)
+      → (Request → Reply → Type 0) → Request → List (Request × Reply)
       → Role Log Reply → Writer Request Reply Log Right → Type 0
-  HasRole stood kept q mine role w = Becomes stood kept w.client q mine role w.seat.me
+  HasRole stood kept drops q mine role w = Becomes stood kept drops w.client q mine role w.seat.me
 
   -- it leads, as the writer `own`, and `seen` is all that was handled before
   abbrev pub IsChosen : QueuedWriter Request → List (Handling Request Reply) → List (Request × Reply)

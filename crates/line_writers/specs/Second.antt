@@ -71,11 +71,11 @@ module _ {Request Reply Log Right : Type 0} where
   GetsRight serves n d from to mine (Done p) w = ⊥
 
   -- one that leads has the log, which covers all that was handled before; one that is done has its reply, after those
-  -- to its earlier requests; one that works in parallel with its leader is still in the list
+  -- to its earlier requests, or has left the queue; one that works in parallel with its leader is still in the list
   abbrev pub HasPipelinedRole : (Log → List (Handling Request Reply) → Type 0)
-      → (List (Handling Request Reply) → Type 0) → Request → List (Request × Reply)
+      → (List (Handling Request Reply) → Type 0) → (Request → Reply → Type 0) → Request → List (Request × Reply)
       → PipelinedRole Log Right Reply → Writer Request Reply Log Right → Type 0
-  HasPipelinedRole stood kept q mine role w = Turns stood kept w.client w.task q mine role w.seat.me
+  HasPipelinedRole stood kept drops q mine role w = Turns stood kept drops w.client w.task q mine role w.seat.me
 
 -- the room lists the members of the group, its leader too, newest first; its walk is empty; and there is room in both
 -- for all clients

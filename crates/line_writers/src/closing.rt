@@ -12,7 +12,7 @@ use crate::line_writers::WriterList;
 use crate::slots::{log_of, nothing_of, right_of};
 use crate::writer::Writer;
 use atomic_table::{Closed, Seat};
-use line_rule::{GivesRun, HasGroupingItem, JoinClients, LineSlot, LineView, LogOfGroups};
+use line_rule::{GivesRun, HasGroupingItem, JoinClients, LineSlot, LineView, LogOfGroups, STALL};
 use std::alloc::Global;
 
 impl<
@@ -89,7 +89,7 @@ fn take_all<Request, Reply, Log, Right>(
     mut closed: Closed<LineSlot<Request, Reply, Log, Right>, Global>,
     clients: u32,
 ) -> (Log, Right)
-    requires full { (slots_len closed.slots ≡ clients + 2) × IsFull closed.slots × (clients < 255) }
+    requires full { (slots_len closed.slots ≡ clients + 2) × IsFull closed.slots × (clients < STALL) }
     requires held { (l : Log) × (r : Right) × (get_elem? (slots_items closed.slots) 0 ≡ some (TheLog l))
         × (get_elem? (slots_items closed.slots) (clients + 1) ≡ some (TheRight r))
         × ((i : ℕ) → 0 < i → i ≤ clients → get_elem? (slots_items closed.slots) i ≡ some Empty) }

@@ -8,6 +8,9 @@
 //! The leader of the oldest group has the right, may let members work in parallel with it, and then gives the right
 //! on.
 //!
+//! A leader whose group must wait may stall writes: then nobody links, and the leader may let writers of the queue go
+//! that may not be slowed down.
+//!
 //! The words, slots and steps are those of `line_rule`.
 #![tactic(auto)]
 
@@ -24,9 +27,12 @@ mod room;
 mod second;
 mod serving;
 mod slots;
+mod stalling;
+mod waiting;
 mod writer;
 
 pub use line_writers::WriterList;
+pub use linking::Linking;
 pub use reply_law::{members_in_order, replies_in_order};
 pub use room::{Lists, Replies, Requests, Room};
 pub use second::PipelinedRole;

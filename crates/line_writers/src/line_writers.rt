@@ -1,5 +1,6 @@
 //! The list and its parts.
 ghost use Rattle.std.specs.Prelude.{◌≡◌, ℕ, ◌+◌, ◌*◌, ◌<◌};
+ghost use Rattle.line_rule.specs.declared.words.TheConstants.{STALL};
 
 use atomic_table::Table;
 use base_waiting::Bells;
@@ -25,7 +26,7 @@ pub struct WriterList<
     pub(crate) group_bytes: u64,
     pub(crate) bells: Bells,
     ghost sized: { (table.shared.table_id.words ≡ 2 * clients + 4) × (table.shared.table_id.slots ≡ clients + 2)
-        × (table.shared.key.clients ≡ clients) × (clients < 255)
+        × (table.shared.key.clients ≡ clients) × (clients < STALL)
         × (table.shared.key.group_bytes ≡ group_bytes) },
     ghost some: { 0 < clients },
 }

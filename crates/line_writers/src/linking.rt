@@ -1,32 +1,37 @@
-//! How a writer links itself, and waits for its role.
-ghost use Rattle.std.specs.Prelude.{◌≡◌, ℕ, ◌^◌, ◌<◌, ◌≤◌, ◌≢◌, true, List, [], ◌∷◌, Some};
+//! How a writer links itself, by one try after the other.
+ghost use Rattle.std.specs.Prelude.{◌≡◌, ◌≢◌, ◌^◌, ◌<◌, ◌≤◌, IfOk, IfErr, Some};
 ghost use Rattle.line_rule.specs.declared.content.LineSlot.{LineSlot};
-ghost use Rattle.line_rule.specs.declared.content.LineSlot.TheVariants.{Empty, Asked, Told, TheLog};
-ghost use Rattle.line_rule.specs.declared.view.LineStage.TheVariants.{Idle, Waiting, Helping, Collecting};
-ghost use Rattle.line_rule.specs.declared.view.LineEvent.{LineEvent};
+ghost use Rattle.line_rule.specs.declared.content.LineSlot.TheVariants.{Empty, Asked};
 ghost use Rattle.line_rule.specs.Grouping.{code_by};
-ghost use Rattle.line_rule.specs.Rule.{logs_picked, kept_picked};
-ghost use Rattle.line_rule.specs.Plays.{At, Elected};
-ghost use Rattle.line_writers.specs.Roles.{IsLinked, Becomes, Turns, HasReply};
-ghost use Rattle.line_writers.specs.Seats.{client_of, about_of, law_of, kept_of, Belongs, IsOut, IsIn, HasRole, Stays, answers_told};
-ghost use Rattle.line_writers.specs.declared.second.PipelinedRole.TheVariants.{Parallel};
-ghost use Rattle.line_writers.specs.declared.writer.Task.TheVariants.{Awaits, Leads, Helps};
+ghost use Rattle.line_rule.specs.Rule.{logs_picked};
+ghost use Rattle.line_writers.specs.Roles.{IsLinked};
+ghost use Rattle.line_writers.specs.Seats.{client_of, about_of, law_of, Belongs, IsOut, IsIn, IsEntering, Stays, answers_told};
+ghost use Rattle.line_writers.specs.declared.linking.Linking.TheVariants.{Linked};
+ghost use Rattle.line_writers.specs.declared.writer.Task.TheVariants.{Awaits, Leads};
 ghost use Rattle.line_writers.specs.Groups.{Answers};
 
 use crate::line_writers::WriterList;
-use crate::second::PipelinedRole;
-use crate::writer::{Role, Task, Writer};
+use crate::writer::{Task, Writer};
 use base_waiting::Pauses;
 use crossbeam_utils::Backoff;
 use line_rule::{
     Begin, GivesRun, HasGroupingItem, LineSlot, Link, LogOfGroups, NameOlder, Older, PickedAbout,
-    ReadNewest, ReadReply, ReadState, ReturnSlot, STATE_DONE, STATE_IN_LIST, STATE_LEADS_LOG,
-    STATE_PARALLEL, code_of, older_word, state_word,
+    ReadNewest, STALL, STATE_IN_LIST, Withdraw, code_of, older_word, state_word,
 };
 use model_base::{Item, MAX_SIZE};
 use std::marker::Brand;
 use std::rt;
 use std::sync::Wait;
+
+/// What one try to link has shown.
+pub enum Linking {
+    /// The writer is in the list.
+    Linked,
+    /// Another writer came in between. A further try can be made at once.
+    Missed,
+    /// Writes are stalled.
+    Stalled,
+}
 
 impl<
     Request: HasGroupingItem,
@@ -35,7 +40,7 @@ impl<
     Right,
 > WriterList<Request, Reply, Log, Right> {
     /// Puts the writer, which is in no list, at the newest end with its request. `item` is what grouping sees of the
-    /// request. The request must be lawful for this list.
+    /// request. The request must be lawful for this list. While writes are stalled this waits.
     pub fn link<R: Wait + rt::Clock>(
         &self,
         rt: &R,
@@ -51,234 +56,147 @@ impl<
         ensures linked { Belongs self.now writer.new
             × IsIn (law_of Reply.run_of Log.LogOfGroups self.now) request (answers_told writer.old) writer.new }
     {
-        self.link_from::<Brand, R>(rt, writer, code_of(item), request);
-    }
-
-    /// Waits until the writer, which is in the list, either leads or has its request done.
-    pub fn await_role<R: Wait + rt::Clock>(
-        &self,
-        rt: &R,
-        writer: &mut Writer<Request, Reply, Log, Right>,
-    ) -> Role<Log, Reply>
-        requires { Belongs self.now writer.old
-            × ((q : Request)
-            × IsIn (law_of Reply.run_of Log.LogOfGroups self.now) q (answers_told writer.old) writer.old) }
-        ensures client { client_of writer.new ≡ client_of writer.old }
-        // A writer that leads has the log, which covers all that was handled before. One that is done has the reply to
-        // its own request.
-        ensures role { Belongs self.now writer.new × ((q : Request)
-            → IsIn (law_of Reply.run_of Log.LogOfGroups self.now) q (answers_told writer.old) writer.old
-            → HasRole (law_of Reply.run_of Log.LogOfGroups self.now) (kept_of Log.kept self.now)
-            q (answers_told writer.old) result writer.new) }
-    {
-        match writer.task {
-            Task::Awaits => self.await_alone::<Brand, R>(rt, writer),
-            Task::Leads => Role::LogLeader(self.claim::<Brand>(writer)),
-            Task::Helps => Role::Done(self.await_reply::<Brand, R>(rt, writer)),
-            Task::Queues => unreachable!(),
-            Task::Serves => unreachable!(),
+        self.enter(writer, request);
+        let backoff = Backoff::new();
+        let pauses = Pauses::new();
+        // Until a try links the writer, the request is in its slot, and no other client sees the writer.
+        for _ in rt.forever() {
+            match self.poll_link(writer, item) {
+                Linking::Linked => return,
+                Linking::Missed => backoff.snooze(),
+                Linking::Stalled => self.bells.pause(rt, &pauses, writer.client as u64),
+            }
         }
+        unreachable!()
     }
 
-    /// The caller picks the log's number at opening and what the law is about, since a step of the table knows neither.
-    fn link_from<About: PickedAbout<Log::About>, R: Wait + rt::Clock>(
+    /// As [`WriterList::link`]; but where writes are stalled the writer stays in no list, and the request comes back.
+    pub fn try_link<R: Wait + rt::Clock>(
         &self,
         rt: &R,
         writer: &mut Writer<Request, Reply, Log, Right>,
-        code: u64,
+        item: Item,
         request: Request,
-    )
-        requires start { About.number ≡ self.now.table.shared.key.log }
-        requires about { About.about ≡ Some self.now.table.shared.key.about }
-        requires seat { (writer.old.seat.table_id ≡ self.now.table.shared.table_id)
-            × (0 < writer.old.client) × (writer.old.client ≤ self.now.clients) × (code < 2 ^ 40) }
-        requires code { code ≡ code_by Request.item_of request }
-        requires lawful { Log.lawful self.now.table.shared.key.about request }
-        requires idle { (mine : Answers Request Reply)
-            × At writer.old.client Idle mine writer.old.seat.me × (writer.old.seat.me.1 ≡ []) }
-        ensures seat { Stays writer.new writer.old }
-        ensures linked { (mine : Answers Request Reply) → At writer.old.client Idle mine writer.old.seat.me
-            → IsLinked (logs_picked Reply.run_of Log.LogOfGroups About.number About.about)
-            writer.old.client writer.new.task request mine writer.new.seat.me }
+    ) -> Result<(), Request>
+        requires out { Belongs self.now writer.old × IsOut writer.old }
+        requires item { (item ≡ Request.item_of request) × (item.size ≤ MAX_SIZE) }
+        requires lawful { Log.lawful (about_of self.now) request }
+        ensures client { client_of writer.new ≡ client_of writer.old }
+        ensures belongs { Belongs self.now writer.new }
+        ensures linked { IfOk result (λ _. IsIn (law_of Reply.run_of Log.LogOfGroups self.now) request
+            (answers_told writer.old) writer.new) }
+        ensures back { IfErr result (λ q. (q ≡ request) × IsOut writer.new
+            × (answers_told writer.new ≡ answers_told writer.old)) }
+    {
+        self.enter(writer, request);
+        let backoff = Backoff::new();
+        // Until a try links the writer, the request is in its slot, and no other client sees the writer.
+        for _ in rt.forever() {
+            match self.poll_link(writer, item) {
+                Linking::Linked => return Ok(()),
+                Linking::Missed => backoff.snooze(),
+                Linking::Stalled => return Err(self.withdraw(writer)),
+            }
+        }
+        unreachable!()
+    }
+
+    /// Puts the request of a writer that is in no list into the writer's slot. No other client sees the writer yet, so
+    /// what follows may take as long as the caller likes: tries of [`WriterList::poll_link`], or
+    /// [`WriterList::withdraw`].
+    pub fn enter(&self, writer: &mut Writer<Request, Reply, Log, Right>, request: Request)
+        requires out { Belongs self.now writer.old × IsOut writer.old }
+        ensures client { client_of writer.new ≡ client_of writer.old }
+        ensures entering { Belongs self.now writer.new
+            × IsEntering request (answers_told writer.old) writer.new }
     {
         let shared = &self.table.shared;
         let c = writer.client;
+        // The state of its last time in the list goes first: once the writer is linked, others may set it.
         shared.store::<Begin>(&mut writer.seat, state_word(c as u64), STATE_IN_LIST);
+        // The slot is the writer's own until it is linked; then it is the one from which a leader takes the request.
         match shared.exchange(&mut writer.seat, c as usize, LineSlot::Asked(request)) {
             LineSlot::Empty => {}
             _ => unreachable!(),
         }
-        let backoff = Backoff::new();
-        // Until the exchange succeeds, the request is in its slot, and no other client sees the writer.
-        for _ in rt.forever() {
-            let newest = shared.load::<ReadNewest>(&mut writer.seat, 0);
-            let older = Older {
-                client: newest,
-                code,
-            };
-            shared.store::<NameOlder>(&mut writer.seat, older_word(c as u64), older.pack());
-            let found = shared.compare_exchange::<Link<About>>(
-                &mut writer.seat,
-                0,
-                newest,
-                c as u64,
-            );
-            if found == newest {
-                writer.task = task_of(newest);
-                return;
-            }
-            backoff.snooze();
-        }
-        unreachable!()
     }
 
-    /// Waits for the role; a member that should work in parallel with its leader goes on to wait for its reply.
-    fn await_alone<About: PickedAbout<Log::About>, R: Wait + rt::Clock>(
+    /// Tries once to put the writer, whose request is in its slot, at the newest end. Where it didn't get there, it is
+    /// as it was for all others, and the caller may try again whenever it likes. `item` is what grouping sees of the
+    /// request, which must be lawful for this list.
+    pub fn poll_link(&self, writer: &mut Writer<Request, Reply, Log, Right>, item: Item) -> Linking
+        requires entering { Belongs self.now writer.old × ((q : Request)
+            × IsEntering q (answers_told writer.old) writer.old × (item ≡ Request.item_of q)
+            × Log.lawful (about_of self.now) q) }
+        requires small { item.size ≤ MAX_SIZE }
+        ensures client { (client_of writer.new ≡ client_of writer.old) × Belongs self.now writer.new }
+        ensures linked { (q : Request) → IsEntering q (answers_told writer.old) writer.old → result ≡ Linked
+            → IsIn (law_of Reply.run_of Log.LogOfGroups self.now) q (answers_told writer.old) writer.new }
+        // It still has the same request to link, and was told the same answers.
+        ensures not_yet { (q : Request) → IsEntering q (answers_told writer.old) writer.old → result ≢ Linked
+            → IsEntering q (answers_told writer.old) writer.new }
+    {
+        self.poll_link_from::<Brand>(writer, code_of(item))
+    }
+
+    /// One try. The caller picks the log's number at opening and what the law is about, since a step of the table knows
+    /// neither.
+    fn poll_link_from<About: PickedAbout<Log::About>>(
         &self,
-        rt: &R,
         writer: &mut Writer<Request, Reply, Log, Right>,
-    ) -> Role<Log, Reply>
+        code: u64,
+    ) -> Linking
         requires start { About.number ≡ self.now.table.shared.key.log }
         requires about { About.about ≡ Some self.now.table.shared.key.about }
         requires seat { (writer.old.seat.table_id ≡ self.now.table.shared.table_id)
-            × (0 < writer.old.client) × (writer.old.client ≤ self.now.clients) }
-        requires waits { (q : Request) × (past : List (LineEvent Request Reply)) × (mine : Answers Request Reply)
-            × At writer.old.client (Waiting q past) mine writer.old.seat.me × (writer.old.seat.me.1 ≡ []) }
+            × (0 < writer.old.client) × (writer.old.client ≤ self.now.clients) × (code < 2 ^ 40) }
+        requires entering { (q : Request) × (mine : Answers Request Reply) × IsEntering q mine writer.old
+            × (code ≡ code_by Request.item_of q) × Log.lawful self.now.table.shared.key.about q }
         ensures seat { Stays writer.new writer.old }
-        ensures role { (q : Request) (past : List (LineEvent Request Reply)) (mine : Answers Request Reply)
-            → At writer.old.client (Waiting q past) mine writer.old.seat.me → writer.old.seat.me.1 ≡ []
-            → Becomes (logs_picked Reply.run_of Log.LogOfGroups About.number About.about)
-            (kept_picked Log.kept About.about) writer.old.client q mine result writer.new.seat.me }
-    {
-        match self.await_from::<About, R>(rt, writer) {
-            PipelinedRole::LogLeader(log) => Role::LogLeader(log),
-            PipelinedRole::Parallel => Role::Done(self.await_reply::<About, R>(rt, writer)),
-            PipelinedRole::Done(reply) => Role::Done(reply),
-            _ => unreachable!(),
-        }
-    }
-
-    /// Waits for the writer's role.
-    pub(crate) fn await_from<About: PickedAbout<Log::About>, R: Wait + rt::Clock>(
-        &self,
-        rt: &R,
-        writer: &mut Writer<Request, Reply, Log, Right>,
-    ) -> PipelinedRole<Log, Right, Reply>
-        requires start { About.number ≡ self.now.table.shared.key.log }
-        requires about { About.about ≡ Some self.now.table.shared.key.about }
-        requires seat { (writer.old.seat.table_id ≡ self.now.table.shared.table_id)
-            × (0 < writer.old.client) × (writer.old.client ≤ self.now.clients) }
-        requires waits { (q : Request) × (past : List (LineEvent Request Reply)) × (mine : Answers Request Reply)
-            × At writer.old.client (Waiting q past) mine writer.old.seat.me × (writer.old.seat.me.1 ≡ []) }
-        ensures seat { Stays writer.new writer.old }
-        ensures role { (q : Request) (past : List (LineEvent Request Reply)) (mine : Answers Request Reply)
-            → At writer.old.client (Waiting q past) mine writer.old.seat.me → writer.old.seat.me.1 ≡ []
-            → Turns (logs_picked Reply.run_of Log.LogOfGroups About.number About.about)
-            (kept_picked Log.kept About.about) writer.old.client writer.new.task q mine result writer.new.seat.me }
-        ensures parallel { result ≡ Parallel → writer.new.task ≡ Helps }
-    {
-        let c = writer.client;
-        let pauses = Pauses::new();
-        // Until a look shows a role, the writer knows what it knew at first.
-        for _ in rt.forever() {
-            let state = self
-                .table
-                .shared
-                .load::<ReadState<About>>(&mut writer.seat, state_word(c as u64));
-            if state == STATE_DONE {
-                return PipelinedRole::Done(self.collect(writer));
-            }
-            if state == STATE_LEADS_LOG {
-                return PipelinedRole::LogLeader(self.claim::<About>(writer));
-            }
-            if state == STATE_PARALLEL {
-                writer.task = Task::Helps;
-                return PipelinedRole::Parallel;
-            }
-            self.bells.pause(rt, &pauses, c as u64);
-        }
-        unreachable!()
-    }
-
-    /// Waits for the reply of a writer that was asked to work in parallel with its leader.
-    pub(crate) fn await_reply<About: PickedAbout<Log::About>, R: Wait + rt::Clock>(
-        &self,
-        rt: &R,
-        writer: &mut Writer<Request, Reply, Log, Right>,
-    ) -> Reply
-        requires about { About.about ≡ Some self.now.table.shared.key.about }
-        requires seat { (writer.old.seat.table_id ≡ self.now.table.shared.table_id)
-            × (0 < writer.old.client) × (writer.old.client ≤ self.now.clients) }
-        requires helps { (q : Request) × (mine : Answers Request Reply)
-            × At writer.old.client (Helping q) mine writer.old.seat.me × (writer.old.seat.me.1 ≡ []) }
-        ensures seat { Stays writer.new writer.old }
-        ensures reply { (q : Request) (mine : Answers Request Reply)
-            → At writer.old.client (Helping q) mine writer.old.seat.me → writer.old.seat.me.1 ≡ []
-            → HasReply (kept_picked Log.kept About.about) writer.old.client q mine result writer.new.seat.me }
-    {
-        let c = writer.client;
-        let pauses = Pauses::new();
-        // Until a look shows `STATE_DONE`, the member knows what it knew at first.
-        for _ in rt.forever() {
-            let state = self
-                .table
-                .shared
-                .load::<ReadReply<About>>(&mut writer.seat, state_word(c as u64));
-            if state == STATE_DONE {
-                return self.collect(writer);
-            }
-            self.bells.pause(rt, &pauses, c as u64);
-        }
-        unreachable!()
-    }
-
-    /// Takes the log out of its slot.
-    pub(crate) fn claim<About: PickedAbout<Log::About>>(
-        &self,
-        writer: &mut Writer<Request, Reply, Log, Right>,
-    ) -> Log
-        requires seat { writer.old.seat.table_id ≡ self.now.table.shared.table_id }
-        requires elected { (q : Request) × (mine : Answers Request Reply)
-            × Elected (logs_picked Reply.run_of Log.LogOfGroups About.number About.about)
-            writer.old.client q mine writer.old.seat.me }
-        ensures seat { Stays writer.new writer.old }
-        ensures leads { (q : Request) (mine : Answers Request Reply)
-            → Elected (logs_picked Reply.run_of Log.LogOfGroups About.number About.about)
-            writer.old.client q mine writer.old.seat.me
-            → Becomes (logs_picked Reply.run_of Log.LogOfGroups About.number About.about)
-            (kept_picked Log.kept About.about) writer.old.client q mine (Role.LogLeader result) writer.new.seat.me }
-    {
-        match self
-            .table
-            .shared
-            .exchange(&mut writer.seat, 0, LineSlot::Empty)
-        {
-            LineSlot::TheLog(log) => {
-                writer.seat.turn();
-                log
-            }
-            _ => unreachable!(),
-        }
-    }
-
-    /// Takes the reply out of the writer's own slot, and gives the slot back.
-    fn collect(&self, writer: &mut Writer<Request, Reply, Log, Right>) -> Reply
-        requires seat { (writer.old.seat.table_id ≡ self.now.table.shared.table_id)
-            × (writer.old.client ≤ self.now.clients) }
-        requires told { (p : Reply) × (mine : Answers Request Reply)
-            × At writer.old.client Collecting mine writer.old.seat.me
-            × (writer.old.seat.me.1 ≡ (writer.old.client, Told p) ∷ []) }
-        ensures seat { Stays writer.new writer.old }
-        ensures reply { writer.old.seat.me.1 ≡ (writer.old.client, Told result) ∷ [] }
-        ensures idle { (mine : Answers Request Reply) → At writer.old.client Collecting mine writer.old.seat.me
-            → At writer.old.client Idle mine writer.new.seat.me × (writer.new.seat.me.1 ≡ []) }
+        ensures linked { (q : Request) (mine : Answers Request Reply) → IsEntering q mine writer.old
+            → result ≡ Linked → IsLinked (logs_picked Reply.run_of Log.LogOfGroups About.number About.about)
+            writer.old.client writer.new.task q mine writer.new.seat.me }
+        ensures not_yet { (q : Request) (mine : Answers Request Reply) → IsEntering q mine writer.old
+            → result ≢ Linked → IsEntering q mine writer.new }
     {
         let shared = &self.table.shared;
         let c = writer.client;
+        let newest = shared.load::<ReadNewest>(&mut writer.seat, 0);
+        if newest == STALL {
+            return Linking::Stalled;
+        }
+        let older = Older {
+            client: newest,
+            code,
+        };
+        // Who finds the writer at the newest end must find the next older one by it, so the link is named before.
+        shared.store::<NameOlder>(&mut writer.seat, older_word(c as u64), older.pack());
+        // It links only where the writer that the link names is the newest one still.
+        let found = shared.compare_exchange::<Link<About>>(&mut writer.seat, 0, newest, c as u64);
+        if found != newest {
+            return Linking::Missed;
+        }
+        writer.task = task_of(newest);
+        Linking::Linked
+    }
+
+    /// Takes the request of a writer that isn't linked yet out of its slot again, so that the writer is in no list with
+    /// nothing asked.
+    pub fn withdraw(&self, writer: &mut Writer<Request, Reply, Log, Right>) -> Request
+        requires entering { Belongs self.now writer.old
+            × ((q : Request) × IsEntering q (answers_told writer.old) writer.old) }
+        ensures client { (client_of writer.new ≡ client_of writer.old) × Belongs self.now writer.new }
+        ensures out { IsOut writer.new × (answers_told writer.new ≡ answers_told writer.old) }
+        ensures request { (q : Request) → IsEntering q (answers_told writer.old) writer.old → result ≡ q }
+    {
+        let shared = &self.table.shared;
+        let c = writer.client;
+        // Nobody else looks into the slot of a writer that isn't linked, so the request is still there.
         match shared.exchange(&mut writer.seat, c as usize, LineSlot::Empty) {
-            LineSlot::Told(reply) => {
-                shared.load::<ReturnSlot>(&mut writer.seat, state_word(c as u64));
-                reply
+            LineSlot::Asked(request) => {
+                // The empty slot goes back to the list by a step, which a load is too.
+                shared.load::<Withdraw>(&mut writer.seat, 0);
+                request
             }
             _ => unreachable!(),
         }

@@ -12,7 +12,9 @@ use crate::slots::{log_of, nothing_of, right_of};
 use crate::writer::{Task, Writer};
 use atomic_table::{Refused, Seat, Table};
 use base_waiting::Bells;
-use line_rule::{GivesRun, HasGroupingItem, LineSlot, LineView, LogOfGroups, SplitFirst, Start};
+use line_rule::{
+    GivesRun, HasGroupingItem, LineSlot, LineView, LogOfGroups, STALL, SplitFirst, Start,
+};
 use std::alloc::Global;
 
 impl<
@@ -36,7 +38,7 @@ impl<
         ),
         (Log, Right),
     >
-        requires clients { (0 < start.now.clients) × (start.now.clients < 255) }
+        requires clients { (0 < start.now.clients) × (start.now.clients < STALL) }
         requires numbers { (Log.number_of log ≡ start.now.log) × Log.serves start.now.about right [] }
         requires log { Log.stands start.now.about log [] × Log.kept start.now.about [] }
         ensures ok { IfOk result (λ r. HasOpened start.now r.0 r.1.items
@@ -90,7 +92,7 @@ impl<
         log: Log,
         right: Right,
     ) -> Result<Vec<LineSlot<Request, Reply, Log, Right>>, (Log, Right)>
-        requires { clients < 255 }
+        requires { clients < STALL }
         ensures ok { IfOk result (λ v. v.items ≡ TheLog log ∷ (replicate clients Empty ++ TheRight right ∷ [])) }
         ensures err { IfErr result (λ e. (e.0 ≡ log) × (e.1 ≡ right)) }
     {
@@ -110,7 +112,7 @@ impl<
     fn unmade(mut slots: Vec<LineSlot<Request, Reply, Log, Right>>, clients: u32) -> (Log, Right)
         requires slots { (l : Log) × (m : Right)
             × (slots.items ≡ TheLog l ∷ (replicate clients Empty ++ TheRight m ∷ [])) }
-        requires few { clients < 255 }
+        requires few { clients < STALL }
         ensures { (l : Log) (m : Right) → slots.items ≡ TheLog l ∷ (replicate clients Empty ++ TheRight m ∷ [])
             → (result.0 ≡ l) × (result.1 ≡ m) }
     {

@@ -1,5 +1,5 @@
 //! How the leader of a group of the second list gets the right, lets members work in parallel with it, and leaves.
-ghost use Rattle.std.specs.Prelude.{◌≡◌, ◌≢◌, ℕ, ◌+◌, ◌^◌, ◌<◌, ◌≤◌, [], ◌∷◌, ◌++◌, true, vec_len, vec_capacity, length, Some};
+ghost use Rattle.std.specs.Prelude.{◌≡◌, ◌≢◌, ℕ, ◌+◌, ◌^◌, ◌<◌, ◌≤◌, [], ◌∷◌, ◌++◌, true, vec_len, vec_capacity, length, Some, None, IfSome};
 ghost use Rattle.line_rule.specs.declared.content.LineSlot.{LineSlot};
 ghost use Rattle.line_rule.specs.declared.content.LineSlot.TheVariants.{Empty, TheRight};
 ghost use Rattle.line_rule.specs.declared.view.Back.TheVariants.{Queued, Serving, Passing};
@@ -21,14 +21,11 @@ ghost use Rattle.line_writers.specs.Groups.{Queue, Handled, Answers, Members, Ha
 use crate::line_writers::WriterList;
 use crate::room::Room;
 use crate::writer::Writer;
-use base_waiting::Pauses;
 use line_rule::{
     CallNext, ClearSecond, GivesRun, HasGroupingItem, LeaveSecond, LineSlot, LogOfGroups,
     MakeParallel, Older, PickedAbout, STATE_LEADS_TABLE, STATE_PARALLEL, Summon, older_word,
     state_word,
 };
-use std::rt;
-use std::sync::Wait;
 
 impl<
     Request: HasGroupingItem,
@@ -109,12 +106,12 @@ impl<
         self.bells.ring(member as u64);
     }
 
-    /// Waits until the group is the oldest of the second list, and takes the right.
-    pub(crate) fn await_right<About: PickedAbout<Log::About>, R: Wait + rt::Clock>(
+    /// Looks once whether the group is the oldest of the second list, and takes the right if it is. If it isn't, the
+    /// writer is as it was.
+    pub(crate) fn poll_right<About: PickedAbout<Log::About>>(
         &self,
-        rt: &R,
         writer: &mut Writer<Request, Reply, Log, Right>,
-    ) -> Right
+    ) -> Option<Right>
         requires piped { piped_of self.now ≡ true }
         requires about { About.about ≡ Some (about_of self.now) }
         requires seat { (writer.old.seat.table_id ≡ self.now.table.shared.table_id) × (0 < writer.old.client)
@@ -122,23 +119,18 @@ impl<
         requires queued { (d : Debt Request Reply) × (mine : Answers Request Reply) × (g : Squad Request Reply)
             × AtWith writer.old.client (Settling d) mine (Queued g) writer.old.seat.me }
         ensures seat { Stays writer.new writer.old }
+        ensures none { result ≡ None → writer.new ≡ writer.old }
         ensures right { (d : Debt Request Reply) (mine : Answers Request Reply) (g : Squad Request Reply)
             → AtWith writer.old.client (Settling d) mine (Queued g) writer.old.seat.me
-            → AtWith writer.old.client (Settling d) mine (Serving g []) writer.new.seat.me
+            → IfSome result (λ right. AtWith writer.old.client (Settling d) mine (Serving g []) writer.new.seat.me
             × (writer.new.seat.me.1 ≡ (self.now.clients + 1, Empty) ∷ writer.old.seat.me.1)
-            × Log.serves (about_of self.now) result g.from }
+            × Log.serves (about_of self.now) right g.from) }
     {
-        let c = writer.client;
-        let pauses = Pauses::new();
-        // Until a look shows `STATE_LEADS_TABLE`, the group waits for others before it.
-        for _ in rt.forever() {
-            let state = self.summon::<About>(writer);
-            if state == STATE_LEADS_TABLE {
-                return self.take_right(writer);
-            }
-            self.bells.pause(rt, &pauses, c as u64);
+        let state = self.summon::<About>(writer);
+        if state == STATE_LEADS_TABLE {
+            return Some(self.take_right(writer));
         }
-        unreachable!()
+        None
     }
 
     /// Looks whether the group is the oldest of the second list. At `STATE_LEADS_TABLE` its leader has the right.
@@ -158,6 +150,7 @@ impl<
             → (result ≡ STATE_LEADS_TABLE → HasRightOver (Log.serves (about_of self.now)) self.now.clients
             writer.old.client d mine g writer.old.seat.me.1 writer.new.seat.me)
             × (result ≢ STATE_LEADS_TABLE → writer.new.seat.me ≡ writer.old.seat.me) }
+        ensures waits { result ≢ STATE_LEADS_TABLE → writer.new ≡ writer.old }
     {
         let c = writer.client;
         self.table

@@ -23,8 +23,8 @@ pub record StaysInFront (before after : Disk) : Type 0 where
   pub place : before.place ≤ after.place
   pub synced : safe_len before ≤ after.synced
 
--- Where putting failed, some of the bytes are put: as many as the place has moved on by. What is behind the place is left
--- to the disk, whose call failed.
+-- Where putting failed, some of the bytes are put: as many as the place has moved on by. What is behind the place is
+-- left to the disk, whose call failed.
 pub record IsPutInPart (before after : Disk) (bytes : List ℕ) : Type 0 where
   pub stays : StaysInFront before after
   pub some : ℕ

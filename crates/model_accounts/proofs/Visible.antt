@@ -37,9 +37,9 @@ same_both p c r q none a b = record { pending = a ∙ sym none; hands = inl b }
 refusal_tells : (controller_calls : List ControllerCall) (client : ℕ) (p : Progress) (knows : ℕ) (how : WriteOptions) (why : Refusal) (status : WriteStatus)
     → MayRefuse controller_calls client p knows how why (Some status) → Tells status p.pending (refused why)
 refusal_tells controller_calls client p knows how (no.Incomplete a b c) (slowed place) s = (a, b, c, refl)
-refusal_tells controller_calls client p knows how (no.Incomplete a b c) succeeded s = absurd s.2
-refusal_tells controller_calls client p knows how (no.Incomplete a b c) (faulted n) s = absurd s.2
-refusal_tells controller_calls client p knows how (no.Incomplete a b c) (full n) s = absurd s.2
+refusal_tells controller_calls client p knows how (no.Incomplete a b c) succeeded s = absurd s.1
+refusal_tells controller_calls client p knows how (no.Incomplete a b c) (faulted n) s = absurd s.1
+refusal_tells controller_calls client p knows how (no.Incomplete a b c) (full n) s = absurd s.1
 refusal_tells controller_calls client p knows how (no.LogFault n) status s = let is : status ≡ faulted n = cc s in subst (λ f. Tells f p.pending (refused (no.LogFault n))) (sym is) refl
 refusal_tells controller_calls client p knows how (no.SequenceFull n) status s = let is : status ≡ full n = cc (s.0) in subst (λ f. Tells f p.pending (refused (no.SequenceFull n))) (sym is) refl
 refusal_tells controller_calls client p knows how no.Empty status s = absurd s

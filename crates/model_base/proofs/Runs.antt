@@ -1,5 +1,5 @@
 -- Runs of calls: what holds in a trace holds in a longer one; and one more call.
-use Rattle.std.proofs.Common.{◌≡◌, ℕ, ◌≤◌, false, Option, Some, None, List, [], ◌∷◌, ◌++◌, MatchOption, refl, ap, sym, ◌∙◌, subst, arith, append_assoc}
+use Rattle.std.proofs.Common.{◌≡◌, ℕ, ◌≤◌, Bool, true, false, Option, Some, None, List, [], ◌∷◌, ◌++◌, MatchOption, refl, ap, sym, ◌∙◌, subst, arith, append_assoc}
 use mathlib.Core.List.{IsPrefix}
 use Rattle.model_base.specs.declared.write.WriteOptions.{WriteOptions}
 use Rattle.model_base.specs.declared.write.Refusal.{Refusal}
@@ -11,7 +11,7 @@ use Rattle.model_base.specs.Trace.{Trace, Begins, Settings}
 use Rattle.model_base.specs.Attempts.{WriteStatus, succeeded, slowed, faulted, full}
 use Rattle.model_base.specs.Tokens.{holds_stop}
 use Rattle.model_base.specs.Progress.{Progress, fresh, early_refusal}
-use Rattle.model_base.specs.Replies.{IsLater, IsTold, MayRefuse, IsKeptOut, IsAttempted, ReadsAt, IsDone, Gets, GetsMany, Scans, Stops, Unstops, Slows, Unslows, Replies, Stays}
+use Rattle.model_base.specs.Replies.{IsLater, WasHeldUp, LooksAway, IsTold, MayRefuse, IsKeptOut, IsAttempted, ReadsAt, IsDone, Gets, GetsMany, Scans, Stops, Unstops, Slows, Unslows, Replies, Stays}
 use Rattle.model_base.specs.Runs.{Step, Run, IsTranscript, whole, cut_off}
 use Rattle.model_base.specs.Calls.{Command, add, clear, commit, get, many, scan, stop, unstop, slow, unslow, Reply, accepted, refused, found, found_each, rows, done, held, not_held, Call}
 use Rattle.model_base.proofs.Prefixes.{prefix_at, prefix_length}
@@ -21,17 +21,32 @@ use Rattle.model_base.proofs.Prefixes.{prefix_at, prefix_length}
 pub later_in : (xs ys : List ControllerCall) → IsPrefix xs ys → (known place : ℕ) (t : ControllerCall) → IsLater xs known place t → IsLater ys known place t
 later_in xs ys p known place t s = record { later = s.later; there = prefix_at xs ys p place t s.there }
 
-told_in : (xs ys : List ControllerCall) → IsPrefix xs ys → (client knew knows : ℕ) (numbers : Look) (status : Option WriteStatus) → IsTold xs client knew knows numbers status → IsTold ys client knew knows numbers status
-told_in xs ys p client knew knows numbers None s = (s.0, later_in xs ys p knew s.0 _ s.1, s.2)
-told_in xs ys p client knew knows numbers (Some (slowed place)) s = (s.0, s.1, s.2, later_in xs ys p knew place _ s.3, s.4)
-told_in xs ys p client knew knows numbers (Some succeeded) s = absurd s
-told_in xs ys p client knew knows numbers (Some (faulted c)) s = absurd s
-told_in xs ys p client knew knows numbers (Some (full l)) s = absurd s
+stalled_in : (xs ys : List ControllerCall) → IsPrefix xs ys → (by place : ℕ) → WasHeldUp xs by place → WasHeldUp ys by place
+stalled_in xs ys p by place s = record {
+  at = s.at;
+  now = s.now;
+  bytes = s.bytes;
+  told = s.told;
+  there = prefix_at xs ys p s.at _ s.there;
+  before = s.before;
+  holds_up = s.holds_up;
+}
+
+away_in : (xs ys : List ControllerCall) → IsPrefix xs ys → (stopping : Bool) (client by place : ℕ) (numbers : Look) → LooksAway stopping xs client by place numbers → LooksAway stopping ys client by place numbers
+away_in xs ys p true client by place numbers s = s
+away_in xs ys p false client by place numbers s = record { leader = s.leader; other = s.other; stalled = stalled_in xs ys p s.leader place s.stalled; looked = s.looked; shown = s.shown }
+
+told_in : (xs ys : List ControllerCall) → IsPrefix xs ys → (stopping : Bool) (client knew knows : ℕ) (numbers : Look) (status : Option WriteStatus) → IsTold xs stopping client knew knows numbers status → IsTold ys stopping client knew knows numbers status
+told_in xs ys p stopping client knew knows numbers None s = (s.0, s.1, later_in xs ys p knew s.1 _ s.2, s.3, away_in xs ys p stopping client s.0 s.1 numbers s.4)
+told_in xs ys p stopping client knew knows numbers (Some (slowed place)) s = (s.0, s.1, s.2, later_in xs ys p knew place _ s.3, s.4, s.5)
+told_in xs ys p stopping client knew knows numbers (Some succeeded) s = absurd s
+told_in xs ys p stopping client knew knows numbers (Some (faulted c)) s = absurd s
+told_in xs ys p stopping client knew knows numbers (Some (full l)) s = absurd s
 
 -- a refusal that is right stays so in the longer history, even for a client that was shown less
 pub refuse_in : (xs ys : List ControllerCall) → IsPrefix xs ys → (client : ℕ) (p : Progress) (shown knows : ℕ) → shown ≤ p.seen_up_to → (how : WriteOptions) (why : Refusal) (status : Option WriteStatus)
     → MayRefuse xs client p knows how why status → MayRefuse ys client (record p { seen_up_to = shown }) knows how why status
-refuse_in xs ys pre client p shown knows low how (no.Incomplete a b c) status s = (s.0, s.1, told_in xs ys pre client p.known knows _ status s.2)
+refuse_in xs ys pre client p shown knows low how (no.Incomplete a b c) status s = (s.0, told_in xs ys pre (holds_stop p.asked) client p.known knows _ status s.1)
 refuse_in xs ys pre client p shown knows low how (no.LogFault c) status s = s
 refuse_in xs ys pre client p shown knows low how (no.SequenceFull l) status s = (s.0, s.1, (let seen = s.2 in omega (arith, low, seen)), s.3, s.4, s.5)
 refuse_in xs ys pre client p shown knows low how no.Empty status s = s
@@ -40,9 +55,9 @@ refuse_in xs ys pre client p shown knows low how no.SyncWithoutLog status s = s
 refuse_in xs ys pre client p shown knows low how no.SelfStop status s = s
 refuse_in xs ys pre client p shown knows low how no.NoMemory status s = s
 
--- a commit of a client that holds no stop token is in a group
+-- a commit of a client that holds no stop token may be in a group
 pub not_kept_out : (asked : List Action) (status : WriteStatus) → holds_stop asked ≡ false → IsKeptOut asked (Some status)
-not_kept_out asked status free = record { own = λ stopping. absurd (cc (free, stopping)); only = λ none. absurd (cc none) }
+not_kept_out asked status free = λ stopping. absurd (cc (free, stopping))
 
 -- what follows where there is no early refusal
 in_none : {A : Type 0} (X Y : Type 0) (Q : A → Type 0) (o : Option A) → (X → Y) → MatchOption o X Q → MatchOption o Y Q

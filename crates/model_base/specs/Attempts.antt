@@ -21,7 +21,7 @@ pub record Attempt : Type 0 where
 
 -- what grouping sees of a commit
 abbrev pub item_of : Attempt → Item
-item_of h = record { size = size_of_batch h.records; options = h.options }
+item_of h = record { size = size_of_batch h.records; options = h.options; alone = false }
 
 -- a client's commits, with one more if a leader took it into a group, where it got a status
 abbrev pub with_attempt : List Attempt → List Record → WriteOptions → Option WriteStatus → List Attempt

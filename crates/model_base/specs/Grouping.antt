@@ -15,9 +15,10 @@ same_bool false b = not b
 abbrev pub size_of : List Item → ℕ
 size_of items = sum_by (λ i. i.size) items
 
--- the writer i may join the leader's group, where `total` is the sum of the sizes from the leader up to this writer
+-- The writer i may join the leader's group, where `total` is the sum of the sizes from the leader up to this writer.
+-- One that goes alone is there a writer without a batch (`w->batch == nullptr`).
 abbrev pub fits : ℕ → Item → ℕ → Item → Bool
-fits max leader total i = (not i.options.sync || leader.options.sync)
+fits max leader total i = not leader.alone && not i.alone && (not i.options.sync || leader.options.sync)
     && same_bool i.options.no_slowdown leader.options.no_slowdown
     && same_bool i.options.no_log leader.options.no_log && nat_le total (cap max leader)
 

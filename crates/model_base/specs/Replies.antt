@@ -1,5 +1,5 @@
 -- Which replies a client may get, and what its progress is after them.
-use Rattle.std.specs.Prelude.{◌≡◌, ℕ, ◌+◌, ◌<◌, ◌≤◌, true, false, List, [], ◌∷◌, ◌++◌, map, max, Option, Some, None, slice_get, MatchOption, ⊤}
+use Rattle.std.specs.Prelude.{◌≡◌, ◌≢◌, ◌⊎◌, Bool, ℕ, ◌+◌, ◌<◌, ◌≤◌, true, false, List, [], ◌∷◌, ◌++◌, map, max, Option, Some, None, slice_get, MatchOption, ⊤}
 use Rattle.std.specs.List.{AllByRecursion}
 use Rattle.model_base.specs.declared.write.WriteOptions.{WriteOptions}
 use Rattle.model_base.specs.declared.write.Refusal.{Refusal}
@@ -8,7 +8,7 @@ use Rattle.model_base.specs.Batch.{Record, count_of}
 use Rattle.model_base.specs.Map.{Pairs, value_at, rows_within}
 use Rattle.model_base.specs.History.{Entry, IsUpTo, map_over, max_sequence, last_of}
 use Rattle.model_base.specs.Controller as controller
-use Rattle.model_base.specs.Controller.{ControllerCall, Action, Look, HoldUp}
+use Rattle.model_base.specs.Controller.{ControllerCall, Action, Look, HoldUp, ShowTokens}
 use Rattle.model_base.specs.Tokens.{holds_stop, holds_slow}
 use Rattle.model_base.specs.Trace.{Trace, Settings}
 use Rattle.model_base.specs.Attempts.{Attempt, WriteStatus, succeeded, slowed, faulted, full, with_attempt, knows_log_failed}
@@ -22,18 +22,46 @@ pub record IsLater (controller_calls : List ControllerCall) (known place : ℕ) 
   pub later : known ≤ place
   pub there : slice_get controller_calls place ≡ Some call
 
--- The numbers are the answer of a look of the client's own, or of the delay that was asked for the commit's group. That
--- call comes after all that the client knew before its commit, and the client knows of it once the commit returns. Which
--- group it was for isn't in the controller's history: the groups of an outcome say so.
-abbrev pub IsTold : List ControllerCall → ℕ → ℕ → ℕ → Look → Option WriteStatus → Type 0
-IsTold controller_calls client knew knows numbers None = (place : ℕ)
-    × IsLater controller_calls knew place (record { client = client; action = controller.look; told = Some numbers })
-    × (place < knows)
-IsTold controller_calls client knew knows numbers (Some (slowed place)) = (by : ℕ) × (now : ℕ) × (bytes : ℕ)
+-- Before this place of the controller's history the client `by` had asked for a delay, and was told that writes are
+-- held up. Where its group may wait, it stalls writes then.
+pub record WasHeldUp (controller_calls : List ControllerCall) (by place : ℕ) : Type 0 where
+  pub at : ℕ
+  pub now : ℕ
+  pub bytes : ℕ
+  pub told : Look
+  pub there : slice_get controller_calls at
+      ≡ Some (record { client = by; action = controller.delay now bytes; told = Some told })
+  pub before : at < place
+  pub holds_up : HoldUp told
+
+-- A client's commit met a stall of another one: that leader, or the client itself, made the look at this place (`by`),
+-- after that leader was told that writes are held up, and the look showed stop tokens or slow tokens.
+pub record MetStall (controller_calls : List ControllerCall) (client by place : ℕ) (numbers : Look) : Type 0 where
+  pub leader : ℕ
+  pub other : leader ≢ client
+  pub stalled : WasHeldUp controller_calls leader place
+  pub looked : (by ≡ client) ⊎ (by ≡ leader)
+  pub shown : ShowTokens numbers
+
+-- Why a look refuses a commit that is in no group. A client that holds a stop token has looked itself, and writes are
+-- held up. Any other client's commit met a stall.
+abbrev pub LooksAway : Bool → List ControllerCall → ℕ → ℕ → ℕ → Look → Type 0
+LooksAway true controller_calls client by place numbers = (by ≡ client) × HoldUp numbers
+LooksAway false controller_calls client by place numbers = MetStall controller_calls client by place numbers
+
+-- The numbers are the answer of a look, or of the delay that was asked for the commit's group and says that writes are
+-- held up. That call comes after all that the client knew before its commit, and the client knows of it once the commit
+-- returns. `stopping` says that the client holds a stop token. Which group a delay was for isn't in the controller's
+-- history: the groups of an outcome say so.
+abbrev pub IsTold : List ControllerCall → Bool → ℕ → ℕ → ℕ → Look → Option WriteStatus → Type 0
+IsTold controller_calls stopping client knew knows numbers None = (by : ℕ) × (place : ℕ)
+    × IsLater controller_calls knew place (record { client = by; action = controller.look; told = Some numbers })
+    × (place < knows) × LooksAway stopping controller_calls client by place numbers
+IsTold controller_calls stopping client knew knows numbers (Some (slowed place)) = (by : ℕ) × (now : ℕ) × (bytes : ℕ)
     × IsLater controller_calls knew place
     (record { client = by; action = controller.delay now bytes; told = Some numbers })
-    × (place < knows)
-IsTold controller_calls client knew knows numbers (Some other) = ⊥
+    × (place < knows) × HoldUp numbers
+IsTold controller_calls stopping client knew knows numbers (Some other) = ⊥
 
 -- no accepted batch ends above this sequence
 abbrev pub AreUpTo : List Entry → ℕ → Type 0
@@ -54,8 +82,9 @@ AreFullBelow sequence attempts = AllByRecursion (λ (h : Attempt). IsFullBelow s
 -- into one.
 abbrev pub MayRefuse : List ControllerCall → ℕ → Progress → ℕ → WriteOptions → Refusal → Option WriteStatus → Type 0
 MayRefuse controller_calls client p knows how (no.Incomplete stops delays wait) status =
-    (how.no_slowdown ≡ true) × HoldUp (record { stops = stops; delays = delays; wait = wait })
-    × IsTold controller_calls client p.known knows (record { stops = stops; delays = delays; wait = wait }) status
+    (how.no_slowdown ≡ true)
+    × IsTold controller_calls (holds_stop p.asked) client p.known knows
+    (record { stops = stops; delays = delays; wait = wait }) status
 MayRefuse controller_calls client p knows how (no.LogFault count) status = status ≡ Some (faulted count)
 MayRefuse controller_calls client p knows how (no.SequenceFull last) status =
     (status ≡ Some (full last)) × (knows_log_failed p.attempts ≡ false) × (p.seen_up_to ≤ last) × AreUpTo p.mine last
@@ -66,10 +95,10 @@ MayRefuse controller_calls client p knows how no.SyncWithoutLog status = ⊥
 MayRefuse controller_calls client p knows how no.SelfStop status = ⊥
 MayRefuse controller_calls client p knows how no.NoMemory status = ⊥
 
--- A commit is in no group exactly if its client holds a stop token.
-pub record IsKeptOut (asked : List Action) (status : Option WriteStatus) : Type 0 where
-  pub own : holds_stop asked ≡ true → status ≡ None
-  pub only : status ≡ None → holds_stop asked ≡ true
+-- A commit of a client that holds a stop token is in no group. Another one is in no group only if it met a stall, and
+-- then it is refused because of that (`IsTold`).
+abbrev pub IsKeptOut : List Action → Option WriteStatus → Type 0
+IsKeptOut asked status = holds_stop asked ≡ true → status ≡ None
 
 -- Each command
 

@@ -33,12 +33,13 @@ pub record Client : Type 0 where
   pub calls : List Call
   pub idle : Bool
 
--- Who has the log: nobody, a leader, a leader with its group in hand (built; then in the log; then marked for the
--- second queue), or a leader that has handed its group over.
+-- Who has the log: nobody, a leader, a leader with its group in hand (built, and perhaps stalled, while writes are held
+-- up; then in the log; then marked for the second queue), or a leader that has handed its group over.
 pub data LogPhase : Type 0 where
   free : LogPhase
   led : ℕ → LogPhase
   built : List Writer → LogPhase
+  stalled : List Writer → LogPhase
   in_log : List Writer → LogPhase
   marked : List Writer → LogPhase
   handed : ℕ → LogPhase
@@ -123,11 +124,27 @@ after_reply client command reply = record client {
 -- Batches
 
 abbrev pub item_of : Writer → Item
-item_of w = record { size = size_of_batch w.records; options = w.options }
+item_of w = record { size = size_of_batch w.records; options = w.options; alone = false }
 
 -- the checks before a batch is linked; the core knows no write controller, so nobody holds a token
 abbrev pub refusal_of : Options → WriteOptions → List Record → Option Refusal
 refusal_of o how records = early_refusal o.batch_bytes false records how
+
+-- what a schedule's writers are answered that may not wait, where a leader stalls writes
+abbrev pub stall_refusal : ℕ → ℕ → Refusal
+stall_refusal stops delays = no.Incomplete stops delays 0
+
+-- while a leader stalls writes, a batch that passed the checks is refused at once if it may not wait
+abbrev pub refusal_in : LogPhase → WriteOptions → Option Refusal → Option Refusal
+refusal_in log how (Some why) = Some why
+refusal_in (stalled ws) how None = if how.no_slowdown then Some (stall_refusal 1 0) else None
+refusal_in log how None = None
+
+-- and else it isn't linked
+abbrev pub may_link : LogPhase → Option Refusal → Bool
+may_link log (Some why) = true
+may_link (stalled ws) None = false
+may_link log None = true
 
 -- a group's leader is its first writer
 abbrev pub leads : ℕ → List Writer → Bool
@@ -182,6 +199,7 @@ in_hand (in_log ws) = ws
 in_hand free = []
 in_hand (led c) = []
 in_hand (built ws) = []
+in_hand (stalled ws) = []
 in_hand (marked ws) = []
 in_hand (handed c) = []
 

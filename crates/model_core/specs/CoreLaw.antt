@@ -6,11 +6,12 @@ use Rattle.model_core.specs.declared.event.Event.TheVariants as e
 use Rattle.model_base.specs.Batch.{count_of}
 use Rattle.model_base.specs.History.{Entry, IsHistory, RunsFollow, IsUpTo, last_sequence, last_of, logged_entries, flag_of}
 use Rattle.model_base.specs.Calls.{accepted}
-use Rattle.model_core.specs.Core.{Options, Writer, Client, LogPhase, free, led, built, in_log, marked, handed, TablePhase, still, launched, published, State, client_at, leads, has_run, table_group, among, runners}
+use Rattle.model_core.specs.Core.{Options, Writer, Client, LogPhase, free, led, built, stalled, in_log, marked, handed, TablePhase, still, launched, published, State, client_at, leads, has_run, table_group, among, runners}
 
 -- the group in hand: it has left the log's queue, and isn't yet in the second queue or gone
 abbrev pub hand : LogPhase → List Writer
 hand (built ws) = ws
+hand (stalled ws) = ws
 hand (in_log ws) = ws
 hand (marked ws) = ws
 hand free = []
@@ -33,6 +34,7 @@ abbrev pub LedIsFirst : LogPhase → List Writer → Type 0
 LedIsFirst (led c) queue = IsTrue (leads c queue)
 LedIsFirst free queue = ⊤
 LedIsFirst (built ws) queue = ⊤
+LedIsFirst (stalled ws) queue = ⊤
 LedIsFirst (in_log ws) queue = ⊤
 LedIsFirst (marked ws) queue = ⊤
 LedIsFirst (handed c) queue = ⊤
@@ -43,6 +45,7 @@ IsUnmarked (marked ws) = ⊥
 IsUnmarked free = ⊤
 IsUnmarked (led c) = ⊤
 IsUnmarked (built ws) = ⊤
+IsUnmarked (stalled ws) = ⊤
 IsUnmarked (in_log ws) = ⊤
 IsUnmarked (handed c) = ⊤
 
@@ -53,6 +56,7 @@ hand_with_runs (marked ws) = ws
 hand_with_runs free = []
 hand_with_runs (led c) = []
 hand_with_runs (built ws) = []
+hand_with_runs (stalled ws) = []
 hand_with_runs (handed c) = []
 
 -- the writers of the groups that have runs and aren't published, in order

@@ -1,13 +1,13 @@
 -- A state in two halves: where the writers are, and the memtable. Most events move one half and leave the other alone.
-use Rattle.std.specs.Prelude.{◌≡◌, ◌⊎◌, ℕ, Bool, true, false, not, ◌==◌, List, [], ◌∷◌, ◌++◌, take, drop, filter, if◌then◌else◌}
+use Rattle.std.specs.Prelude.{◌≡◌, ◌⊎◌, ℕ, Bool, true, false, not, ◌==◌, List, [], ◌∷◌, ◌++◌, take, drop, filter, find, Some, if◌then◌else◌}
 use Rattle.std.specs.List.{list_any}
 use Rattle.model_core.specs.declared.event.Event.{Event}
 use Rattle.model_core.specs.declared.event.Event.TheVariants as e
 use Rattle.model_base.specs.declared.write.Refusal.TheVariants as no
 use Rattle.model_base.specs.History.{Entry}
 use Rattle.model_base.specs.Calls.{refused}
-use Rattle.model_core.specs.Core.{Options, Writer, LogPhase, free, led, built, in_log, marked, handed, TablePhase, still, launched, published, State, with_runs, has_run, all_answered, table_group}
-use Rattle.model_core.specs.Step.{entry_ahead, group_last, group_size, leave, without_table_group}
+use Rattle.model_core.specs.Core.{Options, Writer, LogPhase, free, led, built, stalled, in_log, marked, handed, TablePhase, still, launched, published, State, with_runs, has_run, all_answered, table_group}
+use Rattle.model_core.specs.Step.{entry_ahead, group_last, group_size, leave, left_queue, without_table_group}
 
 -- where the writers are: in the log's queue, with the log, in the groups that wait for the memtable, or gone with an
 -- answer
@@ -83,6 +83,13 @@ ListStep o (e.Fault c) s new = (ws : List Writer) × (s.log ≡ built ws)
     × (new ≡ left_with s (all_answered (refused (no.LogFault 1)) ws))
 ListStep o (e.Refuse c stops delays wait) s new = (ws : List Writer) × (s.log ≡ built ws)
     × (new ≡ left_with s (all_answered (refused (no.Incomplete stops delays wait)) ws))
+ListStep o (e.Stall c) s new = (ws : List Writer) × (s.log ≡ built ws)
+    × (new ≡ record (list_half_of s) { log = stalled ws })
+ListStep o (e.Leave m stops delays) s new = (ws : List Writer) × (w : Writer) × (s.log ≡ stalled ws)
+    × (find (λ (x : Writer). x.client == m) s.queue ≡ Some w) × (w.options.no_slowdown ≡ true)
+    × (new ≡ list_half_of (left_queue s m (no.Incomplete stops delays 0) w))
+ListStep o (e.Unstall c) s new = (ws : List Writer) × (s.log ≡ stalled ws)
+    × (new ≡ record (list_half_of s) { log = built ws })
 ListStep o (e.Boundary c) s new = (ws : List Writer) × (s.log ≡ in_log ws)
     × (new ≡ record (list_half_of s) { log = marked ws })
 ListStep o (e.Second c) s new = (ws : List Writer) × (s.log ≡ marked ws)

@@ -10,22 +10,27 @@ use Rattle.model_base.specs.Batch.{Record}
 use Rattle.model_base.specs.History.{Entry, last_sequence}
 use Rattle.model_base.specs.Grouping.{group_len}
 use Rattle.model_base.specs.Calls.{Command, commit, Reply, accepted, refused}
-use Rattle.model_core.specs.Core.{Options, Writer, Client, LogPhase, free, led, built, in_log, marked, handed, TablePhase, still, launched, published, State, opening_state, client_at, with_client, next_call, after_reply, item_of, refusal_of, leads, with_runs, has_run, all_answered, entries_of, table_group, among, runners, read_reply}
+use Rattle.model_core.specs.Core.{Options, Writer, Client, LogPhase, free, led, built, stalled, in_log, marked, handed, TablePhase, still, launched, published, State, opening_state, client_at, with_client, next_call, after_reply, item_of, refusal_of, refusal_in, may_link, stall_refusal, leads, with_runs, has_run, all_answered, entries_of, table_group, among, runners, read_reply}
 
 -- an event may come only if this is true
 abbrev pub when : Bool → State → Option State
 when true s = Some s
 when false s = None
 
--- link c: c is idle and its next call is a commit. It is refused at once, or its writer goes to the end of the queue
+-- link c: c is idle and its next call is a commit. It is refused at once, or its writer goes to the end of the queue.
+-- While a leader stalls writes no writer comes
 abbrev pub link_with : Options → State → ℕ → Client → WriteOptions → Option Refusal → State
 link_with o s c client how (Some why) = with_client s c (after_reply client (commit how) (refused why))
 link_with o s c client how None = record (with_client s c (record client { idle = false })) {
   queue = s.queue ++ record { client = c; options = how; records = client.added; answer = None } ∷ [];
 }
 
+abbrev pub link_or_refuse : Options → State → ℕ → Client → WriteOptions → Option Refusal → Option State
+link_or_refuse o s c client how why = when (may_link s.log why) (link_with o s c client how why)
+
 abbrev pub link_call : Options → State → ℕ → Client → Option Command → Option State
-link_call o s c client (Some (commit how)) = Some (link_with o s c client how (refusal_of o how client.added))
+link_call o s c client (Some (commit how)) =
+    link_or_refuse o s c client how (refusal_in s.log how (refusal_of o how client.added))
 link_call o s c client other = None
 
 abbrev pub link : Options → State → ℕ → Option Client → Option State
@@ -89,6 +94,30 @@ abbrev pub refuse : State → ℕ → Refusal → LogPhase → Option State
 refuse s c why (built ws) =
     when (leads c ws && is_no_slowdown ws) (record (leave s (all_answered (refused why) ws)) { log = free })
 refuse s c why other = None
+
+-- stall c: c leads the group that was built, and the group may be slowed down. Until `unstall c` its log isn't written
+abbrev pub stall : State → ℕ → LogPhase → Option State
+stall s c (built ws) = when (leads c ws && not (is_no_slowdown ws)) (record s { log = stalled ws })
+stall s c other = None
+
+abbrev pub unstall : State → ℕ → LogPhase → Option State
+unstall s c (stalled ws) = when (leads c ws) (record s { log = built ws })
+unstall s c other = None
+
+-- leave m: writes are stalled, and m, which is in the queue, may not be slowed down. It leaves the queue
+abbrev pub left_queue : State → ℕ → Refusal → Writer → State
+left_queue s m why w = record s {
+  queue = filter (λ (x : Writer). not (x.client == m)) s.queue;
+  leaving = s.leaving ++ record w { answer = Some (refused why) } ∷ [];
+}
+
+abbrev pub leave_with : State → ℕ → Refusal → Option Writer → Option State
+leave_with s m why None = None
+leave_with s m why (Some w) = when w.options.no_slowdown (left_queue s m why w)
+
+abbrev pub leave_queue : State → ℕ → Refusal → LogPhase → Option State
+leave_queue s m why (stalled ws) = leave_with s m why (find (λ (w : Writer). w.client == m) s.queue)
+leave_queue s m why other = None
 
 -- boundary c, second c, next c: the group goes to the second queue, and only then may another leader be elected
 abbrev pub boundary : Options → State → ℕ → LogPhase → Option State
@@ -193,6 +222,9 @@ step o s (e.Build c) = build o s c s.log
 step o s (e.Log c) = log_group s c s.log
 step o s (e.Fault c) = fault s c s.log
 step o s (e.Refuse c stops delays wait) = refuse s c (no.Incomplete stops delays wait) s.log
+step o s (e.Stall c) = stall s c s.log
+step o s (e.Leave m stops delays) = leave_queue s m (stall_refusal stops delays) s.log
+step o s (e.Unstall c) = unstall s c s.log
 step o s (e.Boundary c) = boundary o s c s.log
 step o s (e.Second c) = to_second s c s.log
 step o s (e.Next c) = next s c s.log

@@ -18,6 +18,7 @@ use Rattle.model_core_laws.proofs.Opening.{opening}
 use Rattle.model_core_laws.proofs.Tables.{times, there, there_append, times_cons, waiting_parts}
 use Rattle.model_core_laws.proofs.Told.{Told, Waits, IsAnswer, IsToldSoFar, writers}
 use Rattle.model_core_laws.proofs.ToldByLink.{told_by_link}
+use Rattle.model_core_laws.proofs.ToldByStall.{told_by_stall, told_by_leave, told_by_unstall}
 use Rattle.model_core_laws.proofs.ToldByRead.{told_by_read}
 use Rattle.model_core_laws.proofs.ToldByComplete.{told_by_complete}
 use Rattle.model_core_laws.proofs.ToldByLeaving.{told_by_fault, told_by_refuse}
@@ -75,6 +76,9 @@ told_by_each o plans s t (e.Build c) told is core = told_by_build o plans s t c 
 told_by_each o plans s t (e.Log c) told is core = told_by_log o plans s t c told is core
 told_by_each o plans s t (e.Fault c) told is core = told_by_fault o plans s t c told is core
 told_by_each o plans s t (e.Refuse c stops delays wait) told is core = told_by_refuse o plans s t c stops delays wait told is core
+told_by_each o plans s t (e.Stall c) told is core = told_by_stall o plans s t c told is core
+told_by_each o plans s t (e.Leave m stops delays) told is core = told_by_leave o plans s t m stops delays told is core
+told_by_each o plans s t (e.Unstall c) told is core = told_by_unstall o plans s t c told is core
 told_by_each o plans s t (e.Boundary c) told is core = told_by_boundary o plans s t c told is core
 told_by_each o plans s t (e.Second c) told is core = told_by_second o plans s t c told is core
 told_by_each o plans s t (e.Next c) told is core = told_by_next o plans s t c told is core

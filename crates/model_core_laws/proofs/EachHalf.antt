@@ -8,8 +8,8 @@ use Rattle.model_base.specs.declared.write.WriteOptions.{WriteOptions}
 use Rattle.model_base.specs.declared.write.Refusal.{Refusal}
 use Rattle.model_base.specs.declared.write.Refusal.TheVariants as no
 use Rattle.model_base.specs.Calls.{Command, commit, Reply, refused}
-use Rattle.model_core.specs.Core.{Options, Writer, Client, LogPhase, free, led, built, in_log, marked, handed, TablePhase, still, launched, published, State, client_at, with_client, next_call, after_reply, refusal_of, with_runs, has_run, all_answered, table_group, read_reply}
-use Rattle.model_core.specs.Step.{when, step, link, link_call, link_with, elect, build, group_size, log_group, logged_group, leave, fault, refuse, boundary, to_second, next, launch, insert, entry_ahead, finish, publish, group_last, exit, without_table_group, complete, complete_with, after_completion, read, read_call, read_with}
+use Rattle.model_core.specs.Core.{Options, Writer, Client, LogPhase, free, led, built, stalled, in_log, marked, handed, TablePhase, still, launched, published, State, client_at, with_client, next_call, after_reply, refusal_of, refusal_in, may_link, stall_refusal, with_runs, has_run, all_answered, table_group, read_reply}
+use Rattle.model_core.specs.Step.{when, step, link, link_call, link_with, elect, build, group_size, log_group, logged_group, leave, fault, refuse, stall, unstall, leave_queue, leave_with, left_queue, boundary, to_second, next, launch, insert, entry_ahead, finish, publish, group_last, exit, without_table_group, complete, complete_with, after_completion, read, read_call, read_with}
 use Rattle.model_core.specs.Halves.{list_half_of, table_half_of, moves_list, moves_table, TableStep, ListStep, logged_with}
 use Rattle.model_core_laws.proofs.Tables.{when_some}
 
@@ -19,7 +19,7 @@ by_link : (P : State → Type 0) (o : Options) (s t : State) (c : ℕ) → ((cli
 by_link P o s t c holds came = by_client (client_at s c) came
   where
     by_call : (client : Client) (call : Option Command) → link_call o s c client call ≡ Some t → P t
-    by_call client (Some (commit how)) came = let why = refusal_of o how client.added in let after : link_with o s c client how why ≡ t = cc in subst P after (holds client how why)
+    by_call client (Some (commit how)) came = let why = refusal_in s.log how (refusal_of o how client.added) in subst P (when_some (may_link s.log why) (link_with o s c client how why) t came).1 (holds client how why)
     by_call client (Some other) came = absurd (cc)
     by_call client None came = absurd (cc)
 
@@ -88,6 +88,7 @@ by_elect o s t c free is came =
 by_elect o s t c (led d) is came = absurd (cc)
 by_elect o s t c (built ws) is came = absurd (cc)
 by_elect o s t c (in_log ws) is came = absurd (cc)
+by_elect o s t c (stalled ws) is came = absurd (cc)
 by_elect o s t c (marked ws) is came = absurd (cc)
 by_elect o s t c (handed d) is came = absurd (cc)
 
@@ -99,6 +100,7 @@ by_build o s t c (led d) is came =
 by_build o s t c free is came = absurd (cc)
 by_build o s t c (built ws) is came = absurd (cc)
 by_build o s t c (in_log ws) is came = absurd (cc)
+by_build o s t c (stalled ws) is came = absurd (cc)
 by_build o s t c (marked ws) is came = absurd (cc)
 by_build o s t c (handed d) is came = absurd (cc)
 
@@ -115,6 +117,7 @@ by_log o s t c (built ws) is came =
 by_log o s t c free is came = absurd (cc)
 by_log o s t c (led d) is came = absurd (cc)
 by_log o s t c (in_log ws) is came = absurd (cc)
+by_log o s t c (stalled ws) is came = absurd (cc)
 by_log o s t c (marked ws) is came = absurd (cc)
 by_log o s t c (handed d) is came = absurd (cc)
 
@@ -125,6 +128,7 @@ by_fault o s t c (built ws) is came =
 by_fault o s t c free is came = absurd (cc)
 by_fault o s t c (led d) is came = absurd (cc)
 by_fault o s t c (in_log ws) is came = absurd (cc)
+by_fault o s t c (stalled ws) is came = absurd (cc)
 by_fault o s t c (marked ws) is came = absurd (cc)
 by_fault o s t c (handed d) is came = absurd (cc)
 
@@ -135,8 +139,46 @@ by_refuse o s t c stops delays wait (built ws) is came =
 by_refuse o s t c stops delays wait free is came = absurd (cc)
 by_refuse o s t c stops delays wait (led d) is came = absurd (cc)
 by_refuse o s t c stops delays wait (in_log ws) is came = absurd (cc)
+by_refuse o s t c stops delays wait (stalled ws) is came = absurd (cc)
 by_refuse o s t c stops delays wait (marked ws) is came = absurd (cc)
 by_refuse o s t c stops delays wait (handed d) is came = absurd (cc)
+
+by_stall : (o : Options) (s t : State) (c : ℕ) (phase : LogPhase) → s.log ≡ phase → stall s c phase ≡ Some t → Moves o (e.Stall c) s t
+by_stall o s t c (built ws) is came =
+    let u : State = record s { log = stalled ws } in
+    when_holds (Moves o (e.Stall c) s) _ u t came (refl, (ws, is, refl))
+by_stall o s t c free is came = absurd (cc)
+by_stall o s t c (led d) is came = absurd (cc)
+by_stall o s t c (stalled ws) is came = absurd (cc)
+by_stall o s t c (in_log ws) is came = absurd (cc)
+by_stall o s t c (marked ws) is came = absurd (cc)
+by_stall o s t c (handed d) is came = absurd (cc)
+
+by_unstall : (o : Options) (s t : State) (c : ℕ) (phase : LogPhase) → s.log ≡ phase → unstall s c phase ≡ Some t → Moves o (e.Unstall c) s t
+by_unstall o s t c (stalled ws) is came =
+    let u : State = record s { log = built ws } in
+    when_holds (Moves o (e.Unstall c) s) _ u t came (refl, (ws, is, refl))
+by_unstall o s t c free is came = absurd (cc)
+by_unstall o s t c (led d) is came = absurd (cc)
+by_unstall o s t c (built ws) is came = absurd (cc)
+by_unstall o s t c (in_log ws) is came = absurd (cc)
+by_unstall o s t c (marked ws) is came = absurd (cc)
+by_unstall o s t c (handed d) is came = absurd (cc)
+
+by_leave : (o : Options) (s t : State) (m stops delays : ℕ) (phase : LogPhase) → s.log ≡ phase → leave_queue s m (stall_refusal stops delays) phase ≡ Some t → Moves o (e.Leave m stops delays) s t
+by_leave o s t m stops delays (stalled ws) is came = by_writer (find (λ (x : Writer). x.client == m) s.queue) refl came
+  where
+    by_writer : (w : Option Writer) → find (λ (x : Writer). x.client == m) s.queue ≡ w → leave_with s m (stall_refusal stops delays) w ≡ Some t → Moves o (e.Leave m stops delays) s t
+    by_writer None found came = absurd (cc)
+    by_writer (Some w) found came =
+        let h = when_some w.options.no_slowdown (left_queue s m (stall_refusal stops delays) w) t came in
+        subst (Moves o (e.Leave m stops delays) s) h.1 (refl, (ws, w, is, found, h.0, refl))
+by_leave o s t m stops delays free is came = absurd (cc)
+by_leave o s t m stops delays (led d) is came = absurd (cc)
+by_leave o s t m stops delays (built ws) is came = absurd (cc)
+by_leave o s t m stops delays (in_log ws) is came = absurd (cc)
+by_leave o s t m stops delays (marked ws) is came = absurd (cc)
+by_leave o s t m stops delays (handed d) is came = absurd (cc)
 
 by_boundary : (o : Options) (s t : State) (c : ℕ) (phase : LogPhase) → s.log ≡ phase → boundary o s c phase ≡ Some t → Moves o (e.Boundary c) s t
 by_boundary o s t c (in_log ws) is came =
@@ -145,6 +187,7 @@ by_boundary o s t c (in_log ws) is came =
 by_boundary o s t c free is came = absurd (cc)
 by_boundary o s t c (led d) is came = absurd (cc)
 by_boundary o s t c (built ws) is came = absurd (cc)
+by_boundary o s t c (stalled ws) is came = absurd (cc)
 by_boundary o s t c (marked ws) is came = absurd (cc)
 by_boundary o s t c (handed d) is came = absurd (cc)
 
@@ -156,6 +199,7 @@ by_second o s t c free is came = absurd (cc)
 by_second o s t c (led d) is came = absurd (cc)
 by_second o s t c (built ws) is came = absurd (cc)
 by_second o s t c (in_log ws) is came = absurd (cc)
+by_second o s t c (stalled ws) is came = absurd (cc)
 by_second o s t c (handed d) is came = absurd (cc)
 
 by_next : (o : Options) (s t : State) (c : ℕ) (phase : LogPhase) → s.log ≡ phase → next s c phase ≡ Some t → Moves o (e.Next c) s t
@@ -167,6 +211,7 @@ by_next o s t c free is came = absurd (cc)
 by_next o s t c (led d) is came = absurd (cc)
 by_next o s t c (built ws) is came = absurd (cc)
 by_next o s t c (in_log ws) is came = absurd (cc)
+by_next o s t c (stalled ws) is came = absurd (cc)
 by_next o s t c (marked ws) is came = absurd (cc)
 
 by_launch : (o : Options) (s t : State) (c : ℕ) (phase : TablePhase) → s.table ≡ phase → launch o s c phase ≡ Some t → Moves o (e.Launch c) s t
@@ -214,6 +259,9 @@ moves o s t (e.Build c) came = by_build o s t c s.log refl came
 moves o s t (e.Log c) came = by_log o s t c s.log refl came
 moves o s t (e.Fault c) came = by_fault o s t c s.log refl came
 moves o s t (e.Refuse c stops delays wait) came = by_refuse o s t c stops delays wait s.log refl came
+moves o s t (e.Stall c) came = by_stall o s t c s.log refl came
+moves o s t (e.Leave m stops delays) came = by_leave o s t m stops delays s.log refl came
+moves o s t (e.Unstall c) came = by_unstall o s t c s.log refl came
 moves o s t (e.Boundary c) came = by_boundary o s t c s.log refl came
 moves o s t (e.Second c) came = by_second o s t c s.log refl came
 moves o s t (e.Next c) came = by_next o s t c s.log refl came
@@ -238,6 +286,9 @@ list_events_leave_table o s t (e.Build c) none came = table_step o s t (e.Build 
 list_events_leave_table o s t (e.Log c) none came = table_step o s t (e.Log c) came
 list_events_leave_table o s t (e.Fault c) none came = table_step o s t (e.Fault c) came
 list_events_leave_table o s t (e.Refuse c stops delays wait) none came = table_step o s t (e.Refuse c stops delays wait) came
+list_events_leave_table o s t (e.Stall c) none came = table_step o s t (e.Stall c) came
+list_events_leave_table o s t (e.Leave m stops delays) none came = table_step o s t (e.Leave m stops delays) came
+list_events_leave_table o s t (e.Unstall c) none came = table_step o s t (e.Unstall c) came
 list_events_leave_table o s t (e.Boundary c) none came = table_step o s t (e.Boundary c) came
 list_events_leave_table o s t (e.Second c) none came = table_step o s t (e.Second c) came
 list_events_leave_table o s t (e.Next c) none came = table_step o s t (e.Next c) came

@@ -4,7 +4,7 @@ use Rattle.model_core.specs.declared.event.Event.{Event}
 use Rattle.model_core.specs.declared.event.Event.TheVariants as e
 use Rattle.model_base.specs.declared.write.Refusal.TheVariants as no
 use Rattle.model_base.specs.Calls.{Command}
-use Rattle.model_core.specs.Core.{Options, State, opening_state}
+use Rattle.model_core.specs.Core.{Options, State, opening_state, stall_refusal}
 use Rattle.model_core.specs.Step.{step, Replayed, after_event, replay}
 use Rattle.model_core.specs.CoreLaw.{IsCore, IsSubsequence, KeepsOrder, Keeps, in_order}
 use Rattle.model_core_laws.proofs.KeptByBuild.{kept_by_build}
@@ -20,6 +20,7 @@ use Rattle.model_core_laws.proofs.KeptByLink.{kept_by_link}
 use Rattle.model_core_laws.proofs.KeptByLog.{kept_by_log}
 use Rattle.model_core_laws.proofs.KeptByPublish.{kept_by_publish}
 use Rattle.model_core_laws.proofs.KeptByRead.{kept_by_read}
+use Rattle.model_core_laws.proofs.KeptByStall.{kept_by_stall, kept_by_leave, kept_by_unstall}
 use Rattle.model_core_laws.proofs.Opening.{opening}
 use Rattle.model_core_laws.proofs.Tables.{AddsNobody}
 
@@ -34,6 +35,9 @@ kept o s t (e.Build c) core is = nobody_added o s t (e.Build c) (λ order. order
 kept o s t (e.Log c) core is = nobody_added o s t (e.Log c) (λ order. order) (kept_by_log o s t c core is)
 kept o s t (e.Fault c) core is = nobody_added o s t (e.Fault c) (λ order. order) (kept_by_fault o s t c core is)
 kept o s t (e.Refuse c stops delays wait) core is = nobody_added o s t (e.Refuse c stops delays wait) (λ order. order) (kept_by_refuse o s t c (no.Incomplete stops delays wait) core is)
+kept o s t (e.Stall c) core is = nobody_added o s t (e.Stall c) (λ order. order) (kept_by_stall o s t c core is)
+kept o s t (e.Leave m stops delays) core is = nobody_added o s t (e.Leave m stops delays) (λ order. order) (kept_by_leave o s t m (stall_refusal stops delays) core is)
+kept o s t (e.Unstall c) core is = nobody_added o s t (e.Unstall c) (λ order. order) (kept_by_unstall o s t c core is)
 kept o s t (e.Boundary c) core is = nobody_added o s t (e.Boundary c) (λ order. order) (kept_by_boundary o s t c core is)
 kept o s t (e.Second c) core is = nobody_added o s t (e.Second c) (λ order. order) (kept_by_second o s t c core is)
 kept o s t (e.Next c) core is = nobody_added o s t (e.Next c) (λ order. order) (kept_by_next o s t c core is)

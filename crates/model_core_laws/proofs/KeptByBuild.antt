@@ -3,7 +3,7 @@ use Rattle.std.proofs.Common.{◌≡◌, ℕ, ◌==◌, ◌<◌, ◌++◌, map, 
 use Rattle.std.specs.List.{AllByRecursion, filter}
 use Rattle.std.proofs.lemmas.List.{take-append-drop, append-nil}
 use Rattle.model_base.specs.Batch.{count_of}
-use Rattle.model_core.specs.Core.{Options, Writer, LogPhase, free, led, built, in_log, marked, handed, State, has_run, table_group}
+use Rattle.model_core.specs.Core.{Options, Writer, LogPhase, free, led, built, stalled, in_log, marked, handed, State, has_run, table_group}
 use Rattle.model_core.specs.Step.{build, group_size}
 use Rattle.model_core.specs.CoreLaw.{IsCore, hand, in_order, writers_in, HasInserted}
 use Rattle.model_core_laws.proofs.Groups.{one_flag}
@@ -42,5 +42,6 @@ kept_by_build o s t c core e = by_phase s.log refl e
     by_phase free is e = absurd (cc)
     by_phase (built ws) is e = absurd (cc)
     by_phase (in_log ws) is e = absurd (cc)
+    by_phase (stalled ws) is e = absurd (cc)
     by_phase (marked ws) is e = absurd (cc)
     by_phase (handed d) is e = absurd (cc)

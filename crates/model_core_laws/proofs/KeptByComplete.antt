@@ -35,7 +35,7 @@ none_without m (w ∷ ws) = by (w.client == m) refl (none_without m ws)
         let b : cond {A = ℕ} (w.client == m) 1 0 ≡ 0 = cond-false {A = ℕ} (w.client == m) 1 0 here in
         omega arith
 
-others_without : (m n : ℕ) (ws : List Writer) → (m ≡ n → ⊥) → there n (without m ws) ≡ there n ws
+pub others_without : (m n : ℕ) (ws : List Writer) → (m ≡ n → ⊥) → there n (without m ws) ≡ there n ws
 others_without m n [] apart = refl
 others_without m n (w ∷ ws) apart = by (w.client == m) refl (others_without m n ws apart)
   where

@@ -2,7 +2,7 @@
 use Rattle.std.proofs.Common.{◌≡◌, ℕ, false, filter, ◌++◌, ◌<◌, Some, refl, ap, subst}
 use Rattle.std.specs.List.{AllByRecursion}
 use Rattle.model_base.specs.Batch.{count_of}
-use Rattle.model_core.specs.Core.{Options, Writer, LogPhase, free, led, built, in_log, marked, handed, State, leads, has_run, table_group}
+use Rattle.model_core.specs.Core.{Options, Writer, LogPhase, free, led, built, stalled, in_log, marked, handed, State, leads, has_run, table_group}
 use Rattle.model_core.specs.Step.{elect}
 use Rattle.model_core.specs.CoreLaw.{IsCore, hand, hand_with_runs, HasInserted, LedIsFirst, IsUnmarked, SameLogFlag}
 use Rattle.model_core_laws.proofs.Relined.{lined, relined, same_line, same_table, same_unpublished, kept_order}
@@ -37,5 +37,6 @@ kept_by_elect o s t c core e = by_phase s.log refl e
     by_phase (led d) is e = absurd (cc)
     by_phase (built ws) is e = absurd (cc)
     by_phase (in_log ws) is e = absurd (cc)
+    by_phase (stalled ws) is e = absurd (cc)
     by_phase (marked ws) is e = absurd (cc)
     by_phase (handed d) is e = absurd (cc)

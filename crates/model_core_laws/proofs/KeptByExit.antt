@@ -3,7 +3,7 @@ use Rattle.std.proofs.Common.{◌≡◌, ℕ, ◌<◌, Bool, true, false, List, 
 use Rattle.std.specs.List.{AllByRecursion, AllZip}
 use Rattle.std.proofs.lemmas.List.{map-append}
 use Rattle.model_base.specs.History.{Entry}
-use Rattle.model_core.specs.Core.{Options, Writer, Client, LogPhase, free, led, built, in_log, marked, handed, TablePhase, still, launched, published, State, client_at, leads, has_run, table_group}
+use Rattle.model_core.specs.Core.{Options, Writer, Client, LogPhase, free, led, built, stalled, in_log, marked, handed, TablePhase, still, launched, published, State, client_at, leads, has_run, table_group}
 use Rattle.model_core.specs.Step.{exit, leave, without_table_group}
 use Rattle.model_core.specs.CoreLaw.{IsCore, HasInserted, IsEntryOf, IsSubsequence, writers_in, hand, waiting_clients, in_order}
 use Rattle.model_core_laws.proofs.Lists.{all_back}
@@ -129,6 +129,7 @@ exiting o s false second (in_log ws) some core = (from_log o s second ws core, o
 exiting o s false second free some core = absurd (omega arith)
 exiting o s false second (led c) some core = absurd (omega arith)
 exiting o s false second (built ws) some core = absurd (omega arith)
+exiting o s false second (stalled ws) some core = absurd (omega arith)
 exiting o s false second (marked ws) some core = absurd (omega arith)
 exiting o s false second (handed c) some core = absurd (omega arith)
 

@@ -3,7 +3,7 @@ use Rattle.std.proofs.Common.{◌≡◌, ℕ, Bool, true, false, ◌&&◌, ◌==
 use Rattle.std.specs.List.{AllByRecursion}
 use Rattle.std.proofs.lemmas.List.{append-nil}
 use Rattle.std.proofs.lemmas.List.Concat.{flat_map-append}
-use Rattle.model_core.specs.Core.{Options, Writer, LogPhase, free, led, built, in_log, marked, handed, TablePhase, still, launched, published, State, leads, has_run, table_group, first_group}
+use Rattle.model_core.specs.Core.{Options, Writer, LogPhase, free, led, built, stalled, in_log, marked, handed, TablePhase, still, launched, published, State, leads, has_run, table_group, first_group}
 use Rattle.model_core.specs.Step.{boundary, to_second, next}
 use Rattle.model_core.specs.CoreLaw.{IsCore, IsTable, hand, hand_with_runs, in_order, writers_in, unpublished_writers, HasInserted}
 use Rattle.model_core_laws.proofs.KeptByElect.{rephased}
@@ -24,6 +24,7 @@ kept_by_boundary o s t c core e = by_phase s.log refl e
     by_phase free is e = absurd (cc)
     by_phase (led d) is e = absurd (cc)
     by_phase (built ws) is e = absurd (cc)
+    by_phase (stalled ws) is e = absurd (cc)
     by_phase (marked ws) is e = absurd (cc)
     by_phase (handed d) is e = absurd (cc)
 
@@ -37,6 +38,7 @@ kept_by_next o s t c core e = by_phase s.log refl e
     by_phase (led d) is e = absurd (cc)
     by_phase (built ws) is e = absurd (cc)
     by_phase (in_log ws) is e = absurd (cc)
+    by_phase (stalled ws) is e = absurd (cc)
     by_phase (marked ws) is e = absurd (cc)
 
 -- the state after the marked group went to the second queue
@@ -106,4 +108,5 @@ kept_by_second o s t c core e = by_phase s.log refl e
     by_phase (led d) is e = absurd (cc)
     by_phase (built ws) is e = absurd (cc)
     by_phase (in_log ws) is e = absurd (cc)
+    by_phase (stalled ws) is e = absurd (cc)
     by_phase (handed d) is e = absurd (cc)

@@ -5,7 +5,7 @@ use Rattle.std.proofs.lemmas.List.{map-append, append-nil}
 use Rattle.model_base.specs.declared.write.Refusal.{Refusal}
 use Rattle.model_base.specs.declared.write.Refusal.TheVariants as no
 use Rattle.model_base.specs.Calls.{Reply, refused}
-use Rattle.model_core.specs.Core.{Options, Writer, LogPhase, free, led, built, in_log, marked, handed, State, leads, has_run, table_group, all_answered}
+use Rattle.model_core.specs.Core.{Options, Writer, LogPhase, free, led, built, stalled, in_log, marked, handed, State, leads, has_run, table_group, all_answered}
 use Rattle.model_core.specs.Step.{fault, refuse, is_no_slowdown}
 use Rattle.model_core.specs.CoreLaw.{IsCore, IsSubsequence, hand, in_order, waiting_clients, writers_in, HasInserted}
 use Rattle.model_core_laws.proofs.Lists.{all_append, all_front, all_back, count_append}
@@ -87,6 +87,7 @@ kept_by_fault o s t c core e = by_phase s.log refl e
     by_phase free is e = absurd (cc)
     by_phase (led d) is e = absurd (cc)
     by_phase (in_log ws) is e = absurd (cc)
+    by_phase (stalled ws) is e = absurd (cc)
     by_phase (marked ws) is e = absurd (cc)
     by_phase (handed d) is e = absurd (cc)
 
@@ -99,5 +100,6 @@ kept_by_refuse o s t c why core e = by_phase s.log refl e
     by_phase free is e = absurd (cc)
     by_phase (led d) is e = absurd (cc)
     by_phase (in_log ws) is e = absurd (cc)
+    by_phase (stalled ws) is e = absurd (cc)
     by_phase (marked ws) is e = absurd (cc)
     by_phase (handed d) is e = absurd (cc)

@@ -10,13 +10,13 @@ use Rattle.model_base.specs.Batch.{Record, count_of}
 use Rattle.model_base.specs.Progress.{early_refusal}
 use Rattle.model_base.specs.Calls.{Command, commit, refused}
 use Rattle.model_core.specs.declared.event.Event.TheVariants.{Link}
-use Rattle.model_core.specs.Core.{Options, Writer, Client, LogPhase, free, led, built, in_log, marked, handed, State, client_at, with_client, next_call, after_reply, refusal_of, among}
+use Rattle.model_core.specs.Core.{Options, Writer, Client, LogPhase, free, led, built, stalled, in_log, marked, handed, State, client_at, with_client, next_call, after_reply, refusal_of, refusal_in, may_link, among}
 use Rattle.model_core.specs.Step.{link, link_call, link_with}
 use Rattle.model_core.specs.CoreLaw.{IsCore, Keeps, LedIsFirst, writers_in, hand, in_order, waiting_clients}
 use Rattle.model_core_laws.proofs.Clients.{ahead_idle, replaced, still_there, once_after, places}
 use Rattle.model_core_laws.proofs.KeptByRead.{kept_idle}
 use Rattle.model_core_laws.proofs.Lists.{all_weaker, all_append}
-use Rattle.model_core_laws.proofs.Tables.{all_fewer, times, times_cons, times_here, there_append, times_among, waiting_parts}
+use Rattle.model_core_laws.proofs.Tables.{all_fewer, times, times_cons, times_here, there_append, times_among, waiting_parts, when_some}
 
 -- a batch that isn't refused has something to write
 something : (batch_bytes : ℕ) (records : List Record) (how : WriteOptions) → early_refusal batch_bytes false records how ≡ None → 0 < count_of records
@@ -32,6 +32,7 @@ still_first (led c) [] w first = absurd (cc)
 still_first (led c) (v ∷ queue) w first = first
 still_first free queue w first = tt
 still_first (built ws) queue w first = tt
+still_first (stalled ws) queue w first = tt
 still_first (in_log ws) queue w first = tt
 still_first (marked ws) queue w first = tt
 still_first (handed c) queue w first = tt
@@ -43,6 +44,11 @@ not_among c cs none = by (among c cs) refl
     by : (b : Bool) → among c cs ≡ b → among c cs ≡ false
     by true is = absurd (let some = times_among c cs is in omega arith)
     by false is = is
+
+-- a commit that isn't refused passed the checks
+pub none_early : (log : LogPhase) (how : WriteOptions) (early : Option Refusal) → refusal_in log how early ≡ None → early ≡ None
+none_early log how None e = refl
+none_early log how (Some why) e = e
 
 -- a client that was idle now waits after the others
 module _ (o : Options) (s : State) (c : ℕ) (old client : Client) (how : WriteOptions) (is : client_at s c ≡ Some old) (idle : old.idle ≡ true) (some : 0 < count_of client.added) (core : IsCore o s) where
@@ -104,15 +110,17 @@ module _ (o : Options) (s : State) (c : ℕ) (old client : Client) (how : WriteO
 pub kept_by_link : (o : Options) (s t : State) (c : ℕ) → IsCore o s → link o s c (client_at s c) ≡ Some t → IsCore o t × Keeps (Link c) s t
 kept_by_link o s t c core e = by_client (client_at s c) refl e
   where
-    by_refusal : (old client : Client) → client_at s c ≡ Some old → old.idle ≡ true → client.idle ≡ true → (how : WriteOptions) (why : Option Refusal) → refusal_of o how client.added ≡ why → link_with o s c client how why ≡ t → IsCore o t × Keeps (Link c) s t
+    by_refusal : (old client : Client) → client_at s c ≡ Some old → old.idle ≡ true → client.idle ≡ true → (how : WriteOptions) (why : Option Refusal) → refusal_in s.log how (refusal_of o how client.added) ≡ why → link_with o s c client how why ≡ t → IsCore o t × Keeps (Link c) s t
     by_refusal old client is was now how (Some why) refusal e = subst (λ (x : State). IsCore o x × Keeps (Link c) s x) e
         ((kept_idle o s c old (after_reply client (commit how) (refused why)) is was refl core).0, record { order = inl refl; log_failed = λ failed. (refl, failed) })
     by_refusal old client is was now how None refusal e =
-        let some = something o.batch_bytes client.added how refusal in
+        let some = something o.batch_bytes client.added how (none_early s.log how (refusal_of o how client.added) refusal) in
         subst (λ (x : State). IsCore o x × Keeps (Link c) s x) e (linking o s c old client how is was some core, keeps_linking o s c old client how is was some core)
 
     by_call : (old client : Client) → client_at s c ≡ Some old → old.idle ≡ true → client.idle ≡ true → (call : Option Command) → link_call o s c client call ≡ Some t → IsCore o t × Keeps (Link c) s t
-    by_call old client is was now (Some (commit how)) e = by_refusal old client is was now how (refusal_of o how client.added) refl (cc)
+    by_call old client is was now (Some (commit how)) e =
+        let why = refusal_in s.log how (refusal_of o how client.added) in
+        by_refusal old client is was now how why refl (when_some (may_link s.log why) (link_with o s c client how why) t e).1
     by_call old client is was now (Some other) e = absurd (cc)
     by_call old client is was now None e = absurd (cc)
 

@@ -5,7 +5,7 @@ use Rattle.std.proofs.lemmas.List.{map-append, append-nil}
 use Rattle.std.proofs.lemmas.List.Concat.{flat_map-append}
 use Rattle.std.proofs.lemmas.List.Elements.{filter-append, Contains-append_left}
 use Rattle.model_base.specs.History.{Entry, IsHistory, RunsFollow, last_sequence, logged_entries, is_logged}
-use Rattle.model_core.specs.Core.{Options, Writer, LogPhase, free, led, built, in_log, marked, handed, TablePhase, still, launched, published, State, leads, has_run, table_group, with_runs, entries_of}
+use Rattle.model_core.specs.Core.{Options, Writer, LogPhase, free, led, built, stalled, in_log, marked, handed, TablePhase, still, launched, published, State, leads, has_run, table_group, with_runs, entries_of}
 use Rattle.model_core.specs.Step.{log_group, logged_group, with_group, is_unlogged}
 use Rattle.model_core.specs.CoreLaw.{IsCore, IsTable, IsEntryOf, IsInsertedAhead, in_order, waiting_clients, writers_in, unpublished_writers, HasInserted, SameLogFlag}
 use Rattle.model_core_laws.proofs.Histories.{history_more, last_sequence_append, runs_follow}
@@ -124,5 +124,6 @@ kept_by_log o s t c core e = by_phase s.log refl e
     by_phase free is e = absurd (cc)
     by_phase (led d) is e = absurd (cc)
     by_phase (in_log ws) is e = absurd (cc)
+    by_phase (stalled ws) is e = absurd (cc)
     by_phase (marked ws) is e = absurd (cc)
     by_phase (handed d) is e = absurd (cc)

@@ -10,8 +10,8 @@ use Rattle.model_base.specs.declared.write.Refusal.TheVariants as no
 use Rattle.model_base.specs.declared.write.WriteOptions.{WriteOptions}
 use Rattle.model_base.specs.Batch.{Record}
 use Rattle.model_base.specs.Calls.{Command, add, clear, commit, get, many, scan, stop, unstop, slow, unslow, Reply, quiet, accepted, refused, found, found_each, rows, done, held, not_held, no_memory, Call}
-use Rattle.model_core.specs.Core.{Options, Writer, Client, LogPhase, free, led, built, in_log, marked, handed, TablePhase, still, launched, published, State, opening_state, client_at, with_client, next_call, ahead, after_reply, refusal_of, read_reply, leads, has_run, with_runs, entries_of, table_group, runners, among, all_answered}
-use Rattle.model_core.specs.Step.{step, replay, after_event, Replayed, link, link_call, link_with, elect, build, group_size, log_group, logged_group, fault, refuse, is_no_slowdown, boundary, to_second, next, launch, insert, entry_ahead, finish, publish, is_last, group_last, exit, leave, without_table_group, complete, complete_with, after_completion, read, read_call, read_with, when}
+use Rattle.model_core.specs.Core.{Options, Writer, Client, LogPhase, free, led, built, stalled, in_log, marked, handed, TablePhase, still, launched, published, State, opening_state, client_at, with_client, next_call, ahead, after_reply, refusal_of, refusal_in, may_link, stall_refusal, read_reply, leads, has_run, with_runs, entries_of, table_group, runners, among, all_answered}
+use Rattle.model_core.specs.Step.{step, replay, after_event, Replayed, link, link_call, link_with, elect, build, group_size, log_group, logged_group, fault, refuse, is_no_slowdown, stall, unstall, leave_queue, leave_with, left_queue, boundary, to_second, next, launch, insert, entry_ahead, finish, publish, is_last, group_last, exit, leave, without_table_group, complete, complete_with, after_completion, read, read_call, read_with, when}
 use Rattle.model_core.specs.CoreLaw.{IsCore, hand, writers_in}
 use Rattle.model_core.specs.Replies.{IsFrom, IsLater}
 use Rattle.model_core_laws.proofs.Lists.{all_append, all_weaker, all_back}
@@ -68,6 +68,7 @@ by_elect s t c free e = later_when s (record s { log = led c }) t (leads c s.que
 by_elect s t c (led d) e = absurd (cc)
 by_elect s t c (built ws) e = absurd (cc)
 by_elect s t c (in_log ws) e = absurd (cc)
+by_elect s t c (stalled ws) e = absurd (cc)
 by_elect s t c (marked ws) e = absurd (cc)
 by_elect s t c (handed d) e = absurd (cc)
 
@@ -77,6 +78,7 @@ by_build o s t c (led d) e = let u : State = record s { log = built (take (group
 by_build o s t c free e = absurd (cc)
 by_build o s t c (built ws) e = absurd (cc)
 by_build o s t c (in_log ws) e = absurd (cc)
+by_build o s t c (stalled ws) e = absurd (cc)
 by_build o s t c (marked ws) e = absurd (cc)
 by_build o s t c (handed d) e = absurd (cc)
 
@@ -89,6 +91,7 @@ by_log s t c (built ws) e = later_when s (logged_group s (with_runs s.assigned w
 by_log s t c free e = absurd (cc)
 by_log s t c (led d) e = absurd (cc)
 by_log s t c (in_log ws) e = absurd (cc)
+by_log s t c (stalled ws) e = absurd (cc)
 by_log s t c (marked ws) e = absurd (cc)
 by_log s t c (handed d) e = absurd (cc)
 
@@ -98,6 +101,7 @@ by_fault s t c (built ws) e = let u : State = record (leave s (all_answered (ref
 by_fault s t c free e = absurd (cc)
 by_fault s t c (led d) e = absurd (cc)
 by_fault s t c (in_log ws) e = absurd (cc)
+by_fault s t c (stalled ws) e = absurd (cc)
 by_fault s t c (marked ws) e = absurd (cc)
 by_fault s t c (handed d) e = absurd (cc)
 
@@ -107,14 +111,47 @@ by_refuse s t c why (built ws) e = let u : State = record (leave s (all_answered
 by_refuse s t c why free e = absurd (cc)
 by_refuse s t c why (led d) e = absurd (cc)
 by_refuse s t c why (in_log ws) e = absurd (cc)
+by_refuse s t c why (stalled ws) e = absurd (cc)
 by_refuse s t c why (marked ws) e = absurd (cc)
 by_refuse s t c why (handed d) e = absurd (cc)
+
+by_stall : (s t : State) (c : ℕ) (phase : LogPhase) → stall s c phase ≡ Some t → IsLater s t
+by_stall s t c (built ws) e = later_when s (record s { log = stalled ws }) t (leads c ws && not (is_no_slowdown ws)) e (later_lines s (record s { log = stalled ws }) refl (same_history s) (omega arith))
+by_stall s t c free e = absurd (cc)
+by_stall s t c (led d) e = absurd (cc)
+by_stall s t c (stalled ws) e = absurd (cc)
+by_stall s t c (in_log ws) e = absurd (cc)
+by_stall s t c (marked ws) e = absurd (cc)
+by_stall s t c (handed d) e = absurd (cc)
+
+by_unstall : (s t : State) (c : ℕ) (phase : LogPhase) → unstall s c phase ≡ Some t → IsLater s t
+by_unstall s t c (stalled ws) e = later_when s (record s { log = built ws }) t (leads c ws) e (later_lines s (record s { log = built ws }) refl (same_history s) (omega arith))
+by_unstall s t c free e = absurd (cc)
+by_unstall s t c (led d) e = absurd (cc)
+by_unstall s t c (built ws) e = absurd (cc)
+by_unstall s t c (in_log ws) e = absurd (cc)
+by_unstall s t c (marked ws) e = absurd (cc)
+by_unstall s t c (handed d) e = absurd (cc)
+
+by_leave : (s t : State) (m : ℕ) (why : Refusal) (phase : LogPhase) → leave_queue s m why phase ≡ Some t → IsLater s t
+by_leave s t m why (stalled ws) e = by_writer (find (λ (x : Writer). x.client == m) s.queue) e
+  where
+    by_writer : (w : Option Writer) → leave_with s m why w ≡ Some t → IsLater s t
+    by_writer None e = absurd (cc)
+    by_writer (Some w) e = later_when s (left_queue s m why w) t w.options.no_slowdown e (later_lines s (left_queue s m why w) refl (same_history s) (omega arith))
+by_leave s t m why free e = absurd (cc)
+by_leave s t m why (led d) e = absurd (cc)
+by_leave s t m why (built ws) e = absurd (cc)
+by_leave s t m why (in_log ws) e = absurd (cc)
+by_leave s t m why (marked ws) e = absurd (cc)
+by_leave s t m why (handed d) e = absurd (cc)
 
 by_boundary : (o : Options) (s t : State) (c : ℕ) (phase : LogPhase) → boundary o s c phase ≡ Some t → IsLater s t
 by_boundary o s t c (in_log ws) e = later_when s (record s { log = marked ws }) t (o.pipelined && leads c ws) e (later_lines s (record s { log = marked ws }) refl (same_history s) (omega arith))
 by_boundary o s t c free e = absurd (cc)
 by_boundary o s t c (led d) e = absurd (cc)
 by_boundary o s t c (built ws) e = absurd (cc)
+by_boundary o s t c (stalled ws) e = absurd (cc)
 by_boundary o s t c (marked ws) e = absurd (cc)
 by_boundary o s t c (handed d) e = absurd (cc)
 
@@ -124,6 +161,7 @@ by_second s t c free e = absurd (cc)
 by_second s t c (led d) e = absurd (cc)
 by_second s t c (built ws) e = absurd (cc)
 by_second s t c (in_log ws) e = absurd (cc)
+by_second s t c (stalled ws) e = absurd (cc)
 by_second s t c (handed d) e = absurd (cc)
 
 by_next : (s t : State) (c : ℕ) (phase : LogPhase) → next s c phase ≡ Some t → IsLater s t
@@ -132,6 +170,7 @@ by_next s t c free e = absurd (cc)
 by_next s t c (led d) e = absurd (cc)
 by_next s t c (built ws) e = absurd (cc)
 by_next s t c (in_log ws) e = absurd (cc)
+by_next s t c (stalled ws) e = absurd (cc)
 by_next s t c (marked ws) e = absurd (cc)
 
 by_launch : (o : Options) (s t : State) (c : ℕ) (phase : TablePhase) → launch o s c phase ≡ Some t → IsLater s t
@@ -214,7 +253,9 @@ by_link o s t c e = by_client (client_at s c) refl e
     by_refusal old is how None e = subst (IsLater s) e (later_client s (link_with o s c (next_call old).client how None) c old (record (next_call old).client { idle = false }) is refl refl refl (next_told s.last old))
 
     by_call : (old : Client) → client_at s c ≡ Some old → (call : Option Command) → link_call o s c (next_call old).client call ≡ Some t → IsLater s t
-    by_call old is (Some (commit how)) e = by_refusal old is how (refusal_of o how (next_call old).client.added) (cc)
+    by_call old is (Some (commit how)) e =
+        let why = refusal_in s.log how (refusal_of o how (next_call old).client.added) in
+        by_refusal old is how why (when_some (may_link s.log why) (link_with o s c (next_call old).client how why) t e).1
     by_call old is (Some other) e = absurd (cc)
     by_call old is None e = absurd (cc)
 
@@ -308,6 +349,9 @@ later_each o plans s t (e.Build c) so_far is = by_build o s t c s.log is
 later_each o plans s t (e.Log c) so_far is = by_log s t c s.log is
 later_each o plans s t (e.Fault c) so_far is = by_fault s t c s.log is
 later_each o plans s t (e.Refuse c stops delays wait) so_far is = by_refuse s t c (no.Incomplete stops delays wait) s.log is
+later_each o plans s t (e.Stall c) so_far is = by_stall s t c s.log is
+later_each o plans s t (e.Leave m stops delays) so_far is = by_leave s t m (stall_refusal stops delays) s.log is
+later_each o plans s t (e.Unstall c) so_far is = by_unstall s t c s.log is
 later_each o plans s t (e.Boundary c) so_far is = by_boundary o s t c s.log is
 later_each o plans s t (e.Second c) so_far is = by_second s t c s.log is
 later_each o plans s t (e.Next c) so_far is = by_next s t c s.log is

@@ -18,12 +18,14 @@ pub mod KeptByLink
 pub mod KeptByLog
 pub mod KeptByPublish
 pub mod KeptByRead
+pub mod KeptByStall
 pub mod Later
 pub mod Lists
 pub mod Opening
 pub mod Ready
 pub mod Relined
 pub mod Runs
+pub mod Stalls
 pub mod Tables
 pub mod Told
 pub mod ToldByClients
@@ -33,5 +35,6 @@ pub mod ToldByLines
 pub mod ToldByLink
 pub mod ToldByLog
 pub mod ToldByRead
+pub mod ToldByStall
 pub mod WrongReplies
 pub mod WrongStates

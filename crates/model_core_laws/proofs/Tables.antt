@@ -7,7 +7,7 @@ use Rattle.std.proofs.lemmas.List.Sums.{sum_by-append}
 use Rattle.std.proofs.lemmas.List.Folds.{list_any-append}
 use Rattle.std.proofs.lemmas.Bool.{or_cases, or_left, or_right, eqb-true, eq-eqb, cond-true, cond-false, cases_lt}
 use Rattle.model_base.specs.History.{Entry}
-use Rattle.model_core.specs.Core.{Options, Writer, Client, client_at, leads, LogPhase, free, led, built, in_log, marked, handed, TablePhase, launched, published, State, has_run, table_group, in_hand, among}
+use Rattle.model_core.specs.Core.{Options, Writer, Client, client_at, leads, LogPhase, free, led, built, stalled, in_log, marked, handed, TablePhase, launched, published, State, has_run, table_group, in_hand, among}
 use Rattle.model_core.specs.CoreLaw.{IsCore, IsSubsequence, in_order, waiting_clients, writers_in, hand, hand_with_runs, unpublished_writers, IsEntryOf}
 use Rattle.model_core.specs.Step.{when}
 use Rattle.model_core_laws.proofs.Lists.{Parted, parted}
@@ -125,6 +125,7 @@ split_groups o s false second log single some = ap (λ wss. writers_in wss ++ ha
     by free some = absurd (omega arith)
     by (led c) some = absurd (omega arith)
     by (built ws) some = absurd (omega arith)
+    by (stalled ws) some = absurd (omega arith)
     by (marked ws) some = absurd (omega arith)
     by (handed c) some = absurd (omega arith)
 
@@ -184,6 +185,7 @@ pub in_hand_once : (c : ℕ) (log : LogPhase) → there c (hand_with_runs log) �
 in_hand_once c free = omega arith
 in_hand_once c (led d) = omega arith
 in_hand_once c (built ws) = omega arith
+in_hand_once c (stalled ws) = omega arith
 in_hand_once c (in_log ws) = omega arith
 in_hand_once c (marked ws) = omega arith
 in_hand_once c (handed d) = omega arith

@@ -13,7 +13,7 @@ use Rattle.model_base.specs.Progress.{early_refusal, next_entry, batch_after}
 use Rattle.model_base.specs.Runs.{commands_of}
 use Rattle.model_base.specs.Outcomes.{entries_of_client}
 use Rattle.model_base.specs.Calls.{Command, add, clear, commit, get, many, scan, stop, unstop, slow, unslow, Reply, quiet, accepted, refused, found, found_each, rows, done, held, not_held, no_memory, Call}
-use Rattle.model_core.specs.Core.{Options, Writer, Client, LogPhase, free, led, built, in_log, marked, handed, State, client_at}
+use Rattle.model_core.specs.Core.{Options, Writer, Client, LogPhase, free, led, built, stalled, in_log, marked, handed, State, client_at}
 use Rattle.model_core.specs.CoreLaw.{IsCore, hand, writers_in}
 use Rattle.model_core.specs.Replies.{seen_up_to, knows_log_failed, entries_told, ReadsAt, Gets, GetsMany, Scans, IsHandled, MayRefuse, MayReply, AreRight, lines_at}
 use Rattle.model_core_laws.proofs.Groups.{SameSlowdown}
@@ -26,6 +26,7 @@ writers s = ((writers_in s.second ++ hand s.log) ++ s.queue) ++ s.leaving
 -- the writers that have no answer yet
 abbrev pub unanswered : LogPhase → List Writer → List Writer
 unanswered (built ws) queue = ws ++ queue
+unanswered (stalled ws) queue = ws ++ queue
 unanswered free queue = queue
 unanswered (led c) queue = queue
 unanswered (in_log ws) queue = queue
@@ -35,6 +36,7 @@ unanswered (handed c) queue = queue
 -- a built group may be slowed down as a whole, or not at all
 abbrev pub IsOneKind : LogPhase → Type 0
 IsOneKind (built ws) = SameSlowdown ws
+IsOneKind (stalled ws) = SameSlowdown ws
 IsOneKind free = Unit {0}
 IsOneKind (led c) = Unit {0}
 IsOneKind (in_log ws) = Unit {0}

@@ -4,7 +4,7 @@ use Rattle.std.specs.List.{AllByRecursion}
 use Rattle.model_base.specs.declared.write.Refusal.{Refusal}
 use Rattle.model_base.specs.declared.write.Refusal.TheVariants as no
 use Rattle.model_base.specs.Calls.{Command, refused, Call}
-use Rattle.model_core.specs.Core.{Options, Writer, LogPhase, free, led, built, in_log, marked, handed, State, leads, all_answered}
+use Rattle.model_core.specs.Core.{Options, Writer, LogPhase, free, led, built, stalled, in_log, marked, handed, State, leads, all_answered}
 use Rattle.model_core.specs.Step.{fault, refuse, is_no_slowdown}
 use Rattle.model_core.specs.CoreLaw.{IsCore, hand, writers_in}
 use Rattle.model_core.specs.Replies.{MayRefuse}
@@ -15,7 +15,7 @@ use Rattle.model_core_laws.proofs.Tables.{when_some}
 use Rattle.model_core_laws.proofs.Told.{Told, Waits, Grows, IsAnswer, own_same, same_client, waits_same, told_without}
 use Rattle.model_core_laws.proofs.ToldByLines.{apart, together, becomes}
 
-refused_waits : (o : Options) (plans : List (List Command)) (s t : State) (grows : Grows s t) → t.clients ≡ s.clients → grows.new ≡ [] → (why : Refusal) (w : Writer)
+pub refused_waits : (o : Options) (plans : List (List Command)) (s t : State) (grows : Grows s t) → t.clients ≡ s.clients → grows.new ≡ [] → (why : Refusal) (w : Writer)
     → ((calls : List Call) → MayRefuse o t calls w.options why) → w.answer ≡ None → Waits o plans s w → Waits o plans t (record w { answer = Some (refused why) })
 refused_waits o plans s t grows clients nothing why w may none is =
     let before : IsAnswer o s is.client w None = subst (IsAnswer o s is.client w) none is.answer in record {
@@ -61,6 +61,7 @@ told_by_fault o plans s t c told e core = by_phase s.log refl e
     by_phase free is e = absurd (cc)
     by_phase (led d) is e = absurd (cc)
     by_phase (in_log ws) is e = absurd (cc)
+    by_phase (stalled ws) is e = absurd (cc)
     by_phase (marked ws) is e = absurd (cc)
     by_phase (handed d) is e = absurd (cc)
 
@@ -79,5 +80,6 @@ told_by_refuse o plans s t c stops delays wait told e core = by_phase s.log refl
     by_phase free is e = absurd (cc)
     by_phase (led d) is e = absurd (cc)
     by_phase (in_log ws) is e = absurd (cc)
+    by_phase (stalled ws) is e = absurd (cc)
     by_phase (marked ws) is e = absurd (cc)
     by_phase (handed d) is e = absurd (cc)

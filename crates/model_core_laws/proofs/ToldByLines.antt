@@ -5,7 +5,7 @@ use Rattle.std.proofs.lemmas.List.{take-append-drop}
 use Rattle.std.proofs.lemmas.List.Concat.{flat_map-append}
 use Rattle.model_base.specs.History.{IsHistory}
 use Rattle.model_base.specs.Calls.{Command}
-use Rattle.model_core.specs.Core.{Options, Writer, LogPhase, free, led, built, in_log, marked, handed, TablePhase, still, launched, published, State, leads, table_group, runners, among, first_group, in_hand}
+use Rattle.model_core.specs.Core.{Options, Writer, LogPhase, free, led, built, stalled, in_log, marked, handed, TablePhase, still, launched, published, State, leads, table_group, runners, among, first_group, in_hand}
 use Rattle.model_core.specs.Step.{elect, build, group_size, boundary, to_second, next, launch, insert, finish, publish, exit, is_last, group_last, entry_ahead, leave}
 use Rattle.model_core.specs.CoreLaw.{IsCore, hand, writers_in}
 use Rattle.model_core_laws.proofs.Groups.{one_slowdown}
@@ -42,6 +42,7 @@ told_by_elect o plans s t c told e core = by_phase s.log refl e
     by_phase (led d) is e = absurd (cc)
     by_phase (built ws) is e = absurd (cc)
     by_phase (in_log ws) is e = absurd (cc)
+    by_phase (stalled ws) is e = absurd (cc)
     by_phase (marked ws) is e = absurd (cc)
     by_phase (handed d) is e = absurd (cc)
 
@@ -60,6 +61,7 @@ told_by_build o plans s t c told e core = by_phase s.log refl e
     by_phase free is e = absurd (cc)
     by_phase (built ws) is e = absurd (cc)
     by_phase (in_log ws) is e = absurd (cc)
+    by_phase (stalled ws) is e = absurd (cc)
     by_phase (marked ws) is e = absurd (cc)
     by_phase (handed d) is e = absurd (cc)
 
@@ -72,6 +74,7 @@ told_by_boundary o plans s t c told e core = by_phase s.log refl e
     by_phase free is e = absurd (cc)
     by_phase (led d) is e = absurd (cc)
     by_phase (built ws) is e = absurd (cc)
+    by_phase (stalled ws) is e = absurd (cc)
     by_phase (marked ws) is e = absurd (cc)
     by_phase (handed d) is e = absurd (cc)
 
@@ -89,6 +92,7 @@ told_by_second o plans s t c told e core = by_phase s.log refl e
     by_phase (led d) is e = absurd (cc)
     by_phase (built ws) is e = absurd (cc)
     by_phase (in_log ws) is e = absurd (cc)
+    by_phase (stalled ws) is e = absurd (cc)
     by_phase (handed d) is e = absurd (cc)
 
 pub told_by_next : (o : Options) (plans : List (List Command)) (s t : State) (c : ℕ) → Told o plans s → next s c s.log ≡ Some t → IsCore o t → Told o plans t
@@ -101,6 +105,7 @@ told_by_next o plans s t c told e core = by_phase s.log refl e
     by_phase (led d) is e = absurd (cc)
     by_phase (built ws) is e = absurd (cc)
     by_phase (in_log ws) is e = absurd (cc)
+    by_phase (stalled ws) is e = absurd (cc)
     by_phase (marked ws) is e = absurd (cc)
 
 -- The memtable's events
@@ -162,11 +167,13 @@ hand_in_log P (in_log ws) a = a
 hand_in_log P free a = tt
 hand_in_log P (led c) a = tt
 hand_in_log P (built ws) a = tt
+hand_in_log P (stalled ws) a = tt
 hand_in_log P (marked ws) a = tt
 hand_in_log P (handed c) a = tt
 
 pub queue_unanswered : (P : Writer → Type 0) (log : LogPhase) (queue : List Writer) → AllByRecursion P (unanswered log queue) → AllByRecursion P queue
 queue_unanswered P (built ws) queue a = all_back P ws queue a
+queue_unanswered P (stalled ws) queue a = all_back P ws queue a
 queue_unanswered P (in_log ws) queue a = a
 queue_unanswered P free queue a = a
 queue_unanswered P (led c) queue a = a

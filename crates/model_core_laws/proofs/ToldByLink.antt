@@ -1,13 +1,18 @@
 -- Linking keeps what holds of the clients' replies.
-use Rattle.std.proofs.Common.{◌≡◌, ℕ, Bool, true, false, if◌then◌else◌, List, [], ◌∷◌, ◌++◌, Option, Some, None, refl, subst, append_assoc}
+use Rattle.std.proofs.Common.{◌≡◌, ℕ, Bool, true, false, if◌then◌else◌, List, [], ◌∷◌, ◌++◌, Option, Some, None, MatchOption, refl, ap, sym, ◌∙◌, subst, append_assoc}
 use Rattle.std.specs.List.{AllByRecursion}
 use Rattle.model_base.specs.declared.write.Refusal.{Refusal}
 use Rattle.model_base.specs.declared.write.WriteOptions.{WriteOptions}
-use Rattle.model_base.specs.Calls.{Command, commit, refused}
-use Rattle.model_core.specs.Core.{Options, Writer, Client, State, LogPhase, free, led, built, in_log, marked, handed, client_at, next_call, refusal_of}
+use Rattle.model_base.specs.Batch.{Record}
+use Rattle.model_base.specs.Progress.{batch_after, early_refusal}
+use Rattle.model_base.specs.Calls.{Command, commit, refused, Call}
+use Rattle.model_core.specs.Core.{Options, Writer, Client, State, LogPhase, free, led, built, stalled, in_log, marked, handed, client_at, next_call, refusal_of, refusal_in, may_link, stall_refusal}
 use Rattle.model_core.specs.Step.{link, link_call, link_with}
+use Rattle.model_core.specs.Replies.{IsHandled, MayReply, is_log_fault}
 use Rattle.model_core.specs.CoreLaw.{IsCore, hand, writers_in}
+use Rattle.model_core_laws.proofs.KeptByLink.{none_early}
 use Rattle.model_core_laws.proofs.Lists.{all_append}
+use Rattle.model_core_laws.proofs.Tables.{when_some}
 use Rattle.model_core_laws.proofs.Ready.{ready_push, commit_refused, early_other}
 use Rattle.model_core_laws.proofs.Told.{Told, Waits, writers, unanswered}
 use Rattle.model_core_laws.proofs.ToldByLines.{apart, together, becomes}
@@ -15,6 +20,7 @@ use Rattle.model_core_laws.proofs.ToldByClients.{GoesOn, the_client, others_wait
 
 one_more_unanswered : (P : Writer → Type 0) (log : LogPhase) (queue : List Writer) (w : Writer) → AllByRecursion P (unanswered log queue) → P w → AllByRecursion P (unanswered log (queue ++ w ∷ []))
 one_more_unanswered P (built ws) queue w a p = subst (AllByRecursion P) (append_assoc ws queue (w ∷ [])) (all_append P (ws ++ queue) (w ∷ []) a (p, tt))
+one_more_unanswered P (stalled ws) queue w a p = subst (AllByRecursion P) (append_assoc ws queue (w ∷ [])) (all_append P (ws ++ queue) (w ∷ []) a (p, tt))
 one_more_unanswered P free queue w a p = all_append P queue (w ∷ []) a (p, tt)
 one_more_unanswered P (led c) queue w a p = all_append P queue (w ∷ []) a (p, tt)
 one_more_unanswered P (in_log ws) queue w a p = all_append P queue (w ∷ []) a (p, tt)
@@ -42,20 +48,49 @@ linked_waits o plans s c old how is idle call passed so_far =
     (record { at_second = parts.at_second; at_hand = parts.at_hand; at_queue = all_append (Waits o plans t) s.queue (w ∷ []) parts.at_queue (waits, tt); at_leaving = parts.at_leaving }))
     refl (one_more_unanswered (λ (w : Writer). w.answer ≡ None) s.log s.queue w so_far.none refl) so_far
 
+-- a commit is refused by a check, or since writes are stalled and it may not wait
+refused_in_stall : (how : WriteOptions) (b : Bool) (why : Refusal) → how.no_slowdown ≡ b → (if b then Some (stall_refusal 1 0) else None) ≡ Some why → (how.no_slowdown ≡ true) × (stall_refusal 1 0 ≡ why)
+refused_in_stall how true why is e = (is, cc)
+refused_in_stall how false why is e = absurd (cc)
+
+late_refusal : (how : WriteOptions) (why : Refusal) (log : LogPhase) → refusal_in log how None ≡ Some why → (how.no_slowdown ≡ true) × (stall_refusal 1 0 ≡ why)
+late_refusal how why (stalled ws) e = refused_in_stall how how.no_slowdown why refl e
+late_refusal how why free e = absurd (cc)
+late_refusal how why (led c) e = absurd (cc)
+late_refusal how why (built ws) e = absurd (cc)
+late_refusal how why (in_log ws) e = absurd (cc)
+late_refusal how why (marked ws) e = absurd (cc)
+late_refusal how why (handed c) e = absurd (cc)
+
+refused_now : (o : Options) (s : State) (calls : List Call) (added : List Record) (how : WriteOptions) (why : Refusal) → added ≡ batch_after calls → (log : LogPhase) (early : Option Refusal) → refusal_of o how added ≡ early → refusal_in log how early ≡ Some why
+    → MayReply o s calls (commit how) (refused why)
+refused_now o s calls added how why batch log (Some first) is e = let f : first ≡ why = cc in commit_refused o s calls added how why batch (is ∙ ap (λ w. Some w) f)
+refused_now o s calls added how why batch log None is e =
+    let h = late_refusal how why log e in
+    let passed : early_refusal o.batch_bytes false (batch_after calls) how ≡ None = subst (λ rs. early_refusal o.batch_bytes false rs how ≡ None) batch is in
+    subst (λ (early : Option Refusal). MatchOption early (IsHandled o s calls how (refused why)) (λ w. refused why ≡ refused w)) (sym passed)
+    (subst (λ w. IsHandled o s calls how (refused w)) h.1 h.0)
+
+no_fault : (o : Options) (added : List Record) (how : WriteOptions) (why : Refusal) (log : LogPhase) (early : Option Refusal) → refusal_of o how added ≡ early → refusal_in log how early ≡ Some why → is_log_fault (refused why) ≡ false
+no_fault o added how why log (Some first) is e = let f : first ≡ why = cc in early_other o.batch_bytes added how why (is ∙ ap (λ w. Some w) f)
+no_fault o added how why log None is e = subst (λ w. is_log_fault (refused w) ≡ false) (late_refusal how why log e).1 refl
+
 pub told_by_link : (o : Options) (plans : List (List Command)) (s t : State) (c : ℕ) → Told o plans s → link o s c (client_at s c) ≡ Some t → IsCore o t → Told o plans t
 told_by_link o plans s t c so_far e core = by_client (client_at s c) refl e
   where
-    by_refusal : (old : Client) → client_at s c ≡ Some old → old.idle ≡ true → (how : WriteOptions) → (next_call old).call ≡ Some (commit how) → (why : Option Refusal) → refusal_of o how (next_call old).client.added ≡ why
+    by_refusal : (old : Client) → client_at s c ≡ Some old → old.idle ≡ true → (how : WriteOptions) → (next_call old).call ≡ Some (commit how) → (why : Option Refusal) → refusal_in s.log how (refusal_of o how (next_call old).client.added) ≡ why
         → link_with o s c (next_call old).client how why ≡ t → Told o plans t
     by_refusal old is idle how call (Some why) early e =
         let a = (next_call old).client in let ready = next_ready o plans s c old idle (so_far.each c old is) in
         becomes o plans (link_with o s c a how (Some why)) t e core (answered o plans s c old (commit how) (refused why) is idle call
-        (ready_push o s c a.calls (record { command = commit how; reply = refused why }) a.added ready.right (commit_refused o s a.calls a.added how why ready.batch early) ready.batch ready.seen_published ready.log_failed
-        (λ told. absurd (let f = early_other o.batch_bytes a.added how why early in cc)) ready.entries) so_far)
-    by_refusal old is idle how call None early e = becomes o plans (link_with o s c (next_call old).client how None) t e core (linked_waits o plans s c old how is idle call early so_far)
+        (ready_push o s c a.calls (record { command = commit how; reply = refused why }) a.added ready.right (refused_now o s a.calls a.added how why ready.batch s.log (refusal_of o how a.added) refl early) ready.batch ready.seen_published ready.log_failed
+        (λ told. absurd (let f = no_fault o a.added how why s.log (refusal_of o how a.added) refl early in cc)) ready.entries) so_far)
+    by_refusal old is idle how call None early e = becomes o plans (link_with o s c (next_call old).client how None) t e core (linked_waits o plans s c old how is idle call (none_early s.log how (refusal_of o how (next_call old).client.added) early) so_far)
 
     by_call : (old : Client) → client_at s c ≡ Some old → old.idle ≡ true → (call : Option Command) → (next_call old).call ≡ call → link_call o s c (next_call old).client call ≡ Some t → Told o plans t
-    by_call old is idle (Some (commit how)) call e = by_refusal old is idle how call (refusal_of o how (next_call old).client.added) refl (cc)
+    by_call old is idle (Some (commit how)) call e =
+        let why = refusal_in s.log how (refusal_of o how (next_call old).client.added) in
+        by_refusal old is idle how call why refl (when_some (may_link s.log why) (link_with o s c (next_call old).client how why) t e).1
     by_call old is idle (Some other) call e = absurd (cc)
     by_call old is idle None call e = absurd (cc)
 

@@ -8,7 +8,7 @@ use Rattle.model_base.specs.History.{IsHistory, Entry, IsBoundary, last_sequence
 use Rattle.model_base.specs.Progress.{next_entry}
 use Rattle.model_base.specs.Outcomes.{entries_of_client}
 use Rattle.model_base.specs.Calls.{Command}
-use Rattle.model_core.specs.Core.{Options, Writer, Client, LogPhase, free, led, built, in_log, marked, handed, State, client_at, leads, has_run, with_runs, entries_of, entry_of, run_of}
+use Rattle.model_core.specs.Core.{Options, Writer, Client, LogPhase, free, led, built, stalled, in_log, marked, handed, State, client_at, leads, has_run, with_runs, entries_of, entry_of, run_of}
 use Rattle.model_core.specs.Step.{log_group, logged_group, with_group}
 use Rattle.model_core.specs.CoreLaw.{IsCore, hand, writers_in, waiting_clients}
 use Rattle.model_core.specs.Replies.{seen_up_to, knows_log_failed, entries_told}
@@ -192,5 +192,6 @@ told_by_log o plans s t c told e core = by_phase s.log refl e
     by_phase free is e = absurd (cc)
     by_phase (led d) is e = absurd (cc)
     by_phase (in_log ws) is e = absurd (cc)
+    by_phase (stalled ws) is e = absurd (cc)
     by_phase (marked ws) is e = absurd (cc)
     by_phase (handed d) is e = absurd (cc)

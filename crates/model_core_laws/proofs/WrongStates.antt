@@ -97,6 +97,9 @@ module _ (s t : State) (before : in_order s ≡ 1 ∷ 2 ∷ []) (after : in_orde
   not_by (e.Log c) order = out_of_order order
   not_by (e.Fault c) order = out_of_order order
   not_by (e.Refuse c stops delays wait) order = out_of_order order
+  not_by (e.Stall c) order = out_of_order order
+  not_by (e.Leave m stops delays) order = out_of_order order
+  not_by (e.Unstall c) order = out_of_order order
   not_by (e.Boundary c) order = out_of_order order
   not_by (e.Second c) order = out_of_order order
   not_by (e.Next c) order = out_of_order order

@@ -1,5 +1,5 @@
--- What the examples are made of: one client that writes and reads.
-use Rattle.std.specs.Prelude.{ℕ, true, false, List, [], ◌∷◌, ◌++◌, map, Some, codes}
+-- What the examples are made of: a client that writes and reads, and four that write where a leader stalls writes.
+use Rattle.std.specs.Prelude.{◌≡◌, ℕ, true, false, List, [], ◌∷◌, ◌++◌, map, Some, codes}
 use Rattle.model_base.specs.declared.write.Refusal.{Refusal}
 use Rattle.model_base.specs.declared.write.WriteOptions.{WriteOptions}
 use Rattle.model_base.specs.declared.history.Flag.{Flag}
@@ -10,8 +10,8 @@ use Rattle.model_base.specs.Runs.{commands_of}
 use Rattle.model_base.specs.Calls.{Command, add, commit, get, Reply, quiet, accepted, refused, found, Call}
 use Rattle.model_core.specs.declared.event.Event.{Event}
 use Rattle.model_core.specs.declared.event.Event.TheVariants as e
-use Rattle.model_core.specs.Core.{Options, Client, State, opening_state}
-use Rattle.model_core.specs.Step.{state_after}
+use Rattle.model_core.specs.Core.{Options, Writer, Client, State, opening_state, stall_refusal, published_map}
+use Rattle.model_core.specs.Step.{Replayed, replay, state_after}
 use Rattle.model_core.specs.Replies.{AreRepliesOf}
 
 -- groups of up to 1 MiB, batches of up to 4 KiB, and no batch before
@@ -98,3 +98,49 @@ told_in entries last calls = record (opening_state single_stage []) {
 
 abbrev pub AreRightIn : List Entry → ℕ → List Call → Type 0
 AreRightIn entries last calls = AreRepliesOf single_stage (commands_of calls ∷ []) (told_in entries last calls)
+
+-- Four clients, each of which adds a record and commits it. The second and the third may not be slowed down.
+abbrev pub hasty : WriteOptions
+hasty = record { sync = false; no_log = false; no_slowdown = true }
+
+abbrev pub put_b2 : Record
+put_b2 = value (codes "b") (codes "2")
+
+abbrev pub put_c3 : Record
+put_c3 = value (codes "c") (codes "3")
+
+abbrev pub put_d4 : Record
+put_d4 = value (codes "d") (codes "4")
+
+abbrev pub four_writers : List (List Command)
+four_writers = (add put_a1 ∷ commit plain ∷ []) ∷ (add put_b2 ∷ commit hasty ∷ [])
+    ∷ (add put_c3 ∷ commit hasty ∷ []) ∷ (add put_d4 ∷ commit plain ∷ []) ∷ []
+
+-- Client 1 stalls writes. Client 2 leaves the queue, client 3 is refused at once, and client 4 comes after the stall.
+abbrev pub way_of_a_stall : List Event
+way_of_a_stall = e.Link 1 ∷ e.Elect 1 ∷ e.Build 1 ∷ e.Link 2 ∷ e.Stall 1
+    ∷ e.Leave 2 1 0 ∷ e.Link 3 ∷ e.Link 4 ∷ e.Complete 2 ∷ e.Unstall 1 ∷ e.Link 4
+    ∷ e.Log 1 ∷ []
+
+abbrev pub way_to_the_end : List Event
+way_to_the_end = e.Launch 1 ∷ e.Insert 1 ∷ e.Finish 1 ∷ e.Publish 1 ∷ e.Exit 1 ∷ e.Complete 1 ∷ []
+
+-- a client's calls, where its commit was refused since writes are held up
+abbrev pub held_up : Record → List Call
+held_up r = record { command = add r; reply = quiet }
+    ∷ record { command = commit hasty; reply = refused (stall_refusal 1 0) } ∷ []
+
+abbrev pub calls_of_four : List (List Call)
+calls_of_four = wrote put_a1 ∷ held_up put_b2 ∷ held_up put_c3
+    ∷ (record { command = add put_d4; reply = quiet } ∷ []) ∷ []
+
+abbrev pub replayed : Options → List Event → Replayed
+replayed o events = replay o (opening_state o four_writers) events
+
+-- how many of the events came and how many were skipped; the clients' calls; who is in the queue; the logged groups;
+-- and what is published: the sequence, and the map
+abbrev pub IsStalledRun : Replayed → ℕ → Type 0
+IsStalledRun run taken = (run.taken ≡ taken) × (run.skipped ≡ 1)
+    × (map (λ (client : Client). client.calls) run.state.clients ≡ calls_of_four)
+    × (map (λ (w : Writer). w.client) run.state.queue ≡ 4 ∷ []) × (run.state.groups ≡ 1 ∷ [])
+    × (run.state.last ≡ 1) × (published_map run.state ≡ (codes "a", codes "1") ∷ [])

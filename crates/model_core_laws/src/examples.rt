@@ -7,7 +7,7 @@ ghost use Rattle.model_core.specs.declared.event.Event.{Event};
 ghost use Rattle.model_core.specs.declared.event.Event.TheVariants.{Link, Elect};
 ghost use Rattle.model_core.specs.Core.{Options, Writer, still, State};
 ghost use Rattle.model_core.specs.CoreLaw.{IsCore, Keeps, in_order};
-ghost use Rattle.model_core_laws.specs.Examples.{single_stage, pipelined, put_a1, put_a2, first_entry, one_logged, two_logged, gap_in_the_log, wrote, refused_for, reading, written_and_read, calls_after, way_through_the_log, way_between, way_through_the_table, AreRightIn};
+ghost use Rattle.model_core_laws.specs.Examples.{single_stage, pipelined, put_a1, put_a2, first_entry, one_logged, two_logged, gap_in_the_log, wrote, refused_for, reading, written_and_read, calls_after, way_through_the_log, way_between, way_through_the_table, way_of_a_stall, way_to_the_end, replayed, IsStalledRun, AreRightIn};
 
 /// A write goes its whole way, and a later read finds what it wrote.
 pub fn one_write()
@@ -15,6 +15,12 @@ pub fn one_write()
         ≡ written_and_read ∷ [] }
     ensures pipelined { calls_after pipelined (way_through_the_log ++ way_between ++ way_through_the_table)
         ≡ written_and_read ∷ [] }
+{}
+
+/// A leader stalls writes: one writer leaves the queue, one is refused at once, and one comes only after the stall.
+pub fn one_stall()
+    ensures single_stage { IsStalledRun (replayed single_stage (way_of_a_stall ++ way_to_the_end)) 17 }
+    ensures pipelined { IsStalledRun (replayed pipelined (way_of_a_stall ++ way_between ++ way_to_the_end)) 20 }
 {}
 
 /// States in which the core never is, and steps that no event makes.

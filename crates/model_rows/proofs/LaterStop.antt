@@ -8,7 +8,7 @@ use Rattle.model_base.specs.declared.write.Refusal.TheVariants as no
 use Rattle.model_base.specs.Calls.{refused}
 use Rattle.model_base.specs.Controller as controller
 use Rattle.model_base.specs.Controller.{ControllerCall, Action, Numbers, After, Look, opening, after_delay, numbers_after, answer, IsHistoryFrom}
-use Rattle.model_base.specs.Tokens.{is_token, tokens_of, given_back}
+use Rattle.model_base.specs.Tokens.{is_token, tokens_of, given_back, holds_stop}
 use Rattle.model_base.specs.Attempts.{WriteStatus, slowed}
 use Rattle.model_base.specs.Trace.{Trace}
 use Rattle.model_base.specs.Progress.{Progress, fresh, early_refusal}
@@ -106,10 +106,10 @@ pub record IsToldBefore (controller_calls : List ControllerCall) (knows : ℕ) (
   pub told : call.told ≡ Some numbers
   pub before : place < knows
 
-told_before : (controller_calls : List ControllerCall) (client knew knows : ℕ) (numbers : Look) (status : Option WriteStatus) → IsTold controller_calls client knew knows numbers status → IsToldBefore controller_calls knows numbers
-told_before controller_calls client knew knows numbers None told = record { place = told.0; call = _; there = told.1.there; told = refl; before = told.2 }
-told_before controller_calls client knew knows numbers (Some (slowed place)) told = record { place = place; call = _; there = told.3.there; told = refl; before = told.4 }
-told_before controller_calls client knew knows numbers (Some other) told = absurd told
+told_before : (controller_calls : List ControllerCall) (stopping : Bool) (client knew knows : ℕ) (numbers : Look) (status : Option WriteStatus) → IsTold controller_calls stopping client knew knows numbers status → IsToldBefore controller_calls knows numbers
+told_before controller_calls stopping client knew knows numbers None told = record { place = told.1; call = _; there = told.2.there; told = refl; before = told.3 }
+told_before controller_calls stopping client knew knows numbers (Some (slowed place)) told = record { place = place; call = _; there = told.3.there; told = refl; before = told.4 }
+told_before controller_calls stopping client knew knows numbers (Some other) told = absurd told
 
 -- the commit passes the checks
 passes : early_refusal 16777216 false (put_a1 ∷ []) noslow ≡ None
@@ -134,7 +134,7 @@ stops_later trace end run =
     let taken = run.2.2.1.replies.1 in
     record {
       knows = refused_at.known;
-      told = told_before trace.controller_calls 1 begun.known refused_at.known _ refusal.0 refusal.1.2;
+      told = told_before trace.controller_calls (holds_stop begun.asked) 1 begun.known refused_at.known _ refusal.0 refusal.1.1;
       place = taken.place;
       later = taken.is_later.later;
       there = taken.is_later.there;

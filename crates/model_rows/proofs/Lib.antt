@@ -1,4 +1,5 @@
 pub mod Alone
+pub mod AtStalls
 pub mod Full
 pub mod GoingOn
 pub mod LaterStop

@@ -68,7 +68,7 @@ refused_transcript = record {
       (
         looked,
         record {
-          replies = (None, (refl, inl (lit≤ tt), (1, record { later = lit≤ tt; there = refl }, lit≤ tt)), refl, record { own = λ stopping. refl; only = λ none. refl });
+          replies = (None, (refl, (1, 1, record { later = lit≤ tt; there = refl }, lit≤ tt, (refl, inl (lit≤ tt)))), refl, λ stopping. refl);
           rises = lit≤ tt;
           within = lit≤ tt;
         },
@@ -148,7 +148,7 @@ module _ (settings : Settings) (trace : Trace) (end : Progress) where
       let at = holds_when (refused why) run in
       let refusal = is_attempted settings trace 1 run.2.0 noslow (refused why) run.2.2.0 (rw (at.0, at.1) passes) run.2.2.1.replies in
       let some = in_a_group run.2.0 run.2.2.0.known refusal.0 refusal.1 in
-      let none = refusal.3.own (ap holds_stop at.0) in
+      let none = refusal.3 (ap holds_stop at.0) in
       absurd (cc (some, none))
 
 -- the commit passes the checks

@@ -26,10 +26,14 @@ noslow = record plain { no_slowdown = true }
 
 -- a write of n bytes with these options, and one without flags
 abbrev pub sized_with : ℕ → WriteOptions → Item
-sized_with n options = record { size = n; options = options }
+sized_with n options = record { size = n; options = options; alone = false }
 
 abbrev pub sized : ℕ → Item
 sized n = sized_with n plain
+
+-- a write of n bytes that goes alone
+abbrev pub lone : ℕ → Item
+lone n = record { size = n; options = plain; alone = true }
 
 -- a script's first fault is in line n
 abbrev pub fault_at : ℕ → ScriptFault → Result Script Fault

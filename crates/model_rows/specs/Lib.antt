@@ -2,3 +2,4 @@ pub mod Examples
 pub mod Runs
 pub mod TwoBatches
 pub mod NumberedLogs
+pub mod Stalls

@@ -3,7 +3,7 @@
 ghost use Rattle.std.specs.Prelude.{◌≡◌, [], ◌∷◌, true};
 ghost use Rattle.model_base.specs.declared.group.Item.{Item};
 ghost use Rattle.model_base.specs.Grouping.{group_len};
-ghost use Rattle.model_rows.specs.Examples.{plain, sized, sized_with};
+ghost use Rattle.model_rows.specs.Examples.{plain, sized, sized_with, lone};
 
 /// A leader that no one follows is its own group, however large it is.
 pub fn group_of_one()
@@ -14,6 +14,12 @@ pub fn group_of_one()
 pub fn groups_by_size()
     ensures just_fits { group_len 1048576 (sized 100 ∷ sized 131072 ∷ []) ≡ 2 }
     ensures one_byte_more { group_len 1048576 (sized 100 ∷ sized 131073 ∷ []) ≡ 1 }
+{}
+
+/// A write that goes alone takes nobody into its group, and joins none.
+pub fn groups_of_alone()
+    ensures takes_nobody { group_len 1048576 (lone 100 ∷ sized 100 ∷ []) ≡ 1 }
+    ensures joins_nobody { group_len 1048576 (sized 100 ∷ lone 100 ∷ []) ≡ 1 }
 {}
 
 /// A leader that doesn't sync takes no write that asks for a sync. One that syncs takes both kinds. A plain leader

@@ -10,7 +10,7 @@ use Rattle.model_base.specs.History.{Entry, max_sequence, last_sequence}
 use Rattle.model_core.specs.Core as core
 use Rattle.model_core.specs.Step as event
 use Rattle.replay_core.specs.declared.phases.LogPhase.{LogPhase}
-use Rattle.replay_core.specs.declared.phases.LogPhase.TheVariants.{Free, Led, Built, InLog, Marked, Handed}
+use Rattle.replay_core.specs.declared.phases.LogPhase.TheVariants.{Free, Led, Built, Stalled, InLog, Marked, Handed}
 use Rattle.replay_plans.specs.declared.plan.ClientPlan.{ClientPlan}
 use Rattle.replay_core.specs.declared.writer.Writer.{Writer}
 use Rattle.replay_plans.specs.Plans.{records_of}
@@ -30,6 +30,7 @@ log_by_phase : (s : core.State) (c : ℕ) (log : LogPhase) (ws : List core.Write
 log_by_phase s c Free ws = refl
 log_by_phase s c (Led d) ws = refl
 log_by_phase s c Built ws = refl
+log_by_phase s c Stalled ws = refl
 log_by_phase s c InLog ws = refl
 log_by_phase s c Marked ws = refl
 log_by_phase s c (Handed d) ws = refl
@@ -199,6 +200,7 @@ Gives r s group es last old = AllByRecursion (IsCounted r.plans.items) old → s
 
 pub built_unanswered : (log : LogPhase) (n : ℕ) → is_built log ≡ true → answers_in_hand log n ≡ 0
 built_unanswered Built n e = refl
+built_unanswered Stalled n e = cc
 built_unanswered Free n e = cc
 built_unanswered (Led d) n e = cc
 built_unanswered InLog n e = cc
@@ -207,6 +209,7 @@ built_unanswered (Handed d) n e = cc
 
 pub built_shown : (log : LogPhase) (ws : List core.Writer) → is_built log ≡ true → core.built ws ≡ shown_log log ws
 built_shown Built ws e = refl
+built_shown Stalled ws e = cc
 built_shown Free ws e = cc
 built_shown (Led d) ws e = cc
 built_shown InLog ws e = cc
@@ -215,6 +218,7 @@ built_shown (Handed d) ws e = cc
 
 pub built_has_group : (log : LogPhase) → is_built log ≡ true → has_group log ≡ true
 built_has_group Built e = refl
+built_has_group Stalled e = cc
 built_has_group Free e = cc
 built_has_group (Led d) e = cc
 built_has_group InLog e = cc

@@ -4,6 +4,7 @@ pub mod HandRuns
 pub mod LeavingLemmas
 pub mod Line
 pub mod LinkEvents
+pub mod StallEvents
 pub mod LogEvents
 pub mod MarkLemmas
 pub mod OpeningLemmas

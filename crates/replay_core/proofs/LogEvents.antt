@@ -1,18 +1,20 @@
 -- The events of the log, as the code tests for them.
-use Rattle.std.proofs.Common.{◌≡◌, ℕ, zero, suc, ◌+◌, ◌<◌, Bool, true, false, ◌&&◌, nat_lt, List, [], ◌∷◌, ◌++◌, length, take, drop, map, get_or, None, refl, sym, ap, ◌∙◌, arith, ◌==◌}
+use Rattle.std.proofs.Common.{◌≡◌, ℕ, zero, suc, ◌+◌, ◌<◌, Bool, true, false, not, ◌&&◌, nat_lt, List, [], ◌∷◌, ◌++◌, length, take, drop, map, get_or, find, Option, Some, None, refl, sym, ap, ◌∙◌, arith, ◌==◌}
+use Rattle.std.specs.Prelude.{if◌then◌else◌}
 use Rattle.std.proofs.lemmas.Bool.Decides.{nat_tests}
+use Rattle.model_base.specs.declared.write.WriteOptions.{WriteOptions}
 use Rattle.model_base.specs.declared.write.Refusal.{Refusal}
 use Rattle.model_base.specs.declared.write.Refusal.TheVariants as no
 use Rattle.model_base.specs.Calls.{refused}
 use Rattle.model_core.specs.Core as core
 use Rattle.model_core.specs.Step as event
 use Rattle.replay_core.specs.declared.phases.LogPhase.{LogPhase}
-use Rattle.replay_core.specs.declared.phases.LogPhase.TheVariants.{Free, Led, Built, InLog, Marked, Handed}
+use Rattle.replay_core.specs.declared.phases.LogPhase.TheVariants.{Free, Led, Built, Stalled, InLog, Marked, Handed}
 use Rattle.replay_core.specs.declared.state.State.{State}
 use Rattle.replay_plans.specs.declared.plan.ClientPlan.{ClientPlan}
 use Rattle.replay_core.specs.declared.writer.Writer.{Writer}
 use Rattle.replay_core.specs.Leads.{leads_at, leads_front}
-use Rattle.replay_core.specs.Phases.{has_group, is_free, is_led_by, is_built, is_in_log, is_marked, is_handed_by}
+use Rattle.replay_core.specs.Phases.{has_group, is_free, is_led_by, is_built, is_stalled, refusal_at, may_link_at, is_in_log, is_marked, is_handed_by}
 use Rattle.replay_core.specs.Shown.{shown_writer, shown_log}
 use Rattle.replay_core.specs.Mirrors.{Mirrors, answers_in_hand}
 
@@ -27,6 +29,7 @@ next_by_phase : (s : core.State) (c : ℕ) (log : LogPhase) (ws : List core.Writ
 next_by_phase s c Free ws = refl
 next_by_phase s c (Led d) ws = refl
 next_by_phase s c Built ws = refl
+next_by_phase s c Stalled ws = refl
 next_by_phase s c InLog ws = refl
 next_by_phase s c Marked ws = refl
 next_by_phase s c (Handed d) ws = refl
@@ -58,6 +61,7 @@ elect_by_phase : (s : core.State) (c : ℕ) (log : LogPhase) (ws : List core.Wri
 elect_by_phase s c Free ws = refl
 elect_by_phase s c (Led d) ws = refl
 elect_by_phase s c Built ws = refl
+elect_by_phase s c Stalled ws = refl
 elect_by_phase s c InLog ws = refl
 elect_by_phase s c Marked ws = refl
 elect_by_phase s c (Handed d) ws = refl
@@ -74,6 +78,7 @@ build_by_phase : (o : core.Options) (s : core.State) (c : ℕ) (log : LogPhase) 
 build_by_phase o s c Free ws = refl
 build_by_phase o s c (Led d) ws = refl
 build_by_phase o s c Built ws = refl
+build_by_phase o s c Stalled ws = refl
 build_by_phase o s c InLog ws = refl
 build_by_phase o s c Marked ws = refl
 build_by_phase o s c (Handed d) ws = refl
@@ -87,6 +92,7 @@ boundary_by_phase : (o : core.Options) (s : core.State) (c : ℕ) (log : LogPhas
 boundary_by_phase o s c Free ws = refl
 boundary_by_phase o s c (Led d) ws = refl
 boundary_by_phase o s c Built ws = refl
+boundary_by_phase o s c Stalled ws = refl
 boundary_by_phase o s c InLog ws = refl
 boundary_by_phase o s c Marked ws = refl
 boundary_by_phase o s c (Handed d) ws = refl
@@ -102,6 +108,7 @@ second_by_phase : (s : core.State) (c : ℕ) (log : LogPhase) (ws : List core.Wr
 second_by_phase s c Free ws = refl
 second_by_phase s c (Led d) ws = refl
 second_by_phase s c Built ws = refl
+second_by_phase s c Stalled ws = refl
 second_by_phase s c InLog ws = refl
 second_by_phase s c Marked ws = refl
 second_by_phase s c (Handed d) ws = refl
@@ -118,6 +125,7 @@ pub free_has_none : (log : LogPhase) → is_free log ≡ true → has_group log 
 free_has_none Free e = refl
 free_has_none (Led d) e = cc
 free_has_none Built e = cc
+free_has_none Stalled e = cc
 free_has_none InLog e = cc
 free_has_none Marked e = cc
 free_has_none (Handed d) e = cc
@@ -126,6 +134,7 @@ pub free_unanswered : (log : LogPhase) (n : ℕ) → is_free log ≡ true → an
 free_unanswered Free n e = refl
 free_unanswered (Led d) n e = cc
 free_unanswered Built n e = cc
+free_unanswered Stalled n e = cc
 free_unanswered InLog n e = cc
 free_unanswered Marked n e = cc
 free_unanswered (Handed d) n e = cc
@@ -134,6 +143,7 @@ pub led_has_none : (c : ℕ) (log : LogPhase) → is_led_by c log ≡ true → h
 led_has_none c (Led d) e = refl
 led_has_none c Free e = cc
 led_has_none c Built e = cc
+led_has_none c Stalled e = cc
 led_has_none c InLog e = cc
 led_has_none c Marked e = cc
 led_has_none c (Handed d) e = cc
@@ -142,6 +152,7 @@ pub led_unanswered : (c : ℕ) (log : LogPhase) (n : ℕ) → is_led_by c log �
 led_unanswered c (Led d) n e = refl
 led_unanswered c Free n e = cc
 led_unanswered c Built n e = cc
+led_unanswered c Stalled n e = cc
 led_unanswered c InLog n e = cc
 led_unanswered c Marked n e = cc
 led_unanswered c (Handed d) n e = cc
@@ -151,6 +162,7 @@ logged_answered InLog n e = refl
 logged_answered Free n e = cc
 logged_answered (Led d) n e = cc
 logged_answered Built n e = cc
+logged_answered Stalled n e = cc
 logged_answered Marked n e = cc
 logged_answered (Handed d) n e = cc
 
@@ -159,6 +171,7 @@ marked_answered Marked n e = refl
 marked_answered Free n e = cc
 marked_answered (Led d) n e = cc
 marked_answered Built n e = cc
+marked_answered Stalled n e = cc
 marked_answered InLog n e = cc
 marked_answered (Handed d) n e = cc
 
@@ -171,6 +184,7 @@ fault_by_phase : (s : core.State) (c : ℕ) (log : LogPhase) (ws : List core.Wri
 fault_by_phase s c Free ws = refl
 fault_by_phase s c (Led d) ws = refl
 fault_by_phase s c Built ws = refl
+fault_by_phase s c Stalled ws = refl
 fault_by_phase s c InLog ws = refl
 fault_by_phase s c Marked ws = refl
 fault_by_phase s c (Handed d) ws = refl
@@ -186,6 +200,7 @@ refuse_by_phase : (s : core.State) (c : ℕ) (why : Refusal) (log : LogPhase) (w
 refuse_by_phase s c why Free ws = refl
 refuse_by_phase s c why (Led d) ws = refl
 refuse_by_phase s c why Built ws = refl
+refuse_by_phase s c why Stalled ws = refl
 refuse_by_phase s c why InLog ws = refl
 refuse_by_phase s c why Marked ws = refl
 refuse_by_phase s c why (Handed d) ws = refl
@@ -195,6 +210,96 @@ pub refuse_is : (o : core.Options) (r : State) (s : core.State) (c : ℕ) (why :
 refuse_is o r s c why m =
     ap (event.refuse s c why) m.line.hand ∙ refuse_by_phase s c why r.log (hand_of r)
     ∙ ap (λ b. event.when ((is_built r.log && b) && event.is_no_slowdown (hand_of r)) (record (event.leave s (core.all_answered (refused why) (hand_of r))) { log = core.free })) (leads_line r.plans.items c r.in_second r.in_hand r.linked.items)
+
+stall_by_phase : (s : core.State) (c : ℕ) (log : LogPhase) (ws : List core.Writer) → event.stall s c (shown_log log ws)
+    ≡ event.when ((is_built log && core.leads c ws) && not (event.is_no_slowdown ws)) (record s { log = core.stalled ws })
+stall_by_phase s c Free ws = refl
+stall_by_phase s c (Led d) ws = refl
+stall_by_phase s c Built ws = refl
+stall_by_phase s c Stalled ws = refl
+stall_by_phase s c InLog ws = refl
+stall_by_phase s c Marked ws = refl
+stall_by_phase s c (Handed d) ws = refl
+
+pub stall_is : (o : core.Options) (r : State) (s : core.State) (c : ℕ) → Mirrors o r s → event.stall s c s.log
+    ≡ event.when ((is_built r.log && leads_front c r.in_second r.in_hand r.linked.items) && not (event.is_no_slowdown (hand_of r))) (record s { log = core.stalled (hand_of r) })
+stall_is o r s c m =
+    ap (event.stall s c) m.line.hand ∙ stall_by_phase s c r.log (hand_of r)
+    ∙ ap (λ b. event.when ((is_built r.log && b) && not (event.is_no_slowdown (hand_of r))) (record s { log = core.stalled (hand_of r) })) (leads_line r.plans.items c r.in_second r.in_hand r.linked.items)
+
+unstall_by_phase : (s : core.State) (c : ℕ) (log : LogPhase) (ws : List core.Writer) → event.unstall s c (shown_log log ws) ≡ event.when (is_stalled log && core.leads c ws) (record s { log = core.built ws })
+unstall_by_phase s c Free ws = refl
+unstall_by_phase s c (Led d) ws = refl
+unstall_by_phase s c Built ws = refl
+unstall_by_phase s c Stalled ws = refl
+unstall_by_phase s c InLog ws = refl
+unstall_by_phase s c Marked ws = refl
+unstall_by_phase s c (Handed d) ws = refl
+
+pub unstall_is : (o : core.Options) (r : State) (s : core.State) (c : ℕ) → Mirrors o r s → event.unstall s c s.log
+    ≡ event.when (is_stalled r.log && leads_front c r.in_second r.in_hand r.linked.items) (record s { log = core.built (hand_of r) })
+unstall_is o r s c m =
+    ap (event.unstall s c) m.line.hand ∙ unstall_by_phase s c r.log (hand_of r)
+    ∙ ap (λ b. event.when (is_stalled r.log && b) (record s { log = core.built (hand_of r) })) (leads_line r.plans.items c r.in_second r.in_hand r.linked.items)
+
+leave_by_phase : (s : core.State) (m : ℕ) (why : Refusal) (log : LogPhase) (ws : List core.Writer) → event.leave_queue s m why (shown_log log ws)
+    ≡ (if is_stalled log then event.leave_with s m why (find (λ (w : core.Writer). w.client == m) s.queue) else None)
+leave_by_phase s m why Free ws = refl
+leave_by_phase s m why (Led d) ws = refl
+leave_by_phase s m why Built ws = refl
+leave_by_phase s m why Stalled ws = refl
+leave_by_phase s m why InLog ws = refl
+leave_by_phase s m why Marked ws = refl
+leave_by_phase s m why (Handed d) ws = refl
+
+pub leave_is : (o : core.Options) (r : State) (s : core.State) (m : ℕ) (why : Refusal) → Mirrors o r s → event.leave_queue s m why s.log
+    ≡ (if is_stalled r.log then event.leave_with s m why (find (λ (w : core.Writer). w.client == m) s.queue) else None)
+leave_is o r s m why mirrors = ap (event.leave_queue s m why) mirrors.line.hand ∙ leave_by_phase s m why r.log (hand_of r)
+
+-- whether a batch is refused at once, or may come
+pub refusal_by_phase : (log : LogPhase) (ws : List core.Writer) (how : WriteOptions) (early : Option Refusal) → core.refusal_in (shown_log log ws) how early ≡ refusal_at how early log
+refusal_by_phase log ws how (Some why) = refl
+refusal_by_phase Free ws how None = refl
+refusal_by_phase (Led d) ws how None = refl
+refusal_by_phase Built ws how None = refl
+refusal_by_phase Stalled ws how None = refl
+refusal_by_phase InLog ws how None = refl
+refusal_by_phase Marked ws how None = refl
+refusal_by_phase (Handed d) ws how None = refl
+
+pub may_link_by_phase : (log : LogPhase) (ws : List core.Writer) (why : Option Refusal) → core.may_link (shown_log log ws) why ≡ may_link_at why log
+may_link_by_phase log ws (Some why) = refl
+may_link_by_phase Free ws None = refl
+may_link_by_phase (Led d) ws None = refl
+may_link_by_phase Built ws None = refl
+may_link_by_phase Stalled ws None = refl
+may_link_by_phase InLog ws None = refl
+may_link_by_phase Marked ws None = refl
+may_link_by_phase (Handed d) ws None = refl
+
+pub linked_as : (o : core.Options) (r : State) (s : core.State) (c : ℕ) (client : core.Client) (how : WriteOptions) (early : Option Refusal) → Mirrors o r s
+    → event.link_or_refuse o s c client how (core.refusal_in s.log how early) ≡ event.when (may_link_at (refusal_at how early r.log) r.log) (event.link_with o s c client how (refusal_at how early r.log))
+linked_as o r s c client how early m =
+    let why : core.refusal_in s.log how early ≡ refusal_at how early r.log = ap (λ l. core.refusal_in l how early) m.line.hand ∙ refusal_by_phase r.log (hand_of r) how early in
+    ap (event.link_or_refuse o s c client how) why ∙ ap (λ b. event.when b (event.link_with o s c client how (refusal_at how early r.log))) (ap (λ l. core.may_link l (refusal_at how early r.log)) m.line.hand ∙ may_link_by_phase r.log (hand_of r) (refusal_at how early r.log))
+
+pub built_unanswered : (log : LogPhase) (n : ℕ) → is_built log ≡ true → answers_in_hand log n ≡ 0
+built_unanswered Built n e = refl
+built_unanswered Free n e = cc
+built_unanswered (Led d) n e = cc
+built_unanswered Stalled n e = cc
+built_unanswered InLog n e = cc
+built_unanswered Marked n e = cc
+built_unanswered (Handed d) n e = cc
+
+pub stalled_unanswered : (log : LogPhase) (n : ℕ) → is_stalled log ≡ true → answers_in_hand log n ≡ 0
+stalled_unanswered Stalled n e = refl
+stalled_unanswered Free n e = cc
+stalled_unanswered (Led d) n e = cc
+stalled_unanswered Built n e = cc
+stalled_unanswered InLog n e = cc
+stalled_unanswered Marked n e = cc
+stalled_unanswered (Handed d) n e = cc
 
 -- The leader of the group in hand
 

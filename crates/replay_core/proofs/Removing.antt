@@ -7,7 +7,7 @@ use Rattle.model_base.specs.declared.group.Item.{Item}
 use Rattle.model_base.specs.Batch.{count_of}
 use Rattle.model_core.specs.Core as core
 use Rattle.replay_core.specs.declared.phases.LogPhase.{LogPhase}
-use Rattle.replay_core.specs.declared.phases.LogPhase.TheVariants.{Free, Led, Built, InLog, Marked, Handed}
+use Rattle.replay_core.specs.declared.phases.LogPhase.TheVariants.{Free, Led, Built, Stalled, InLog, Marked, Handed}
 use Rattle.replay_plans.specs.declared.plan.ClientPlan.{ClientPlan}
 use Rattle.replay_core.specs.declared.writer.Writer.{Writer}
 use Rattle.replay_core.specs.Leads.{first_len}
@@ -34,7 +34,7 @@ writers_without plans linked items start end w = record {
   known = known_append (IsClientOf (length plans)) (take start linked) (drop end linked) (known_take (IsClientOf (length plans)) start linked w.known) (known_drop (IsClientOf (length plans)) end linked w.known);
 }
 
-drop_of_take : {A : Type 0} (n start : ℕ) (xs : List A) → n ≤ start → drop n (take start xs) ≡ take (start - n) (drop n xs)
+pub drop_of_take : {A : Type 0} (n start : ℕ) (xs : List A) → n ≤ start → drop n (take start xs) ≡ take (start - n) (drop n xs)
 drop_of_take n start xs h =
     let e : start ≡ n + (start - n) = omega arith in
     ap (λ k. drop n (take k xs)) e ∙ drop-take n (start - n) xs
@@ -58,6 +58,7 @@ pub answered_few : (log : LogPhase) (n : ℕ) → answers_in_hand log n ≤ n
 answered_few Free n = omega arith
 answered_few (Led d) n = omega arith
 answered_few Built n = omega arith
+answered_few Stalled n = omega arith
 answered_few InLog n = omega arith
 answered_few Marked n = omega arith
 answered_few (Handed d) n = omega arith

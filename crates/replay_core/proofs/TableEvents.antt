@@ -7,7 +7,7 @@ use Rattle.model_base.specs.Batch.{Record}
 use Rattle.model_core.specs.Core as core
 use Rattle.model_core.specs.Step as event
 use Rattle.replay_core.specs.declared.phases.LogPhase.{LogPhase}
-use Rattle.replay_core.specs.declared.phases.LogPhase.TheVariants.{Free, Led, Built, InLog, Marked, Handed}
+use Rattle.replay_core.specs.declared.phases.LogPhase.TheVariants.{Free, Led, Built, Stalled, InLog, Marked, Handed}
 use Rattle.replay_core.specs.declared.phases.TablePhase.{TablePhase}
 use Rattle.replay_core.specs.declared.phases.TablePhase.TheVariants.{Still, Launched, Published}
 use Rattle.replay_core.specs.declared.phases.Mark.{Mark}
@@ -34,6 +34,7 @@ hand_in_log : (log : LogPhase) (n start : ℕ) (ws : List core.Writer) → core.
 hand_in_log Free n start ws = refl
 hand_in_log (Led d) n start ws = refl
 hand_in_log Built n start ws = refl
+hand_in_log Stalled n start ws = refl
 hand_in_log InLog n start ws = refl
 hand_in_log Marked n start ws = refl
 hand_in_log (Handed d) n start ws = refl
@@ -197,5 +198,6 @@ exit_hand InLog n start s ws e h = ap core.in_hand e
 exit_hand Free n start s ws e h = absurd (omega arith)
 exit_hand (Led d) n start s ws e h = absurd (omega arith)
 exit_hand Built n start s ws e h = absurd (omega arith)
+exit_hand Stalled n start s ws e h = absurd (omega arith)
 exit_hand Marked n start s ws e h = absurd (omega arith)
 exit_hand (Handed d) n start s ws e h = absurd (omega arith)

@@ -1,5 +1,5 @@
 -- Who leads, and the group in the table.
-use Rattle.std.specs.Prelude.{ℕ, Bool, true, false, ◌&&◌, List, [], ◌∷◌, take, drop, Option, Some, None, slice_get, nat_lt, ◌==◌, if◌then◌else◌}
+use Rattle.std.specs.Prelude.{ℕ, suc, Bool, true, false, ◌&&◌, List, [], ◌∷◌, take, drop, Option, Some, None, slice_get, nat_lt, ◌==◌, if◌then◌else◌}
 use Rattle.std.specs.Option.{option_map_or}
 use Rattle.replay_core.specs.declared.phases.LogPhase.{LogPhase}
 use Rattle.replay_core.specs.declared.writer.Answer.{Answer}
@@ -47,3 +47,8 @@ table_len pipelined second log in_hand = if pipelined then first_len second else
 abbrev pub table_part : {A : Type 0} → Bool → ℕ → List ℕ → LogPhase → ℕ → List A → List A
 table_part pipelined in_second second log in_hand xs =
     take (table_len pipelined second log in_hand) (drop (table_start pipelined in_second) xs)
+
+-- how many writers there are before the first one of the client
+abbrev pub writers_before : ℕ → List Writer → ℕ
+writers_before c [] = 0
+writers_before c (w ∷ ws) = if w.client == c then 0 else suc (writers_before c ws)

@@ -95,6 +95,7 @@ abbrev pub answers_in_hand : LogPhase → ℕ → ℕ
 answers_in_hand phase.Free n = 0
 answers_in_hand (phase.Led c) n = 0
 answers_in_hand phase.Built n = 0
+answers_in_hand phase.Stalled n = 0
 answers_in_hand phase.InLog n = n
 answers_in_hand phase.Marked n = n
 answers_in_hand (phase.Handed c) n = 0

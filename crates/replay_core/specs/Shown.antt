@@ -9,7 +9,7 @@ use Rattle.run_outcome.specs.HistoryEntries.{entry_of}
 use Rattle.replay_plans.specs.Plans.{records_of}
 use Rattle.replay_plans.specs.declared.plan.ClientPlan.{ClientPlan}
 use Rattle.replay_core.specs.declared.phases.LogPhase.{LogPhase}
-use Rattle.replay_core.specs.declared.phases.LogPhase.TheVariants.{Free, Led, Built, InLog, Marked, Handed}
+use Rattle.replay_core.specs.declared.phases.LogPhase.TheVariants.{Free, Led, Built, Stalled, InLog, Marked, Handed}
 use Rattle.replay_plans.specs.declared.plan.Lines.{Lines}
 use Rattle.replay_core.specs.declared.writer.Writer.{Writer}
 use Rattle.replay_core.specs.declared.writer.Answer.{Answer}
@@ -58,6 +58,7 @@ abbrev pub shown_log : LogPhase → List core.Writer → core.LogPhase
 shown_log Free ws = core.free
 shown_log (Led c) ws = core.led c
 shown_log Built ws = core.built ws
+shown_log Stalled ws = core.stalled ws
 shown_log InLog ws = core.in_log ws
 shown_log Marked ws = core.marked ws
 shown_log (Handed c) ws = core.handed c

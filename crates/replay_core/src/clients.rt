@@ -19,7 +19,7 @@ impl State<'_> {
     ghost use Rattle.replay_core.specs.Steps.{Steps};
 
     /// The client is idle, and its next call is a commit. It is refused at once, or its batch goes to the end of the
-    /// queue.
+    /// queue. While writes are stalled it can only be refused, as one is then that must not be slowed down.
     pub(crate) fn link(&mut self, client: u32) -> bool
         ensures steps { Steps (λ o s. event.link o s client (core.client_at s client)) self.old result self.new }
         ensures unchanged { result ≡ false → self.new ≡ self.old }
@@ -39,7 +39,12 @@ impl State<'_> {
             to: ahead.call,
         };
         let measured = measure_batch(&self.plans[place], batch);
-        match refusal_at_once(measured, options, self.options.batch_bytes, false) {
+        let early = refusal_at_once(measured, options, self.options.batch_bytes, false);
+        let refusal = self.log.refusal_in(options, early);
+        if !self.log.may_link(refusal) {
+            return false;
+        }
+        match refusal {
             Some(why) => answer(&mut self.seats[place], ahead, CoreReply::Refused { why }),
             None => {
                 wait(&mut self.seats[place], ahead);
@@ -116,7 +121,11 @@ fn new_writer(client: u32, options: WriteOptions, batch: Lines, count: u64) -> W
 
 /// What grouping sees of a writer.
 fn item_of(options: WriteOptions, size: u64) -> Item
-    ensures { result ≡ record { size = size; options = options } }
+    ensures { result ≡ record { size = size; options = options; alone = false } }
 {
-    Item { size, options }
+    Item {
+        size,
+        options,
+        alone: false,
+    }
 }

@@ -22,6 +22,7 @@ mod phases;
 mod room;
 mod runs;
 mod seats;
+mod stalling;
 mod state;
 mod step;
 mod table;

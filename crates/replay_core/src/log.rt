@@ -187,7 +187,7 @@ impl State<'_> {
     }
 
     /// Whether the group in hand must not be slowed down, by its leader's options.
-    fn is_no_slowdown(&self) -> bool
+    pub(crate) fn is_no_slowdown(&self) -> bool
         requires { self.now.in_second < length self.now.linked.items }
         ensures { (d : Writer)
             → result ≡ (slice_index_or self.now.linked.items self.now.in_second d).options.no_slowdown }
@@ -232,7 +232,7 @@ impl State<'_> {
     }
 
     /// Whether the client leads a group that is built.
-    fn has_built(&self, client: u32) -> bool
+    pub(crate) fn has_built(&self, client: u32) -> bool
         ensures { result ≡ (is_built self.now.log && leads_front client self.now.in_second self.now.in_hand
             self.now.linked.items) }
     {

@@ -1,7 +1,9 @@
 //! Which phase the log and the memtable are in.
 
 ghost use Rattle.std.specs.Prelude.{◌≡◌};
-ghost use Rattle.replay_core.specs.Phases.{is_free, is_led_by, is_built, is_in_log, is_marked, is_handed_by, is_still, is_launched, is_published, is_inserted, is_finished};
+ghost use Rattle.replay_core.specs.Phases.{is_free, is_led_by, is_built, is_stalled, refusal_at, may_link_at, is_in_log, is_marked, is_handed_by, is_still, is_launched, is_published, is_inserted, is_finished};
+
+use model_base::{Refusal, WriteOptions};
 
 /// Where the log is: with nobody, with a leader, or with a group in hand, whose writers the state has.
 #[derive(Clone, Copy)]
@@ -9,6 +11,7 @@ pub(crate) enum LogPhase {
     Free,
     Led(u32),
     Built,
+    Stalled,
     InLog,
     Marked,
     Handed(u32),
@@ -34,6 +37,34 @@ impl LogPhase {
         ensures { result ≡ is_built self }
     {
         matches!(self, LogPhase::Built)
+    }
+
+    pub(crate) fn is_stalled(self) -> bool
+        ensures { result ≡ is_stalled self }
+    {
+        matches!(self, LogPhase::Stalled)
+    }
+
+    /// Why a batch with these options is refused at once, where the checks say `early` of it. One that passed them is
+    /// refused too, while writes are stalled, if it must not be slowed down.
+    pub(crate) fn refusal_in(self, options: WriteOptions, early: Option<Refusal>) -> Option<Refusal>
+        ensures { result ≡ refusal_at options early self }
+    {
+        if early.is_some() || !options.no_slowdown || !self.is_stalled() {
+            return early;
+        }
+        Some(Refusal::Incomplete {
+            stops: 1,
+            delays: 0,
+            wait: 0,
+        })
+    }
+
+    /// Whether a client may link: while writes are stalled only to be refused.
+    pub(crate) fn may_link(self, refusal: Option<Refusal>) -> bool
+        ensures { result ≡ may_link_at refusal self }
+    {
+        refusal.is_some() || !self.is_stalled()
     }
 
     pub(crate) fn is_in_log(self) -> bool

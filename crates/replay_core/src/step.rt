@@ -45,6 +45,20 @@ impl State<'_> {
                     wait,
                 },
             ),
+            Event::Stall(client) => self.stall(client),
+            Event::Leave {
+                client,
+                stops,
+                delays,
+            } => self.leave_queue(
+                client,
+                Refusal::Incomplete {
+                    stops,
+                    delays,
+                    wait: 0,
+                },
+            ),
+            Event::Unstall(client) => self.unstall(client),
             Event::Boundary(client) => self.boundary(client),
             Event::Second(client) => self.to_second(client),
             Event::Next(client) => self.next(client),

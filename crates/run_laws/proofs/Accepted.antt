@@ -50,7 +50,7 @@ module _ (settings : Settings) (ended : ℕ) (script : Script) (o : Outcome) (cl
       → AreSound most (with_attempt p.attempts p.pending how status) → MayRefuse trace.controller_calls (client + 1) p knows how why status → ⊥
   never_refused p knows (no.Incomplete stops delays wait) status room (inl waits) s may = let yes = may.0 in cc
   never_refused p knows (no.Incomplete stops delays wait) status room (inr quiet) s may =
-      not_held_up trace.controller_calls legal.legal.is_trace.controller_calls (history.calm settings ended script o legal quiet) (client + 1) p.known knows _ status may.2 may.1
+      not_held_up trace.controller_calls legal.legal.is_trace.controller_calls (history.calm settings ended script o legal quiet) (holds_stop p.asked) (client + 1) p.known knows _ status may.1
   never_refused p knows (no.LogFault count) status room freed s may =
       sound_last most p.attempts p.pending how (faulted count) (subst (λ x. AreSound most (with_attempt p.attempts p.pending how x)) may s)
   never_refused p knows (no.SequenceFull last) status room freed s may =

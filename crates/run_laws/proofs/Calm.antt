@@ -3,7 +3,7 @@ use Rattle.std.proofs.Common.{◌≡◌, ℕ, zero, suc, Bool, true, false, IsTr
 use Rattle.std.specs.List.{AllByRecursion}
 use Rattle.std.proofs.lemmas.Bool.{cond-true}
 use Rattle.model_base.specs.Controller as controller
-use Rattle.model_base.specs.Controller.{ControllerCall, Action, Numbers, After, Look, HoldUp, look_with, opening, after_delay, numbers_after, answer, IsHistoryFrom}
+use Rattle.model_base.specs.Controller.{ControllerCall, Action, Numbers, After, Look, HoldUp, ShowTokens, look_with, opening, after_delay, numbers_after, answer, IsHistoryFrom}
 use Rattle.model_base.specs.Tokens.{is_token, tokens_of, holds_stop, holds_slow, given_back}
 use Rattle.model_base.specs.Attempts.{WriteStatus, slowed}
 use Rattle.model_base.specs.Trace.{Trace, Settings}
@@ -122,14 +122,16 @@ told_at n (u ∷ controller_calls) history none calm (suc place) t l there told 
     told_at (numbers_after n u.action) controller_calls history.1 none.1 (calm_after n u.action none.0 calm) place t l there told
 
 module _ (controller_calls : List ControllerCall) (history : IsHistoryFrom opening controller_calls) (none : HasNoTokens controller_calls) where
-  told_calm : (client knew knows : ℕ) (l : Look) (status : Option WriteStatus) → IsTold controller_calls client knew knows l status → TellsCalm l
-  told_calm client knew knows l None told = told_at opening controller_calls history none (refl, refl) told.0 _ l told.1.there refl
-  told_calm client knew knows l (Some (slowed place)) told = told_at opening controller_calls history none (refl, refl) place _ l told.3.there refl
-  told_calm client knew knows l (Some other) told = absurd told
-
   not_up : (l : Look) → TellsCalm l → HoldUp l → ⊥
   not_up l calm (inl stopped) = let none_stop = calm.0 in omega arith
   not_up l calm (inr slow_now) = let none_slow = calm.1 in let some = slow_now.0 in omega arith
 
-  pub not_held_up : (client knew knows : ℕ) (l : Look) (status : Option WriteStatus) → IsTold controller_calls client knew knows l status → HoldUp l → ⊥
-  not_held_up client knew knows l status told up = not_up l (told_calm client knew knows l status told) up
+  not_either : (l : Look) → TellsCalm l → ShowTokens l → ⊥
+  not_either l calm (inl stopped) = let none_stop = calm.0 in omega arith
+  not_either l calm (inr slowed_by) = let none_slow = calm.1 in omega arith
+
+  pub not_held_up : (stopping : Bool) (client knew knows : ℕ) (l : Look) (status : Option WriteStatus) → IsTold controller_calls stopping client knew knows l status → ⊥
+  not_held_up true client knew knows l None told = not_up l (told_at opening controller_calls history none (refl, refl) told.1 _ l told.2.there refl) told.4.1
+  not_held_up false client knew knows l None told = not_either l (told_at opening controller_calls history none (refl, refl) told.1 _ l told.2.there refl) told.4.shown
+  not_held_up stopping client knew knows l (Some (slowed place)) told = not_up l (told_at opening controller_calls history none (refl, refl) place _ l told.3.there refl) told.5
+  not_held_up stopping client knew knows l (Some other) told = absurd told

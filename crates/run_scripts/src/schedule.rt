@@ -2,8 +2,8 @@
 //!
 //! The script's lines are those that `parser` describes. After them comes the line `schedule`, and after that a line
 //! for each event: its word and the number of a client of the script, as in `link 1`. The words are `link`, `elect`,
-//! `build`, `log`, `fault`, `boundary`, `second`, `next`, `launch`, `insert`, `finish`, `publish`, `exit`, `complete`
-//! and `read`. Empty lines and comments are passed over there too.
+//! `build`, `log`, `fault`, `boundary`, `second`, `next`, `launch`, `insert`, `finish`, `publish`, `exit`, `complete`,
+//! `read`, `stall`, `leave` and `unstall`. Empty lines and comments are passed over there too.
 
 ghost use Rattle.std.specs.Prelude.{◌≡◌, ◌+◌, ◌≤◌, ◌==◌, [], Ok, Err, length, if◌then◌else◌, IfOk, IfErr, OnOk, drop, option_copied};
 ghost use Rattle.model_core.specs.Schedule as model;
@@ -241,8 +241,8 @@ fn applied_event_named(word: &[u8], client: u32) -> Option<Event>
     other_event_named(word, client)
 }
 
-/// The event of this client that a word names, if it is that of a follower that is done, that of a read, or one that
-/// only a pipelined path has.
+/// The event of this client that a word names, if it is that of a follower that is done, that of a read, one that only
+/// a pipelined path has, or one of `stall_event_named`.
 fn other_event_named(word: &[u8], client: u32) -> Option<Event>
     ensures { result ≡ event_named (drop 10 event_words) word.now client }
 {
@@ -260,6 +260,27 @@ fn other_event_named(word: &[u8], client: u32) -> Option<Event>
     }
     if word == b"next".as_slice() {
         return Some(Event::Next(client));
+    }
+    stall_event_named(word, client)
+}
+
+/// The event of this client that a word names, if it is one of a leader that stalls writes. A writer that leaves is
+/// told of one stop.
+fn stall_event_named(word: &[u8], client: u32) -> Option<Event>
+    ensures { result ≡ event_named (drop 15 event_words) word.now client }
+{
+    if word == b"stall".as_slice() {
+        return Some(Event::Stall(client));
+    }
+    if word == b"leave".as_slice() {
+        return Some(Event::Leave {
+            client,
+            stops: 1,
+            delays: 0,
+        });
+    }
+    if word == b"unstall".as_slice() {
+        return Some(Event::Unstall(client));
     }
     None
 }

@@ -8,8 +8,8 @@ use Rattle.model_base.specs.declared.write.WriteOptions.{WriteOptions}
 use Rattle.model_base.specs.declared.write.Refusal.{Refusal}
 use Rattle.model_base.specs.declared.write.Refusal.TheVariants as no
 use Rattle.model_base.specs.Calls.{Command, commit, Reply}
-use Rattle.model_core.specs.Core.{Options, Writer, Client, LogPhase, free, led, built, in_log, marked, handed, State, client_at, with_client, next_call, after_reply, refusal_of, leads, with_runs, has_run, in_hand, first_group, table_group, read_reply}
-use Rattle.model_core.specs.Step.{when, step, link, link_call, link_with, elect, build, log_group, logged_group, fault, refuse, boundary, to_second, next, complete, complete_with, after_completion, read, read_call, read_with}
+use Rattle.model_core.specs.Core.{Options, Writer, Client, LogPhase, free, led, built, stalled, in_log, marked, handed, State, client_at, with_client, next_call, after_reply, refusal_of, refusal_in, may_link, stall_refusal, leads, with_runs, has_run, in_hand, first_group, table_group, read_reply}
+use Rattle.model_core.specs.Step.{when, step, link, link_call, link_with, elect, build, log_group, logged_group, fault, refuse, stall, unstall, leave_queue, leave_with, left_queue, boundary, to_second, next, complete, complete_with, after_completion, read, read_call, read_with}
 use Rattle.model_core.specs.Halves.{moves_table}
 
 -- the table stays as it is, and so does a group for it
@@ -49,7 +49,7 @@ by_link o s t c came = by_client (client_at s c) came
     linked client how (Some why) = (refl, refl, λ _. refl)
 
     by_call : (client : Client) (call : Option Command) → link_call o s c client call ≡ Some t → Leaves o s t
-    by_call client (Some (commit how)) came = let why = refusal_of o how client.added in let after : link_with o s c client how why ≡ t = cc in subst (Leaves o s) after (linked client how why)
+    by_call client (Some (commit how)) came = let why = refusal_in s.log how (refusal_of o how client.added) in subst (Leaves o s) (when_some (may_link s.log why) (link_with o s c client how why) t came).1 (linked client how why)
     by_call client (Some other) came = absurd (cc)
     by_call client None came = absurd (cc)
 
@@ -100,6 +100,7 @@ by_elect o s t c free is came = when_holds (Leaves o s) _ _ t came (λ _. (refl,
 by_elect o s t c (led d) is came = absurd (cc)
 by_elect o s t c (built ws) is came = absurd (cc)
 by_elect o s t c (in_log ws) is came = absurd (cc)
+by_elect o s t c (stalled ws) is came = absurd (cc)
 by_elect o s t c (marked ws) is came = absurd (cc)
 by_elect o s t c (handed d) is came = absurd (cc)
 
@@ -108,6 +109,7 @@ by_build o s t c (led d) is came = when_holds (Leaves o s) _ _ t came (λ _. (re
 by_build o s t c free is came = absurd (cc)
 by_build o s t c (built ws) is came = absurd (cc)
 by_build o s t c (in_log ws) is came = absurd (cc)
+by_build o s t c (stalled ws) is came = absurd (cc)
 by_build o s t c (marked ws) is came = absurd (cc)
 by_build o s t c (handed d) is came = absurd (cc)
 
@@ -123,6 +125,7 @@ by_log o s t c (built ws) is came = let vs = with_runs s.assigned ws in when_hol
 by_log o s t c free is came = absurd (cc)
 by_log o s t c (led d) is came = absurd (cc)
 by_log o s t c (in_log ws) is came = absurd (cc)
+by_log o s t c (stalled ws) is came = absurd (cc)
 by_log o s t c (marked ws) is came = absurd (cc)
 by_log o s t c (handed d) is came = absurd (cc)
 
@@ -131,6 +134,7 @@ by_fault o s t c (built ws) is came = when_holds (Leaves o s) _ _ t came (λ _. 
 by_fault o s t c free is came = absurd (cc)
 by_fault o s t c (led d) is came = absurd (cc)
 by_fault o s t c (in_log ws) is came = absurd (cc)
+by_fault o s t c (stalled ws) is came = absurd (cc)
 by_fault o s t c (marked ws) is came = absurd (cc)
 by_fault o s t c (handed d) is came = absurd (cc)
 
@@ -139,8 +143,40 @@ by_refuse o s t c why (built ws) is came = when_holds (Leaves o s) _ _ t came (�
 by_refuse o s t c why free is came = absurd (cc)
 by_refuse o s t c why (led d) is came = absurd (cc)
 by_refuse o s t c why (in_log ws) is came = absurd (cc)
+by_refuse o s t c why (stalled ws) is came = absurd (cc)
 by_refuse o s t c why (marked ws) is came = absurd (cc)
 by_refuse o s t c why (handed d) is came = absurd (cc)
+
+by_stall : (o : Options) (s t : State) (c : ℕ) (phase : LogPhase) → s.log ≡ phase → stall s c phase ≡ Some t → Leaves o s t
+by_stall o s t c (built ws) is came = when_holds (Leaves o s) _ _ t came (λ _. (refl, refl, λ _. unhanded o s (built ws) is refl))
+by_stall o s t c free is came = absurd (cc)
+by_stall o s t c (led d) is came = absurd (cc)
+by_stall o s t c (stalled ws) is came = absurd (cc)
+by_stall o s t c (in_log ws) is came = absurd (cc)
+by_stall o s t c (marked ws) is came = absurd (cc)
+by_stall o s t c (handed d) is came = absurd (cc)
+
+by_unstall : (o : Options) (s t : State) (c : ℕ) (phase : LogPhase) → s.log ≡ phase → unstall s c phase ≡ Some t → Leaves o s t
+by_unstall o s t c (stalled ws) is came = when_holds (Leaves o s) _ _ t came (λ _. (refl, refl, λ _. unhanded o s (stalled ws) is refl))
+by_unstall o s t c free is came = absurd (cc)
+by_unstall o s t c (led d) is came = absurd (cc)
+by_unstall o s t c (built ws) is came = absurd (cc)
+by_unstall o s t c (in_log ws) is came = absurd (cc)
+by_unstall o s t c (marked ws) is came = absurd (cc)
+by_unstall o s t c (handed d) is came = absurd (cc)
+
+by_leave : (o : Options) (s t : State) (m : ℕ) (why : Refusal) (phase : LogPhase) → leave_queue s m why phase ≡ Some t → Leaves o s t
+by_leave o s t m why (stalled ws) came = by_writer (find (λ (x : Writer). x.client == m) s.queue) came
+  where
+    by_writer : (w : Option Writer) → leave_with s m why w ≡ Some t → Leaves o s t
+    by_writer None came = absurd (cc)
+    by_writer (Some w) came = when_holds (Leaves o s) _ (left_queue s m why w) t came (λ _. (refl, refl, λ _. refl))
+by_leave o s t m why free came = absurd (cc)
+by_leave o s t m why (led d) came = absurd (cc)
+by_leave o s t m why (built ws) came = absurd (cc)
+by_leave o s t m why (in_log ws) came = absurd (cc)
+by_leave o s t m why (marked ws) came = absurd (cc)
+by_leave o s t m why (handed d) came = absurd (cc)
 
 by_boundary : (o : Options) (s t : State) (c : ℕ) (phase : LogPhase) → s.log ≡ phase → boundary o s c phase ≡ Some t → Leaves o s t
 by_boundary o s t c (in_log ws) is came = when_holds (Leaves o s) _ _ t came (λ b. (
@@ -152,6 +188,7 @@ by_boundary o s t c (in_log ws) is came = when_holds (Leaves o s) _ _ t came (λ
 by_boundary o s t c free is came = absurd (cc)
 by_boundary o s t c (led d) is came = absurd (cc)
 by_boundary o s t c (built ws) is came = absurd (cc)
+by_boundary o s t c (stalled ws) is came = absurd (cc)
 by_boundary o s t c (marked ws) is came = absurd (cc)
 by_boundary o s t c (handed d) is came = absurd (cc)
 
@@ -170,6 +207,7 @@ by_second o s t c free is came = absurd (cc)
 by_second o s t c (led d) is came = absurd (cc)
 by_second o s t c (built ws) is came = absurd (cc)
 by_second o s t c (in_log ws) is came = absurd (cc)
+by_second o s t c (stalled ws) is came = absurd (cc)
 by_second o s t c (handed d) is came = absurd (cc)
 
 by_next : (o : Options) (s t : State) (c : ℕ) (phase : LogPhase) → s.log ≡ phase → next s c phase ≡ Some t → Leaves o s t
@@ -178,6 +216,7 @@ by_next o s t c free is came = absurd (cc)
 by_next o s t c (led d) is came = absurd (cc)
 by_next o s t c (built ws) is came = absurd (cc)
 by_next o s t c (in_log ws) is came = absurd (cc)
+by_next o s t c (stalled ws) is came = absurd (cc)
 by_next o s t c (marked ws) is came = absurd (cc)
 
 pub others_leave : (o : Options) (s t : State) (event : Event) → moves_table event ≡ false → step o s event ≡ Some t → Leaves o s t
@@ -187,6 +226,9 @@ others_leave o s t (e.Build c) none came = by_build o s t c s.log refl came
 others_leave o s t (e.Log c) none came = by_log o s t c s.log refl came
 others_leave o s t (e.Fault c) none came = by_fault o s t c s.log refl came
 others_leave o s t (e.Refuse c stops delays wait) none came = by_refuse o s t c (no.Incomplete stops delays wait) s.log refl came
+others_leave o s t (e.Stall c) none came = by_stall o s t c s.log refl came
+others_leave o s t (e.Leave m stops delays) none came = by_leave o s t m (stall_refusal stops delays) s.log came
+others_leave o s t (e.Unstall c) none came = by_unstall o s t c s.log refl came
 others_leave o s t (e.Boundary c) none came = by_boundary o s t c s.log refl came
 others_leave o s t (e.Second c) none came = by_second o s t c s.log refl came
 others_leave o s t (e.Next c) none came = by_next o s t c s.log refl came

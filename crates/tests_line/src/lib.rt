@@ -17,5 +17,6 @@ pub use counter::{
     CountLog, CountReply, CountRequest, Nothing, Player, answer_all, note, note_numbers,
 };
 pub use items::{
-    EIGHTH, HASTY, MAX, PAST_EIGHTH, PAST_REST, PLAIN, REST, SYNCED, UNFLAGGED, UNLOGGED, sized,
+    EIGHTH, HASTY, LONE, MAX, PAST_EIGHTH, PAST_REST, PLAIN, REST, SYNCED, UNFLAGGED, UNLOGGED,
+    sized,
 };

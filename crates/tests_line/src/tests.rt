@@ -7,7 +7,7 @@ mod playing;
 
 use crate::counter::{CountLog, Nothing, Player, note, note_numbers};
 use crate::items::{
-    EIGHTH, HASTY, MAX, PAST_EIGHTH, PAST_REST, PLAIN, REST, SYNCED, UNLOGGED, sized,
+    EIGHTH, HASTY, LONE, MAX, PAST_EIGHTH, PAST_REST, PLAIN, REST, SYNCED, UNLOGGED, sized,
 };
 use line_rule::Start;
 use line_writers::Role;
@@ -32,7 +32,7 @@ struct Row {
     led: [usize; 3],
 }
 
-const ROWS: [Row; 8] = [
+const ROWS: [Row; 10] = [
     // All three are alike.
     Row {
         items: [PLAIN, PLAIN, PLAIN],
@@ -73,6 +73,16 @@ const ROWS: [Row; 8] = [
     Row {
         items: [UNLOGGED, UNLOGGED, PLAIN],
         led: [2, 0, 1],
+    },
+    // A leader that goes alone takes nobody.
+    Row {
+        items: [LONE, PLAIN, PLAIN],
+        led: [1, 2, 0],
+    },
+    // A writer that goes alone is taken by nobody, not even by another one that goes alone.
+    Row {
+        items: [PLAIN, LONE, LONE],
+        led: [1, 1, 1],
     },
 ];
 
@@ -134,7 +144,7 @@ fn groups_of_three(rt: HostRuntime) {
         from = from.wrapping_add(3);
     }
     let (log, right) = closed(&rt, alloc, list, players);
-    assert_eq!(rt; (log.count, log.sum, right.mark), (24, 2360702, 7));
+    assert_eq!(rt; (log.count, log.sum, right.mark), (30, 2361302, 7));
 }
 
 #[test]

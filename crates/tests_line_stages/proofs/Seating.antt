@@ -72,9 +72,6 @@ module _ (list : Counted) where
         (own, seen, subst (λ k. Chosen k own seen (told_in_first new.seat.me.0) new.seat.me) (sym still.0.1) chosen),
       )
 
-  pub done : (mine : List (CountRequest × CountReply)) (w : Writer CountRequest CountReply CountLog CountingRight) → w.seat.me.0 ≡ hold w.client Idle mine ∷ [] → w.seat.me.1 ≡ [] → IsOut w
-  done mine w at none = (at ∙ (λ i. hold w.client Idle (sym (ap told_in_first at) i) ∷ []), none)
-
   -- one more client may write (`seat_more`), or is in the list where its stage says (`stand_more`)
   pub seat_more : (ps : List StagePlayer) (p : StagePlayer) → AllMayWrite list ps → MayWrite list (length ps + 1) p → AllMayWrite list (ps ++ p ∷ [])
   seat_more ps p all may = record { each = each_more (MayWrite list) ps p all.each may }

@@ -6,6 +6,7 @@
 //! - `modes`: ends of logs that a mode of recovery accepts, and others that it refuses
 //! - `numbers`: logs with a number, alone and over older ones
 //! - `overlap`: what clients do while another's append, or its group, is under way
+//! - `stalled`: what clients do while a leader waits
 //! - `recovery`: what logs recover
 //! - `resumed`: logs that are resumed
 //! - `replay`: schedules of events
@@ -19,6 +20,7 @@ mod recovery;
 mod replay;
 mod resumed;
 mod runs;
+mod stalled;
 
 use base_devices::{MemDisk, MemSink, MemSource, SteppedClock};
 use program_call::{Ended, run};

@@ -7,7 +7,7 @@ ghost use Rattle.tests_line.specs.Players.{IsPlain, IsSat, IsAsking, Leads, HasR
 
 use crate::counter::{CountLog, CountReply, CountRequest, Nothing, Player, answer_all, note};
 use crate::items::sized;
-use line_rule::Start;
+use line_rule::{STALL, Start};
 use line_writers::{Lists, Role, Writer, WriterList, replies_in_order};
 use model_base::{Item, MAX_SIZE};
 use std::alloc::Global;
@@ -174,13 +174,13 @@ pub(super) fn write_at_once<R: Threads + Wait + rt::Clock + Sync>(
     times: u64,
     linked: &Option<Barrier>,
 )
-    requires out { AllMayWrite list.now players.old × (0 < length players.old) × (length players.old < 255) }
+    requires out { AllMayWrite list.now players.old × (0 < length players.old) × (length players.old < STALL) }
     requires plain { IsPlain list.now }
     ensures { AllMayWrite list.now players.new × (length players.new ≡ length players.old) }
 {
     let threads = players.len();
     let each = |i: usize, player: &mut Player|
-        requires { MayWrite list.now (i + 1) player.now × (i < 255) × IsPlain list.now }
+        requires { MayWrite list.now (i + 1) player.now × (i < STALL) × IsPlain list.now }
         ensures { MayWrite list.entry.now (i + 1) player.exit.now }
     { write_often(rt, list, player, sized(i as u64 + 1), times, linked) };
     thread::for_each_mut(rt, players, threads, &each);
@@ -195,7 +195,7 @@ pub(super) fn opened(
     group_bytes: u64,
     room: usize,
 ) -> (Counted, Vec<Player>)
-    requires { (0 < clients) × (clients < 255) }
+    requires { (0 < clients) × (clients < STALL) }
     ensures list { IsPlain result.0 × (clients_of result.0 ≡ clients) }
     ensures players { AllMayWrite result.0 result.1.items × (vec_len result.1 ≡ clients) }
 {

@@ -7,7 +7,7 @@ ghost use Rattle.tests_line_stages.specs.Clients.{IsPipelined, IsAsking, AllMayW
 
 use crate::client::{PlayerStage, StagePlayer};
 use crate::counter::CountingRight;
-use line_rule::Start;
+use line_rule::{STALL, Start};
 use line_writers::{Lists, Writer, WriterList};
 use model_base::{Item, MAX_SIZE};
 use std::alloc::Global;
@@ -27,7 +27,7 @@ pub(super) fn opened(
     count: u32,
     room: usize,
 ) -> (Counted, Vec<StagePlayer>)
-    requires { (0 < count) × (count < 255) }
+    requires { (0 < count) × (count < STALL) }
     ensures list { IsPipelined result.0 × (clients_of result.0 ≡ count) }
     ensures out { AllMayWrite result.0 result.1.items × AllStand result.0 result.1.items
         × (vec_len result.1 ≡ count) }

@@ -9,6 +9,7 @@ use super::clients::{Counted, ask};
 use super::leading::{grouped, launched, note_group, right_for, sent, served};
 use crate::client::StagePlayer;
 use crossbeam_utils::Backoff;
+use line_rule::STALL;
 use line_writers::PipelinedRole;
 use model_base::{Item, MAX_SIZE};
 use std::sync::Wait;
@@ -131,13 +132,13 @@ pub(super) fn write_at_once<R: Threads + Wait + rt::Clock + Sync>(
     times: u64,
     pending: &AtomicU64,
 )
-    requires out { AllMayWrite list.now clients.old × (0 < length clients.old) × (length clients.old < 255) }
+    requires out { AllMayWrite list.now clients.old × (0 < length clients.old) × (length clients.old < STALL) }
     requires pipelined { IsPipelined list.now }
     ensures { AllMayWrite list.now clients.new × (length clients.new ≡ length clients.old) }
 {
     let threads = clients.len();
     let each = |i: usize, client: &mut StagePlayer|
-        requires { MayWrite list.now (i + 1) client.now × (i < 255) × IsPipelined list.now }
+        requires { MayWrite list.now (i + 1) client.now × (i < STALL) × IsPipelined list.now }
         ensures { MayWrite list.entry.now (i + 1) client.exit.now }
     { write_often(rt, list, client, sized(i as u64 + 1), times, pending) };
     thread::for_each_mut(rt, clients, threads, &each);

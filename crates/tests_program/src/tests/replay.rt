@@ -3,7 +3,7 @@
 use super::{ONE_TREE, Row, check_rows};
 use std::rt::HostRuntime;
 
-const REPLAYED: [Row; 11] = [
+const REPLAYED: [Row; 13] = [
     // One group of two.
     (
         "replay",
@@ -94,6 +94,28 @@ const REPLAYED: [Row; 11] = [
             schedule\nlink 1\nlink 2\nelect 1\nbuild 1\nlog 1\nlaunch 1\ninsert 1\ninsert 2\nfinish 1\n\
             publish 1\nexit 1\ncomplete 1\n",
         "events 11 skipped 1\nclient 1\nok 1 1\nclient 2\n\
+            history 1\n1 1 1 1 log 0100000000000000010000000101610131\nstate 1 1\na 1\ngroups 1\n",
+    ),
+    // A leader stalls writes: client 2 leaves the queue, client 3 is refused at once, and client 4 comes after the stall.
+    (
+        "replay",
+        b"client 1\nput a 1\ncommit\nclient 2\nput b 2\ncommit noslow\nclient 3\nput c 3\ncommit noslow\n\
+            client 4\nput d 4\ncommit\n\
+            schedule\nlink 1\nelect 1\nbuild 1\nlink 2\nstall 1\nleave 2\nlink 3\nlink 4\ncomplete 2\n\
+            unstall 1\nlink 4\nlog 1\nlaunch 1\ninsert 1\nfinish 1\npublish 1\nexit 1\ncomplete 1\n",
+        "events 17 skipped 1\nclient 1\nok 1 1\nclient 2\nno incomplete 1 0 0\nclient 3\n\
+            no incomplete 1 0 0\nclient 4\n\
+            history 1\n1 1 1 1 log 0100000000000000010000000101610131\nstate 1 1\na 1\ngroups 1\n",
+    ),
+    (
+        "replay --pipelined",
+        b"client 1\nput a 1\ncommit\nclient 2\nput b 2\ncommit noslow\nclient 3\nput c 3\ncommit noslow\n\
+            client 4\nput d 4\ncommit\n\
+            schedule\nlink 1\nelect 1\nbuild 1\nlink 2\nstall 1\nleave 2\nlink 3\nlink 4\ncomplete 2\n\
+            unstall 1\nlink 4\nlog 1\nboundary 1\nsecond 1\nnext 1\nlaunch 1\ninsert 1\nfinish 1\n\
+            publish 1\nexit 1\ncomplete 1\n",
+        "events 20 skipped 1\nclient 1\nok 1 1\nclient 2\nno incomplete 1 0 0\nclient 3\n\
+            no incomplete 1 0 0\nclient 4\n\
             history 1\n1 1 1 1 log 0100000000000000010000000101610131\nstate 1 1\na 1\ngroups 1\n",
     ),
     // A batch of three records and a batch of one, in one group.

@@ -3,7 +3,7 @@ use Rattle.std.proofs.lemmas.List.{take_more}
 use Rattle.std.proofs.lemmas.List.Edits.{map_over_more}
 use mathlib.Core.List.{IsPrefix}
 use Rattle.engine_controller.specs.Passes.{client_of, seen_by, GoesOn, IsPassOf}
-use Rattle.engine_controller.specs.declared.pass.Note.{Note}
+use Rattle.engine_controller.specs.Noted.{Noted}
 use Rattle.engine_parts.specs.declared.requests.Request.{Request}
 use Rattle.engine_parts.specs.Handled.{noted_in}
 use Rattle.engine_parts.specs.Asking.{HasLearned}
@@ -39,7 +39,7 @@ loop-i-preserved g c =
         subst (λ l. HasLearned k (seen_by was) l (seen_by w.learn.new.pass)) more
             (learned_more k (seen_by was) (seen_by c.loop-i.pass) (seen_by w.learn.new.pass) (take i xs) x v.learned
             (subst (λ j. GoesOn j (seen_by c.loop-i.pass) (seen_by w.learn.new.pass)) v.client w.learn.ensures.seen)
-            (subst (λ (o : Option Note). IsPrefix (noted_in o) (seen_by w.learn.new.pass)) (sym w.in-Some.is ∙ (c.take_note.ensures.value ∙ ap (λ (y : ℕ × Request). y.1.note) at)) w.learn.ensures.noted)),
+            (subst (λ (o : Option Noted). IsPrefix (noted_in o) (seen_by w.learn.new.pass)) (sym w.in-Some.is ∙ (c.take_note.ensures.value ∙ ap (λ (y : ℕ × Request). y.1.note) at)) w.learn.ensures.noted)),
       )
       | in_default w ↦ subst (λ p. IsPassOf c.args.controller.now p × (client_of p ≡ k) × HasLearned k (seen_by was) (take (i + 1) xs) (seen_by p)) (sym w.pass-is) (
         v.pass,

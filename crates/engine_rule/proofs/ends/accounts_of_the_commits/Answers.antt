@@ -1,4 +1,4 @@
-use Rattle.engine_rule.proofs.Own.{wrote, refused_held_up, refused_failed, refused_full, refused_looked}
+use Rattle.engine_rule.proofs.Own.{wrote, refused_held_up, refused_failed, refused_full, refused_looked, refused_stalled}
 use Rattle.engine_rule.proofs.ends.accounts_of_the_commits.Goals as goal
 
 pub returns : goal.returns
@@ -8,4 +8,5 @@ returns c = record {
   failed = λ k x count more free answer. refused_failed k.start k.opening k.client k.own x k.before k.after more.0 k.known k.now more.1 free count answer;
   full = λ k commits x last newest more free answer low. refused_full k.start k.opening k.client k.own x k.before k.after more.0 k.known k.now more.1 free commits newest.0 newest.1 last answer low;
   looked = λ k records how numbers. refused_looked k.start k.opening k.client k.own records how k.before k.after k.known k.now numbers;
+  stalled = λ k records how numbers by place more free impatient later met. refused_stalled k.start k.opening k.client k.own records how k.before k.after k.known k.now numbers by place more.0 more.1 free impatient later met;
 }

@@ -9,7 +9,7 @@ pub overflow_add-sum : goal.overflow_add-sum
 overflow_add-sum c =
     let queue = c.args.queue.now in
     let sum = c.loop-place.sum in
-    let d : Item = record { size = 0; options = record { sync = false; no_log = false; no_slowdown = false } } in
+    let d : Item = record { size = 0; options = record { sync = false; no_log = false; no_slowdown = false }; alone = false } in
     let writer : Item = get_or queue c.loop-place.place d in
     let below : sum + writer.size ≤ c.args.max = fits_below c.args.max (get_or queue 0 d) (sum + writer.size) writer (sym c.fits.ensures ∙ c.if-not-fits.false) in
     let most = c.ranges.max in omega (arith, below)
@@ -25,7 +25,7 @@ loop-place-preserved c =
     let queue = c.args.queue.now in
     let place = c.loop-place.place in
     let sum = c.loop-place.sum in
-    let d : Item = record { size = 0; options = record { sync = false; no_log = false; no_slowdown = false } } in
+    let d : Item = record { size = 0; options = record { sync = false; no_log = false; no_slowdown = false }; alone = false } in
     let lt : place < length queue = omega arith in
     let joined : _ ≡ true = sym c.fits.ensures ∙ c.if-not-fits.false in
     let more : size_of (take (place + 1) queue) ≡ size_of (take place queue) + (get_or queue place d).size = sum_by_more (λ (i : Item). i.size) queue place d lt in

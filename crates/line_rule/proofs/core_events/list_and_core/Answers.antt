@@ -1,6 +1,7 @@
 use Rattle.std.proofs.Common.{refl}
 use Rattle.line_rule.proofs.CoreLaws.{coded_items}
 use Rattle.line_rule.proofs.CoreSteps.{boundary_core, second_core, next_core, next_there, serves_core, comes_core, leads_core, groups_core, logs_there, log_leaves, fault_leaves, refuse_leaves, told_core, exits_core}
+use Rattle.line_rule.proofs.CoreStalls.{stalls_core, drops_core, resumes_core}
 use Rattle.line_rule.proofs.core_events.list_and_core.Goals as goal
 
 pub returns-clause-open : goal.returns-clause-open
@@ -50,3 +51,12 @@ returns-clause-exit g c writer_of reply_of o s a b ws own one (same, r) is there
 
 pub returns-clause-writers : goal.returns-clause-writers
 returns-clause-writers g c items writer is = ((λ e. (is e.by e.asked).0), coded_items c.codes_stand_for_items.ensures items writer is)
+
+pub returns-clause-stall : goal.returns-clause-stall
+returns-clause-stall g c writer_of reply_of o s a b old built lead (same, r) is slow ev = stalls_core writer_of reply_of o s a b old built lead.own lead.group same r is slow ev
+
+pub returns-clause-leave : goal.returns-clause-leave
+returns-clause-leave g c writer_of reply_of o s a b ws e p stops delays (same, r) has is (newer, older, ev) = drops_core writer_of reply_of o s a b ws newer e older p stops delays same r has is ev
+
+pub returns-clause-unstall : goal.returns-clause-unstall
+returns-clause-unstall g c writer_of reply_of o s a b ws lead (same, r) ev = resumes_core writer_of reply_of o s a b ws lead.own lead.group same r ev

@@ -18,7 +18,7 @@ pub returns-clause-name_older : goal.returns-clause-name_older
 returns-clause-name_older g a z slots id c w new me (mine, at) = aims_is _ z.clients slots id me c _ w new mine refl at
 
 pub returns-clause-link : goal.returns-clause-link
-returns-clause-link g a z slots id c saw code me q (mine, at) slot asked = enters_is _ z.clients slots id me c _ saw code q mine none refl at slot asked
+returns-clause-link g a z slots id c saw code me q (mine, at) slot asked unmarked = enters_is _ z.clients slots id me c _ saw code q mine none refl at slot asked unmarked
 
 pub returns-clause-read_state : goal.returns-clause-read_state
 returns-clause-read_state g a z slots id c me q past (mine, at) nil = looks_is _ z.clients slots id me c _ q past mine refl at nil

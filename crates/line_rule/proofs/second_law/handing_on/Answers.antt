@@ -1,5 +1,5 @@
 use Rattle.std.proofs.Common.{◌∷◌}
-use Rattle.line_rule.proofs.Handings.{hands_joined, cut_log, joined_newest, served_oldest, told_apart, told_last, own_stage, walked_is, queue_coded}
+use Rattle.line_rule.proofs.Handings.{hands_joined, cut_log, joined_newest, served_oldest, told_apart, told_last, told_dropped, own_stage, walked_is, queue_coded}
 use Rattle.line_rule.proofs.Owed.{owing_seen}
 use Rattle.line_rule.proofs.second_law.handing_on.Goals as goal
 
@@ -29,3 +29,6 @@ returns-clause-walked g a z s r = walked_is _ z.clients s r
 
 pub returns-clause-coded : goal.returns-clause-coded
 returns-clause-coded g a z s r = queue_coded _ z.clients s r
+
+pub returns-clause-dropped : goal.returns-clause-dropped
+returns-clause-dropped g a z s id c w lead x p back r (mine, sees) = told_dropped _ z.clients s r id c mine w lead x p back sees

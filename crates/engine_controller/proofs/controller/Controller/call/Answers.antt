@@ -1,8 +1,10 @@
 use Rattle.std.proofs.Common.{arith, sym, ◌∙◌, subst}
+use Rattle.engine_controller.specs.Numbers.{numbers_of, action_of}
 use Rattle.engine_controller.specs.Rule.{MayCall}
 use Rattle.engine_controller.proofs.Moves.{sees_turn}
 use Rattle.engine_controller.proofs.Steps.{no_notes}
-use Rattle.engine_controller.proofs.Tellings.{sees_follows, follows_trans, follows_view, follows_asked, follows_makes}
+use Rattle.engine_controller.proofs.Tellings.{sees_follows, follows_trans, follows_client, follows_view, follows_asked, follows_makes}
+use Rattle.engine_controller.proofs.Unchanged.{noted_by}
 use Rattle.engine_controller.proofs.controller.Controller.call.Goals as goal
 
 pub load-found-requires : goal.load-found-requires
@@ -29,6 +31,11 @@ exchange-requires-clause-view g c = follows_view _ _ c.loop.invariant.1
 
 pub exchange-requires-clause-may : goal.exchange-requires-clause-may
 exchange-requires-clause-may g c = subst (MayCall c.args.action) (sym (follows_asked _ _ c.loop.invariant.1)) c.requires.may
+
+pub exchange-requires-clause-held_up : goal.exchange-requires-clause-held_up
+exchange-requires-clause-held_up g c =
+    let found = c.loop.found in
+    noted_by c.args.client _ found.held_up c.after-wait.result.0.held_up (numbers_of found) (action_of c.args.action) c.after-wait.ensures.held_up (c.requires.client ∙ sym (follows_client _ _ c.loop.invariant.1))
 
 pub returns-in-Ok-clause-cell : goal.returns-in-Ok-clause-cell
 returns-in-Ok-clause-cell g c = c.exchange.ensures.cell ∙ c.loop.invariant.0

@@ -1,4 +1,4 @@
-use Rattle.std.proofs.Common.{◌≡◌, ◌≢◌, ℕ, Option, Some, None, refl, sym, ap, ◌∙◌, rules}
+use Rattle.std.proofs.Common.{◌≡◌, ℕ, Option, Some, None, refl, sym, ap, ◌∙◌}
 use Rattle.std.specs.Prelude.{IfSome}
 use Rattle.std.specs.Option.{unwrap_or}
 use Rattle.crossbeam_utils.specs.Seq.{cell_view}
@@ -7,6 +7,7 @@ use Rattle.engine_controller.specs.Rule.{seen_in, history_of}
 use Rattle.engine_controller.specs.Looks.{look_of, look_at}
 use Rattle.engine_controller.specs.Numbers.{numbers_of}
 use Rattle.engine_controller.specs.Passes.{client_of, seen_by}
+use Rattle.engine_controller.proofs.Moves.{is_free_at, is_not_free}
 use Rattle.engine_controller.proofs.Tellings.{sees_follows, follows_makes, made_client, made_view, made_stop, made_slow, made_ends, ends_told}
 use Rattle.engine_controller.proofs.Unchanged.{unslowed}
 use Rattle.engine_controller.proofs.controller.Controller.delay.Goals as goal
@@ -19,31 +20,33 @@ last_moment (Some moment) = refl
 pub ask_unslowed-found-requires-clause-picked : goal.ask_unslowed-found-requires-clause-picked
 ask_unslowed-found-requires-clause-picked g c = (unwrap_or (g.Time.Clock.last c.args.clock.now) 0, last_moment (g.Time.Clock.last c.args.clock.now), refl)
 
-pub returns-then-found-eq0-clause-own : goal.returns-then-found-eq0-clause-own
-returns-then-found-eq0-clause-own g c =
+pub returns-then-found-eq0-2-clause-own : goal.returns-then-found-eq0-2-clause-own
+returns-then-found-eq0-2-clause-own g c =
     let own = c.requires.own in
     let told = c.ask_unslowed-found.ensures in
-    let made = told.asks.made c.if-found-eq0.true in (
+    let made = told.asks.made (is_free_at c.ask_unslowed-found.result c.if-found-eq0.true c.if-found-eq0-2.true) in (
       record {
         cell = told.cell ∙ own.cell;
         view = made_view _ _ _ _ made;
+        number = own.number ∙ sym (made_client _ _ _ _ made);
         stopping = own.stopping ∙ sym (made_stop _ _ _ _ made);
         slowing = own.slowing ∙ sym (made_slow _ _ _ _ made);
       },
       made_client _ _ _ _ made,
     )
 
-pub returns-then-found-eq0-clause-asked : goal.returns-then-found-eq0-clause-asked
-returns-then-found-eq0-clause-asked g c =
+pub returns-then-found-eq0-2-clause-asked : goal.returns-then-found-eq0-2-clause-asked
+returns-then-found-eq0-2-clause-asked g c =
     let old = c.args.pass.now in
     let last = g.Time.Clock.last c.args.clock.now in
     let now = unwrap_or last 0 in
     let bytes = c.args.bytes in
     let found = c.ask_unslowed-found.result in
-    let none = c.if-found-eq0.true in
-    let wait : 0 ≡ (after_delay (numbers_of found) now bytes).wait = sym (ap (λ a. a.wait) (unslowed (numbers_of found) now bytes none)) in
-    let told : look_of c.new.result ≡ look_at (numbers_of found) (delay now bytes) = c.new.ensures ∙ (λ i. record { stops = found.stops; delays = sym none i; wait = wait i }) in
-    let made = c.ask_unslowed-found.ensures.asks.made none in
+    let no_stops = c.if-found-eq0.true in
+    let no_delays = c.if-found-eq0-2.true in
+    let wait : 0 ≡ (after_delay (numbers_of found) now bytes).wait = sym (ap (λ a. a.wait) (unslowed (numbers_of found) now bytes no_delays)) in
+    let told : look_of c.new.result ≡ look_at (numbers_of found) (delay now bytes) = c.new.ensures ∙ (λ i. record { stops = sym no_stops i; delays = sym no_delays i; wait = wait i }) in
+    let made = c.ask_unslowed-found.ensures.asks.made (is_free_at found no_stops no_delays) in
     (now, last_moment last, ends_told (client_of old) (seen_by old) (delay now bytes) (look_at (numbers_of found) (delay now bytes)) (look_of c.new.result) (history_of (seen_in (cell_view c.ask_unslowed-found.new.seat))) told (made_ends _ _ _ _ made))
 
 pub returns-clause-own : goal.returns-clause-own
@@ -51,11 +54,12 @@ returns-clause-own g c =
     let own = c.requires.own in
     let asked = c.ask_unslowed-found.ensures in
     let told = c.call.ensures in
-    let slowed : c.ask_unslowed-found.result.delays ≢ 0 = search rules in
-    let made = follows_makes _ _ _ _ _ (sees_follows _ _ _ _ (asked.asks.other slowed)) told.made.1 in (
+    let busy = is_not_free c.ask_unslowed-found.result c.else-found-eq0.either in
+    let made = follows_makes _ _ _ _ _ (sees_follows _ _ _ _ (asked.asks.other busy)) told.made.1 in (
       record {
         cell = told.cell ∙ asked.cell ∙ own.cell;
         view = made_view _ _ _ _ made;
+        number = own.number ∙ sym (made_client _ _ _ _ made);
         stopping = own.stopping ∙ sym (made_stop _ _ _ _ made);
         slowing = own.slowing ∙ sym (made_slow _ _ _ _ made);
       },
@@ -67,7 +71,7 @@ returns-clause-asked g c =
     let old = c.args.pass.now in
     let now = c.now-now.result in
     let bytes = c.args.bytes in
-    let slowed : c.ask_unslowed-found.result.delays ≢ 0 = search rules in
+    let busy = is_not_free c.ask_unslowed-found.result c.else-found-eq0.either in
     let told = c.call.ensures.made in
-    let made = follows_makes _ _ _ _ _ (sees_follows _ _ _ _ (c.ask_unslowed-found.ensures.asks.other slowed)) told.1 in
+    let made = follows_makes _ _ _ _ _ (sees_follows _ _ _ _ (c.ask_unslowed-found.ensures.asks.other busy)) told.1 in
     (now, c.now-now.ensures, ends_told (client_of old) (seen_by old) (delay now bytes) (look_at (numbers_of told.0) (delay now bytes)) (look_of c.call.result) (history_of (seen_in (cell_view c.call.new.seat))) told.2 (made_ends _ _ _ _ made))

@@ -16,7 +16,7 @@ loop-known-init g c =
 pub split-seat-requires : goal.split-seat-requires
 split-seat-requires g c =
     let i = c.loop-known.invariant in
-    record { cell = i.1; rule = cuts _ c.loop-known._known (omega (arith, c.loop-known-test.true, c.requires.clients.1)) _ i.2 }
+    record { cell = i.1; rule = cuts _ c.loop-known.known (omega (arith, c.loop-known-test.true, c.requires.clients.1)) _ i.2 }
 
 pub loop-known-preserved : goal.loop-known-preserved
 loop-known-preserved g c =
@@ -24,20 +24,20 @@ loop-known-preserved g c =
     let items = c.in_ok-push.ensures.items in
     let cut = c.split-seat.ensures in
     let passes : List Pass = c.loop-known.passes.items in
-    let pushed : Pass = record { seat = c.split-seat.result; stopping = false; slowing = false } in (
-      length_snoc passes _ pushed c.loop-known._known items i.0,
+    let pushed : Pass = record { seat = c.split-seat.result; number = c.loop-known.known + 1; stopping = false; slowing = false } in (
+      length_snoc passes _ pushed c.loop-known.known items i.0,
       cut.kept.0 ∙ i.1,
-      fewer_is c.loop-known._known _ _ cut.kept.1 i.2,
+      fewer_is c.loop-known.known _ _ cut.kept.1 i.2,
       each_snoc
-          (λ j (r : Pass). (r.seat.table_id ≡ c.in_ok-cell.cell.table.shared.table_id) × (cell_view r.seat ≡ client_view (j + 1) []) × (r.stopping ≡ false) × (r.slowing ≡ false))
+          (λ j (r : Pass). (r.seat.table_id ≡ c.in_ok-cell.cell.table.shared.table_id) × (cell_view r.seat ≡ client_view (j + 1) []) × (r.number ≡ j + 1) × (r.stopping ≡ false) × (r.slowing ≡ false))
           passes _ pushed items i.3
-          (cut.given.0 ∙ i.1, next_is c.loop-known._known (length passes) _ _ cut.given.1 i.2 i.0, refl, refl),
+          (cut.given.0 ∙ i.1, next_is c.loop-known.known (length passes) _ _ cut.given.1 i.2 i.0, ap (λ n. n + 1) (sym i.0), refl, refl),
     )
 
 pub returns : goal.returns
 returns g c =
     let i = c.loop-known.invariant in
-    let all : c.loop-known._known ≡ c.args.clients = omega (arith, c.loop-known.auto._known-end, c.loop-known-test.false) in
+    let all : c.loop-known.known ≡ c.args.clients = omega (arith, c.loop-known.auto.known-end, c.loop-known-test.false) in
     record {
       new = record {
         opened_for = refl;
@@ -47,8 +47,9 @@ returns g c =
               record {
                 cell = own.0;
                 view = client_view_is (cell_view p.seat) (j + 1) [] own.1;
-                stopping = own.2 ∙ sym (ap (λ v. holds_stop (tokens_of (client_in v) (history_of (seen_in v)))) own.1);
-                slowing = own.3 ∙ sym (ap (λ v. holds_slow (tokens_of (client_in v) (history_of (seen_in v)))) own.1);
+                number = own.2 ∙ sym (ap client_in own.1);
+                stopping = own.3 ∙ sym (ap (λ v. holds_stop (tokens_of (client_in v) (history_of (seen_in v)))) own.1);
+                slowing = own.4 ∙ sym (ap (λ v. holds_slow (tokens_of (client_in v) (history_of (seen_in v)))) own.1);
               },
               ap client_in own.1,
               ap (λ v. history_of (seen_in v)) own.1,

@@ -8,5 +8,5 @@ use Rattle.engine_controller.proofs.controller.Controller.open.Given as goal
 -- the passes so far are those of the first clients, and the rest covers all others
 abbrev pub invariant-loop-known : goal.invariant-loop-known
 invariant-loop-known g l =
-    (length l.passes.items ≡ l._known) × (l.rest.table_id ≡ l.cell.table.shared.table_id) × (cell_view l.rest ≡ others l._known)
-    × ((i : ℕ) (p : Pass) → slice_get l.passes.items i ≡ Some p → (p.seat.table_id ≡ l.cell.table.shared.table_id) × (cell_view p.seat ≡ client_view (i + 1) []) × (p.stopping ≡ false) × (p.slowing ≡ false))
+    (length l.passes.items ≡ l.known) × (l.rest.table_id ≡ l.cell.table.shared.table_id) × (cell_view l.rest ≡ others l.known)
+    × ((i : ℕ) (p : Pass) → slice_get l.passes.items i ≡ Some p → (p.seat.table_id ≡ l.cell.table.shared.table_id) × (cell_view p.seat ≡ client_view (i + 1) []) × (p.number ≡ i + 1) × (p.stopping ≡ false) × (p.slowing ≡ false))

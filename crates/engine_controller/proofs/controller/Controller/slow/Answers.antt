@@ -10,6 +10,7 @@ returns-clause-own g c =
       record {
         cell = told.cell ∙ own.cell;
         view = made_view _ _ _ _ made;
+        number = own.number ∙ sym (made_client _ _ _ _ made);
         stopping = own.stopping ∙ sym (made_stop _ _ _ _ made);
         slowing = sym (made_slow _ _ _ _ made);
       },

@@ -3,19 +3,19 @@ use Rattle.std.specs.List.{AllByRecursion}
 use Rattle.line_rule.specs.declared.view.QueuedWriter.{QueuedWriter}
 use Rattle.line_rule.specs.Chain.{all_answers}
 use Rattle.line_rule.specs.Rule.{last_run}
-use Rattle.line_writers.specs.Seats.{bound_of, about_of, client_of, clients_of, answers_told, told_in_first}
-use Rattle.line_writers.specs.Rooms.{HasRoom}
+use Rattle.line_writers.specs.Seats.{bound_of, about_of, clients_of, answers_told}
 use Rattle.engine_controller.specs.Passes.{seen_by}
 use Rattle.engine_parts.specs.declared.requests.Request.{Request}
 use Rattle.engine_parts.specs.Handled.{seen_for}
 use Rattle.engine_parts.specs.Led.{IsLedGroup, LeadsBy}
 use Rattle.engine_parts.specs.Handled.{IsReplyAt}
-use Rattle.engine_groups.proofs.Leads.{asked_own, belongs_as, has_as, has_led, leads_by, noted_as, of_list, own_now, own_reply_at, shown_as, wanted_in}
+use Rattle.engine_groups.proofs.Leads.{asked_own, has_led, leads_by, noted_as, of_list, own_now, own_reply_at, shown_as}
+use Rattle.engine_groups.proofs.Stalls.{group_alike, group_told, leads_again}
 use Rattle.engine_parts.proofs.Paying.{pays_length}
 use Rattle.engine_parts.proofs.Whole.{led_of}
 use Rattle.engine_groups.proofs.engine.GroupEngine.answer_group.Goals as goal
 use Rattle.engine_parts.specs.Handled.{handled_with}
-use Rattle.engine_groups.specs.Law.{LeadershipIsStaged}
+use Rattle.engine_groups.specs.Law.{LeadershipIsStaged, wanted_in}
 use Rattle.engine_groups.specs.Leaving.{HasAnsweredGroup}
 use Rattle.engine_groups.proofs.Publishing.{to_end}
 use Rattle.engine_parts.specs.Runs.{run_of}
@@ -32,7 +32,8 @@ serve-requires-clause-served g c =
     let low : 0 < own.by = subst (λ (k : ℕ). 0 < k) (sym G.2.1) belongs.1 in let high : own.by ≤ n = subst (λ (k : ℕ). k ≤ n) (sym G.2.1) belongs.2 in
     let few = c.group.ensures.few in
     let by_number : own.by ≡ v.number = G.2.1 ∙ (c.group.ensures.client ∙ S.number) in
-    let room = c.group.ensures.room.1 in let replies = S.can_lead.lists.1 in
+    let replies = S.can_lead.lists.1 in
+    let led : IsLedGroup (bound_of e.list) n c.group.new.requests.list.items = subst (IsLedGroup (bound_of e.list) n) (sym G.3) (led_of c.codes_stand_for_items.ensures (λ q code h. h.0) (bound_of e.list) n own G.0 G.1 G.2.4 low high G.2.3) in
     record {
       seats = record {
         is_engine = S.is_engine;
@@ -44,12 +45,21 @@ serve-requires-clause-served g c =
         number = (subst (λ (k : ℕ). 0 < k) by_number low, subst (λ (k : ℕ). k ≤ n) by_number high);
       };
       layout = S.can_lead.layout;
-      led = subst (IsLedGroup (bound_of e.list) n) (sym G.3) (led_of c.codes_stand_for_items.ensures (λ q code h. h.0) (bound_of e.list) n own G.0 G.1 G.2.4 low high G.2.3);
+      led = led;
       leads = subst (λ (z : ℕ × List (ℕ × Request)). LeadsBy z.0 z.1) (λ i. (by_number i, sym G.3 i)) (leads_by own G.0);
       notes = noted_as (about_of e.list).controller.value e.controller c.group.new.requests.list.items S.is_engine.controller c.group.ensures.lawful;
       few = few;
       no_replies = replies.1;
       room = fits_in _ n _ few replies.2;
+      walk_room = c.group.ensures.room.0;
+      belongs = belongs;
+      own = own;
+      group = G.0;
+      left = G.1;
+      seen = L.1;
+      leads_group = leads_again (wanted_in e.list) n (bound_of e.list) own G.0 G.1 L.1 (answers_told v.writer) c.group.new.writer G.2;
+      asks_are = G.3;
+      alike = group_alike c.codes_stand_for_items.ensures {wanted = wanted_in e.list} (λ q code h. h.0) (bound_of e.list) own G.0 G.1 G.2.4 c.group.new.requests.list.items led.rest led.first G.3 led.leads;
     }
 
 pub returns-clause-ends : goal.returns-clause-ends
@@ -64,9 +74,10 @@ returns-clause-ends g c =
     let led = has_led about leadership pub_now own G.0 L.1 c.group.new.requests.list.items w.lists.replies.list.items G.3 served.in_order
     hs.path (of_list g.Versions.Table e E.controller E.start L.1 L.4) served.handed_back (shown_as e.controller about.controller.value (handled_with c.group.new.requests.list.items w.lists.replies.list.items) (sym E.controller) served.shown) in
     let t = led.is_paid in let all = all_answers own t.own_reply t.gs in
-    let mine : answers_told c.group.new.writer ≡ answers_told v.writer = ap told_in_first G.2.0 in
-    let has = has_as (wanted_in e.list) n (bound_of e.list) own G.0 G.1 L.1 (answers_told v.writer) c.group.new.writer w.writer served.writer mine G.2 in
-    let told1 : answers_told w.writer ≡ answers_told v.writer = ap answers_told served.writer ∙ mine in
+    let mine : answers_told c.group.new.writer ≡ answers_told v.writer = group_told (wanted_in e.list) n (bound_of e.list) own G.0 G.1 L.1 (answers_told v.writer) c.group.new.writer G.2 in
+    let keeps = served.writer in
+    let has = keeps.1 own G.0 G.1 L.1 (leads_again (wanted_in e.list) n (bound_of e.list) own G.0 G.1 L.1 (answers_told v.writer) c.group.new.writer G.2) in
+    let told1 : answers_told w.writer ≡ answers_told v.writer = keeps.0.2 ∙ mine in
     let start_is = E.start ∙ sym E.start_number in
     let few = c.group.ensures.few in
     let l = pays_length c.group.new.requests.list.items w.lists.replies.list.items served.in_order in
@@ -79,8 +90,8 @@ returns-clause-ends g c =
       start_is = served.start;
       starts = S.start;
       table_is = ap (λ t. t.value) served.table ∙ S.table;
-      writer = belongs_as e.list c.group.new.writer w.writer served.writer belongs;
-      client = ap client_of served.writer ∙ (c.group.ensures.client ∙ S.number);
+      writer = keeps.0.0;
+      client = keeps.0.1 ∙ (c.group.ensures.client ∙ S.number);
       group = G.0;
       left = G.1;
       gs = t.gs;
@@ -96,7 +107,7 @@ returns-clause-ends g c =
       requests = (w.lists.requests.list.ok.0 ∙ ap length served.taken, served.taken, subst (λ (k : ℕ). n ≤ k) (sym requests_room) S.can_lead.lists.0.2);
       replies_few = subst (λ (k : ℕ). k ≤ n) (sym (w.lists.replies.list.ok.0 ∙ l)) few;
       replies_room = subst (λ (k : ℕ). n ≤ k) (sym served.replies_room) S.can_lead.lists.1.2;
-      room = subst (HasRoom n) (sym served.room_same) c.group.ensures.room.0;
+      room = served.walk_room;
       has_asked = asked_own v.number (answers_told v.writer) (answers_told v.writer ++ (own.asked, t.own_reply) ∷ []) own.asked t.own_reply (seen_by v.pass) (seen_by w.pass) served.known refl c.requires.has_asked served.delays own_at;
     } in
     let now : LeadershipIsStaged g.Versions.Table about leadership c.serve.result.1 parts st.published (L.1 ++ all) = record { note = hs.note; path = led.path; turn = hs.turn } in

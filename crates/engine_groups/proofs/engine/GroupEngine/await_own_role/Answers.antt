@@ -4,7 +4,7 @@ use Rattle.line_writers.specs.Second.{HasPipelinedRole}
 use Rattle.line_writers.specs.Seats.{IsIn, answers_told}
 use Rattle.engine_parts.specs.declared.requests.Request.{Request}
 use Rattle.engine_parts.specs.declared.requests.Answer.{Answer}
-use Rattle.engine_groups.specs.Law.{kept_in, law_in}
+use Rattle.engine_groups.specs.Law.{dropped_in, kept_in, law_in}
 use Rattle.engine_groups.proofs.Answered.{begins_on, begins_self}
 use Rattle.engine_groups.proofs.Leads.{linked_told}
 use Rattle.engine_groups.proofs.engine.GroupEngine.await_own_role.Goals as goal
@@ -35,8 +35,8 @@ returns-in-LogLeader-clause-role g c =
     let v = c.loop.invariant in let list = c.args.self.now.list in let w0 = c.args.writer.now in let w1 = c.loop.writer in
     let told1 : answers_told w1 ≡ answers_told w0 = linked_told (law_in g.Versions.Table list) w1.client w1.task v.asked (answers_told w0) w1.seat.me (v.is_in v.asked v.was_in) in (
       c.await_pipelined_role.ensures.client.1,
-      (λ q was. subst (λ (mine : List (Request × Answer)). HasPipelinedRole (law_in g.Versions.Table list) (kept_in list) q mine (LogLeader c.in-LogLeader.leadership) c.await_pipelined_role.new.writer) told1
-          (subst (λ r. HasPipelinedRole (law_in g.Versions.Table list) (kept_in list) q (answers_told w1) r c.await_pipelined_role.new.writer) c.in-LogLeader.is
+      (λ q was. subst (λ (mine : List (Request × Answer)). HasPipelinedRole (law_in g.Versions.Table list) (kept_in list) (dropped_in list) q mine (LogLeader c.in-LogLeader.leadership) c.await_pipelined_role.new.writer) told1
+          (subst (λ r. HasPipelinedRole (law_in g.Versions.Table list) (kept_in list) (dropped_in list) q (answers_told w1) r c.await_pipelined_role.new.writer) c.in-LogLeader.is
           (c.await_pipelined_role.ensures.role q (subst (λ (mine : List (Request × Answer)). IsIn (law_in g.Versions.Table list) q mine w1) (sym told1) (v.is_in q was))))),
     )
 
@@ -45,8 +45,8 @@ returns-in-Done-clause-role g c =
     let v = c.loop.invariant in let list = c.args.self.now.list in let w0 = c.args.writer.now in let w1 = c.loop.writer in
     let told1 : answers_told w1 ≡ answers_told w0 = linked_told (law_in g.Versions.Table list) w1.client w1.task v.asked (answers_told w0) w1.seat.me (v.is_in v.asked v.was_in) in (
       c.await_pipelined_role.ensures.client.1,
-      (λ q was. subst (λ (mine : List (Request × Answer)). HasPipelinedRole (law_in g.Versions.Table list) (kept_in list) q mine (Done c.in-Done.reply) c.await_pipelined_role.new.writer) told1
-          (subst (λ r. HasPipelinedRole (law_in g.Versions.Table list) (kept_in list) q (answers_told w1) r c.await_pipelined_role.new.writer) c.in-Done.is
+      (λ q was. subst (λ (mine : List (Request × Answer)). HasPipelinedRole (law_in g.Versions.Table list) (kept_in list) (dropped_in list) q mine (Done c.in-Done.reply) c.await_pipelined_role.new.writer) told1
+          (subst (λ r. HasPipelinedRole (law_in g.Versions.Table list) (kept_in list) (dropped_in list) q (answers_told w1) r c.await_pipelined_role.new.writer) c.in-Done.is
           (c.await_pipelined_role.ensures.role q (subst (λ (mine : List (Request × Answer)). IsIn (law_in g.Versions.Table list) q mine w1) (sym told1) (v.is_in q was))))),
     )
 
@@ -62,8 +62,8 @@ loop-preserved g c =
       belongs = c.await_pipelined_role.ensures.client.1;
       asked = v.asked;
       was_in = v.was_in;
-      is_in = λ q was. subst (λ (mine : List (Request × Answer)). HasPipelinedRole (law_in g.Versions.Table list) (kept_in list) q mine (Parallel) c.await_pipelined_role.new.writer) told1
-          (subst (λ r. HasPipelinedRole (law_in g.Versions.Table list) (kept_in list) q (answers_told w1) r c.await_pipelined_role.new.writer) c.in-Parallel.is
+      is_in = λ q was. subst (λ (mine : List (Request × Answer)). HasPipelinedRole (law_in g.Versions.Table list) (kept_in list) (dropped_in list) q mine (Parallel) c.await_pipelined_role.new.writer) told1
+          (subst (λ r. HasPipelinedRole (law_in g.Versions.Table list) (kept_in list) (dropped_in list) q (answers_told w1) r c.await_pipelined_role.new.writer) c.in-Parallel.is
           (c.await_pipelined_role.ensures.role q (subst (λ (mine : List (Request × Answer)). IsIn (law_in g.Versions.Table list) q mine w1) (sym told1) (v.is_in q was))));
       ours = c.work.ensures.ours;
       ready = record { idle = W.idle; none_launched = W.same ∙ v.ready.none_launched };
@@ -76,6 +76,6 @@ unreachable-requires g c =
     let v = c.loop.invariant in let list = c.args.self.now.list in let w0 = c.args.writer.now in let w1 = c.loop.writer in
     let told1 : answers_told w1 ≡ answers_told w0 = linked_told (law_in g.Versions.Table list) w1.client w1.task v.asked (answers_told w0) w1.seat.me (v.is_in v.asked v.was_in) in
     let q = v.asked in let was = v.was_in in
-    subst (λ (mine : List (Request × Answer)). HasPipelinedRole (law_in g.Versions.Table list) (kept_in list) q mine (MemLeader c.in_default.field-0) c.await_pipelined_role.new.writer) told1
-    (subst (λ r. HasPipelinedRole (law_in g.Versions.Table list) (kept_in list) q (answers_told w1) r c.await_pipelined_role.new.writer) c.in_default.is
+    subst (λ (mine : List (Request × Answer)). HasPipelinedRole (law_in g.Versions.Table list) (kept_in list) (dropped_in list) q mine (MemLeader c.in_default.field-0) c.await_pipelined_role.new.writer) told1
+    (subst (λ r. HasPipelinedRole (law_in g.Versions.Table list) (kept_in list) (dropped_in list) q (answers_told w1) r c.await_pipelined_role.new.writer) c.in_default.is
     (c.await_pipelined_role.ensures.role q (subst (λ (mine : List (Request × Answer)). IsIn (law_in g.Versions.Table list) q mine w1) (sym told1) (v.is_in q was))))

@@ -2,6 +2,7 @@ use Rattle.std.proofs.Common.{rules, ◌≡◌, ℕ, ◌≤◌, ◌<◌, ◌+◌
 use Rattle.model_base.specs.declared.limits.TheConstants.{MAX_CLIENTS}
 use Rattle.model_base.specs.History.{max_sequence}
 use Rattle.log_writer.specs.Words.{disk_of, fault_of}
+use Rattle.line_rule.specs.declared.words.TheConstants.{STALL}
 use Rattle.line_writers.specs.Rooms.{AllReady}
 use Rattle.line_writers.specs.Seats.{clients_of}
 use Rattle.model_accounts.specs.Accounts.{newcomer}
@@ -33,7 +34,7 @@ low_enough n most k is few = omega arith
 not_none : (n k : ℕ) → k ≡ n → 0 < n → 0 < k
 not_none n k is some = omega arith
 
-few_enough : (n k : ℕ) → k ≡ n → n ≤ MAX_CLIENTS → k < 255
+few_enough : (n k : ℕ) → k ≡ n → n ≤ MAX_CLIENTS → k < STALL
 few_enough n k is few = omega arith
 
 next_place : (i : ℕ) → 1 + i ≡ i + 1

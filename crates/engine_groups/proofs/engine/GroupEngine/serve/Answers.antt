@@ -2,6 +2,7 @@ use Rattle.std.proofs.Common.{◌≡◌, ◌≤◌, ◌<◌, ◌-◌, ℕ, Bool,
 use Rattle.std.specs.List.{AllByRecursion, AllZip}
 use Rattle.model_base.specs.Controller.{ControllerCall, Look}
 use Rattle.model_base.specs.History.{max_sequence}
+use Rattle.line_rule.specs.declared.words.TheConstants.{STALL}
 use Rattle.line_writers.specs.Seats.{bound_of, about_of, clients_of}
 use Rattle.engine_controller.specs.Delays.{delays_of}
 use Rattle.engine_controller.specs.Looks.{look_of}
@@ -13,7 +14,7 @@ use Rattle.engine_parts.specs.declared.requests.Delay.{Delay}
 use Rattle.engine_parts.specs.declared.requests.Request.{Request}
 use Rattle.engine_parts.specs.declared.requests.Answer.{Answer}
 use Rattle.engine_parts.specs.Asking.{HasAskedFor, OnlyLooks, all_seen}
-use Rattle.engine_parts.specs.Handled.{HandsBack, InOrder, IsHeldUp, IsNoted, commit_requests_of, handled_with, seen_at}
+use Rattle.engine_parts.specs.Handled.{EndsInDelay, HandsBack, InOrder, IsHeldUp, IsNoted, commit_requests_of, handled_with, seen_at}
 use Rattle.engine_parts.specs.LogLaw.{LogCovers, Past}
 use Rattle.engine_parts.specs.Led.{AreAlike, GoesOnWith, IsLedGroup, LeadsBy}
 use Rattle.engine_parts.specs.Numbering.{AreHelpers, others_in}
@@ -38,7 +39,7 @@ as_is u = u
 -- Numbers, and who leads. A tactic reads all that is known where it is called, so these are apart from the goals that
 -- use them.
 
-few_enough : (k m n : ℕ) → k ≡ m → m ≤ n → n < 255 → k < 255
+few_enough : (k m n : ℕ) → k ≡ m → m ≤ n → n < STALL → k < 255
 few_enough k m n is low few = omega arith
 
 low_enough : (k m n room : ℕ) → k ≡ m → m ≤ n → n ≤ room → k ≤ room
@@ -71,15 +72,30 @@ index-requires g c =
     let L = c.args.client.now.lists.requests.list in let led = c.requires.served.led in
     some_there L.items led.rest led.first L.len L.ok.0 led.leads
 
-pub may_proceed-proceeds-requires : goal.may_proceed-proceeds-requires
-may_proceed-proceeds-requires g c = record { pass = c.ask-look.ensures.pass.0 }
+pub may_go_on-proceeds-requires-clause-engine : goal.may_go_on-proceeds-requires-clause-engine
+may_go_on-proceeds-requires-clause-engine g c = c.requires.served.seats.is_engine.controller
+
+pub may_go_on-proceeds-requires-clause-pass : goal.may_go_on-proceeds-requires-clause-pass
+may_go_on-proceeds-requires-clause-pass g c =
+    let A = c.ask-look.ensures in let n : Look = look_of c.ask-look.result in let known : List ControllerCall = seen_by c.ask-look.new.pass in let h = A.asked in
+    (A.pass.0, subst (λ (k : ℕ). EndsInDelay k n known) (sym A.pass.1) (h.before, h.now, _, h.is))
+
+pub may_go_on-proceeds-requires-clause-leads : goal.may_go_on-proceeds-requires-clause-leads
+may_go_on-proceeds-requires-clause-leads g c =
+    let S = c.requires.served in let e = c.args.self.now in let v = c.args.client.now in
+    let xs : List (ℕ × Request) = v.lists.requests.list.items in
+    let L = v.lists.requests.list in let new : List (ℕ × Request) = c.ask-look.new.requests in
+    let left : List (ℕ × Request) = take L.len (new ++ drop (length new) L.items) in
+    let left_is : left ≡ all_seen xs = put_back xs new L.len L.ok.0 (c.ask-look.ensures.requests ∙ ap all_seen c.deref_mut-2.ensures.value) in
+    let flag = ap (λ o. o.no_slowdown) (first_flag (bound_of e.list) (clients_of e.list) xs S.led left c.index.result.now left_is c.index.ensures ∙ ap (λ (r : Request). r.options) (sym c.as_request.ensures)) in
+    ((S.belongs, (S.own, S.group, S.left, S.seen, S.leads_group, as_many xs left left_is ∙ ap length S.asks_are, S.alike ∙ flag)), S.walk_room)
 
 pub note-requires : goal.note-requires
-note-requires g c = record { own = c.may_proceed-proceeds.ensures.pass.0 }
+note-requires g c = record { own = c.may_go_on-proceeds.ensures.pass.0 }
 
 pub refuse_stalled-requires-clause-pass : goal.refuse_stalled-requires-clause-pass
 refuse_stalled-requires-clause-pass g c =
-    let N = c.note.ensures in let no = c.may_proceed-proceeds.ensures.refused c.if-not-proceeds.true in
+    let N = c.note.ensures in let no = c.may_go_on-proceeds.ensures.refused c.if-not-proceeds.true in
     (N.own.0, N.seen ∙ (no.2 ∙ sym (ap seen_by c.of.ensures)))
 
 pub refuse_stalled-requires-clause-empty : goal.refuse_stalled-requires-clause-empty
@@ -144,7 +160,7 @@ returns-then-not-proceeds-clause-served g c =
     let S = c.requires.served in let q = S.seats in let e = c.args.self.now in let v = c.args.client.now in
     let xs : List (ℕ × Request) = v.lists.requests.list.items in let k : ℕ = v.number in let was : List ControllerCall = seen_by v.pass in
     let asked : List ControllerCall = seen_by_note c.args.leadership.asked in
-    let A = c.ask-look.ensures in let N = c.note.ensures in let R = c.refuse_stalled.ensures in let no = c.may_proceed-proceeds.ensures.refused c.if-not-proceeds.true in
+    let A = c.ask-look.ensures in let N = c.note.ensures in let R = c.refuse_stalled.ensures in let no = c.may_go_on-proceeds.ensures.refused c.if-not-proceeds.true in
     let n : Look = look_of c.ask-look.result in let known : List ControllerCall = seen_by c.ask-look.new.pass in
     let L = v.lists.requests.list in let new : List (ℕ × Request) = c.ask-look.new.requests in let same = c.deref_mut-2.ensures.value in
     let h : HasAskedFor k was asked xs n known = subst (λ (z : ℕ × List (ℕ × Request)). HasAskedFor z.0 was asked z.1 n known) (λ i. (q.pass_number i, same i)) A.asked in
@@ -163,7 +179,7 @@ returns-then-not-proceeds-clause-served g c =
         ready = q.ready;
         seat_number = q.seat_number;
         pass = R.pass.0;
-        pass_number = R.pass.1 ∙ (N.own.1 ∙ (c.may_proceed-proceeds.ensures.pass.1 ∙ (A.pass.1 ∙ q.pass_number)));
+        pass_number = R.pass.1 ∙ (N.own.1 ∙ (c.may_go_on-proceeds.ensures.pass.1 ∙ (A.pass.1 ∙ q.pass_number)));
         number = q.number;
       };
       layout = laid (clients_of e.list) v.layout S.layout;
@@ -171,8 +187,8 @@ returns-then-not-proceeds-clause-served g c =
       number = refl;
       start = refl;
       table = refl;
-      writer = refl;
-      room_same = refl;
+      writer = c.may_go_on-proceeds.ensures.leads.0;
+      walk_room = c.may_go_on-proceeds.ensures.leads.1;
       in_order = held_order e.controller d n xs ys zip;
       handed_back = held_back e.controller d n xs ys zip;
       shown = held_shown e.controller d n known h.before is no.1 (asked_shown k was asked known xs n h) xs ys zip may h.members;
@@ -190,7 +206,7 @@ returns-then-not-proceeds-clause-leadership g c hs st =
     let S = c.requires.served in let q = S.seats in let e = c.args.self.now in let v = c.args.client.now in let about = about_of e.list in let path = c.args.leadership.held.value.path in
     let xs : List (ℕ × Request) = v.lists.requests.list.items in let k : ℕ = v.number in let was : List ControllerCall = seen_by v.pass in
     let asked : List ControllerCall = seen_by_note c.args.leadership.asked in
-    let A = c.ask-look.ensures in let N = c.note.ensures in let R = c.refuse_stalled.ensures in let no = c.may_proceed-proceeds.ensures.refused c.if-not-proceeds.true in
+    let A = c.ask-look.ensures in let N = c.note.ensures in let R = c.refuse_stalled.ensures in let no = c.may_go_on-proceeds.ensures.refused c.if-not-proceeds.true in
     let n : Look = look_of c.ask-look.result in let known : List ControllerCall = seen_by c.ask-look.new.pass in
     let L = v.lists.requests.list in let new : List (ℕ × Request) = c.ask-look.new.requests in let same = c.deref_mut-2.ensures.value in
     let h : HasAskedFor k was asked xs n known = subst (λ (z : ℕ × List (ℕ × Request)). HasAskedFor z.0 was asked z.1 n known) (λ i. (q.pass_number i, same i)) A.asked in
@@ -257,7 +273,7 @@ returns-clause-served g c =
     let S = c.requires.served in let q = S.seats in let e = c.args.self.now in let v = c.args.client.now in
     let xs : List (ℕ × Request) = v.lists.requests.list.items in let k : ℕ = v.number in let was : List ControllerCall = seen_by v.pass in
     let asked : List ControllerCall = seen_by_note c.args.leadership.asked in
-    let A = c.ask-look.ensures in let P = c.may_proceed-proceeds.ensures in let N = c.note.ensures in let H = c.log_phase-end.ensures in
+    let A = c.ask-look.ensures in let P = c.may_go_on-proceeds.ensures in let N = c.note.ensures in let H = c.log_phase-end.ensures in
     let n : Look = look_of c.ask-look.result in let known : List ControllerCall = seen_by c.ask-look.new.pass in
     let L = v.lists.requests.list in let new : List (ℕ × Request) = c.ask-look.new.requests in let same = c.deref_mut-2.ensures.value in
     let h : HasAskedFor k was asked xs n known = subst (λ (z : ℕ × List (ℕ × Request)). HasAskedFor z.0 was asked z.1 n known) (λ i. (q.pass_number i, same i)) A.asked in
@@ -290,8 +306,8 @@ returns-clause-served g c =
       number = refl;
       start = refl;
       table = refl;
-      writer = refl;
-      room_same = refl;
+      writer = c.may_go_on-proceeds.ensures.leads.0;
+      walk_room = c.may_go_on-proceeds.ensures.leads.1;
       in_order = order_unnoted xs ys (subst (λ l. InOrder l ys) left_is H.replies.0);
       handed_back = back_unnoted xs ys (subst (λ l. AllByRecursion HandsBack (handled_with l ys)) left_is H.replies.1);
       shown = replies_shown e.controller d xs ys H.replies.2;
@@ -309,7 +325,7 @@ returns-clause-leadership g c hs st =
     let S = c.requires.served in let q = S.seats in let E = q.is_engine in let e = c.args.self.now in let v = c.args.client.now in let about = about_of e.list in let path = c.args.leadership.held.value.path in
     let xs : List (ℕ × Request) = v.lists.requests.list.items in let k : ℕ = v.number in let was : List ControllerCall = seen_by v.pass in
     let asked : List ControllerCall = seen_by_note c.args.leadership.asked in
-    let A = c.ask-look.ensures in let P = c.may_proceed-proceeds.ensures in let N = c.note.ensures in let H = c.log_phase-end.ensures in
+    let A = c.ask-look.ensures in let P = c.may_go_on-proceeds.ensures in let N = c.note.ensures in let H = c.log_phase-end.ensures in
     let n : Look = look_of c.ask-look.result in let known : List ControllerCall = seen_by c.ask-look.new.pass in
     let L = v.lists.requests.list in let new : List (ℕ × Request) = c.ask-look.new.requests in let same = c.deref_mut-2.ensures.value in
     let h : HasAskedFor k was asked xs n known = subst (λ (z : ℕ × List (ℕ × Request)). HasAskedFor z.0 was asked z.1 n known) (λ i. (q.pass_number i, same i)) A.asked in
@@ -323,7 +339,7 @@ returns-clause-leadership g c hs st =
     let comes : ComesAfter asked (seen_at d) = subst (ComesAfter asked) (sym is) (asked_after k was asked known xs n h) in
     let alike : commit_requests_of left ≡ commit_requests_of xs = ap commit_requests_of left_is ∙ unseen_commits xs in
     let is_for : IsAskedFor (commit_requests_of left) n (seen_at d) = subst (λ (z : List CommitRequest × List ControllerCall). IsAskedFor z.0 n z.1) (λ i. (sym alike i, sym is i)) (asked_is k was asked known xs n h (bound_of e.list) (clients_of e.list) S.led S.leads) in
-    let went : List ControllerCall = seen_by c.may_proceed-proceeds.new.pass in
+    let went : List ControllerCall = seen_by c.may_go_on-proceeds.new.pass in
     let own : client_of c.ask-look.new.pass ≡ k = A.pass.1 ∙ q.pass_number in
     let flag = ap (λ o. o.no_slowdown) (first_flag (bound_of e.list) (clients_of e.list) xs S.led left c.index.result.now left_is c.index.ensures ∙ ap (λ (r : Request). r.options) (sym c.as_request.ensures)) in
     let lets : LetsProceed k n known went S.led.first.1.options.no_slowdown = subst (λ (z : ℕ × Bool). LetsProceed z.0 n known went z.1) (λ i. (own i, sym flag i)) (P.proceeds c.if-not-proceeds.false) in

@@ -2,6 +2,4 @@ use Rattle.std.proofs.Common.{◌≡◌}
 use Rattle.line_writers.proofs.line_writers.WriterList.await_from.Given as goal
 
 abbrev pub invariant-loop : goal.invariant-loop
-invariant-loop g l =
-    (goal.iterator-loop g).can_next l.iterator' × (goal.iterator-loop g).is_finite l.iterator' × (l.writer.client ≡ l.fn.writer.client) × (l.writer.seat.table_id ≡ l.fn.writer.seat.table_id)
-    × (l.writer.seat.me ≡ l.fn.writer.seat.me)
+invariant-loop g l = (goal.iterator-loop g).can_next l.iterator' × (goal.iterator-loop g).is_finite l.iterator' × (l.writer ≡ l.fn.writer)

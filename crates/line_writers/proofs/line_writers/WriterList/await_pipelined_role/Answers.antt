@@ -1,45 +1,10 @@
-use Rattle.std.proofs.Common.{⊎_elim, ℕ, ◌+◌, ◌∷◌, sym, ap, ◌∙◌, subst}
-use Rattle.line_rule.specs.declared.content.LineSlot.TheVariants.{Empty}
-use Rattle.line_rule.specs.Rule.{logs_from}
-use Rattle.line_writers.specs.declared.second.PipelinedRole.TheVariants.{LogLeader}
-use Rattle.line_writers.specs.Roles.{IsLinked, Turns, HasReply}
-use Rattle.line_writers.specs.Seats.{answers_told}
-use Rattle.line_writers.specs.Second.{Sent, Served, squad}
+use Rattle.std.proofs.Common.{◌≡◌, true, ◌⊎◌, sym, subst}
+use Rattle.line_writers.specs.declared.writer.Writer.{Writer}
+use Rattle.line_writers.specs.Seats.{about_of, clients_of, law_of, piped_of, answers_told, Belongs, IsIn}
+use Rattle.line_writers.specs.Second.{HasSentGroup}
 use Rattle.line_writers.proofs.line_writers.WriterList.await_pipelined_role.Goals as goal
 
-pub claim-requires-clause-elected : goal.claim-requires-clause-elected
-claim-requires-clause-elected g c =
-    let key = c.args.self.now.table.shared.key in let law = logs_from (g.Log.LogOfGroups.stands key.about) (g.Log.LogOfGroups.kept key.about) g.Log.LogOfGroups.number_of g.Reply.GivesRun.run_of key.log in
-    let w = c.args.writer.now in ⊎_elim
-    (λ a. (a.0, answers_told w, subst (λ task. IsLinked law w.client task a.0 (answers_told w) w.seat.me) c.in-Leads.is a.1))
-    (λ b. absurd (subst (λ task. Sent (g.Log.LogOfGroups.serves key.about) c.args.self.now.clients w.client task b.1.0 b.1.3 (squad b.1.0 b.1.1 b.1.2) w.seat.me) c.in-Leads.is b.1.4))
-    c.requires.1
-
-pub await_right-requires-clause-queued : goal.await_right-requires-clause-queued
-await_right-requires-clause-queued g c =
-    let key = c.args.self.now.table.shared.key in let law = logs_from (g.Log.LogOfGroups.stands key.about) (g.Log.LogOfGroups.kept key.about) g.Log.LogOfGroups.number_of g.Reply.GivesRun.run_of key.log in
-    let w = c.args.writer.now in ⊎_elim
-    (λ a. absurd (subst (λ task. IsLinked law w.client task a.0 (answers_told w) w.seat.me) c.in-Queues.is a.1))
-    (λ b. let s = subst (λ task. Sent (g.Log.LogOfGroups.serves key.about) c.args.self.now.clients w.client task b.1.0 b.1.3 (squad b.1.0 b.1.1 b.1.2) w.seat.me) c.in-Queues.is b.1.4 in (b.1.0, b.1.3, squad b.1.0 b.1.1 b.1.2, s.0))
-    c.requires.1
-
-pub returns-in-Leads-clause-role : goal.returns-in-Leads-clause-role
-returns-in-Leads-clause-role g c q link =
-    let key = c.args.self.now.table.shared.key in let law = logs_from (g.Log.LogOfGroups.stands key.about) (g.Log.LogOfGroups.kept key.about) g.Log.LogOfGroups.number_of g.Reply.GivesRun.run_of key.log in
-    let w = c.args.writer.now in let f = c.claim.ensures in
-    subst (λ (j : ℕ). Turns law (g.Log.LogOfGroups.kept key.about) j c.claim.new.writer.task q (answers_told w) (LogLeader c.claim.result) c.claim.new.writer.seat.me) (sym f.seat.1)
-    (f.leads q (answers_told w) (subst (λ task. IsLinked law w.client task q (answers_told w) w.seat.me) c.in-Leads.is link))
-
-pub returns-in-Queues-clause-right : goal.returns-in-Queues-clause-right
-returns-in-Queues-clause-right g c d from to mine sent =
-    let key = c.args.self.now.table.shared.key in let n : ℕ = c.args.self.now.clients in let w = c.args.writer.now in let f = c.await_right.ensures in
-    let s = subst (λ task. Sent (g.Log.LogOfGroups.serves key.about) n w.client task d mine (squad d from to) w.seat.me) c.in-Queues.is sent in
-    let r = f.right d mine (squad d from to) s.0 in
-    (r.2, subst (λ (j : ℕ). Served n j d mine (squad d from to) c.await_right.new.writer.seat.me) (sym f.seat.1) (r.0, r.1 ∙ ap (λ l. (n + 1, Empty) ∷ l) s.1))
-
-pub returns-in-Helps-clause-role : goal.returns-in-Helps-clause-role
-returns-in-Helps-clause-role g c q link =
-    let key = c.args.self.now.table.shared.key in let law = logs_from (g.Log.LogOfGroups.stands key.about) (g.Log.LogOfGroups.kept key.about) g.Log.LogOfGroups.number_of g.Reply.GivesRun.run_of key.log in
-    let w = c.args.writer.now in let f = c.await_reply.ensures in
-    let h = subst (λ task. IsLinked law w.client task q (answers_told w) w.seat.me) c.in-Helps.is link in
-    subst (λ (j : ℕ). HasReply (g.Log.LogOfGroups.kept key.about) j q (answers_told w) c.await_reply.result c.await_reply.new.writer.seat.me) (sym f.seat.1) (f.reply q (answers_told w) h.0 h.1)
+pub poll_pipelined_role-requires : goal.poll_pipelined_role-requires
+poll_pipelined_role-requires g c =
+    subst (λ (w : Writer g.row.Request.Denot g.row.Reply.Denot g.row.Log.Denot g.row.Right.Denot). Belongs c.args.self.now w × (((q : g.row.Request.Denot) × IsIn (law_of g.Reply.GivesRun.run_of g.Log.LogOfGroups c.args.self.now) q (answers_told w) w) ⊎ ((piped_of c.args.self.now ≡ true) × HasSentGroup (g.Log.LogOfGroups.serves (about_of c.args.self.now)) (clients_of c.args.self.now) w)))
+    (sym c.loop.invariant.2) c.requires

@@ -27,14 +27,14 @@ pub index-requires : goal.index-requires
 index-requires g c =
     let o = c.requires.group.1 in let k : ℕ = c.args.writer.now.client in
     let rev = ap reverse o.9 ∙ pays_back o.1 o.6 o.5 in
-    let lead : Lead g.row.Request.Denot g.row.Reply.Denot = lead_with_group o.1 o.4 (past_in c.args.writer.now.seat.me.0) o.3 o.2 in let mine = answers_told c.args.writer.now in
+    let lead : Lead g.row.Request.Denot g.row.Reply.Denot = lead_with_group o.1 o.4 (past_in c.args.writer.now.seat.me.0) o.7.0.0 o.2 in let mine = answers_told c.args.writer.now in
     let e1 : c.fill.new.writer.client ≡ k = c.fill.ensures.seat.1 in
     let filled = c.fill.ensures.filled in
     let slots1 : c.fill.new.writer.seat.me.1 ≡ (0, Empty) ∷ slots_of o.5 ((k, Told o.6) ∷ []) = filled.0 ∙ ap (λ l. (0, Empty) ∷ fills l) rev ∙ ap (λ l. (0, Empty) ∷ l) (fills_of o.1 o.6 o.5) ∙ (λ i. (0, Empty) ∷ slots_of o.5 ((o.7.1 i, Told o.6) ∷ [])) in
     let members : c.fill.new.members.items ≡ bys (heads o.5 ++ o.1 ∷ []) = filled.1 ∙ ap firsts rev ∙ members_of o.1 o.6 o.5 in
     let e2 : c.put_log.new.writer.client ≡ k = c.put_log.ensures.seat.1 ∙ e1 in
     let slots2 : c.put_log.new.writer.seat.me.1 ≡ (0, TheLog c.args.log) ∷ slots_of o.5 ((k, Told o.6) ∷ []) = c.put_log.ensures.put (slots_of o.5 ((k, Told o.6) ∷ [])) slots1 in
-    let at2 : At k (Leading lead) mine c.put_log.new.writer.seat.me = c.put_log.ensures.seat.2 ∙ c.fill.ensures.seat.2 ∙ o.7.0 in
+    let at2 : At k (Leading lead) mine c.put_log.new.writer.seat.me = c.put_log.ensures.seat.2 ∙ c.fill.ensures.seat.2 ∙ o.7.0.1 in
     let at2' = subst (λ (j : ℕ). At j (Leading lead) mine c.put_log.new.writer.seat.me) (sym e2) at2 in
     let slots2' = slots2 ∙ (λ i. (0, TheLog c.args.log) ∷ slots_of o.5 ((sym e2 i, Told o.6) ∷ [])) in
     let l = some_by (heads o.5) o.1 in let e : length c.fill.new.members.items ≡ length (bys (heads o.5 ++ o.1 ∷ [])) = ap length members in omega arith
@@ -43,14 +43,14 @@ pub hand_on-requires-clause-ready : goal.hand_on-requires-clause-ready
 hand_on-requires-clause-ready g c =
     let o = c.requires.group.1 in let k : ℕ = c.args.writer.now.client in
     let rev = ap reverse o.9 ∙ pays_back o.1 o.6 o.5 in
-    let lead : Lead g.row.Request.Denot g.row.Reply.Denot = lead_with_group o.1 o.4 (past_in c.args.writer.now.seat.me.0) o.3 o.2 in let mine = answers_told c.args.writer.now in
+    let lead : Lead g.row.Request.Denot g.row.Reply.Denot = lead_with_group o.1 o.4 (past_in c.args.writer.now.seat.me.0) o.7.0.0 o.2 in let mine = answers_told c.args.writer.now in
     let e1 : c.fill.new.writer.client ≡ k = c.fill.ensures.seat.1 in
     let filled = c.fill.ensures.filled in
     let slots1 : c.fill.new.writer.seat.me.1 ≡ (0, Empty) ∷ slots_of o.5 ((k, Told o.6) ∷ []) = filled.0 ∙ ap (λ l. (0, Empty) ∷ fills l) rev ∙ ap (λ l. (0, Empty) ∷ l) (fills_of o.1 o.6 o.5) ∙ (λ i. (0, Empty) ∷ slots_of o.5 ((o.7.1 i, Told o.6) ∷ [])) in
     let members : c.fill.new.members.items ≡ bys (heads o.5 ++ o.1 ∷ []) = filled.1 ∙ ap firsts rev ∙ members_of o.1 o.6 o.5 in
     let e2 : c.put_log.new.writer.client ≡ k = c.put_log.ensures.seat.1 ∙ e1 in
     let slots2 : c.put_log.new.writer.seat.me.1 ≡ (0, TheLog c.args.log) ∷ slots_of o.5 ((k, Told o.6) ∷ []) = c.put_log.ensures.put (slots_of o.5 ((k, Told o.6) ∷ [])) slots1 in
-    let at2 : At k (Leading lead) mine c.put_log.new.writer.seat.me = c.put_log.ensures.seat.2 ∙ c.fill.ensures.seat.2 ∙ o.7.0 in
+    let at2 : At k (Leading lead) mine c.put_log.new.writer.seat.me = c.put_log.ensures.seat.2 ∙ c.fill.ensures.seat.2 ∙ o.7.0.1 in
     let at2' = subst (λ (j : ℕ). At j (Leading lead) mine c.put_log.new.writer.seat.me) (sym e2) at2 in
     let slots2' = slots2 ∙ (λ i. (0, TheLog c.args.log) ∷ slots_of o.5 ((sym e2 i, Told o.6) ∷ [])) in
     let got : ℕ = c.index.result.now in
@@ -62,14 +62,14 @@ pub tell_all-requires-clause-owed : goal.tell_all-requires-clause-owed
 tell_all-requires-clause-owed g c =
     let o = c.requires.group.1 in let k : ℕ = c.args.writer.now.client in
     let rev = ap reverse o.9 ∙ pays_back o.1 o.6 o.5 in
-    let lead : Lead g.row.Request.Denot g.row.Reply.Denot = lead_with_group o.1 o.4 (past_in c.args.writer.now.seat.me.0) o.3 o.2 in let mine = answers_told c.args.writer.now in
+    let lead : Lead g.row.Request.Denot g.row.Reply.Denot = lead_with_group o.1 o.4 (past_in c.args.writer.now.seat.me.0) o.7.0.0 o.2 in let mine = answers_told c.args.writer.now in
     let e1 : c.fill.new.writer.client ≡ k = c.fill.ensures.seat.1 in
     let filled = c.fill.ensures.filled in
     let slots1 : c.fill.new.writer.seat.me.1 ≡ (0, Empty) ∷ slots_of o.5 ((k, Told o.6) ∷ []) = filled.0 ∙ ap (λ l. (0, Empty) ∷ fills l) rev ∙ ap (λ l. (0, Empty) ∷ l) (fills_of o.1 o.6 o.5) ∙ (λ i. (0, Empty) ∷ slots_of o.5 ((o.7.1 i, Told o.6) ∷ [])) in
     let members : c.fill.new.members.items ≡ bys (heads o.5 ++ o.1 ∷ []) = filled.1 ∙ ap firsts rev ∙ members_of o.1 o.6 o.5 in
     let e2 : c.put_log.new.writer.client ≡ k = c.put_log.ensures.seat.1 ∙ e1 in
     let slots2 : c.put_log.new.writer.seat.me.1 ≡ (0, TheLog c.args.log) ∷ slots_of o.5 ((k, Told o.6) ∷ []) = c.put_log.ensures.put (slots_of o.5 ((k, Told o.6) ∷ [])) slots1 in
-    let at2 : At k (Leading lead) mine c.put_log.new.writer.seat.me = c.put_log.ensures.seat.2 ∙ c.fill.ensures.seat.2 ∙ o.7.0 in
+    let at2 : At k (Leading lead) mine c.put_log.new.writer.seat.me = c.put_log.ensures.seat.2 ∙ c.fill.ensures.seat.2 ∙ o.7.0.1 in
     let at2' = subst (λ (j : ℕ). At j (Leading lead) mine c.put_log.new.writer.seat.me) (sym e2) at2 in
     let slots2' = slots2 ∙ (λ i. (0, TheLog c.args.log) ∷ slots_of o.5 ((sym e2 i, Told o.6) ∷ [])) in
     let s = c.hand_on.ensures.settling lead mine o.5 o.6 c.args.log at2' o.8 slots2' in
@@ -82,14 +82,14 @@ pub retire-requires-clause-owed : goal.retire-requires-clause-owed
 retire-requires-clause-owed g c =
     let o = c.requires.group.1 in let k : ℕ = c.args.writer.now.client in
     let rev = ap reverse o.9 ∙ pays_back o.1 o.6 o.5 in
-    let lead : Lead g.row.Request.Denot g.row.Reply.Denot = lead_with_group o.1 o.4 (past_in c.args.writer.now.seat.me.0) o.3 o.2 in let mine = answers_told c.args.writer.now in
+    let lead : Lead g.row.Request.Denot g.row.Reply.Denot = lead_with_group o.1 o.4 (past_in c.args.writer.now.seat.me.0) o.7.0.0 o.2 in let mine = answers_told c.args.writer.now in
     let e1 : c.fill.new.writer.client ≡ k = c.fill.ensures.seat.1 in
     let filled = c.fill.ensures.filled in
     let slots1 : c.fill.new.writer.seat.me.1 ≡ (0, Empty) ∷ slots_of o.5 ((k, Told o.6) ∷ []) = filled.0 ∙ ap (λ l. (0, Empty) ∷ fills l) rev ∙ ap (λ l. (0, Empty) ∷ l) (fills_of o.1 o.6 o.5) ∙ (λ i. (0, Empty) ∷ slots_of o.5 ((o.7.1 i, Told o.6) ∷ [])) in
     let members : c.fill.new.members.items ≡ bys (heads o.5 ++ o.1 ∷ []) = filled.1 ∙ ap firsts rev ∙ members_of o.1 o.6 o.5 in
     let e2 : c.put_log.new.writer.client ≡ k = c.put_log.ensures.seat.1 ∙ e1 in
     let slots2 : c.put_log.new.writer.seat.me.1 ≡ (0, TheLog c.args.log) ∷ slots_of o.5 ((k, Told o.6) ∷ []) = c.put_log.ensures.put (slots_of o.5 ((k, Told o.6) ∷ [])) slots1 in
-    let at2 : At k (Leading lead) mine c.put_log.new.writer.seat.me = c.put_log.ensures.seat.2 ∙ c.fill.ensures.seat.2 ∙ o.7.0 in
+    let at2 : At k (Leading lead) mine c.put_log.new.writer.seat.me = c.put_log.ensures.seat.2 ∙ c.fill.ensures.seat.2 ∙ o.7.0.1 in
     let at2' = subst (λ (j : ℕ). At j (Leading lead) mine c.put_log.new.writer.seat.me) (sym e2) at2 in
     let slots2' = slots2 ∙ (λ i. (0, TheLog c.args.log) ∷ slots_of o.5 ((sym e2 i, Told o.6) ∷ [])) in
     let s = c.hand_on.ensures.settling lead mine o.5 o.6 c.args.log at2' o.8 slots2' in
@@ -111,14 +111,14 @@ pub returns-clause-out : goal.returns-clause-out
 returns-clause-out g c =
     let o = c.requires.group.1 in let k : ℕ = c.args.writer.now.client in
     let rev = ap reverse o.9 ∙ pays_back o.1 o.6 o.5 in
-    let lead : Lead g.row.Request.Denot g.row.Reply.Denot = lead_with_group o.1 o.4 (past_in c.args.writer.now.seat.me.0) o.3 o.2 in let mine = answers_told c.args.writer.now in
+    let lead : Lead g.row.Request.Denot g.row.Reply.Denot = lead_with_group o.1 o.4 (past_in c.args.writer.now.seat.me.0) o.7.0.0 o.2 in let mine = answers_told c.args.writer.now in
     let e1 : c.fill.new.writer.client ≡ k = c.fill.ensures.seat.1 in
     let filled = c.fill.ensures.filled in
     let slots1 : c.fill.new.writer.seat.me.1 ≡ (0, Empty) ∷ slots_of o.5 ((k, Told o.6) ∷ []) = filled.0 ∙ ap (λ l. (0, Empty) ∷ fills l) rev ∙ ap (λ l. (0, Empty) ∷ l) (fills_of o.1 o.6 o.5) ∙ (λ i. (0, Empty) ∷ slots_of o.5 ((o.7.1 i, Told o.6) ∷ [])) in
     let members : c.fill.new.members.items ≡ bys (heads o.5 ++ o.1 ∷ []) = filled.1 ∙ ap firsts rev ∙ members_of o.1 o.6 o.5 in
     let e2 : c.put_log.new.writer.client ≡ k = c.put_log.ensures.seat.1 ∙ e1 in
     let slots2 : c.put_log.new.writer.seat.me.1 ≡ (0, TheLog c.args.log) ∷ slots_of o.5 ((k, Told o.6) ∷ []) = c.put_log.ensures.put (slots_of o.5 ((k, Told o.6) ∷ [])) slots1 in
-    let at2 : At k (Leading lead) mine c.put_log.new.writer.seat.me = c.put_log.ensures.seat.2 ∙ c.fill.ensures.seat.2 ∙ o.7.0 in
+    let at2 : At k (Leading lead) mine c.put_log.new.writer.seat.me = c.put_log.ensures.seat.2 ∙ c.fill.ensures.seat.2 ∙ o.7.0.1 in
     let at2' = subst (λ (j : ℕ). At j (Leading lead) mine c.put_log.new.writer.seat.me) (sym e2) at2 in
     let slots2' = slots2 ∙ (λ i. (0, TheLog c.args.log) ∷ slots_of o.5 ((sym e2 i, Told o.6) ∷ [])) in
     let s = c.hand_on.ensures.settling lead mine o.5 o.6 c.args.log at2' o.8 slots2' in
@@ -136,7 +136,7 @@ returns-clause-out g c =
       (table, subst (λ (j : ℕ). 0 < j) (sym e5) c.requires.group.0.1, subst (λ (j : ℕ). j ≤ c.args.self.now.clients) (sym e5) c.requires.group.0.2),
       (r.0 ∙ (λ i. hold (sym c.retire.ensures.seat.1 i) Idle (sym told_is i) ∷ []), r.1),
       λ max own group left seen gs p has heads_are replies.
-          let same = one_lead lead (lead_with_group own seen (past_in c.args.writer.now.seat.me.0) left group) (one_hold k k (Leading lead) (Leading (lead_with_group own seen (past_in c.args.writer.now.seat.me.0) left group)) mine mine c.args.writer.now.seat.me.0 o.7.0 has.0).1 in
+          let same = one_lead lead (lead_with_group own seen (past_in c.args.writer.now.seat.me.0) has.0.0 group) (one_hold k k (Leading lead) (Leading (lead_with_group own seen (past_in c.args.writer.now.seat.me.0) has.0.0 group)) mine mine c.args.writer.now.seat.me.0 o.7.0.1 has.0.1).1 in
           let p_is : o.6 ≡ p = same_reply o.1 own o.6 p o.5 gs (sym o.9 ∙ replies) in
           (told_is ∙ (λ i. mine ++ ((same i).own.asked, p_is i) ∷ []), r.2 ∙ p_is),
     )

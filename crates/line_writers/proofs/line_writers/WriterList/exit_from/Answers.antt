@@ -25,14 +25,14 @@ pub index-requires : goal.index-requires
 index-requires g c =
     let o = c.requires.group.1 in let k : ℕ = c.args.writer.now.client in
     let rev = ap reverse o.9 ∙ pays_back o.1 o.6 o.5 in
-    let lead : Lead g.row.Request.Denot g.row.Reply.Denot = lead_with_group o.1 o.4 (past_in c.args.writer.now.seat.me.0) o.3 o.2 in let mine = answers_told c.args.writer.now in
+    let lead : Lead g.row.Request.Denot g.row.Reply.Denot = lead_with_group o.1 o.4 (past_in c.args.writer.now.seat.me.0) o.7.0.0 o.2 in let mine = answers_told c.args.writer.now in
     let e1 : c.fill.new.writer.client ≡ k = c.fill.ensures.seat.1 ∙ c.own_code-code.ensures.seat.1 in
     let filled = c.fill.ensures.filled in
     let slots1 : c.fill.new.writer.seat.me.1 ≡ (0, Empty) ∷ slots_of o.5 ((k, Told o.6) ∷ []) = filled.0 ∙ ap (λ l. (0, Empty) ∷ fills l) rev ∙ ap (λ l. (0, Empty) ∷ l) (fills_of o.1 o.6 o.5) ∙ (λ i. (0, Empty) ∷ slots_of o.5 ((o.7.1 i, Told o.6) ∷ [])) in
     let members : c.fill.new.members.items ≡ bys (heads o.5 ++ o.1 ∷ []) = filled.1 ∙ ap firsts rev ∙ members_of o.1 o.6 o.5 in
     let e2 : c.put_log.new.writer.client ≡ k = c.put_log.ensures.seat.1 ∙ e1 in
     let slots2 : c.put_log.new.writer.seat.me.1 ≡ (0, TheLog c.args.log) ∷ slots_of o.5 ((k, Told o.6) ∷ []) = c.put_log.ensures.put (slots_of o.5 ((k, Told o.6) ∷ [])) slots1 in
-    let at2 : At k (Leading lead) mine c.put_log.new.writer.seat.me = c.put_log.ensures.seat.2 ∙ c.fill.ensures.seat.2 ∙ ap (λ m. m.0) c.own_code-code.ensures.seat.2 ∙ o.7.0 in
+    let at2 : At k (Leading lead) mine c.put_log.new.writer.seat.me = c.put_log.ensures.seat.2 ∙ c.fill.ensures.seat.2 ∙ ap (λ m. m.0) c.own_code-code.ensures.seat.2 ∙ o.7.0.1 in
     let at2' = subst (λ (j : ℕ). At j (Leading lead) mine c.put_log.new.writer.seat.me) (sym e2) at2 in
     let slots2' = slots2 ∙ (λ i. (0, TheLog c.args.log) ∷ slots_of o.5 ((sym e2 i, Told o.6) ∷ [])) in
     let l = some_by (heads o.5) o.1 in let e : length c.fill.new.members.items ≡ length (bys (heads o.5 ++ o.1 ∷ [])) = ap length members in omega arith
@@ -46,20 +46,20 @@ pub send_on-requires-clause-ready : goal.send_on-requires-clause-ready
 send_on-requires-clause-ready g c =
     let o = c.requires.group.1 in let k : ℕ = c.args.writer.now.client in
     let rev = ap reverse o.9 ∙ pays_back o.1 o.6 o.5 in
-    let lead : Lead g.row.Request.Denot g.row.Reply.Denot = lead_with_group o.1 o.4 (past_in c.args.writer.now.seat.me.0) o.3 o.2 in let mine = answers_told c.args.writer.now in
+    let lead : Lead g.row.Request.Denot g.row.Reply.Denot = lead_with_group o.1 o.4 (past_in c.args.writer.now.seat.me.0) o.7.0.0 o.2 in let mine = answers_told c.args.writer.now in
     let e1 : c.fill.new.writer.client ≡ k = c.fill.ensures.seat.1 ∙ c.own_code-code.ensures.seat.1 in
     let filled = c.fill.ensures.filled in
     let slots1 : c.fill.new.writer.seat.me.1 ≡ (0, Empty) ∷ slots_of o.5 ((k, Told o.6) ∷ []) = filled.0 ∙ ap (λ l. (0, Empty) ∷ fills l) rev ∙ ap (λ l. (0, Empty) ∷ l) (fills_of o.1 o.6 o.5) ∙ (λ i. (0, Empty) ∷ slots_of o.5 ((o.7.1 i, Told o.6) ∷ [])) in
     let members : c.fill.new.members.items ≡ bys (heads o.5 ++ o.1 ∷ []) = filled.1 ∙ ap firsts rev ∙ members_of o.1 o.6 o.5 in
     let e2 : c.put_log.new.writer.client ≡ k = c.put_log.ensures.seat.1 ∙ e1 in
     let slots2 : c.put_log.new.writer.seat.me.1 ≡ (0, TheLog c.args.log) ∷ slots_of o.5 ((k, Told o.6) ∷ []) = c.put_log.ensures.put (slots_of o.5 ((k, Told o.6) ∷ [])) slots1 in
-    let at2 : At k (Leading lead) mine c.put_log.new.writer.seat.me = c.put_log.ensures.seat.2 ∙ c.fill.ensures.seat.2 ∙ ap (λ m. m.0) c.own_code-code.ensures.seat.2 ∙ o.7.0 in
+    let at2 : At k (Leading lead) mine c.put_log.new.writer.seat.me = c.put_log.ensures.seat.2 ∙ c.fill.ensures.seat.2 ∙ ap (λ m. m.0) c.own_code-code.ensures.seat.2 ∙ o.7.0.1 in
     let at2' = subst (λ (j : ℕ). At j (Leading lead) mine c.put_log.new.writer.seat.me) (sym e2) at2 in
     let slots2' = slots2 ∙ (λ i. (0, TheLog c.args.log) ∷ slots_of o.5 ((sym e2 i, Told o.6) ∷ [])) in
     let got : ℕ = c.index.result.now in
     let first : got ≡ newest (o.2 ++ o.1 ∷ []) = c.index.ensures ∙ (λ i. get_or (members i) 0 got) ∙ newest_is (heads o.5) o.1 got ∙ ap (λ l. newest (l ++ o.1 ∷ [])) o.8 in
     let count : length c.fill.new.members.items ≡ length (o.2 ++ o.1 ∷ []) = ap length members ∙ (length-bys (heads o.5 ++ o.1 ∷ []) ∙ ap (λ l. length (l ++ o.1 ∷ [])) o.8) in
-    (lead, mine, o.5, o.6, c.args.log, (at2', first, refl, (let l = c.len.ensures in omega (arith, count))), sym (c.own_code-code.ensures.code lead mine (o.3 ++ o.2) o.7.0 (sym (append_assoc o.3 o.2 (o.1 ∷ []))) o.7.1), (o.8, slots2'), o.10.0, o.10.1)
+    (lead, mine, o.5, o.6, c.args.log, (at2', first, refl, (let l = c.len.ensures in omega (arith, count))), sym (c.own_code-code.ensures.code lead mine (o.7.0.0 ++ o.2) o.7.0.1 (sym (append_assoc o.7.0.0 o.2 (o.1 ∷ []))) o.7.1), (o.8, slots2'), o.10.0, o.10.1)
 
 pub returns-clause-seat : goal.returns-clause-seat
 returns-clause-seat g c = (c.send_on.ensures.seat.0 ∙ c.put_log.ensures.seat.0 ∙ c.fill.ensures.seat.0 ∙ c.own_code-code.ensures.seat.0, c.send_on.ensures.seat.1 ∙ c.put_log.ensures.seat.1 ∙ c.fill.ensures.seat.1 ∙ c.own_code-code.ensures.seat.1)
@@ -68,14 +68,14 @@ pub returns-clause-sent : goal.returns-clause-sent
 returns-clause-sent g c max own group left seen gs p has heads_are replies =
     let k : ℕ = c.args.writer.now.client in
     let rev = ap reverse replies ∙ pays_back own p gs in
-    let lead : Lead g.row.Request.Denot g.row.Reply.Denot = lead_with_group own seen (past_in c.args.writer.now.seat.me.0) left group in let mine = answers_told c.args.writer.now in
+    let lead : Lead g.row.Request.Denot g.row.Reply.Denot = lead_with_group own seen (past_in c.args.writer.now.seat.me.0) has.0.0 group in let mine = answers_told c.args.writer.now in
     let e1 : c.fill.new.writer.client ≡ k = c.fill.ensures.seat.1 ∙ c.own_code-code.ensures.seat.1 in
     let filled = c.fill.ensures.filled in
     let slots1 : c.fill.new.writer.seat.me.1 ≡ (0, Empty) ∷ slots_of gs ((k, Told p) ∷ []) = filled.0 ∙ ap (λ l. (0, Empty) ∷ fills l) rev ∙ ap (λ l. (0, Empty) ∷ l) (fills_of own p gs) ∙ (λ i. (0, Empty) ∷ slots_of gs ((has.1 i, Told p) ∷ [])) in
     let members : c.fill.new.members.items ≡ bys (heads gs ++ own ∷ []) = filled.1 ∙ ap firsts rev ∙ members_of own p gs in
     let e2 : c.put_log.new.writer.client ≡ k = c.put_log.ensures.seat.1 ∙ e1 in
     let slots2 : c.put_log.new.writer.seat.me.1 ≡ (0, TheLog c.args.log) ∷ slots_of gs ((k, Told p) ∷ []) = c.put_log.ensures.put (slots_of gs ((k, Told p) ∷ [])) slots1 in
-    let at2 : At k (Leading lead) mine c.put_log.new.writer.seat.me = c.put_log.ensures.seat.2 ∙ c.fill.ensures.seat.2 ∙ ap (λ m. m.0) c.own_code-code.ensures.seat.2 ∙ has.0 in
+    let at2 : At k (Leading lead) mine c.put_log.new.writer.seat.me = c.put_log.ensures.seat.2 ∙ c.fill.ensures.seat.2 ∙ ap (λ m. m.0) c.own_code-code.ensures.seat.2 ∙ has.0.1 in
     let at2' = subst (λ (j : ℕ). At j (Leading lead) mine c.put_log.new.writer.seat.me) (sym e2) at2 in
     let slots2' = slots2 ∙ (λ i. (0, TheLog c.args.log) ∷ slots_of gs ((sym e2 i, Told p) ∷ [])) in
     let sent = c.send_on.ensures.sent lead mine gs p c.args.log at2' heads_are slots2' in

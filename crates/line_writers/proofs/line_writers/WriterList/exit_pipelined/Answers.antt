@@ -15,7 +15,7 @@ use Rattle.line_writers.proofs.line_writers.WriterList.exit_pipelined.Goals as g
 pub exit_from-alone-requires-clause-group : goal.exit_from-alone-requires-clause-group
 exit_from-alone-requires-clause-group g c =
     let o = c.requires.group.1 in
-    (c.requires.group.0, (o.0, o.1, o.2, o.3, o.4, o.5, o.6, o.7, o.8, o.9, (o.10, (ap (λ v. given_runs g.Reply.GivesRun.run_of (seen_in_first v)) o.7.0, ap (given_runs g.Reply.GivesRun.run_of) (handled_all c.args.writer.now.client o.1 o.4 (past_in c.args.writer.now.seat.me.0) o.3 o.2 (answers_told c.args.writer.now) o.5 o.6 c.args.writer.now.seat.me.0 c.args.replies.now.list.items o.7.0 o.8 o.9)))))
+    (c.requires.group.0, (o.0, o.1, o.2, o.3, o.4, o.5, o.6, o.7, o.8, o.9, (o.10, (ap (λ v. given_runs g.Reply.GivesRun.run_of (seen_in_first v)) o.7.0.1, ap (given_runs g.Reply.GivesRun.run_of) (handled_all c.args.writer.now.client o.1 o.4 (past_in c.args.writer.now.seat.me.0) o.7.0.0 o.2 (answers_told c.args.writer.now) o.5 o.6 c.args.writer.now.seat.me.0 c.args.replies.now.list.items o.7.0.1 o.8 o.9)))))
 
 pub rotate-requires : goal.rotate-requires
 rotate-requires g c =
@@ -50,7 +50,7 @@ returns-then-alone-clause-sent g c max own group left seen gs p has heads_are re
     let s = subst (λ (y : Bool). HasSent (g.Log.LogOfGroups.serves c.args.self.now.table.shared.key.about) n k y (debt gs own p) mine (squad_with_end (squad_at_cut (lead_with_group own seen (past_in c.args.writer.now.seat.me.0) left group) from) to) c.exit_from-alone.new.writer.seat.me) c.if-alone.true e.0 in
     let last = (n + 1, TheRight s.0) ∷ [] in
     let members : length c.exit_from-alone.new.room.members.items ≡ length gs + 1 = ap length e.1 ∙ long_members gs own in
-    let from_is = ap (λ v. given_runs g.Reply.GivesRun.run_of (seen_in_first v)) has.0 in let to_is = ap (given_runs g.Reply.GivesRun.run_of) (handled_all k own seen (past_in c.args.writer.now.seat.me.0) left group mine gs p c.args.writer.now.seat.me.0 c.args.replies.now.list.items has.0 heads_are replies) in
+    let from_is = ap (λ v. given_runs g.Reply.GivesRun.run_of (seen_in_first v)) has.0.1 in let to_is = ap (given_runs g.Reply.GivesRun.run_of) (handled_all k own seen (past_in c.args.writer.now.seat.me.0) has.0.0 group mine gs p c.args.writer.now.seat.me.0 c.args.replies.now.list.items has.0.1 heads_are replies) in
     let turned = c.rotate.ensures.turned (slots_of gs ((k, Told p) ∷ [])) last (s.3 ∙ sym (slots_snoc gs ((k, Told p) ∷ []) last)) (long_slots gs ((k, Told p) ∷ []) ∙ (let l = c.len.ensures in omega (arith, members))) in
     let at = c.rotate.ensures.seat.2 ∙ s.2 ∙ (λ i. hold_at (sym e2 i) (Settling (debt gs own p)) mine (Serving (record { own = own; rest = sym heads_are i; from = from_is i; to = to_is i }) []) ∷ []) in (
       (s.0, subst (g.Log.LogOfGroups.serves c.args.self.now.table.shared.key.about s.0) from_is s.1, at, turned ∙ (λ i. (n + 1, TheRight s.0) ∷ slots_of gs ((sym e2 i, Told p) ∷ []))),
@@ -65,7 +65,7 @@ returns-clause-sent g c max own group left seen gs p has heads_are replies =
     let e1 : c.exit_from-alone.new.writer.client ≡ k = x.seat.1 in
     let e = x.sent max own group left seen gs p has heads_are replies in
     let s = subst (λ (y : Bool). HasSent (g.Log.LogOfGroups.serves c.args.self.now.table.shared.key.about) n k y (debt gs own p) mine (squad_with_end (squad_at_cut (lead_with_group own seen (past_in c.args.writer.now.seat.me.0) left group) from) to) c.exit_from-alone.new.writer.seat.me) c.if-alone.false e.0 in
-    let from_is = ap (λ v. given_runs g.Reply.GivesRun.run_of (seen_in_first v)) has.0 in let to_is = ap (given_runs g.Reply.GivesRun.run_of) (handled_all k own seen (past_in c.args.writer.now.seat.me.0) left group mine gs p c.args.writer.now.seat.me.0 c.args.replies.now.list.items has.0 heads_are replies) in
+    let from_is = ap (λ v. given_runs g.Reply.GivesRun.run_of (seen_in_first v)) has.0.1 in let to_is = ap (given_runs g.Reply.GivesRun.run_of) (handled_all k own seen (past_in c.args.writer.now.seat.me.0) has.0.0 group mine gs p c.args.writer.now.seat.me.0 c.args.replies.now.list.items has.0.1 heads_are replies) in
     let at = s.0 ∙ (λ i. hold_at (sym e1 i) (Settling (debt gs own p)) mine (Queued (record { own = own; rest = sym heads_are i; from = from_is i; to = to_is i })) ∷ []) in (
       (at, s.1 ∙ (λ i. slots_of gs ((sym e1 i, Told p) ∷ []))),
       (x.room.0, x.room.1, x.room.2, e.1, subst (Within n) (sym heads_are) has.3, x.room.3),

@@ -11,6 +11,7 @@ use Rattle.line_rule.proofs.Onward.{one_hold_at}
 use Rattle.line_rule.proofs.Leads.{lead_in}
 use Rattle.line_writers.proofs.Frees.{behind_marked}
 use Rattle.line_writers.proofs.line_writers.WriterList.free_on.Goals as goal
+use Rattle.line_rule.specs.declared.words.TheConstants.{MARK}
 
 pub survey-requires-clause-read : goal.survey-requires-clause-read
 survey-requires-clause-read g c =
@@ -19,7 +20,7 @@ survey-requires-clause-read g c =
     let b = behind_marked k slots o.0 o.1 o.2 found c.args.writer.now.seat.me c.free-found.new.writer.seat.me w c.if-found-eq-MARK.false in
     let e1 : c.free-found.new.writer.client ≡ k = c.free-found.ensures.seat.1 in
     let lead' : Lead g.row.Request.Denot g.row.Reply.Denot = lead_with_walk o.0 b.walk in
-    subst (λ (j : ℕ). HasRead 255 slots j found c.free-found.new.writer.seat.me) (sym e1) b.read
+    subst (λ (j : ℕ). HasRead MARK slots j found c.free-found.new.writer.seat.me) (sym e1) b.read
 
 pub overflow_sub-len : goal.overflow_sub-len
 overflow_sub-len g c =
@@ -28,7 +29,7 @@ overflow_sub-len g c =
     let b = behind_marked k slots o.0 o.1 o.2 found c.args.writer.now.seat.me c.free-found.new.writer.seat.me w c.if-found-eq-MARK.false in
     let e1 : c.free-found.new.writer.client ≡ k = c.free-found.ensures.seat.1 in
     let lead' : Lead g.row.Request.Denot g.row.Reply.Denot = lead_with_walk o.0 b.walk in
-    let sees : SeesTo 255 c.free-found.new.writer.client c.free-found.new.writer.seat.me b.walk = inr (inl (refl, (lead', o.1, o.2, subst (λ (j : ℕ). AtWith j (Marking lead') o.1 o.2 c.free-found.new.writer.seat.me) (sym e1) b.at, refl))) in
+    let sees : SeesTo MARK c.free-found.new.writer.client c.free-found.new.writer.seat.me b.walk = inr (inl (refl, (lead', o.1, o.2, subst (λ (j : ℕ). AtWith j (Marking lead') o.1 o.2 c.free-found.new.writer.seat.me) (sym e1) b.at, refl))) in
     let items : c.survey.new.walk.items ≡ pairs (b.pre ++ b.x ∷ []) = c.survey.ensures.walk b.walk sees ∙ ap pairs b.parts in
     let long : length c.survey.new.walk.items ≡ length b.pre + 1 = ap length items ∙ (length-pairs (b.pre ++ b.x ∷ []) ∙ (ap length (sym b.parts) ∙ b.long)) in
     omega arith
@@ -40,7 +41,7 @@ index-requires g c =
     let b = behind_marked k slots o.0 o.1 o.2 found c.args.writer.now.seat.me c.free-found.new.writer.seat.me w c.if-found-eq-MARK.false in
     let e1 : c.free-found.new.writer.client ≡ k = c.free-found.ensures.seat.1 in
     let lead' : Lead g.row.Request.Denot g.row.Reply.Denot = lead_with_walk o.0 b.walk in
-    let sees : SeesTo 255 c.free-found.new.writer.client c.free-found.new.writer.seat.me b.walk = inr (inl (refl, (lead', o.1, o.2, subst (λ (j : ℕ). AtWith j (Marking lead') o.1 o.2 c.free-found.new.writer.seat.me) (sym e1) b.at, refl))) in
+    let sees : SeesTo MARK c.free-found.new.writer.client c.free-found.new.writer.seat.me b.walk = inr (inl (refl, (lead', o.1, o.2, subst (λ (j : ℕ). AtWith j (Marking lead') o.1 o.2 c.free-found.new.writer.seat.me) (sym e1) b.at, refl))) in
     let items : c.survey.new.walk.items ≡ pairs (b.pre ++ b.x ∷ []) = c.survey.ensures.walk b.walk sees ∙ ap pairs b.parts in
     let long : length c.survey.new.walk.items ≡ length b.pre + 1 = ap length items ∙ (length-pairs (b.pre ++ b.x ∷ []) ∙ (ap length (sym b.parts) ∙ b.long)) in
     omega arith
@@ -52,7 +53,7 @@ cut_behind-requires-clause-seat g c =
     let b = behind_marked k slots o.0 o.1 o.2 found c.args.writer.now.seat.me c.free-found.new.writer.seat.me w c.if-found-eq-MARK.false in
     let e1 : c.free-found.new.writer.client ≡ k = c.free-found.ensures.seat.1 in
     let lead' : Lead g.row.Request.Denot g.row.Reply.Denot = lead_with_walk o.0 b.walk in
-    let sees : SeesTo 255 c.free-found.new.writer.client c.free-found.new.writer.seat.me b.walk = inr (inl (refl, (lead', o.1, o.2, subst (λ (j : ℕ). AtWith j (Marking lead') o.1 o.2 c.free-found.new.writer.seat.me) (sym e1) b.at, refl))) in
+    let sees : SeesTo MARK c.free-found.new.writer.client c.free-found.new.writer.seat.me b.walk = inr (inl (refl, (lead', o.1, o.2, subst (λ (j : ℕ). AtWith j (Marking lead') o.1 o.2 c.free-found.new.writer.seat.me) (sym e1) b.at, refl))) in
     let items : c.survey.new.walk.items ≡ pairs (b.pre ++ b.x ∷ []) = c.survey.ensures.walk b.walk sees ∙ ap pairs b.parts in
     let long : length c.survey.new.walk.items ≡ length b.pre + 1 = ap length items ∙ (length-pairs (b.pre ++ b.x ∷ []) ∙ (ap length (sym b.parts) ∙ b.long)) in
     let got = c.index.result.now in
@@ -70,7 +71,7 @@ cut_behind-requires-clause-next g c =
     let b = behind_marked k slots o.0 o.1 o.2 found c.args.writer.now.seat.me c.free-found.new.writer.seat.me w c.if-found-eq-MARK.false in
     let e1 : c.free-found.new.writer.client ≡ k = c.free-found.ensures.seat.1 in
     let lead' : Lead g.row.Request.Denot g.row.Reply.Denot = lead_with_walk o.0 b.walk in
-    let sees : SeesTo 255 c.free-found.new.writer.client c.free-found.new.writer.seat.me b.walk = inr (inl (refl, (lead', o.1, o.2, subst (λ (j : ℕ). AtWith j (Marking lead') o.1 o.2 c.free-found.new.writer.seat.me) (sym e1) b.at, refl))) in
+    let sees : SeesTo MARK c.free-found.new.writer.client c.free-found.new.writer.seat.me b.walk = inr (inl (refl, (lead', o.1, o.2, subst (λ (j : ℕ). AtWith j (Marking lead') o.1 o.2 c.free-found.new.writer.seat.me) (sym e1) b.at, refl))) in
     let items : c.survey.new.walk.items ≡ pairs (b.pre ++ b.x ∷ []) = c.survey.ensures.walk b.walk sees ∙ ap pairs b.parts in
     let long : length c.survey.new.walk.items ≡ length b.pre + 1 = ap length items ∙ (length-pairs (b.pre ++ b.x ∷ []) ∙ (ap length (sym b.parts) ∙ b.long)) in
     let got = c.index.result.now in
@@ -89,7 +90,7 @@ wake_on-requires-clause-seat g c =
     let b = behind_marked k slots o.0 o.1 o.2 found c.args.writer.now.seat.me c.free-found.new.writer.seat.me w c.if-found-eq-MARK.false in
     let e1 : c.free-found.new.writer.client ≡ k = c.free-found.ensures.seat.1 in
     let lead' : Lead g.row.Request.Denot g.row.Reply.Denot = lead_with_walk o.0 b.walk in
-    let sees : SeesTo 255 c.free-found.new.writer.client c.free-found.new.writer.seat.me b.walk = inr (inl (refl, (lead', o.1, o.2, subst (λ (j : ℕ). AtWith j (Marking lead') o.1 o.2 c.free-found.new.writer.seat.me) (sym e1) b.at, refl))) in
+    let sees : SeesTo MARK c.free-found.new.writer.client c.free-found.new.writer.seat.me b.walk = inr (inl (refl, (lead', o.1, o.2, subst (λ (j : ℕ). AtWith j (Marking lead') o.1 o.2 c.free-found.new.writer.seat.me) (sym e1) b.at, refl))) in
     let items : c.survey.new.walk.items ≡ pairs (b.pre ++ b.x ∷ []) = c.survey.ensures.walk b.walk sees ∙ ap pairs b.parts in
     let long : length c.survey.new.walk.items ≡ length b.pre + 1 = ap length items ∙ (length-pairs (b.pre ++ b.x ∷ []) ∙ (ap length (sym b.parts) ∙ b.long)) in
     let got = c.index.result.now in
@@ -106,7 +107,7 @@ wake_on-requires-clause-ready g c =
     let b = behind_marked k slots o.0 o.1 o.2 found c.args.writer.now.seat.me c.free-found.new.writer.seat.me w c.if-found-eq-MARK.false in
     let e1 : c.free-found.new.writer.client ≡ k = c.free-found.ensures.seat.1 in
     let lead' : Lead g.row.Request.Denot g.row.Reply.Denot = lead_with_walk o.0 b.walk in
-    let sees : SeesTo 255 c.free-found.new.writer.client c.free-found.new.writer.seat.me b.walk = inr (inl (refl, (lead', o.1, o.2, subst (λ (j : ℕ). AtWith j (Marking lead') o.1 o.2 c.free-found.new.writer.seat.me) (sym e1) b.at, refl))) in
+    let sees : SeesTo MARK c.free-found.new.writer.client c.free-found.new.writer.seat.me b.walk = inr (inl (refl, (lead', o.1, o.2, subst (λ (j : ℕ). AtWith j (Marking lead') o.1 o.2 c.free-found.new.writer.seat.me) (sym e1) b.at, refl))) in
     let items : c.survey.new.walk.items ≡ pairs (b.pre ++ b.x ∷ []) = c.survey.ensures.walk b.walk sees ∙ ap pairs b.parts in
     let long : length c.survey.new.walk.items ≡ length b.pre + 1 = ap length items ∙ (length-pairs (b.pre ++ b.x ∷ []) ∙ (ap length (sym b.parts) ∙ b.long)) in
     let got = c.index.result.now in
@@ -128,7 +129,7 @@ returns-clause-settling g c lead mine y gs p l t at heads_are slot_is =
     let b = behind_marked k slots o.0 o.1 o.2 found c.args.writer.now.seat.me c.free-found.new.writer.seat.me w c.if-found-eq-MARK.false in
     let e1 : c.free-found.new.writer.client ≡ k = c.free-found.ensures.seat.1 in
     let lead' : Lead g.row.Request.Denot g.row.Reply.Denot = lead_with_walk o.0 b.walk in
-    let sees : SeesTo 255 c.free-found.new.writer.client c.free-found.new.writer.seat.me b.walk = inr (inl (refl, (lead', o.1, o.2, subst (λ (j : ℕ). AtWith j (Marking lead') o.1 o.2 c.free-found.new.writer.seat.me) (sym e1) b.at, refl))) in
+    let sees : SeesTo MARK c.free-found.new.writer.client c.free-found.new.writer.seat.me b.walk = inr (inl (refl, (lead', o.1, o.2, subst (λ (j : ℕ). AtWith j (Marking lead') o.1 o.2 c.free-found.new.writer.seat.me) (sym e1) b.at, refl))) in
     let items : c.survey.new.walk.items ≡ pairs (b.pre ++ b.x ∷ []) = c.survey.ensures.walk b.walk sees ∙ ap pairs b.parts in
     let long : length c.survey.new.walk.items ≡ length b.pre + 1 = ap length items ∙ (length-pairs (b.pre ++ b.x ∷ []) ∙ (ap length (sym b.parts) ∙ b.long)) in
     let got = c.index.result.now in

@@ -25,7 +25,7 @@ survey-requires-clause-read g c =
     let lead : Lead g.row.Request.Denot g.row.Reply.Denot = lead_at_build o.0 o.1 b.2 W b.1 in
     let e1 : c.build-first.new.writer.client ≡ k = c.build-first.ensures.seat.1 in
     let f = some_newest b.0 b.1 o.0 in
-    subst (λ (j : ℕ). HasRead 0 slots j c.build-first.result c.build-first.new.writer.seat.me) (sym e1) (W, f.0, f.1, inl (refl, (lead, o.2, b.3, refl)), f.2, b.7 ∙ ap newest f.2, b.8, b.9)
+    subst (λ (j : ℕ). HasRead 0 slots j c.build-first.result c.build-first.new.writer.seat.me) (sym e1) (W, f.0, f.1, inl (refl, (Leading lead, o.2, b.3, refl)), f.2, b.7 ∙ ap newest f.2, b.8, b.9)
 
 pub unreachable-requires : goal.unreachable-requires
 unreachable-requires g c =
@@ -34,7 +34,7 @@ unreachable-requires g c =
     let W : List (QueuedWriter g.row.Request.Denot) = b.0 ++ (b.1 ++ o.0 ∷ []) in
     let lead : Lead g.row.Request.Denot g.row.Reply.Denot = lead_at_build o.0 o.1 b.2 W b.1 in
     let e1 : c.build-first.new.writer.client ≡ k = c.build-first.ensures.seat.1 in
-    let items : c.survey.new.walk.items ≡ pairs W = c.survey.ensures.walk W (inl (refl, (lead, o.2, subst (λ (j : ℕ). At j (Leading lead) o.2 c.build-first.new.writer.seat.me) (sym e1) b.3, refl))) in
+    let items : c.survey.new.walk.items ≡ pairs W = c.survey.ensures.walk W (inl (refl, (Leading lead, o.2, subst (λ (j : ℕ). At j (Leading lead) o.2 c.build-first.new.writer.seat.me) (sym e1) b.3, refl))) in
     let e2 : c.survey.new.writer.client ≡ k = c.survey.ensures.seat.1 ∙ e1 in
     let slot1 : c.survey.new.writer.seat.me.1 ≡ (c.survey.new.writer.client, Asked o.0.asked) ∷ (0, Empty) ∷ [] = ap (λ m. m.1) c.survey.ensures.seat.2 ∙ b.4 ∙ o.3.2 ∙ (λ i. (sym e2 i, Asked o.0.asked) ∷ (0, Empty) ∷ []) in
     (let e = c.in_default.ensures.cases.0 in let l : length c.survey.new.walk.items ≡ length W = ap length items ∙ length-pairs W in let one = length-append b.0 (b.1 ++ o.0 ∷ []) in let two = length-append b.1 (o.0 ∷ []) in omega arith)
@@ -46,7 +46,7 @@ overflow_cast-by g c =
     let W : List (QueuedWriter g.row.Request.Denot) = b.0 ++ (b.1 ++ o.0 ∷ []) in
     let lead : Lead g.row.Request.Denot g.row.Reply.Denot = lead_at_build o.0 o.1 b.2 W b.1 in
     let e1 : c.build-first.new.writer.client ≡ k = c.build-first.ensures.seat.1 in
-    let items : c.survey.new.walk.items ≡ pairs W = c.survey.ensures.walk W (inl (refl, (lead, o.2, subst (λ (j : ℕ). At j (Leading lead) o.2 c.build-first.new.writer.seat.me) (sym e1) b.3, refl))) in
+    let items : c.survey.new.walk.items ≡ pairs W = c.survey.ensures.walk W (inl (refl, (Leading lead, o.2, subst (λ (j : ℕ). At j (Leading lead) o.2 c.build-first.new.writer.seat.me) (sym e1) b.3, refl))) in
     let e2 : c.survey.new.writer.client ≡ k = c.survey.ensures.seat.1 ∙ e1 in
     let last = leader_last b.0 b.1 o.0 c.pop.new.self.items c.in-Some.by c.in-Some.code (sym items ∙ c.in-Some.ensures.items) in
     let by_is : c.in-Some.by ≡ k = sym last.1 ∙ o.3.1 in let q = c.requires.seat in omega arith
@@ -58,7 +58,7 @@ own_request-request-requires-clause-held g c =
     let W : List (QueuedWriter g.row.Request.Denot) = b.0 ++ (b.1 ++ o.0 ∷ []) in
     let lead : Lead g.row.Request.Denot g.row.Reply.Denot = lead_at_build o.0 o.1 b.2 W b.1 in
     let e1 : c.build-first.new.writer.client ≡ k = c.build-first.ensures.seat.1 in
-    let items : c.survey.new.walk.items ≡ pairs W = c.survey.ensures.walk W (inl (refl, (lead, o.2, subst (λ (j : ℕ). At j (Leading lead) o.2 c.build-first.new.writer.seat.me) (sym e1) b.3, refl))) in
+    let items : c.survey.new.walk.items ≡ pairs W = c.survey.ensures.walk W (inl (refl, (Leading lead, o.2, subst (λ (j : ℕ). At j (Leading lead) o.2 c.build-first.new.writer.seat.me) (sym e1) b.3, refl))) in
     let e2 : c.survey.new.writer.client ≡ k = c.survey.ensures.seat.1 ∙ e1 in
     let slot1 : c.survey.new.writer.seat.me.1 ≡ (c.survey.new.writer.client, Asked o.0.asked) ∷ (0, Empty) ∷ [] = ap (λ m. m.1) c.survey.ensures.seat.2 ∙ b.4 ∙ o.3.2 ∙ (λ i. (sym e2 i, Asked o.0.asked) ∷ (0, Empty) ∷ []) in
     (o.0.asked, (0, Empty) ∷ [], slot1)
@@ -70,7 +70,7 @@ gather-requires-clause-walk g c =
     let W : List (QueuedWriter g.row.Request.Denot) = b.0 ++ (b.1 ++ o.0 ∷ []) in
     let lead : Lead g.row.Request.Denot g.row.Reply.Denot = lead_at_build o.0 o.1 b.2 W b.1 in
     let e1 : c.build-first.new.writer.client ≡ k = c.build-first.ensures.seat.1 in
-    let items : c.survey.new.walk.items ≡ pairs W = c.survey.ensures.walk W (inl (refl, (lead, o.2, subst (λ (j : ℕ). At j (Leading lead) o.2 c.build-first.new.writer.seat.me) (sym e1) b.3, refl))) in
+    let items : c.survey.new.walk.items ≡ pairs W = c.survey.ensures.walk W (inl (refl, (Leading lead, o.2, subst (λ (j : ℕ). At j (Leading lead) o.2 c.build-first.new.writer.seat.me) (sym e1) b.3, refl))) in
     let e2 : c.survey.new.writer.client ≡ k = c.survey.ensures.seat.1 ∙ e1 in
     let slot1 : c.survey.new.writer.seat.me.1 ≡ (c.survey.new.writer.client, Asked o.0.asked) ∷ (0, Empty) ∷ [] = ap (λ m. m.1) c.survey.ensures.seat.2 ∙ b.4 ∙ o.3.2 ∙ (λ i. (sym e2 i, Asked o.0.asked) ∷ (0, Empty) ∷ []) in
     let last = leader_last b.0 b.1 o.0 c.pop.new.self.items c.in-Some.by c.in-Some.code (sym items ∙ c.in-Some.ensures.items) in
@@ -89,7 +89,7 @@ gather-requires-clause-room g c =
     let W : List (QueuedWriter g.row.Request.Denot) = b.0 ++ (b.1 ++ o.0 ∷ []) in
     let lead : Lead g.row.Request.Denot g.row.Reply.Denot = lead_at_build o.0 o.1 b.2 W b.1 in
     let e1 : c.build-first.new.writer.client ≡ k = c.build-first.ensures.seat.1 in
-    let items : c.survey.new.walk.items ≡ pairs W = c.survey.ensures.walk W (inl (refl, (lead, o.2, subst (λ (j : ℕ). At j (Leading lead) o.2 c.build-first.new.writer.seat.me) (sym e1) b.3, refl))) in
+    let items : c.survey.new.walk.items ≡ pairs W = c.survey.ensures.walk W (inl (refl, (Leading lead, o.2, subst (λ (j : ℕ). At j (Leading lead) o.2 c.build-first.new.writer.seat.me) (sym e1) b.3, refl))) in
     let e2 : c.survey.new.writer.client ≡ k = c.survey.ensures.seat.1 ∙ e1 in
     let slot1 : c.survey.new.writer.seat.me.1 ≡ (c.survey.new.writer.client, Asked o.0.asked) ∷ (0, Empty) ∷ [] = ap (λ m. m.1) c.survey.ensures.seat.2 ∙ b.4 ∙ o.3.2 ∙ (λ i. (sym e2 i, Asked o.0.asked) ∷ (0, Empty) ∷ []) in
     let last = leader_last b.0 b.1 o.0 c.pop.new.self.items c.in-Some.by c.in-Some.code (sym items ∙ c.in-Some.ensures.items) in
@@ -111,7 +111,7 @@ returns-clause-group g c own seen mine ch =
     let W : List (QueuedWriter g.row.Request.Denot) = b.0 ++ (b.1 ++ o.0 ∷ []) in
     let lead : Lead g.row.Request.Denot g.row.Reply.Denot = lead_at_build o.0 o.1 b.2 W b.1 in
     let e1 : c.build-first.new.writer.client ≡ k = c.build-first.ensures.seat.1 in
-    let items : c.survey.new.walk.items ≡ pairs W = c.survey.ensures.walk W (inl (refl, (lead, o.2, subst (λ (j : ℕ). At j (Leading lead) o.2 c.build-first.new.writer.seat.me) (sym e1) b.3, refl))) in
+    let items : c.survey.new.walk.items ≡ pairs W = c.survey.ensures.walk W (inl (refl, (Leading lead, o.2, subst (λ (j : ℕ). At j (Leading lead) o.2 c.build-first.new.writer.seat.me) (sym e1) b.3, refl))) in
     let e2 : c.survey.new.writer.client ≡ k = c.survey.ensures.seat.1 ∙ e1 in
     let slot1 : c.survey.new.writer.seat.me.1 ≡ (c.survey.new.writer.client, Asked o.0.asked) ∷ (0, Empty) ∷ [] = ap (λ m. m.1) c.survey.ensures.seat.2 ∙ b.4 ∙ o.3.2 ∙ (λ i. (sym e2 i, Asked o.0.asked) ∷ (0, Empty) ∷ []) in
     let last = leader_last b.0 b.1 o.0 c.pop.new.self.items c.in-Some.by c.in-Some.code (sym items ∙ c.in-Some.ensures.items) in

@@ -1,5 +1,8 @@
-use Rattle.std.proofs.Common.{Some}
+use Rattle.std.proofs.Common.{◌≡◌}
+use Rattle.line_writers.specs.Seats.{Belongs, IsEntering, answers_told}
 use Rattle.line_writers.proofs.line_writers.WriterList.link.Given as goal
 
-abbrev pub ghosts-link_from : goal.ghosts-link_from
-ghosts-link_from g a = record { number = a.self.now.table.shared.key.log; about = Some a.self.now.table.shared.key.about }
+abbrev pub invariant-loop : goal.invariant-loop
+invariant-loop g l =
+    (goal.iterator-loop g).can_next l.iterator' × (goal.iterator-loop g).is_finite l.iterator' × (l.writer.client ≡ l.fn.writer.client) × Belongs l.fn.self l.writer
+    × IsEntering l.fn.request (answers_told l.writer) l.writer × (answers_told l.writer ≡ answers_told l.fn.writer)

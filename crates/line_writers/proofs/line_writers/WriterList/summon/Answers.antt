@@ -1,6 +1,7 @@
-use Rattle.std.proofs.Common.{◌≡◌, ℕ, ◌+◌, ◌∷◌, sym, ap, ◌∙◌, subst, arith}
+use Rattle.std.proofs.Common.{◌≡◌, ℕ, ◌+◌, ◌∷◌, refl, sym, ap, ◌∙◌, subst, arith}
 use Rattle.line_rule.specs.declared.content.LineSlot.TheVariants.{TheRight}
 use Rattle.line_rule.specs.Laws.{serves_picked}
+use Rattle.line_writers.proofs.Same.{same_seat, same_writer}
 use Rattle.line_writers.proofs.Ways.{summons_as}
 use Rattle.line_writers.proofs.line_writers.WriterList.summon.Goals as goal
 
@@ -14,3 +15,9 @@ returns-clause-role g c d mine g0 at =
       (λ four. let u = t.0 four in let last : u.1 ≡ c.args.self.now.clients + 1 = let e = u.5 in omega arith in (u.0, subst (λ about. serves_picked g.Log.LogOfGroups.serves about u.0 g0.from) c.requires.about u.2, u.3, u.4 ∙ ap (λ (j : ℕ). (j, TheRight u.0) ∷ c.args.writer.now.seat.me.1) last)),
       t.1,
     )
+
+pub returns-clause-waits : goal.returns-clause-waits
+returns-clause-waits g c ne =
+    let o = c.requires.queued in let e = c.load.ensures in
+    same_writer _ c.args.writer.now refl refl
+    (same_seat c.load.new.seat c.args.writer.now.seat e.0 e.1 ((e.2 c.args.writer.now.client o.0 o.1 o.2 o.3).1 ne))

@@ -49,3 +49,12 @@ returns-in-Complete-clause-takes c = takes _ _ _ _ _ c.in-Complete.is c.complete
 
 pub returns-in-Read-clause-takes : goal.returns-in-Read-clause-takes
 returns-in-Read-clause-takes c = takes _ _ _ _ _ c.in-Read.is c.read.ensures.steps
+
+pub returns-in-Stall-clause-takes : goal.returns-in-Stall-clause-takes
+returns-in-Stall-clause-takes c = takes _ _ _ _ _ c.in-Stall.is c.stall.ensures.steps
+
+pub returns-in-Leave-clause-takes : goal.returns-in-Leave-clause-takes
+returns-in-Leave-clause-takes c = takes _ _ _ _ _ c.in-Leave.is c.leave_queue.ensures.steps
+
+pub returns-in-Unstall-clause-takes : goal.returns-in-Unstall-clause-takes
+returns-in-Unstall-clause-takes c = takes _ _ _ _ _ c.in-Unstall.is c.unstall.ensures.steps

@@ -9,4 +9,4 @@ lead-requires-clause-leads g c =
 pub returns-in-Done-clause-out : goal.returns-in-Done-clause-out
 returns-in-Done-clause-out g c =
     let r = c.in-Done.ensures.role in let q = c.requires.linked.1 in
-    let h = r.1 q.0 q.1 in (r.0, done c.args.list.now _ c.await_role.new.writer h.0 h.1, c.in-Done.ensures.client)
+    (r.0, done c.await_role.new.writer _ (λ _ _. ⊥) q.0 _ _ (r.1 q.0 q.1), c.in-Done.ensures.client)

@@ -1,5 +1,6 @@
 use Rattle.std.proofs.Common.{inl, refl, ◌∙◌}
-use Rattle.tests_line_stages.proofs.Seating.{leads, leads_still, done, linked}
+use Rattle.tests_line.proofs.Seating.{done}
+use Rattle.tests_line_stages.proofs.Seating.{leads, leads_still, linked}
 use Rattle.tests_line_stages.proofs.tests.schedule.await_first.Goals as goal
 
 pub await_pipelined_role-requires : goal.await_pipelined_role-requires
@@ -17,8 +18,8 @@ returns-in-Parallel g c =
 
 pub returns-in-Done : goal.returns-in-Done
 returns-in-Done g c =
-    let a = c.requires.asked in let q = a.1 in let r = c.in-Done.ensures in let h = r.role q.0 q.1 in
-    (r.client.0, ((r.client.1, done c.args.list.now _ c.await_pipelined_role.new.writer h.0 h.1, refl), a.3, a.4))
+    let a = c.requires.asked in let q = a.1 in let r = c.in-Done.ensures in
+    (r.client.0, ((r.client.1, done c.await_pipelined_role.new.writer _ (λ _ _. ⊥) q.0 _ _ (r.role q.0 q.1), refl), a.3, a.4))
 
 pub unreachable-requires : goal.unreachable-requires
 unreachable-requires g c = let q = c.requires.asked.1 in c.in-MemLeader.ensures.role q.0 q.1

@@ -1,5 +1,6 @@
 use Rattle.std.proofs.Common.{inl, ◌∙◌}
-use Rattle.tests_line_stages.proofs.Seating.{leads, done, linked}
+use Rattle.tests_line.proofs.Seating.{done}
+use Rattle.tests_line_stages.proofs.Seating.{leads, linked}
 use Rattle.tests_line_stages.proofs.tests.threads.finish.Goals as goal
 
 pub await_pipelined_role-requires : goal.await_pipelined_role-requires
@@ -7,8 +8,8 @@ await_pipelined_role-requires g c = let a = c.loop.invariant.2 in (a.0, inl a.1)
 
 pub returns-in-Done : goal.returns-in-Done
 returns-in-Done g c =
-    let a = c.loop.invariant.2 in let q = a.1 in let r = c.in-Done.ensures in let h = r.role q.0 q.1 in
-    ((r.client.1, done c.args.list.now _ c.await_pipelined_role.new.writer h.0 h.1, r.client.0 ∙ a.2), a.3, a.4)
+    let a = c.loop.invariant.2 in let q = a.1 in let r = c.in-Done.ensures in
+    ((r.client.1, done c.await_pipelined_role.new.writer _ (λ _ _. ⊥) q.0 _ _ (r.role q.0 q.1), r.client.0 ∙ a.2), a.3, a.4)
 
 pub lead-answer-requires-clause-leads : goal.lead-answer-requires-clause-leads
 lead-answer-requires-clause-leads g c =

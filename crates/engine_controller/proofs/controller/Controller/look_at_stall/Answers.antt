@@ -1,0 +1,43 @@
+use Rattle.std.proofs.Common.{sym, ◌∙◌}
+use Rattle.crossbeam_utils.specs.Seq.{cell_view}
+use Rattle.model_base.specs.Controller.{look}
+use Rattle.engine_controller.specs.Rule.{seen_in, history_of}
+use Rattle.engine_controller.specs.Looks.{look_of, look_at}
+use Rattle.engine_controller.specs.Numbers.{numbers_of}
+use Rattle.engine_controller.specs.Passes.{client_of, seen_by}
+use Rattle.engine_controller.proofs.Moves.{looks_turn}
+use Rattle.engine_controller.proofs.Stalls.{stalled, found_last}
+use Rattle.engine_controller.proofs.Tellings.{made_client, made_view, made_stop, made_slow, made_ends, ends_told}
+use Rattle.engine_controller.proofs.controller.Controller.look_at_stall.Goals as goal
+
+pub load-found-requires : goal.load-found-requires
+load-found-requires g c =
+    let own = c.requires.own in
+    record { cell = own.cell; rule = looks_turn _ _ _ _ own.view }
+
+pub returns-clause-own : goal.returns-clause-own
+returns-clause-own g c =
+    let own = c.requires.own in
+    let told = c.load-found.ensures in
+    let made = told.rule in (
+      record {
+        cell = told.cell ∙ own.cell;
+        view = made_view _ _ _ _ made;
+        number = own.number ∙ sym (made_client _ _ _ _ made);
+        stopping = own.stopping ∙ sym (made_stop _ _ _ _ made);
+        slowing = own.slowing ∙ sym (made_slow _ _ _ _ made);
+      },
+      made_client _ _ _ _ made,
+    )
+
+pub returns-clause-asked : goal.returns-clause-asked
+returns-clause-asked g c =
+    let old = c.args.pass.now in
+    let told = c.load-found.ensures in
+    ends_told (client_of old) (seen_by old) look (look_at (numbers_of c.load-found.result) look) (look_of c.new.result) (history_of (seen_in (cell_view c.load-found.new.seat))) c.new.ensures (made_ends _ _ _ _ told.rule)
+
+pub returns-clause-last : goal.returns-clause-last
+returns-clause-last g c = found_last _ _ _ c.load-found.ensures.rule
+
+pub returns-clause-stalled : goal.returns-clause-stalled
+returns-clause-stalled g c = stalled _ _ _ _ c.load-found.ensures.rule
