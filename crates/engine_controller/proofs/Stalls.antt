@@ -5,6 +5,8 @@ use Rattle.std.specs.Prelude.{nat_lt, ◌||◌, ◌&&◌, if◌then◌else◌}
 use Rattle.model_base.specs.Controller as controller
 use Rattle.model_base.specs.Controller.{ControllerCall, HoldUp, numbers_after, answer, after_delay, look_with}
 use Rattle.model_base.specs.Replies.{WasHeldUp}
+use Rattle.model_base.proofs.Prefixes.{prefix_self}
+use Rattle.model_base.proofs.Runs.{held_up_in}
 use Rattle.engine_controller.specs.declared.numbers.Numbers.{Numbers}
 use Rattle.engine_controller.specs.declared.numbers.Action.{Action}
 use Rattle.engine_controller.specs.declared.numbers.Action.TheVariants.{Stop, Unstop, Slow, Unslow, Delay, Look}
@@ -12,7 +14,6 @@ use Rattle.engine_controller.specs.declared.rule.Call.{Call}
 use Rattle.engine_controller.specs.declared.rule.Observer.{Observer}
 use Rattle.engine_controller.specs.Numbers.{action_of, holds_up, held_up_after}
 use Rattle.engine_controller.specs.Rule.{numbers_at, held_up_at, held_up_from, history_from, history_of, call, client_in, seen_in, Makes}
-use Rattle.engine_controller.proofs.Totals.{get_front}
 use Rattle.engine_controller.proofs.Histories.{history_append, held_up_append}
 
 above_none : (n : ℕ) → nat_lt 0 n ≡ true → 0 < n
@@ -28,7 +29,7 @@ hold_up numbers e = by_case (nat_lt 0 numbers.stops) (nat_lt 0 numbers.delays) (
     by_case false true false p q r t = absurd (true≢false (sym t))
     by_case false false c p q r t = absurd (true≢false (sym t))
 
--- a call before these, or after them, changes nothing for the delay that was told
+-- a call before these changes nothing for the delay that was told
 one_before : (t : ControllerCall) (calls : List ControllerCall) (by place : ℕ) → WasHeldUp calls by place
     → WasHeldUp (t ∷ calls) by (place + 1)
 one_before t calls by place was = record {
@@ -38,30 +39,6 @@ one_before t calls by place was = record {
   told = was.told;
   there = was.there;
   before = omega (arith, was.before);
-  holds_up = was.holds_up;
-}
-
-pub more_behind : (calls more : List ControllerCall) (by place : ℕ) → WasHeldUp calls by place
-    → WasHeldUp (calls ++ more) by place
-more_behind calls more by place was = record {
-  at = was.at;
-  now = was.now;
-  bytes = was.bytes;
-  told = was.told;
-  there = get_front calls more _ was.at was.there;
-  before = was.before;
-  holds_up = was.holds_up;
-}
-
-later_place : (calls : List ControllerCall) (by place later : ℕ) → place ≤ later → WasHeldUp calls by place
-    → WasHeldUp calls by later
-later_place calls by place later le was = record {
-  at = was.at;
-  now = was.now;
-  bytes = was.bytes;
-  told = was.told;
-  there = was.there;
-  before = omega (arith, was.before, le);
   holds_up = was.holds_up;
 }
 
@@ -102,7 +79,7 @@ held_up_by held_up n (c ∷ calls) =
     (λ (same : held_up_from now next calls ≡ now). ⊎_elim
     (λ (stays : now ≡ held_up). inl (same ∙ stays))
     (λ (was : WasHeldUp (first ∷ rest) now 1). inr (subst (λ by. WasHeldUp (first ∷ rest) by (length (first ∷ rest))) (sym same)
-    (later_place (first ∷ rest) now 1 (length (first ∷ rest)) (omega (arith, long)) was)))
+    (held_up_in (first ∷ rest) (first ∷ rest) (prefix_self (first ∷ rest)) now 1 (length (first ∷ rest)) (omega (arith, long)) was)))
     (by_call c.client held_up n c.action rest))
     (λ (was : WasHeldUp rest (held_up_from now next calls) (length rest)).
     inr (subst (WasHeldUp (first ∷ rest) (held_up_from now next calls)) long (one_before first rest (held_up_from now next calls) (length rest) was)))
@@ -128,4 +105,4 @@ stalled a v x w m some =
     (λ (was : WasHeldUp (history_of seen) (held_up_from 0 controller.opening seen) (length (history_of seen))). was)
     (held_up_by 0 controller.opening seen)) in
     subst (λ (l : List ControllerCall). WasHeldUp l x.held_up (length l - 1)) (sym whole)
-    (subst (WasHeldUp (history_of seen ++ last) x.held_up) place (more_behind (history_of seen) last x.held_up (length (history_of seen)) was))
+    (subst (WasHeldUp (history_of seen ++ last) x.held_up) place (held_up_in (history_of seen) (history_of seen ++ last) (last, refl) x.held_up (length (history_of seen)) (length (history_of seen)) (omega arith) was))

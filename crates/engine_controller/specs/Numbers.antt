@@ -30,7 +30,7 @@ wait_after n other = 0
 abbrev pub holds_up : controller.Look → Bool
 holds_up numbers = nat_lt 0 numbers.stops || (nat_lt 0 numbers.delays && nat_lt 0 numbers.wait)
 
--- which client's delay was the last one that was told so, after a call of this client at the numbers n, where it was
+-- which client was the last one to learn so, by its delay, after a call of this client at the numbers n, where it was
 -- `held_up` before
 abbrev pub held_up_after : ℕ → ℕ → controller.Numbers → controller.Action → ℕ
 held_up_after client held_up n (delay now bytes) =

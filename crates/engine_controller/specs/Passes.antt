@@ -20,8 +20,8 @@ client_of pass = client_in (cell_view pass.seat)
 abbrev pub seen_by : Pass → List ControllerCall
 seen_by pass = history_of (seen_in (cell_view pass.seat))
 
--- the client whose delay was the last one, as far as the pass has seen, that was told that writes are held up; 0 where
--- none was
+-- the client that was the last one, as far as the pass has seen, to learn by its delay that writes are held up; 0 where
+-- none did
 abbrev pub last_held_up : Pass → ℕ
 last_held_up pass = held_up_at (seen_in (cell_view pass.seat))
 

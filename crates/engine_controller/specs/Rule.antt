@@ -23,8 +23,8 @@ abbrev pub numbers_from : controller.Numbers → List Call → controller.Number
 numbers_from n [] = n
 numbers_from n (c ∷ calls) = numbers_from (numbers_after n (action_of c.action)) calls
 
--- which client's delay was the last one among these calls that was told that writes are held up; `held_up`, where none
--- was
+-- which client was the last one by these calls to learn, by its delay, that writes are held up; `held_up`, where none
+-- did
 abbrev pub held_up_from : ℕ → controller.Numbers → List Call → ℕ
 held_up_from held_up n [] = held_up
 held_up_from held_up n (c ∷ calls) = held_up_from (held_up_after c.client held_up n (action_of c.action))
@@ -161,9 +161,9 @@ share v = share_of v.caller
 abbrev pub total : (Observer → ℕ) → List (List Observer) → ℕ
 total f views = sum_by (λ (v : List Observer). sum_by f v) views
 
--- There is one history of calls. The words are the numbers after it, and the client that was last told in it that
--- writes are held up. Each observer has seen a beginning of it, and no later call is its own. At most one observer
--- covers a client. The words `stops` and `delays` are how many clients hold a stop token and a slow token.
+-- There is one history of calls. The words are the numbers after it, and the client that was the last one in it to
+-- learn that writes are held up. Each observer has seen a beginning of it, and no later call is its own. At most one
+-- observer covers a client. The words `stops` and `delays` are how many clients hold a stop token and a slow token.
 pub record Kept (x : Numbers) (views : List (List Observer)) : Type 0 where
   pub calls : List Call
   pub numbers : numbers_of x ≡ numbers_at calls

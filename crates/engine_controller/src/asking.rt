@@ -60,8 +60,8 @@ impl<Time: Clock> Controller<Time> {
         Look::new(found.stops, found.delays, 0)
     }
 
-    /// As [`Controller::look`]. It also answers which client's delay was the last one before it that was told that
-    /// writes are held up, or 0 where none was. So a client that meets a stall learns whose it is, or was.
+    /// As [`Controller::look`]. It also answers which client was the last one before it to learn, by its delay, that
+    /// writes are held up, or 0 where none did. So a client that meets a stall learns whose it is, or was.
     pub fn look_at_stall<R: Wait>(&self, rt: &R, pass: &mut Pass) -> (Look, u64)
         requires own { IsPassOf self.now pass.old }
         ensures own { IsPassOf self.now pass.new × (client_of pass.new ≡ client_of pass.old) }

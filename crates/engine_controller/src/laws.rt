@@ -11,7 +11,8 @@ ghost use Rattle.engine_controller.specs.declared.pass.Pass.{Pass};
 ghost use Rattle.engine_controller.specs.Delays.{delays_of, place_if};
 ghost use Rattle.engine_controller.specs.Passes.{seen_by, GoesOn, EndsWith, IsLast, IsHistoryOf, token_in};
 
-/// A `look` changes nothing, and neither does a `delay` while writes are stopped.
+/// A `look` changes none of the equations' numbers, and neither does a `delay` while writes are stopped. The `delay`
+/// only makes its client the last one that learned that writes are held up.
 pub fn asking_a_stopped_controller_changes_nothing()
     ensures look { (n : Numbers) → numbers_after n look ≡ n }
     ensures delay { (n : Numbers) (now bytes : ℕ) → 0 < n.stops → numbers_after n (delay now bytes) ≡ n }

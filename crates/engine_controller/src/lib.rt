@@ -17,7 +17,7 @@
 //! | `rate` | bytes a second, at least 1 |
 //! | `credit` | bytes that may be written with no wait |
 //! | `next` | the moment of the next refill, in microseconds; 0: none is set |
-//! | `held_up` | the client whose `delay` was the last one that was told that writes are held up; 0: none was |
+//! | `held_up` | the client that was the last one to learn, by its `delay`, that writes are held up; 0: none did |
 //!
 //! | call | what it does |
 //! |---|---|
@@ -27,7 +27,7 @@
 //! | `end` | gives back the tokens that the client holds |
 //! | `delay` | how long some bytes have to wait, by a clock while writes are stopped or slowed; and the counts of tokens |
 //! | `look` | the counts of tokens |
-//! | `look_at_stall` | the same, and which client was last told that writes are held up |
+//! | `look_at_stall` | the same, and which client was the last one to learn that writes are held up |
 //! | `note`, `copies`, `learn` | carry what one pass has seen to another, and make no call |
 //! | `close` | takes all passes back |
 //!

@@ -1,5 +1,5 @@
-//! The controller's five numbers, and how each call changes them, by the equations of `model_base`. Next to them stands
-//! which client was last told that writes are held up.
+//! The controller's five numbers, and how each call changes them, by the equations of `model_base`. Next to them is
+//! which client was the last one to learn that writes are held up.
 
 ghost use Rattle.std.specs.Prelude.{◌≡◌, ◌+◌, ◌<◌, ◌≤◌, ◌^◌, if◌then◌else◌};
 ghost use Rattle.model_base.specs.Controller.{numbers_after, slow, after_delay, after_debt, after_refill, after_payment, at_most_u64};
@@ -13,7 +13,7 @@ const SECOND: u64 = 1_000_000;
 /// The least wait, and the time between two refills, in microseconds.
 const MILLISECOND: u64 = 1_000;
 
-/// The numbers. For a controller that was just opened they are 0, 0, 1, 0, 0.
+/// The numbers. For a controller that was just opened the rate is 1, and all others are 0.
 #[derive(Clone, Copy, Debug, PartialEq, Eq)]
 pub struct Numbers {
     /// How many clients hold a stop token.
@@ -26,8 +26,8 @@ pub struct Numbers {
     pub credit: u64,
     /// The moment of the next refill, in microseconds. 0: none is set.
     pub next: u64,
-    /// The client whose delay was the last one that was told that writes are held up. 0: none was. No answer depends on
-    /// it: it is what a client learns that meets a stall.
+    /// The client that was the last one to learn, by its delay, that writes are held up. 0: none did. No other number
+    /// depends on it: it is what a client learns that meets a stall.
     pub held_up: u64,
 }
 
@@ -115,7 +115,7 @@ impl Numbers {
         (numbers, 0)
     }
 
-    // The numbers once this client has been told that writes are held up, if it has.
+    // The numbers once this client has learned that writes are held up, if it has.
     fn with_held_up(self, client: u64, told: bool) -> Numbers
         ensures numbers { numbers_of result ≡ numbers_of self }
         ensures held_up { result.held_up ≡ (if told then client else self.held_up) }

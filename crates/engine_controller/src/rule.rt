@@ -34,8 +34,8 @@ pub struct Observer {
 /// What a pass knows: one observer; several while it takes in another pass, and at closing.
 pub type ControllerView = LinkedList<Observer>;
 
-/// The rule: the words are the numbers after one history of calls, and the client that was last told in it that writes
-/// are held up.
+/// The rule: the words are the numbers after one history of calls, and the client that was the last one in it to learn
+/// that writes are held up.
 pub struct OneHistory;
 
 impl Protocol<Numbers, ControllerView> for OneHistory {

@@ -7,7 +7,7 @@ use Rattle.model_base.specs.Controller as calls
 use Rattle.model_base.specs.Controller.{ControllerCall, Look}
 use Rattle.model_base.specs.Replies.{IsLater, WasHeldUp, MetStall}
 use Rattle.model_base.proofs.Prefixes.{prefix_at, prefix_length, prefix_trans}
-use Rattle.model_base.proofs.Runs.{later_in}
+use Rattle.model_base.proofs.Runs.{later_in, held_up_in}
 use Rattle.table_rule.specs.Histories.{In}
 use Rattle.line_writers.specs.Seats.{client_of, Belongs, answers_told}
 use Rattle.engine_controller.specs.Delays.{delays_of}
@@ -67,17 +67,6 @@ module _ {D T C G S U P : Type 0} {ghosts : Ghosts D} (meaning : Meaning T S U P
 
 -- What was seen of a stall
 
-stalled_in : (xs ys : List ControllerCall) → IsPrefix xs ys → (by place : ℕ) → WasHeldUp xs by place → WasHeldUp ys by place
-stalled_in xs ys p by place s = record {
-  at = s.at;
-  now = s.now;
-  bytes = s.bytes;
-  told = s.told;
-  there = prefix_at xs ys p s.at _ s.there;
-  before = s.before;
-  holds_up = s.holds_up;
-}
-
 all_at : {A : Type 0} (P : A → Type 0) (xs : List A) (i : ℕ) (x : A) → AllByRecursion P xs → slice_get xs i ≡ Some x → P x
 all_at P [] i x h e = absurd (cc e)
 all_at P (y ∷ xs) zero x h e = let is : y ≡ x = cc e in subst P is h.0
@@ -98,7 +87,7 @@ met_leader k noted seen after told numbers is on front looked shown =
     let late = looked.is_later.later in let same = ap (λ (xs : List ControllerCall). length xs) is in record {
       leader = looked.by;
       other = others_behind k seen on.between looked.place call (omega (arith, late, same)) on.others there;
-      stalled = stalled_in told after front looked.by looked.place looked.stalled;
+      stalled = held_up_in told after front looked.by looked.place looked.place (omega arith) looked.stalled;
       looked = inr refl;
       shown = shown;
     }
@@ -112,4 +101,4 @@ leader_later known noted seen after told numbers is front told_front looked =
 
 -- a client that was turned away has met a stall, also in what it has seen since
 pub met_self : (k : ℕ) (seen after : List ControllerCall) (place : ℕ) (numbers : Look) → IsPrefix seen after → MetStall seen k k place numbers → MetStall after k k place numbers
-met_self k seen after place numbers front m = record { leader = m.leader; other = m.other; stalled = stalled_in seen after front m.leader place m.stalled; looked = m.looked; shown = m.shown }
+met_self k seen after place numbers front m = record { leader = m.leader; other = m.other; stalled = held_up_in seen after front m.leader place place (omega arith) m.stalled; looked = m.looked; shown = m.shown }

@@ -53,10 +53,6 @@ all_front P (x ∷ xs) ys h = (h.0, all_front P xs ys h.1)
 
 -- What the list's law is about
 module _ {D T C S U P : Type 0} {ghosts : Ghosts D} where
-  -- what must hold of a request and its code
-  abbrev pub wanted_in : WriterList Request Answer (Leadership D T C S U P ghosts) (Right T S U P) (EngineAtOpening D T C ghosts) → Request → ℕ → Type 0
-  wanted_in list = asks_for (λ (q : Request). item_with q.batch.records q.options) (λ (a : EngineAtOpening D T C ghosts) (q : Request). IsNoted a.controller.value q) (about_of list)
-
   -- what the leadership's log says of what was handled, with its note
   abbrev pub LogIn : EngineAtOpening D T C ghosts → Leadership D T C S U P ghosts → List (List MemberVersions) → List (Handling Request Answer) → Type 0
   LogIn about leadership published handled = LogCovers about.opened.value about.start about.clients about.group_bytes (seen_by_note leadership.asked) leadership.held.value.path.log published leadership.held.value.path.last handled
@@ -189,16 +185,6 @@ fresh_same c c' own own' seen seen' mine mine' e =
     let h : hold c (Fresh own seen) mine ≡ hold c' (Fresh own' seen') mine' = cc in
     let s : Fresh own seen ≡ Fresh own' seen' = ap (λ x. x.stage) h in
     cc
-
--- the same writer by another name
-module _ {L M : Type 0} where
-  pub has_as : (wanted : Request → ℕ → Type 0) (n max : ℕ) (own : QueuedWriter Request) (group left : List (QueuedWriter Request)) (seen : List (Handling Request Answer)) (m : List (Request × Answer)) (w w' : Writer Request Answer L M) → w' ≡ w → answers_told w ≡ m
-      → HasGroup wanted n max own group left seen m w → HasGroup wanted n max own group left seen (answers_told w') w'
-  has_as wanted n max own group left seen m w w' same told_is has =
-      subst (λ (x : Writer Request Answer L M). HasGroup wanted n max own group left seen (answers_told x) x) (sym same) (subst (λ (y : List (Request × Answer)). HasGroup wanted n max own group left seen y w) (sym told_is) has)
-
-  pub belongs_as : {K : Type 0} (list : WriterList Request Answer L M K) (w w' : Writer Request Answer L M) → w' ≡ w → Belongs list w → Belongs list w'
-  belongs_as list w w' same h = subst (λ (x : Writer Request Answer L M). Belongs list x) (sym same) h
 
 -- Where a writer is in the line
 module _ {Q P L M : Type 0} where

@@ -23,7 +23,9 @@ use crate::leader::{Leadership, Right};
 use base_devices::{Clock, Disk};
 use engine_calls::Gate;
 use engine_controller::{Look, Pass};
-use engine_parts::{Delay, SealedAnswer, SealedRequest, drop_if_stalled, is_stalled, may_proceed};
+use engine_parts::{
+    Delay, SealedAnswer, SealedRequest, drop_if_stalled, holds_writes_up, may_proceed,
+};
 use line_writers::{Requests, Room, Writer};
 use std::rt;
 use std::sync::Wait;
@@ -69,7 +71,7 @@ impl<
             → (no_slowdown ≡ true) × HoldUp (look_of look) × (seen_by pass.new ≡ seen_by pass.old) }
         ensures leads { KeepsGroup self.now.list writer.old writer.new × HasRoom (clients_of self.now.list) room.new }
     {
-        if no_slowdown || !is_stalled(look) {
+        if no_slowdown || !holds_writes_up(look) {
             return may_proceed(rt, &self.controller, pass, clock, look, no_slowdown);
         }
         self.list.begin_stall(rt, writer, requests, room);

@@ -32,7 +32,7 @@ use base_devices::{Clock, Disk};
 use engine_calls::{Gate, Receipt, Refused};
 use engine_parts::{
     Answer, Delay, Request, SealedAnswer, SealedRequest, ask, log_phase, may_be_apart,
-    refuse_stalled, refused_by,
+    refuse_held_up, refused_by,
 };
 use line_writers::Role;
 use log_batch::{Batch, Measure, refusal_at_once};
@@ -306,7 +306,7 @@ impl<
         leadership.asked = controller.note(pass);
         let requests = &mut requests.list;
         if !proceeds {
-            refuse_stalled(controller, pass, look, &delay, requests, replies);
+            refuse_held_up(controller, pass, look, &delay, requests, replies);
             return (leadership, None);
         }
         let apart = may_be_apart(leadership.turn.is_none(), self.table.locks());

@@ -3,25 +3,14 @@ use Rattle.std.proofs.Common.{◌≡◌, ◌≢◌, inl, ℕ, ◌-◌, ◌≤◌
 use mathlib.Core.List.{IsPrefix}
 use Rattle.model_base.specs.Controller.{ControllerCall, Look, ShowTokens, look}
 use Rattle.model_base.specs.Replies.{IsLater, WasHeldUp, MetStall}
-use Rattle.model_base.proofs.Prefixes.{prefix_at, prefix_length}
+use Rattle.model_base.proofs.Prefixes.{prefix_length}
+use Rattle.model_base.proofs.Runs.{held_up_in}
 use Rattle.engine_controller.specs.Passes.{GoesOn, EndsWith, IsLast}
 use Rattle.engine_controller.proofs.Account.{ends_last, goes_begins, goes_tokens}
 use Rattle.engine_controller.proofs.Places.{goes_delays}
 use Rattle.engine_parts.specs.Asking.{OnlyLooks}
 use Rattle.engine_parts.specs.Handled.{LookedInStall, SawNoTokens}
 use Rattle.engine_parts.proofs.Views.{only_more}
-
--- one that had been held up before the end of a history had been so before each later place of a longer one
-held_on : (known now : List ControllerCall) (by place : ℕ) → IsPrefix known now → length known ≤ place → WasHeldUp known by (length known) → WasHeldUp now by place
-held_on known now by place p low w = record {
-  at = w.at;
-  now = w.now;
-  bytes = w.bytes;
-  told = w.told;
-  there = prefix_at known now p w.at _ w.there;
-  before = (let b = w.before in omega (arith, b, low));
-  holds_up = w.holds_up;
-}
 
 -- the history goes on by calls of others, and then the client looks
 pub only_one : (client : ℕ) (seen middle after : List ControllerCall) (numbers : Look) → GoesOn client seen middle → EndsWith client middle look (Some numbers) after → OnlyLooks client seen after
@@ -41,7 +30,7 @@ looked_in_stall client known seen middle after numbers held g noted e =
       by = client;
       place = last.place;
       is_later = later_front known middle after last.place _ noted last.is_later;
-      stalled = held_on seen after client last.place begins.begins (let a = prefix_length seen middle (goes_begins client seen middle g) in let b = last.is_later.later in omega (arith, a, b)) held;
+      stalled = held_up_in seen after begins.begins client (length seen) last.place (let a = prefix_length seen middle (goes_begins client seen middle g) in let b = last.is_later.later in omega (arith, a, b)) held;
     }
 
 -- the look shows no tokens

@@ -219,7 +219,7 @@ abbrev pub EndsInDelay : ℕ → Look → List ControllerCall → Type 0
 EndsInDelay client numbers seen = (before : List ControllerCall) × (now bytes : ℕ)
     × (seen ≡ before ++ record { client = client; action = calls.delay now bytes; told = Some numbers } ∷ [])
 
--- a leader that had been told that writes are held up looked after all of `known`, and its look has these numbers
+-- a leader that had learned that writes are held up looked after all of `known`, and its look has these numbers
 pub record LookedInStall (known seen : List ControllerCall) (numbers : Look) : Type 0 where
   pub by : ℕ
   pub place : ℕ

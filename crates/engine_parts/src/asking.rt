@@ -86,8 +86,8 @@ fn bytes_of(requests: &[(u32, SealedRequest)]) -> u64
     bytes
 }
 
-/// Whether writes are stalled: stopped, or slowed down where this group has to wait.
-pub fn is_stalled(look: Look) -> bool
+/// Whether writes are held up: stopped, or slowed down where this group has to wait.
+pub fn holds_writes_up(look: Look) -> bool
     ensures held_up { result ≡ true → HoldUp (look_of look) }
     ensures free { HoldUp (look_of look) → result ≡ true }
 {
@@ -95,7 +95,7 @@ pub fn is_stalled(look: Look) -> bool
 }
 
 /// Whether a group goes on. A group that may wait always goes on, but waits here first. A group that may not wait goes
-/// on only where writes aren't stalled.
+/// on only where writes aren't held up.
 pub fn may_proceed<Time: Clock, R: Wait>(
     rt: &R,
     controller: &Controller<Time>,
@@ -113,9 +113,9 @@ pub fn may_proceed<Time: Clock, R: Wait>(
         → (no_slowdown ≡ true) × HoldUp (look_of look) × (seen_by pass.new ≡ seen_by pass.old) }
 {
     if no_slowdown {
-        return !is_stalled(look);
+        return !holds_writes_up(look);
     }
-    wait_while_stalled(rt, controller, pass, clock, look);
+    wait_while_held_up(rt, controller, pass, clock, look);
     true
 }
 
@@ -149,7 +149,7 @@ fn learn_of<Time: Clock, R: Wait>(
 }
 
 /// What a leader that stalls writes answers to a request of the queue that may not wait: it is refused, where a look
-/// shows that some client stops or slows writes. Else the request comes back as it was.
+/// shows that some client stops or slows writes. Where it shows none, the request comes back as it was.
 pub fn drop_if_stalled<Time: Clock, R: Wait>(
     rt: &R,
     controller: &Controller<Time>,
@@ -182,8 +182,8 @@ pub fn drop_if_stalled<Time: Clock, R: Wait>(
 }
 
 /// What a client answers itself that met a stall with a request that may not wait, and that no list has: it is refused,
-/// where a look shows that some client stops or slows writes, after another client was told that writes are held up.
-/// Else the request comes back as it was.
+/// where a look shows that some client stops or slows writes, and that another client was the last one to learn that
+/// writes are held up. Where it doesn't show both, the request comes back as it was.
 pub fn turn_away_if_stalled<Time: Clock, R: Wait>(
     rt: &R,
     controller: &Controller<Time>,
@@ -217,8 +217,8 @@ pub fn turn_away_if_stalled<Time: Clock, R: Wait>(
     Ok(envelope.tell(answer))
 }
 
-/// Waits as long as the delay answered, and then while writes are stopped.
-fn wait_while_stalled<Time: Clock, R: Wait>(
+/// Waits where writes are held up: as long as the delay answered, and then while writes are stopped.
+fn wait_while_held_up<Time: Clock, R: Wait>(
     rt: &R,
     controller: &Controller<Time>,
     pass: &mut Pass,
@@ -245,7 +245,7 @@ fn wait_while_stalled<Time: Clock, R: Wait>(
     unreachable!()
 }
 
-/// The refusal of a batch because writes are stalled.
+/// The refusal of a batch because writes are held up.
 pub fn refused_by(look: Look, batch: Batch) -> Refused
     ensures { result ≡ held_up_with (look_of look) batch }
 {
@@ -257,8 +257,8 @@ pub fn refused_by(look: Look, batch: Batch) -> Refused
     Refused { batch, why }
 }
 
-/// Refuses all members because writes are stalled. Each gets a note of what the leader has seen.
-pub fn refuse_stalled<Time: Clock>(
+/// Refuses all members because writes are held up. Each gets a note of what the leader has seen.
+pub fn refuse_held_up<Time: Clock>(
     controller: &Controller<Time>,
     pass: &mut Pass,
     look: Look,

@@ -20,7 +20,8 @@ mod numbering;
 mod requests;
 
 pub use asking::{
-    ask, drop_if_stalled, is_stalled, may_proceed, refuse_stalled, refused_by, turn_away_if_stalled,
+    ask, drop_if_stalled, holds_writes_up, may_proceed, refuse_held_up, refused_by,
+    turn_away_if_stalled,
 };
 pub use envelope::{Envelope, SealedAnswer, SealedRequest};
 pub use layout::Layout;

@@ -36,8 +36,10 @@ pub struct Delay {
 #[derive(Drop)]
 pub struct Answer {
     pub answer: Result<Receipt, Refused>,
-    /// The delay that was asked for the group.
+    /// The delay that was asked for the group. A refusal without a group has no such delay, and what is here says
+    /// nothing of it.
     pub delay: Snapshot<Delay>,
-    /// What the leader has seen of the write controller, where the batch was refused because writes are held up.
+    /// What the leader has seen of the write controller, where it refused the batch because writes are held up. A
+    /// refusal by the client's own look has no note.
     pub note: Option<Note>,
 }

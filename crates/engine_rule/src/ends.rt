@@ -35,7 +35,8 @@ pub fn numbers_of_commits()
 
 /// Where all answers are right, the newest answer to a client that holds no stop token gives its account an accepted
 /// batch, once the client has seen the batch's whole group, or a refusal. It doesn't matter which answers the others
-/// got, or what more the client has seen since of what is published and of the controller.
+/// got, or what more the client has seen since of what is published and of the controller. A commit that may not wait
+/// may also be refused in no group, by a look: because its client holds a stop token, or because it met a stall.
 pub fn accounts_of_the_commits()
     ensures wrote { (settings : Settings) (k : ClientCall) (commits : List Commit) (c : Commit) (first group_last : ℕ)
         → IsNewest k commits c → HasSeenMore k → IsFree k → c.answer ≡ accepted first group_last

@@ -26,7 +26,7 @@ pub record Laws (Request Reply Log Right : Type 0) : Type 1 where
   -- what holds of what was handled, wherever the log is
   pub kept : List (Handling Request Reply) → Type 0
   pub keeps : (l : Log) (hs : List (Handling Request Reply)) → logs l hs → kept hs
-  -- what a writer that leaves the queue is replied to its request
+  -- what holds of a request, and of the reply with which its writer leaves the queue
   pub drops : Request → Reply → Type 0
   -- what the list's law asks of a request and its code
   pub asks : Request → ℕ → Type 0
@@ -78,7 +78,7 @@ abbrev pub kept_picked : {Request Reply About : Type 0} → (About → List (Han
 kept_picked kept None = λ hs. Unit {0}
 kept_picked kept (Some about) = kept about
 
--- the same of what a writer that leaves the queue is replied
+-- the same of a request, and of the reply with which its writer leaves the queue
 abbrev pub drops_picked : {Request Reply About : Type 0} → (About → Request → Reply → Type 0) → Picked About
     → Request → Reply → Type 0
 drops_picked drops None = λ q p. Unit {0}

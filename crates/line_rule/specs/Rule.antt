@@ -105,7 +105,7 @@ module _ {Request Reply : Type 0} where
   AllLinked phase [] = Unit {0}
   AllLinked phase (e ∷ es) = (phase e.by ≡ linked e) × AllLinked phase es
 
-  -- they wait in the list, but for the one whose request the leader c has, while it stalls writes
+  -- they wait in the list, except the one whose request the leader c has, while it stalls writes
   module _ (phase : ℕ → Phase Request Reply) (due : ℕ → List (Request × Reply)) (c : ℕ) (queue : List (QueuedWriter Request)) where
     abbrev pub AllQueued : Pause Request → Type 0
     AllQueued calm = AllLinked phase queue

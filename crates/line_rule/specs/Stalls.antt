@@ -82,7 +82,7 @@ module _ {Request Reply Log Right : Type 0} where
       (mine : List (Request × Reply)) → At c (Stalling lead (Owes w x p)) mine m
       → At c (Stalling lead (Stopped w)) mine m' × (m'.1 ≡ rest m.1)
 
-  -- the stall ends: the newest writer stands in its place again
+  -- the stall ends: word 0 names the newest writer again
   abbrev pub after_resume : Step (LineSlot Request Reply Log Right) → Sat Request Reply Log Right → ℕ
       → Sat Request Reply Log Right → Type 0
   after_resume st m r m' = (c w : ℕ) (lead : Lead Request Reply) (mine : List (Request × Reply))

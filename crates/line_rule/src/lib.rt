@@ -28,8 +28,7 @@
 //!
 //! A seat is a client's. A leader has the log, and the slots of its group. [`steps_and_events`],
 //! [`second_steps_and_events`] and [`stall_steps_and_events`] say which event of the list each step is, or that it is
-//! none. [`list_and_core`] says
-//! which event of the write path's core each event of the lists is.
+//! none. [`list_and_core`] says which event of the write path's core each event of the lists is.
 //!
 //! Each request in the list is lawful for what the list's law is about (`lawful` of [`LogOfGroups`]): the client that
 //! links it shows that it is, and the leader then knows it.

@@ -22,7 +22,7 @@ pub trait LogOfGroups<Request, Reply, Right> {
     /// What the right covers, of the handled requests that were given runs.
     ghost serves: { Self.About → Right → List (Handling Request Reply) → Type 0 };
 
-    /// What a writer is replied to its request that leaves the queue while writes are stalled.
+    /// What holds of a request, and of the reply with which its writer leaves the queue while writes are stalled.
     ghost drops: { Self.About → Request → Reply → Type 0 };
 
     /// What holds of each request that is in the list.

@@ -23,8 +23,8 @@ pub const STATE_DONE: u64 = 16;
 /// `WriteThread::ExitAsBatchGroupLeader`.
 pub const MARK: u64 = 255;
 
-/// A leader that holds writes up leaves this in the place of the newest writer, whose number `older_word(0)` then has.
-/// No client has this number. RocksDB puts a writer of its own there, the dummy of `WriteThread::BeginWriteStall`.
+/// A leader that stalls writes leaves this in the place of the newest writer, whose number `older_word(0)` then has. No
+/// client has this number. RocksDB puts a writer of its own there, the dummy of `WriteThread::BeginWriteStall`.
 pub const STALL: u64 = 254;
 
 /// The word of a client's state.

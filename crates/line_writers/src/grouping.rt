@@ -118,6 +118,9 @@ impl<
             → Builds (asks_picked Request.item_of Log.lawful About.about) self.now.table.shared.table_id.slots
             About.number writer.old.client own seen mine result writer.old.seat.me writer.new.seat.me }
     {
+        // Fresh -> Leading: the group is taken from the queue that begins at this newest writer. It is one load, since
+        // the rule is of one queue, and more writers may have come at a second one. The load of `newest_writer_` in
+        // `EnterAsBatchGroupLeader`.
         self.table.shared.load::<Build<About>>(&mut writer.seat, 0)
     }
 
@@ -167,6 +170,7 @@ impl<
             → (writer.new.seat.me.1 ≡ (writer.old.client, Empty) ∷ t) × (result ≡ q) }
     {
         let c = writer.client;
+        // The slot, Asked -> Empty: a leader has its own slot since it leads, so its request is still there.
         match self
             .table
             .shared
@@ -234,7 +238,10 @@ impl<
             × (writer.new.seat.me.1 ≡ (x.by, Empty) ∷ writer.old.seat.me.1) × (result ≡ x.asked) }
     {
         let shared = &self.table.shared;
+        // Leading, with one request more: with this load the leader has the member's slot, while the member can only
+        // wait until it is told. `w->write_group = write_group` of `EnterAsBatchGroupLeader`.
         shared.load::<Fetch>(&mut writer.seat, older_word(member));
+        // The slot, Asked -> Empty: the member put its request there before it linked.
         match shared.exchange(&mut writer.seat, member as usize, LineSlot::Empty) {
             LineSlot::Asked(request) => request,
             _ => unreachable!(),

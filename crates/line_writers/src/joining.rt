@@ -229,6 +229,8 @@ impl<
             client: older,
             code,
         };
+        // Parting, with this older writer: who walks the second list goes on from the group's oldest writer by this
+        // link, so it is named before the exchange. `leader->link_older = newest` of `LinkGroup`.
         self.table
             .shared
             .store::<AimSecond>(&mut writer.seat, older_word(c as u64), named.pack());
@@ -255,6 +257,9 @@ impl<
             → Joins (Log.serves (about_of self.now)) self.now.clients writer.old.client ForRight.given older result st
             mine g writer.old.seat.me writer.new.seat.me }
     {
+        // Parting -> Holding where the second list was empty, with the right; Parting -> Joining where it wasn't. It
+        // comes before the log goes on, so that groups come in the order of the log. Parting still where the last group
+        // has left since, which leaves 0. The exchange of `LinkGroup`, which returns true where that list was empty.
         self.table
             .shared
             .compare_exchange::<JoinSecond<ForRight>>(&mut writer.seat, 1, older, newest_member)

@@ -90,6 +90,9 @@ impl<
             let Some((member, reply)) = replies.pop() else {
                 unreachable!()
             };
+            // The slot, Empty -> Told: the log that goes on covers the group with these replies, and a member takes its
+            // reply as soon as it is told, so all replies are there before both. `ExitAsBatchGroupLeader` sets `status`
+            // before `SetState`.
             match self
                 .table
                 .shared
@@ -111,6 +114,7 @@ impl<
         ensures put { (t : Carried Request Reply Log Right) → writer.old.seat.me.1 ≡ (0, Empty) ∷ t
             → writer.new.seat.me.1 ≡ (0, TheLog log) ∷ t }
     {
+        // Slot 0, Empty -> TheLog: the next leader takes the log as soon as it leads, so it is there before.
         match self
             .table
             .shared
@@ -159,6 +163,10 @@ impl<
             Leaves writer.old.client lead d.rest d.reply mine (table_of self.now).slots newest_member result
             writer.old.seat.me writer.new.seat.me) }
     {
+        // Leading -> Settling where nobody came after the group: the list is empty from here on, and the next writer
+        // that links leads at once. Leading still where somebody came: it saw a writer before it, so it waits until it
+        // is woken. A second try would fail too, since only a leader takes writers out. The exchange of
+        // `ExitAsBatchGroupLeader`.
         self.table
             .shared
             .compare_exchange::<Leave>(&mut writer.seat, 0, newest_member, 0)
@@ -176,7 +184,13 @@ impl<
     {
         let shared = &self.table.shared;
         let cleared = Older { client: 0, code };
+        // Leading -> Cutting: the next leader's walk must end at itself. If it led before this, it would walk on to
+        // writers of this group, which may have linked again by then. `link_newer->link_older = nullptr` of
+        // `ExitAsBatchGroupLeader`.
         shared.store::<CutOff>(&mut writer.seat, older_word(next), cleared.pack());
+        // Cutting -> Settling: the next leader has the log from here on. Nobody else says so, so without this it and
+        // all behind it would wait for ever. The members are told after it, so that the next group needn't wait for
+        // that. `SetState` of `ExitAsBatchGroupLeader`, to `STATE_GROUP_LEADER`.
         shared.store::<Wake>(&mut writer.seat, state_word(next), STATE_LEADS_LOG);
         self.bells.ring(next);
     }
@@ -221,6 +235,9 @@ impl<
             → Owes writer.old.client (debt (g ∷ gs) own p) mine writer.old.seat.me
             → Owes writer.old.client (debt gs own p) mine writer.new.seat.me }
     {
+        // Settling, with one reply less to tell: the member has its slot with the reply, and may link again at once, so
+        // the leader touches none of its words after this. `SetState` of `ExitAsBatchGroupLeader`,
+        // `ExitAsMemTableWriter` and `CompleteFollower`, to `STATE_COMPLETED`.
         self.table
             .shared
             .store::<Complete>(&mut writer.seat, state_word(member as u64), STATE_DONE);
@@ -240,8 +257,12 @@ impl<
     {
         let shared = &self.table.shared;
         let c = writer.client;
+        // The slot, Told -> Empty: the leader's slot is its own up to its last step, so its reply is still there.
         match shared.exchange(&mut writer.seat, c as usize, LineSlot::Empty) {
             LineSlot::Told(reply) => {
+                // Settling -> Idle: nobody waits for this state, but the empty slot goes back to the list by it. It
+                // comes last: an idle writer owes nothing, and who wasn't told before would wait for ever. The last
+                // `SetState` of `ExitAsMemTableWriter`, and that of `CompleteLeader`.
                 shared.store::<Retire>(&mut writer.seat, state_word(c as u64), STATE_DONE);
                 reply
             }

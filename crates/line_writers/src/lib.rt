@@ -11,7 +11,9 @@
 //! A leader whose group must wait may stall writes: then nobody links, and the leader may let writers of the queue go
 //! that may not be slowed down.
 //!
-//! The words, slots and steps are those of `line_rule`.
+//! The words, slots and steps are those of `line_rule`. At each step a comment says how the seat's stage changes
+//! (`LineStage`, `Stall` and `Back` there), or what a slot holds before and after, and why it comes where it does.
+//! Names such as `LinkOne` are those of RocksDB's db/write_thread.cc.
 #![tactic(auto)]
 
 mod closing;

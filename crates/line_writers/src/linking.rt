@@ -112,9 +112,12 @@ impl<
     {
         let shared = &self.table.shared;
         let c = writer.client;
-        // The state of its last time in the list goes first: once the writer is linked, others may set it.
+        // Idle -> Preparing: the state of the writer's last time in the list goes before the link. Once the writer is
+        // linked others set its state; this store would undo that, and the writer would wait for ever. The constructor
+        // of `Writer` sets `STATE_INIT`.
         shared.store::<Begin>(&mut writer.seat, state_word(c as u64), STATE_IN_LIST);
-        // The slot is the writer's own until it is linked; then it is the one from which a leader takes the request.
+        // The slot, Empty -> Asked: a leader may take the request from it as soon as the writer is linked. Until then
+        // the slot is the writer's own. The constructor of `Writer` sets `batch`.
         match shared.exchange(&mut writer.seat, c as usize, LineSlot::Asked(request)) {
             LineSlot::Empty => {}
             _ => unreachable!(),
@@ -169,9 +172,14 @@ impl<
             client: newest,
             code,
         };
-        // Who finds the writer at the newest end must find the next older one by it, so the link is named before.
+        // Preparing, with this older writer: who finds the writer at the newest end goes on by this link, so it is
+        // named before the exchange; after it a leader could follow the link of the writer's last time.
+        // `w->link_older = writers` of `LinkOne`.
         shared.store::<NameOlder>(&mut writer.seat, older_word(c as u64), older.pack());
-        // It links only where the writer that the link names is the newest one still.
+        // Preparing -> Fresh where the list was empty, with the log; Preparing -> Waiting where it wasn't. From here on
+        // others see the writer. Preparing still where the newest writer is another by now: the link would leave out
+        // who came since, or lead to one that has left. The exchange of `LinkOne`, which returns true where the list
+        // was empty.
         let found = shared.compare_exchange::<Link<About>>(&mut writer.seat, 0, newest, c as u64);
         if found != newest {
             return Linking::Missed;
@@ -191,11 +199,13 @@ impl<
     {
         let shared = &self.table.shared;
         let c = writer.client;
-        // Nobody else looks into the slot of a writer that isn't linked, so the request is still there.
+        // The slot, Asked -> Empty: nobody else looks into the slot of a writer that isn't linked, so the request is
+        // still there.
         match shared.exchange(&mut writer.seat, c as usize, LineSlot::Empty) {
             LineSlot::Asked(request) => {
-                // The empty slot goes back to the list by a step, which a load is too.
-                shared.load::<Withdraw>(&mut writer.seat, 0);
+                // Preparing -> Idle: the empty slot goes back to the list by a step, which a load is too. Without it
+                // the writer could never begin again. `LinkOne` sets the writer's own state to `STATE_COMPLETED`.
+                shared.load::<Withdraw>(&mut writer.seat, state_word(c as u64));
                 request
             }
             _ => unreachable!(),

@@ -56,6 +56,9 @@ impl<
         let Ok(bells) = Bells::for_clients(alloc, clients) else {
             return Err((log, right));
         };
+        // All words are 0: both lists are empty, so the first writer that links leads at once, and the first group of
+        // the second list has the right at once. The constructor of `WriteThread` sets `newest_writer_` and
+        // `newest_memtable_writer_` to null.
         let Ok(words) = vec![in alloc; 0u64; 2 * clients as usize + 4] else {
             return Err((log, right));
         };

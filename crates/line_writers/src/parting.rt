@@ -42,6 +42,9 @@ impl<
             mine writer.old.seat.me writer.new.seat.me) × (result ≢ newest_member → Walks (table_of self.now).slots
             writer.old.client lead mine result writer.old.seat.me writer.new.seat.me) }
     {
+        // Leading -> Marking, and Away -> Parting, where nobody came after the group: who comes from here on sees the
+        // mark, and waits. If it saw 0, it would lead at once, and its group could be in the second list before this
+        // one. Leading still where somebody came. The exchange of `ExitAsBatchGroupLeader` that puts its dummy.
         self.table
             .shared
             .compare_exchange::<Mark<Given>>(&mut writer.seat, 0, newest_member, MARK)
@@ -67,6 +70,9 @@ impl<
             → CutsOff Given.given writer.old.client (Cutting lead x) lead mine writer.old.seat.me writer.new.seat.me }
     {
         let cleared = Older { client: 0, code };
+        // Leading -> Cutting, and Away -> Parting: the next leader's walk must end at itself, and the group's own links
+        // are for the second list from here on. There is no need of a mark, since that writer waits until it is woken.
+        // `ExitAsBatchGroupLeader` links it to the dummy.
         self.table
             .shared
             .store::<CutAway<Given>>(&mut writer.seat, older_word(next), cleared.pack());
@@ -119,6 +125,9 @@ impl<
             × (result ≢ MARK → WalksMarked (table_of self.now).slots writer.old.client lead mine b result
             writer.old.seat.me writer.new.seat.me)) }
     {
+        // Marking -> Settling, and Joining -> Queued or Holding -> Serving, where nobody came after the mark: the next
+        // writer that links leads at once, so the group is in the second list before this. Marking still where somebody
+        // came, which waits until it is woken. The exchange of `ExitAsBatchGroupLeader` that takes its dummy away.
         self.table
             .shared
             .compare_exchange::<Free>(&mut writer.seat, 0, MARK, 0)
@@ -140,6 +149,8 @@ impl<
             × (writer.new.seat.me.1 ≡ writer.old.seat.me.1) }
     {
         let cleared = Older { client: 0, code };
+        // Marking -> Cutting: the next leader's walk must end at itself. If it led before this, it would walk on to
+        // `MARK`, which is no client. `new_leader->link_older = nullptr` of `ExitAsBatchGroupLeader`.
         self.table
             .shared
             .store::<CutBehindMark>(&mut writer.seat, older_word(next), cleared.pack());
@@ -182,6 +193,10 @@ impl<
             → GivesLogOn (λ lead mine b. AtWith writer.old.client (Cutting lead x) mine b writer.old.seat.me)
             writer.old.client writer.old.seat.me writer.new.seat.me }
     {
+        // Cutting -> Settling, and Joining -> Queued or Holding -> Serving: the next leader has the log from here on,
+        // and nobody else says so. If it led before this group is in the second list, its own group could be there
+        // first, and the memtable would get them out of the log's order. `SetState(new_leader, STATE_GROUP_LEADER)` of
+        // `ExitAsBatchGroupLeader`.
         self.table
             .shared
             .store::<Wake>(&mut writer.seat, state_word(next), STATE_LEADS_LOG);

@@ -98,6 +98,9 @@ impl<
         ensures seat { Stays writer.new writer.old }
         ensures same { writer.new.seat.me ≡ writer.old.seat.me }
     {
+        // Serving still; the member goes Waiting -> Helping once it sees this. After the member's `STATE_DONE` this
+        // store would undo that one, and the member would wait for ever. `SetState` of `LaunchParallelMemTableWriters`,
+        // to `STATE_PARALLEL_MEMTABLE_WRITER`.
         self.table.shared.store::<MakeParallel>(
             &mut writer.seat,
             state_word(member as u64),
@@ -153,6 +156,9 @@ impl<
         ensures waits { result ≢ STATE_LEADS_TABLE → writer.new ≡ writer.old }
     {
         let c = writer.client;
+        // Queued -> Serving at `STATE_LEADS_TABLE`, with the right, and Queued still at another state: only this state
+        // says that the groups before have left, and before that the right is with them. `AwaitState` of
+        // `ExitAsBatchGroupLeader`.
         self.table
             .shared
             .load::<Summon<About>>(&mut writer.seat, state_word(c as u64))
@@ -169,6 +175,8 @@ impl<
             → writer.old.seat.me.1 ≡ (self.now.clients + 1, TheRight r) ∷ t
             → (writer.new.seat.me.1 ≡ (self.now.clients + 1, Empty) ∷ t) × (result ≡ r) }
     {
+        // The last slot, TheRight -> Empty: only the leader of the oldest group has this slot, so the right is still
+        // there.
         match self.table.shared.exchange(
             &mut writer.seat,
             self.clients as usize + 1,
@@ -190,6 +198,8 @@ impl<
             → writer.old.seat.me.1 ≡ (self.now.clients + 1, Empty) ∷ t
             → writer.new.seat.me.1 ≡ (self.now.clients + 1, TheRight right) ∷ t }
     {
+        // The last slot, Empty -> TheRight: the next group's leader takes the right as soon as it is called, so it is
+        // there before.
         match self.table.shared.exchange(
             &mut writer.seat,
             self.clients as usize + 1,
@@ -248,6 +258,9 @@ impl<
             × (writer.new.seat.me.1 ≡ t)) × (result ≢ newest_member → WalksSecond (table_of self.now).slots
             writer.old.client d mine g result writer.old.seat.me writer.new.seat.me)) }
     {
+        // Serving -> Away where no group came after this one: the second list is empty from here on, and the next group
+        // has the right at once, so this one is in the memtable before. Serving still where a group came, whose leader
+        // waits until it is called. The exchange of `ExitAsMemTableWriter`.
         self.table
             .shared
             .compare_exchange::<LeaveSecond>(&mut writer.seat, 1, newest_member, 0)
@@ -270,6 +283,9 @@ impl<
             writer.new.seat.me × (writer.new.seat.me.1 ≡ writer.old.seat.me.1) }
     {
         let cleared = Older { client: 0, code };
+        // Serving -> Passing: the next leader's walk of the second list must end at itself. If it had the right before
+        // this, it would walk on to writers of this group, which may have linked again by then.
+        // `next_leader->link_older = nullptr` of `ExitAsMemTableWriter`.
         self.table
             .shared
             .store::<ClearSecond>(&mut writer.seat, older_word(next), cleared.pack());
@@ -291,6 +307,9 @@ impl<
             → AtWith writer.old.client st mine (Passing g x) writer.old.seat.me → writer.old.seat.me.1 ≡ y ∷ t
             → At writer.old.client st mine writer.new.seat.me × (writer.new.seat.me.1 ≡ t) }
     {
+        // Passing -> Away: the next leader has the right from here on. Nobody else says so, so without this it and all
+        // groups behind it would wait for ever. `SetState(next_leader, STATE_MEMTABLE_WRITER_LEADER)` of
+        // `ExitAsMemTableWriter`.
         self.table
             .shared
             .store::<CallNext>(&mut writer.seat, state_word(next), STATE_LEADS_TABLE);

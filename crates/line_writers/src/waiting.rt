@@ -136,6 +136,9 @@ impl<
         ensures parallel { result ≡ Some Parallel → writer.new.task ≡ Helps }
     {
         let c = writer.client;
+        // Waiting -> Fresh at `STATE_LEADS_LOG`, with the log; Waiting -> Helping at `STATE_PARALLEL`;
+        // Waiting -> Collecting at `STATE_DONE`, with the reply; Waiting still at another state. What the writer gets
+        // was in its slot before the state said so. `AwaitState` of `JoinBatchGroup`.
         let state = self
             .table
             .shared
@@ -200,6 +203,8 @@ impl<
             writer.new.seat.me) }
     {
         let c = writer.client;
+        // Helping -> Collecting at `STATE_DONE`, with the reply, and Helping still at `STATE_PARALLEL`: until then the
+        // leader has the slot. `AwaitState` of `CompleteParallelMemTableWriter`.
         let state = self
             .table
             .shared
@@ -227,6 +232,8 @@ impl<
             (kept_picked Log.kept About.about) (drops_picked Log.drops About.about)
             writer.old.client q mine (Role.LogLeader result) writer.new.seat.me }
     {
+        // Slot 0, TheLog -> Empty: only a leader has this slot, and the leader before put the log there before it gave
+        // it on.
         match self
             .table
             .shared
@@ -255,9 +262,11 @@ impl<
     {
         let shared = &self.table.shared;
         let c = writer.client;
+        // The slot, Told -> Empty: the leader put the reply there before it said so, and touches the slot no more.
         match shared.exchange(&mut writer.seat, c as usize, LineSlot::Empty) {
             LineSlot::Told(reply) => {
-                // The state's word says who has the slot, so this load is the step that gives it back.
+                // Collecting -> Idle: the empty slot goes back to the list by a step, which a load is too. Without it
+                // the writer could never begin again.
                 shared.load::<ReturnSlot>(&mut writer.seat, state_word(c as u64));
                 reply
             }

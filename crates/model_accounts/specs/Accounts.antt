@@ -76,8 +76,8 @@ pub record Wrote (settings : Settings) (v : Account) (records : List Record) (ho
   pub within : first + count_of records ≤ group_last + 1
   pub reached : group_last ≤ last_seen w.seen
 
--- A commit that passed the early checks was refused, and its batch has no run. Where the client held a stop token it was
--- in no group. Any other commit was in no group only if it met a stall.
+-- A commit that passed the early checks was refused, and its batch has no run. Where the client held a stop token it
+-- was in no group. Any other commit was in no group only if it met a stall.
 pub record IsRefused (v : Account) (records : List Record) (how : WriteOptions) (why : Refusal)
     (w : Account) : Type 0 where
   pub status : Option WriteStatus

@@ -21,20 +21,21 @@ use Rattle.model_base.proofs.Prefixes.{prefix_at, prefix_length}
 pub later_in : (xs ys : List ControllerCall) → IsPrefix xs ys → (known place : ℕ) (t : ControllerCall) → IsLater xs known place t → IsLater ys known place t
 later_in xs ys p known place t s = record { later = s.later; there = prefix_at xs ys p place t s.there }
 
-stalled_in : (xs ys : List ControllerCall) → IsPrefix xs ys → (by place : ℕ) → WasHeldUp xs by place → WasHeldUp ys by place
-stalled_in xs ys p by place s = record {
+-- who was held up before a place of a history was so before each later place of a longer one
+pub held_up_in : (xs ys : List ControllerCall) → IsPrefix xs ys → (by place later : ℕ) → place ≤ later → WasHeldUp xs by place → WasHeldUp ys by later
+held_up_in xs ys p by place later le s = record {
   at = s.at;
   now = s.now;
   bytes = s.bytes;
   told = s.told;
   there = prefix_at xs ys p s.at _ s.there;
-  before = s.before;
+  before = (let b = s.before in omega (arith, b, le));
   holds_up = s.holds_up;
 }
 
 away_in : (xs ys : List ControllerCall) → IsPrefix xs ys → (stopping : Bool) (client by place : ℕ) (numbers : Look) → LooksAway stopping xs client by place numbers → LooksAway stopping ys client by place numbers
 away_in xs ys p true client by place numbers s = s
-away_in xs ys p false client by place numbers s = record { leader = s.leader; other = s.other; stalled = stalled_in xs ys p s.leader place s.stalled; looked = s.looked; shown = s.shown }
+away_in xs ys p false client by place numbers s = record { leader = s.leader; other = s.other; stalled = held_up_in xs ys p s.leader place place (omega arith) s.stalled; looked = s.looked; shown = s.shown }
 
 told_in : (xs ys : List ControllerCall) → IsPrefix xs ys → (stopping : Bool) (client knew knows : ℕ) (numbers : Look) (status : Option WriteStatus) → IsTold xs stopping client knew knows numbers status → IsTold ys stopping client knew knows numbers status
 told_in xs ys p stopping client knew knows numbers None s = (s.0, s.1, later_in xs ys p knew s.1 _ s.2, s.3, away_in xs ys p stopping client s.0 s.1 numbers s.4)

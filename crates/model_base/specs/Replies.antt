@@ -22,8 +22,8 @@ pub record IsLater (controller_calls : List ControllerCall) (known place : ℕ) 
   pub later : known ≤ place
   pub there : slice_get controller_calls place ≡ Some call
 
--- Before this place of the controller's history the client `by` had asked for a delay, and was told that writes are
--- held up. Where its group may wait, it stalls writes then.
+-- Before this place of the controller's history the client `by` had asked for a delay, and learned that writes are held
+-- up. Where its group may wait, it stalls writes then.
 pub record WasHeldUp (controller_calls : List ControllerCall) (by place : ℕ) : Type 0 where
   pub at : ℕ
   pub now : ℕ
@@ -34,8 +34,9 @@ pub record WasHeldUp (controller_calls : List ControllerCall) (by place : ℕ) :
   pub before : at < place
   pub holds_up : HoldUp told
 
--- A client's commit met a stall of another one: that leader, or the client itself, made the look at this place (`by`),
--- after that leader was told that writes are held up, and the look showed stop tokens or slow tokens.
+-- What holds of a look at this place, made by `by`, that refuses a commit of this client because it met a stall:
+-- another client, a leader, had learned before that writes are held up; that leader or the client itself made the look;
+-- and its numbers show stop tokens or slow tokens. That the leader stalled writes isn't in the controller's history.
 pub record MetStall (controller_calls : List ControllerCall) (client by place : ℕ) (numbers : Look) : Type 0 where
   pub leader : ℕ
   pub other : leader ≢ client

@@ -140,7 +140,7 @@ refusal_in log how (Some why) = Some why
 refusal_in (stalled ws) how None = if how.no_slowdown then Some (stall_refusal 1 0) else None
 refusal_in log how None = None
 
--- and else it isn't linked
+-- while a leader stalls writes, a batch that passed the checks and may wait isn't linked
 abbrev pub may_link : LogPhase → Option Refusal → Bool
 may_link log (Some why) = true
 may_link (stalled ws) None = false

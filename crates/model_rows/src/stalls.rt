@@ -14,7 +14,7 @@ pub fn histories_of_stalls()
     ensures slowed { (by : ℕ) → IsLegal (waited_by by) }
 {}
 
-/// A commit that may not wait may be refused without a group once another client was told that writes are held up: by a
+/// A commit that may not wait may be refused without a group once another client learned that writes are held up: by a
 /// look of that client, which stalls writes, or by one of its own.
 pub fn refused_at_a_stall()
     ensures by_the_leader { MayRefuse (looked_by 1) 3 begun 3 noslow (Incomplete 1 0 0) None }

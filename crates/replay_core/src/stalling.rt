@@ -48,8 +48,8 @@ impl State<'_> {
         true
     }
 
-    /// Writes are stalled, and the client's writer is in the queue and must not be slowed down. It leaves the queue, with
-    /// this refusal.
+    /// Writes are stalled, and the client's writer is in the queue and must not be slowed down. It leaves the queue,
+    /// with this refusal.
     pub(crate) fn leave_queue(&mut self, client: u32, why: Refusal) -> bool
         ensures steps { Steps (λ o s. event.leave_queue s client why s.log) self.old result self.new }
         ensures unchanged { result ≡ false → self.new ≡ self.old }

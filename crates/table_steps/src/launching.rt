@@ -165,8 +165,8 @@ impl<ShardTree: VersionTree<NodeList::Node>, NodeList: VersionNodes> SharedTable
         unreachable!()
     }
 
-    /// Whether the launched group, whose last sequence is `last`, is published. If so, the turn is free again. Else it
-    /// is as it was.
+    /// Whether the launched group, whose last sequence is `last`, is published. If so, the turn is free again. Where it
+    /// isn't yet, the turn is as it was.
     pub(crate) fn is_published(&self, turn: &mut Turn<ShardTree, NodeList>, last: u64) -> bool
         requires seat { turn.old.seat.table_id ≡ self.now.table.shared.table_id }
         requires launched { (seen : List (List MemberVersions)) × (g : List MemberVersions)

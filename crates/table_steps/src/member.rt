@@ -115,7 +115,8 @@ impl<ShardTree: VersionTree<NodeList::Node> + Drop, NodeList: VersionNodes + Dro
         unreachable!()
     }
 
-    /// Takes the client's part, if it is handed out. Else the answer is `None`, and the seat is as it was.
+    /// Takes the client's part, if it is handed out. Where it isn't yet, the answer is `None`, and the seat is as it
+    /// was.
     pub fn try_take(&mut self, table: &SharedTable<ShardTree, NodeList>) -> Option<NodeList>
         requires ours { IsOurs table.now self.old }
         requires free { MayTake (account self.old).stage }

@@ -106,8 +106,8 @@ impl<ShardTree: VersionTree<NodeList::Node> + Drop, NodeList: VersionNodes + Dro
         unreachable!()
     }
 
-    /// Looks the key up as `find` does, if nobody else has the shard's lock. Else the answer is `None`, and the seat
-    /// is as it was.
+    /// Looks the key up as `find` does, if nobody else has the shard's lock. Where somebody has it, the answer is
+    /// `None`, and the seat is as it was.
     pub fn try_find(
         &mut self,
         table: &SharedTable<ShardTree, NodeList>,
@@ -167,8 +167,8 @@ impl<ShardTree: VersionTree<NodeList::Node> + Drop, NodeList: VersionNodes + Dro
         unreachable!()
     }
 
-    /// Looks the rows up as `find_rows` does, if nobody else has the shard's lock. Else the answer is `None`, and the
-    /// seat is as it was.
+    /// Looks the rows up as `find_rows` does, if nobody else has the shard's lock. Where somebody has it, the answer is
+    /// `None`, and the seat is as it was.
     pub fn try_find_rows(
         &mut self,
         table: &SharedTable<ShardTree, NodeList>,

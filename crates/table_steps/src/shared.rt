@@ -73,8 +73,8 @@ impl<ShardTree: VersionTree<NodeList::Node>, NodeList: VersionNodes> SharedTable
         unreachable!()
     }
 
-    /// Takes a shard's lock and its tree, if nobody else has the lock. Else the answer is `None`, and the seat is as it
-    /// was.
+    /// Takes a shard's lock and its tree, if nobody else has the lock. Where somebody has it, the answer is `None`, and
+    /// the seat is as it was.
     pub(crate) fn try_lock(
         &self,
         who: &mut Client<ShardTree, NodeList>,

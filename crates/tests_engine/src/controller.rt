@@ -71,6 +71,16 @@ fn last_of(controller: &Stepped, mut passes: Passes, clients: u32) -> Option<Pas
     passes.clients.pop()
 }
 
+// The passes of the last two clients, the last one's first.
+fn last_two(controller: &Stepped, mut passes: Passes, clients: u32) -> Option<(Pass, Pass)>
+    requires new { AreNew controller.now clients passes }
+    ensures own { IfSome result (λ both. IsPassOf controller.now both.0 × IsPassOf controller.now both.1) }
+{
+    let last = passes.clients.pop()?;
+    let other = passes.clients.pop()?;
+    Some((last, other))
+}
+
 fn check_row<R: Wait + rt::Clock + Abort>(rt: &R, controller: &Stepped, pass: &mut Pass, row: &Row)
     requires own { IsPassOf controller.now pass.old }
 {
@@ -126,6 +136,28 @@ fn who_ends_slows_no_more(rt: HostRuntime) -> Result<(), Fail> {
     assert_eq!(rt; (slowed, delays), (Ok(()), 0));
     let note = controller.note(&mut pass);
     controller.learn(&rt, &mut pass, note);
+    Ok(())
+}
+
+// Client 2 stops writes, so client 1, which asks for a delay, is told that it is held up.
+#[test]
+fn a_look_tells_who_was_held_up(rt: HostRuntime) -> Result<(), Fail> {
+    let (controller, passes) = Stepped::open(rt.alloc(), 2)?;
+    let Some((mut stopping, mut writing)) = last_two(&controller, passes, 2) else {
+        panic!(rt; "no passes")
+    };
+    let mut clock = SteppedClock::new(1000);
+    let (_, nobody) = controller.look_at_stall(&rt, &mut stopping);
+    let stopped = controller.stop(&rt, &mut stopping);
+    let told = controller.delay(&rt, &mut writing, &mut clock, 17);
+    let (look, held_up) = controller.look_at_stall(&rt, &mut stopping);
+    assert_eq!(rt; (stopped, told.stops(), look.stops()), (Ok(()), 1, 1));
+    assert_eq!(rt; (nobody, held_up), (0, 1));
+    // Either copy of a note may be learned.
+    let note = controller.note(&mut writing);
+    let (one, other) = controller.copies(note);
+    controller.learn(&rt, &mut stopping, one);
+    controller.learn(&rt, &mut stopping, other);
     Ok(())
 }
 

@@ -96,7 +96,8 @@ const REPLAYED: [Row; 13] = [
         "events 11 skipped 1\nclient 1\nok 1 1\nclient 2\n\
             history 1\n1 1 1 1 log 0100000000000000010000000101610131\nstate 1 1\na 1\ngroups 1\n",
     ),
-    // A leader stalls writes: client 2 leaves the queue, client 3 is refused at once, and client 4 comes after the stall.
+    // A leader stalls writes: client 2 leaves the queue, client 3 is refused at once, and client 4 comes after the
+    // stall.
     (
         "replay",
         b"client 1\nput a 1\ncommit\nclient 2\nput b 2\ncommit noslow\nclient 3\nput c 3\ncommit noslow\n\

@@ -15,7 +15,7 @@ begin_stall-requires-clause-group g c =
 pub let_queued_go-requires-clause-pass : goal.let_queued_go-requires-clause-pass
 let_queued_go-requires-clause-pass g c =
     let was = c.args.pass.now in
-    (c.requires.pass.0, held_by_delay (client_of was) (look_of c.args.look) (seen_by was) c.requires.pass.1 (c.is_stalled.ensures.held_up c.if-not-is_stalled.false))
+    (c.requires.pass.0, held_by_delay (client_of was) (look_of c.args.look) (seen_by was) c.requires.pass.1 (c.holds_writes_up.ensures.held_up c.if-not-holds_writes_up.false))
 
 pub let_queued_go-requires-clause-stalls : goal.let_queued_go-requires-clause-stalls
 let_queued_go-requires-clause-stalls g c =

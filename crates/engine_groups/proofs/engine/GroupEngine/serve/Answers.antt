@@ -93,13 +93,13 @@ may_go_on-proceeds-requires-clause-leads g c =
 pub note-requires : goal.note-requires
 note-requires g c = record { own = c.may_go_on-proceeds.ensures.pass.0 }
 
-pub refuse_stalled-requires-clause-pass : goal.refuse_stalled-requires-clause-pass
-refuse_stalled-requires-clause-pass g c =
+pub refuse_held_up-requires-clause-pass : goal.refuse_held_up-requires-clause-pass
+refuse_held_up-requires-clause-pass g c =
     let N = c.note.ensures in let no = c.may_go_on-proceeds.ensures.refused c.if-not-proceeds.true in
     (N.own.0, N.seen ∙ (no.2 ∙ sym (ap seen_by c.of.ensures)))
 
-pub refuse_stalled-requires-clause-empty : goal.refuse_stalled-requires-clause-empty
-refuse_stalled-requires-clause-empty g c = c.requires.served.no_replies
+pub refuse_held_up-requires-clause-empty : goal.refuse_held_up-requires-clause-empty
+refuse_held_up-requires-clause-empty g c = c.requires.served.no_replies
 
 pub returns-then-not-proceeds-clause-turn : goal.returns-then-not-proceeds-clause-turn
 returns-then-not-proceeds-clause-turn g c = refl
@@ -160,7 +160,7 @@ returns-then-not-proceeds-clause-served g c =
     let S = c.requires.served in let q = S.seats in let e = c.args.self.now in let v = c.args.client.now in
     let xs : List (ℕ × Request) = v.lists.requests.list.items in let k : ℕ = v.number in let was : List ControllerCall = seen_by v.pass in
     let asked : List ControllerCall = seen_by_note c.args.leadership.asked in
-    let A = c.ask-look.ensures in let N = c.note.ensures in let R = c.refuse_stalled.ensures in let no = c.may_go_on-proceeds.ensures.refused c.if-not-proceeds.true in
+    let A = c.ask-look.ensures in let N = c.note.ensures in let R = c.refuse_held_up.ensures in let no = c.may_go_on-proceeds.ensures.refused c.if-not-proceeds.true in
     let n : Look = look_of c.ask-look.result in let known : List ControllerCall = seen_by c.ask-look.new.pass in
     let L = v.lists.requests.list in let new : List (ℕ × Request) = c.ask-look.new.requests in let same = c.deref_mut-2.ensures.value in
     let h : HasAskedFor k was asked xs n known = subst (λ (z : ℕ × List (ℕ × Request)). HasAskedFor z.0 was asked z.1 n known) (λ i. (q.pass_number i, same i)) A.asked in
@@ -168,7 +168,7 @@ returns-then-not-proceeds-clause-served g c =
     let left_is : left ≡ all_seen xs = put_back xs new L.len L.ok.0 (A.requests ∙ ap all_seen same) in
     let d : Delay = record { pass = c.of.result } in
     let is : seen_at d ≡ known = ap seen_by c.of.ensures in
-    let ys : List (ℕ × Answer) = c.refuse_stalled.new.replies.items in
+    let ys : List (ℕ × Answer) = c.refuse_held_up.new.replies.items in
     let zip : AllZip (IsHeldUp e.controller d n) (all_seen xs) ys = subst (λ l. AllZip (IsHeldUp e.controller d n) l ys) left_is R.replies in
     let may : MayNotWait (commit_requests_of xs) = subst (λ (b : Bool). AreAlike b (commit_requests_of xs)) (ap (λ o. o.no_slowdown) (first_flag (bound_of e.list) (clients_of e.list) xs S.led left c.index.result.now left_is c.index.ensures ∙ ap (λ (r : Request). r.options) (sym c.as_request.ensures)) ∙ no.0) S.led.slowdown in
     let still : seen_by c.note.new.pass ≡ known = N.seen ∙ no.2 in
@@ -206,7 +206,7 @@ returns-then-not-proceeds-clause-leadership g c hs st =
     let S = c.requires.served in let q = S.seats in let e = c.args.self.now in let v = c.args.client.now in let about = about_of e.list in let path = c.args.leadership.held.value.path in
     let xs : List (ℕ × Request) = v.lists.requests.list.items in let k : ℕ = v.number in let was : List ControllerCall = seen_by v.pass in
     let asked : List ControllerCall = seen_by_note c.args.leadership.asked in
-    let A = c.ask-look.ensures in let N = c.note.ensures in let R = c.refuse_stalled.ensures in let no = c.may_go_on-proceeds.ensures.refused c.if-not-proceeds.true in
+    let A = c.ask-look.ensures in let N = c.note.ensures in let R = c.refuse_held_up.ensures in let no = c.may_go_on-proceeds.ensures.refused c.if-not-proceeds.true in
     let n : Look = look_of c.ask-look.result in let known : List ControllerCall = seen_by c.ask-look.new.pass in
     let L = v.lists.requests.list in let new : List (ℕ × Request) = c.ask-look.new.requests in let same = c.deref_mut-2.ensures.value in
     let h : HasAskedFor k was asked xs n known = subst (λ (z : ℕ × List (ℕ × Request)). HasAskedFor z.0 was asked z.1 n known) (λ i. (q.pass_number i, same i)) A.asked in
@@ -214,7 +214,7 @@ returns-then-not-proceeds-clause-leadership g c hs st =
     let left_is : left ≡ all_seen xs = put_back xs new L.len L.ok.0 (A.requests ∙ ap all_seen same) in
     let d : Delay = record { pass = c.of.result } in
     let is : seen_at d ≡ known = ap seen_by c.of.ensures in
-    let ys : List (ℕ × Answer) = c.refuse_stalled.new.replies.items in
+    let ys : List (ℕ × Answer) = c.refuse_held_up.new.replies.items in
     let zip : AllZip (IsHeldUp e.controller d n) (all_seen xs) ys = subst (λ l. AllZip (IsHeldUp e.controller d n) l ys) left_is R.replies in
     let may : MayNotWait (commit_requests_of xs) = subst (λ (b : Bool). AreAlike b (commit_requests_of xs)) (ap (λ o. o.no_slowdown) (first_flag (bound_of e.list) (clients_of e.list) xs S.led left c.index.result.now left_is c.index.ensures ∙ ap (λ (r : Request). r.options) (sym c.as_request.ensures)) ∙ no.0) S.led.slowdown in
     let still : seen_by c.note.new.pass ≡ known = N.seen ∙ no.2 in
@@ -227,8 +227,8 @@ returns-then-not-proceeds-clause-leadership g c hs st =
           (stands_held_up our_log as_is about.opened.value path.log st.published path.last e.controller d n tt about.start about.clients about.group_bytes asked known hs xs ys zip is led (asked_is k was asked known xs n h about.group_bytes about.clients led S.leads) (asked_after k was asked known xs n h) no.1 may st.path));
     }
 
-pub refuse_stalled-requires-clause-room : goal.refuse_stalled-requires-clause-room
-refuse_stalled-requires-clause-room g c =
+pub refuse_held_up-requires-clause-room : goal.refuse_held_up-requires-clause-room
+refuse_held_up-requires-clause-room g c =
     let S = c.requires.served in let q = S.seats in let e = c.args.self.now in let v = c.args.client.now in
     let xs : List (ℕ × Request) = v.lists.requests.list.items in
     let L = v.lists.requests.list in let new : List (ℕ × Request) = c.ask-look.new.requests in
@@ -246,8 +246,8 @@ returns-then-not-proceeds-clause-staged g c =
     let left : List (ℕ × Request) = take L.len (new ++ drop (length new) L.items) in
     let left_is : left ≡ all_seen xs = put_back xs new L.len L.ok.0 (c.ask-look.ensures.requests ∙ ap all_seen same) in
     let d : Delay = record { pass = c.of.result } in
-    let ys : List (ℕ × Answer) = c.refuse_stalled.new.replies.items in
-    let zip : AllZip (IsHeldUp e.controller d n) (all_seen xs) ys = subst (λ l. AllZip (IsHeldUp e.controller d n) l ys) left_is c.refuse_stalled.ensures.replies in
+    let ys : List (ℕ × Answer) = c.refuse_held_up.new.replies.items in
+    let zip : AllZip (IsHeldUp e.controller d n) (all_seen xs) ys = subst (λ l. AllZip (IsHeldUp e.controller d n) l ys) left_is c.refuse_held_up.ensures.replies in
     (S.layout.clear.2, ap (λ (h : Held _ _ _). h.path.last) c.deref_mut.ensures.value, no_runs_held e.controller d n (all_seen xs) ys zip)
 
 pub log_phase-end-requires-clause-last : goal.log_phase-end-requires-clause-last

@@ -14,10 +14,10 @@ exchange-requires g c = let b = c.requires.entering.0 in let e = c.requires.ente
 
 pub load-requires : goal.load-requires
 load-requires g c =
-    let b = c.requires.entering.0 in let e = c.requires.entering.1 in let k : ℕ = c.args.writer.now.client in let x = c.exchange.ensures.3 in let z = c.args.self.now.sized in (
+    let w = c.state_word.ensures in let b = c.requires.entering.0 in let low = b.2 in let e = c.requires.entering.1 in let k : ℕ = c.args.writer.now.client in let x = c.exchange.ensures.3 in let z = c.args.self.now.sized in (
       c.exchange.ensures.0 ∙ b.0,
       omega arith,
-      withdraws _ _ _ _ c.exchange.new.seat.me k 0 e.1.0 (answers_told c.args.writer.now) (ap (λ m. m.0) x ∙ e.1.1) (ap (λ m. m.1) x ∙ ap (λ l. (k, Empty) ∷ rest l) e.1.2),
+      withdraws _ _ _ _ c.exchange.new.seat.me k c.state_word.result e.1.0 (answers_told c.args.writer.now) (ap (λ m. m.0) x ∙ e.1.1) (ap (λ m. m.1) x ∙ ap (λ l. (k, Empty) ∷ rest l) e.1.2),
     )
 
 pub returns-clause-out : goal.returns-clause-out

@@ -3,7 +3,7 @@ use Rattle.model_base.specs.Controller.{look}
 use Rattle.engine_controller.specs.Looks.{look_of}
 use Rattle.engine_controller.specs.Passes.{client_of, seen_by, EndsWith}
 use Rattle.engine_parts.proofs.Views.{looked_free, only_none, only_more}
-use Rattle.engine_parts.proofs.asking.wait_while_stalled.Goals as goal
+use Rattle.engine_parts.proofs.asking.wait_while_held_up.Goals as goal
 
 pub returns-then-stops-eq0-clause-pass : goal.returns-then-stops-eq0-clause-pass
 returns-then-stops-eq0-clause-pass g c = (c.loop.invariant.pass, c.loop.invariant.client)

@@ -4,7 +4,7 @@ use Rattle.engine_controller.specs.Looks.{look_of}
 use Rattle.engine_controller.specs.Passes.{client_of, seen_by, IsPassOf}
 use Rattle.engine_rule.specs.Plans.{LetsProceed}
 use Rattle.engine_parts.specs.Asking.{OnlyLooks}
-use Rattle.engine_parts.proofs.asking.wait_while_stalled.Given as goal
+use Rattle.engine_parts.proofs.asking.wait_while_held_up.Given as goal
 
 abbrev pub invariant-loop : goal.invariant-loop
 invariant-loop g l = record {

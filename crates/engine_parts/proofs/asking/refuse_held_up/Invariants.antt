@@ -5,7 +5,7 @@ use Rattle.engine_controller.specs.Passes.{client_of, seen_by, IsPassOf}
 use Rattle.engine_controller.specs.Looks.{look_of}
 use Rattle.engine_parts.specs.declared.requests.Request.{Request}
 use Rattle.engine_parts.specs.Handled.{IsHeldUp}
-use Rattle.engine_parts.proofs.asking.refuse_stalled.Given as goal
+use Rattle.engine_parts.proofs.asking.refuse_held_up.Given as goal
 
 abbrev pub invariant-loop-client : goal.invariant-loop-client
 invariant-loop-client g l = record {

@@ -4,7 +4,7 @@ use Rattle.engine_parts.specs.declared.requests.Request.{Request}
 use Rattle.engine_parts.specs.declared.requests.Answer.{Answer}
 use Rattle.engine_parts.specs.Handled.{held_up_with}
 use Rattle.engine_parts.proofs.Views.{held_more}
-use Rattle.engine_parts.proofs.asking.refuse_stalled.Goals as goal
+use Rattle.engine_parts.proofs.asking.refuse_held_up.Goals as goal
 
 pub loop-client-preserved : goal.loop-client-preserved
 loop-client-preserved g c =
