@@ -1,23 +1,24 @@
 -- The events of a stall are events of the core.
-use Rattle.std.proofs.Common.{◌≡◌, ℕ, eqb, true, false, not, ◌&&◌, List, [], ◌∷◌, ◌++◌, map, Option as Answer, Some, refl, sym, ap, ◌∙◌, subst, append-nil, append_assoc, eq-eqb, ne_eqb, cond, filter, reverse, find}
+use Rattle.std.proofs.Common.{◌≡◌, ℕ, eqb, true, false, not, ◌&&◌, List, [], ◌∷◌, ◌++◌, map, Option as Answer, Some, refl, sym, ap, ◌∙◌, subst, append-nil, append_assoc, eq-eqb, ne_eqb, cond, filter, reverse, find, if◌then◌else◌, None}
 use Rattle.std.proofs.lemmas.List.{map-append, reverse-append}
 use mathlib.Core.Path.{Path}
-use Rattle.model_base.specs.Calls.{Reply as CoreReply, refused}
+use Rattle.model_base.specs.Calls.{Reply as CoreReply, refused, commit}
 use Rattle.model_base.specs.declared.group.Item.{Item}
 use Rattle.model_base.specs.declared.write.Refusal.{Refusal}
+use Rattle.model_base.specs.declared.write.WriteOptions.{WriteOptions}
 use Rattle.model_core.specs.declared.event.Event.TheVariants as core
-use Rattle.model_core.specs.Core.{Options, Writer, built as in_hand, stalled, State, leads, item_of as item_of_writer, stall_refusal}
+use Rattle.model_core.specs.Core.{Options, Writer, built as in_hand, stalled, State, Client, leads, item_of as item_of_writer, stall_refusal, with_client, next_call, after_reply, refusal_in, may_link}
 use Rattle.model_core.specs.CoreLaw.{writers_in}
 use Rattle.model_core.specs.Halves.{list_half_of}
-use Rattle.model_core.specs.Step.{when, stall, unstall, left_queue, leave_with, leave_queue, is_no_slowdown}
+use Rattle.model_core.specs.Step.{step, when, link, link_call, link_or_refuse, link_with, stall, unstall, left_queue, leave_with, leave_queue, is_no_slowdown}
 use Rattle.line_rule.specs.declared.view.QueuedWriter.{QueuedWriter}
 use Rattle.line_rule.specs.declared.view.Handling.{Handling}
 use Rattle.line_rule.specs.Chain.{Absent, handling}
-use Rattle.line_rule.specs.CoreEvents.{IsSame, core_queue, core_log, answer_of, answer_in, HasItems, IsCoreOf, IsRearranged, group_handed_on, HasGroups, IsLogOf, IsTaken}
+use Rattle.line_rule.specs.CoreEvents.{IsSame, core_queue, core_log, answer_of, answer_in, HasItems, IsCoreOf, IsRearranged, group_handed_on, HasGroups, IsLogOf, IsTaken, IsCommit, IsRefusedAtOnce}
 use Rattle.line_rule.specs.Events.{Core, LogHolder, grouped, halted, stalls, drops, resumes}
 use Rattle.line_rule.specs.Grouping.{item_of}
 use Rattle.line_rule.specs.SecondList.{SecondList}
-use Rattle.line_rule.specs.Steps.{Lists, HappensAlone}
+use Rattle.line_rule.specs.Steps.{Lists, HappensAlone, IsStalled}
 use Rattle.line_rule.proofs.CoreGroups.{first_leads, rearranged_as, rearranged_within, Out, absent_writers, absent_back_to_front}
 use Rattle.line_rule.proofs.CoreSteps.{unlogged, settled, owed_plain, none_handed, in_hand_is, writers_are}
 use Rattle.line_rule.proofs.Groups.{absent_front, absent_back}
@@ -80,6 +81,45 @@ module _ {Request Reply : Type 0} (writer_of : QueuedWriter Request → Writer) 
 
   not_grouped : (own own' : QueuedWriter Request) (group group' : List (QueuedWriter Request)) → Path (LogHolder Request) (halted own group) (grouped own' group') → ⊥
   not_grouped own own' group group' is = absurd (cc)
+
+  -- while writes are stalled, what is left of the core's `link` of a commit is whether it may be slowed down
+  abbrev answer_while : List Writer → ℕ → Client → WriteOptions → Answer Refusal → Answer State
+  answer_while vs c client how why = when (may_link (stalled vs) why) (link_with o s c client how why)
+
+  links_while : (c : ℕ) (w : Writer) → Stands → IsStalled a → (commits : IsCommit o s c w)
+      → (vs : List Writer) × (step o s (core.Link c) ≡ answer_while vs c (next_call commits.0).client commits.1 (if commits.1.no_slowdown then Some (stall_refusal 1 0) else None))
+  links_while c w r held commits =
+      let client : Client = commits.0 in
+      let how : WriteOptions = commits.1 in
+      let ready = next_call client in
+      let u = unlogged writer_of a.0.1 a.1.1 a.1.2 ws s.log (λ own' group' is. not_grouped held.0 own' held.1 group' (sym held.2 ∙ is)) r.log in
+      let vs : List Writer = core_queue writer_of (held.1 ++ held.0 ∷ []) in
+      let there : s.log ≡ stalled vs = u.0 ∙ ap (core_log writer_of) held.2 in (
+        vs,
+        (λ i. link o s c (commits.2 i)) ∙ ((λ i. if commits.3 i then link_call o s c ready.client (commits.4 i) else None) ∙ ((λ i. link_or_refuse o s c ready.client how (refusal_in s.log how (commits.5 i)))
+            ∙ (λ i. when (may_link (there i) (refusal_in (there i) how None)) (link_with o s c ready.client how (refusal_in (there i) how None))))),
+      )
+
+  -- a commit that may not be slowed down is refused at once
+  pub refused_core : (c : ℕ) (w : Writer) → Stands → IsStalled a → IsCommit o s c w → w.options.no_slowdown ≡ true → IsRefusedAtOnce o s c w × IsTaken writer_of reply_of o (core.Link c) s ws a
+  refused_core c w r held commits hasty =
+      let client : Client = commits.0 in
+      let ready = next_call client in
+      let x = links_while c w r held commits in
+      let same : w.options ≡ commits.1 = ap (λ (v : Writer). v.options) commits.6 in
+      let hasty' : commits.1.no_slowdown ≡ true = sym (ap (λ (h : WriteOptions). h.no_slowdown) same) ∙ hasty in
+      let new : WriteOptions → State = λ how. with_client s c (after_reply ready.client (commit how) (refused (stall_refusal 1 0))) in
+      let steps : step o s (core.Link c) ≡ Some (new commits.1) = x.1 ∙ (λ i. answer_while x.0 c ready.client commits.1 (if hasty' i then Some (stall_refusal 1 0) else None)) in (
+        (client, commits.2, steps ∙ ap (λ how. Some (new how)) (sym same)),
+        (new commits.1, steps, record { queue = r.queue; log = r.log; second = r.second; owed = r.owed }),
+      )
+
+  -- any other one isn't linked
+  pub barred_core : (c : ℕ) (w : Writer) → Stands → IsStalled a → IsCommit o s c w → w.options.no_slowdown ≡ false → step o s (core.Link c) ≡ None
+  barred_core c w r held commits slow =
+      let x = links_while c w r held commits in
+      let slow' : commits.1.no_slowdown ≡ false = sym (ap (λ (v : Writer). v.options.no_slowdown) commits.6) ∙ slow in
+      x.1 ∙ (λ i. answer_while x.0 c (next_call commits.0).client commits.1 (if slow' i then Some (stall_refusal 1 0) else None))
 
   -- and ends that
   pub resumes_core : (own : QueuedWriter Request) (group : List (QueuedWriter Request)) → IsSame writer_of → Stands → HappensAlone (resumes own group) a b → IsTaken writer_of reply_of o (core.Unstall own.by) s [] b

@@ -1,10 +1,10 @@
 -- What the words of the newest writer say, and which writers of the queue wait, while writes are stalled or aren't.
-use Rattle.std.proofs.Common.{◌≡◌, ◌≢◌, ℕ, List, [], ◌∷◌, ◌⊎◌, inl, inr, get_or, sym, ap, ◌∙◌, subst}
+use Rattle.std.proofs.Common.{◌≡◌, ◌≢◌, ℕ, ◌<◌, ◌≤◌, List, [], ◌∷◌, ◌⊎◌, inl, inr, get_or, refl, sym, ap, ◌∙◌, subst, arith}
 use Rattle.line_rule.specs.declared.view.QueuedWriter.{QueuedWriter}
 use Rattle.line_rule.specs.declared.view.Stall.{Stall}
 use Rattle.line_rule.specs.declared.view.Stall.TheVariants.{Aimed, Stopped, Holds as Held, Owes}
-use Rattle.line_rule.specs.Chain.{Absent, newest_from}
-use Rattle.line_rule.specs.Events.{LogHolder, IsRunning, IsNotWith}
+use Rattle.line_rule.specs.Chain.{Absent, Within, newest_from}
+use Rattle.line_rule.specs.Events.{LogHolder, halted, IsRunning, IsNotWith}
 use Rattle.line_rule.specs.Standing.{Phase, linked, held, dropped, Pause, calm, aimed, stopped, holding, owing, Names, Mode, open_, waits, led, built, cut, marked, base_of, pause_of}
 use Rattle.line_rule.specs.Rule.{AllQueued, OwesTo, Shows, held_in}
 use Rattle.line_rule.proofs.Chains.{put, put_at, linked_change}
@@ -106,3 +106,30 @@ module _ {Request : Type 0} where
   running words k line queue log ne (built c g t) ok sh = subst IsRunning (sym sh.1) (runs_in words k sh.0.0 g t ne ok)
   running words k line queue log ne (cut c w) ok sh = subst IsRunning (sym sh.1.2) tt
   running words k line queue log ne (marked c) ok sh = subst IsRunning (sym sh.1.2) tt
+
+  -- no writer of the list has the number of the marker
+  pub newest_unmarked : (n : ℕ) (mode : Mode Request) (line : List (QueuedWriter Request)) → n < STALL → Within n line → newest_from (base_of mode) line ≢ STALL
+  newest_unmarked n mode (e ∷ es) few ok = λ is. let hi : e.by ≤ n = ok.1 in omega arith
+  newest_unmarked n open_ [] few ok = λ is. omega arith
+  newest_unmarked n (waits c) [] few ok = λ is. omega arith
+  newest_unmarked n (led c) [] few ok = λ is. omega arith
+  newest_unmarked n (built c g t) [] few ok = λ is. omega arith
+  newest_unmarked n (cut c w) [] few ok = λ is. omega arith
+  newest_unmarked n (marked c) [] few ok = λ is. omega arith
+
+  halts_in : (words : List ℕ) (k : ℕ) (own : QueuedWriter Request) (g : List (QueuedWriter Request)) (t : Pause Request) → k ≢ STALL → get_or words 0 0 ≡ STALL → Names words k t → held_in t own g ≡ halted own g
+  halts_in words k own g calm ne is ok = absurd (ne (sym ok ∙ is))
+  halts_in words k own g (aimed w) ne is ok = absurd (ne (sym ok.0 ∙ is))
+  halts_in words k own g (stopped w) ne is ok = refl
+  halts_in words k own g (holding w x) ne is ok = refl
+  halts_in words k own g (owing w x) ne is ok = refl
+
+  -- where the word 0 is the marker, a leader stalls writes
+  pub halting : (words : List ℕ) (k : ℕ) (line queue : List (QueuedWriter Request)) (log : LogHolder Request) → k ≢ STALL → get_or words 0 0 ≡ STALL → (mode : Mode Request) → Names words k (pause_of mode) → Shows line queue log mode
+      → (own : QueuedWriter Request) × (group : List (QueuedWriter Request)) × (log ≡ halted own group)
+  halting words k line queue log ne is open_ ok sh = absurd (ne (sym ok ∙ is))
+  halting words k line queue log ne is (waits c) ok sh = absurd (ne (sym ok ∙ is))
+  halting words k line queue log ne is (led c) ok sh = absurd (ne (sym ok ∙ is))
+  halting words k line queue log ne is (built c g t) ok sh = (sh.0.0, g, sh.1 ∙ halts_in words k sh.0.0 g t ne is ok)
+  halting words k line queue log ne is (cut c w) ok sh = absurd (ne (sym ok ∙ is))
+  halting words k line queue log ne is (marked c) ok sh = absurd (ne (sym ok ∙ is))

@@ -24,18 +24,18 @@ use Rattle.line_rule.specs.Laws.{Laws}
 use Rattle.line_rule.specs.Standing.{Phase, idle, preparing, linked, chosen, leads, Pause, calm, aimed, stopped, holding, owing, Names, Mode, waits, built, base_of, pause_of, Holds, InFront}
 use Rattle.line_rule.specs.Rule.{InChain, hold, InPhase, InMode, InSecond, AllTaken, AllQueued, due_untold, Account, Knows, Recalls, Listed}
 use Rattle.line_rule.specs.SecondList.{second_list_of}
-use Rattle.line_rule.specs.Steps.{Stays, HappensWhere, IsStall, IsResume, now_of, IsNow, StepIs}
-use Rattle.line_rule.specs.Plays.{Sat, At, in_hand, lead_with_walk}
+use Rattle.line_rule.specs.Steps.{Stays, ShowsStall, HappensWhere, IsStall, IsResume, now_of, IsNow, StepIs}
+use Rattle.line_rule.specs.Plays.{Sat, At, in_hand, lead_with_walk, after_read_newest}
 use Rattle.line_rule.specs.Stalls.{after_withdraw, after_aim_stall, Stops, after_stall, after_resume}
 use Rattle.line_rule.proofs.Chains.{put, put_at, put_here, links_stay, ends_same, stand_change, taken_change}
 use Rattle.line_rule.proofs.Exits.{owing_stays}
 use Rattle.line_rule.proofs.Accounts.{restays_now, stalls_now, resumes_now}
-use Rattle.line_rule.proofs.Pauses.{queued_change}
+use Rattle.line_rule.proofs.Pauses.{queued_change, newest_unmarked, halting}
 use Rattle.line_rule.proofs.Moves.{St, row_stays, knows_else, recalls_more, moved, Goes, allows}
 use Rattle.line_rule.proofs.Keeps.{put_same, second_stays}
 use Rattle.line_rule.proofs.Groups.{walk_bound}
 use Rattle.line_rule.proofs.Leads.{one_leads, lead_in, all_below}
-use Rattle.line_rule.proofs.Enters.{aside, one_hold}
+use Rattle.line_rule.proofs.Enters.{aside, one_hold, peeks_is}
 use Rattle.line_rule.specs.declared.words.TheConstants.{STALL}
 
 module _ {Request : Type 0} where
@@ -156,6 +156,23 @@ module _ {Request Reply Log Right : Type 0} (stands : Laws Request Reply Log Rig
       }
 
   -- a writer that is about to link goes back
+  -- a load of the word 0 shows whether a leader stalls writes
+  pub shows_is : (slots id : ℕ) (me : Sat Request Reply Log Right) → StepIs stands n ShowsStall slots id me 0 (λ y. y) (after_read_newest (step slots 0 0 0 none) me)
+  shows_is slots id me s r long at fits =
+      let seen = peeks_is stands n slots id me s r long at fits in
+      let k : ℕ = newest_from (base_of r.mode) r.line in
+      let unmarked : k ≢ STALL = newest_unmarked n r.mode r.line r.few r.within in (
+        seen.0,
+        seen.1,
+        seen.2,
+        (
+          seen.3.0,
+          (seen.3.1, λ is. halting s.words k r.line r.account.queue r.account.log unmarked is r.mode r.newest_is r.account.shows),
+          seen.3.2,
+        ),
+        seen.4,
+      )
+
   pub withdraws_is : (slots id : ℕ) (me : Sat Request Reply Log Right) (c k w : ℕ) (mine : List (Request × Reply)) → At c (Preparing w) mine me → me.1 ≡ (c, Empty) ∷ [] → StepIs stands n (λ _. Stays) slots id me k (λ y. y) (after_withdraw (step slots k 0 0 none) me)
   withdraws_is slots id me c k w mine mid mine_out s r long at fits =
       let h : LineHold Request Reply = hold c (Preparing w) mine in

@@ -2,8 +2,9 @@
 -- core that has the writers.
 use Rattle.std.specs.Prelude.{◌≡◌, ℕ, List, [], ◌∷◌, ◌++◌, map, reverse, Option as Answer, Some, ◌==◌, true, false, find, None}
 use Rattle.model_core.specs.declared.event.Event.{Event as CoreEvent}
-use Rattle.model_base.specs.Calls.{Reply as CoreReply, commit}
-use Rattle.model_core.specs.Core.{Options, Writer, LogPhase, free as nobody, led, built as in_hand, stalled, in_log, State as CoreState, item_of as item_of_writer, Client, marked, handed, client_at, next_call, refusal_of, with_runs}
+use Rattle.model_core.specs.declared.event.Event.TheVariants as core
+use Rattle.model_base.specs.Calls.{Reply as CoreReply, commit, refused}
+use Rattle.model_core.specs.Core.{Options, Writer, LogPhase, free as nobody, led, built as in_hand, stalled, in_log, State as CoreState, item_of as item_of_writer, Client, marked, handed, client_at, with_client, next_call, after_reply, refusal_of, stall_refusal, with_runs}
 use Rattle.model_core.specs.Halves.{ListHalf, list_half_of}
 use Rattle.line_rule.specs.declared.view.QueuedWriter.{QueuedWriter}
 use Rattle.line_rule.specs.declared.view.Handling.{Handling}
@@ -151,6 +152,12 @@ abbrev pub IsCommit : Options → CoreState → ℕ → Writer → Type 0
 IsCommit o s c w = (client : Client) × (how : WriteOptions) × (client_at s c ≡ Some client) × (client.idle ≡ true)
     × ((next_call client).call ≡ Some (commit how)) × (refusal_of o how (next_call client).client.added ≡ None)
     × (w ≡ record { client = c; options = how; records = (next_call client).client.added; answer = None })
+
+-- the core's `link` of this writer refuses its commit, since writes are stalled, and moves nothing but its client
+abbrev pub IsRefusedAtOnce : Options → CoreState → ℕ → Writer → Type 0
+IsRefusedAtOnce o s c w = (client : Client) × (client_at s c ≡ Some client)
+    × (step o s (core.Link c) ≡ Some (with_client s c
+    (after_reply (next_call client).client (commit w.options) (refused (stall_refusal 1 0)))))
 
 -- the client is there, and has left with this answer
 abbrev pub HasLeft : CoreState → ℕ → CoreReply → Type 0

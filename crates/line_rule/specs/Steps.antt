@@ -4,11 +4,12 @@ use mathlib.Core.Option.{Option, none, some}
 use lib.ListN.{get_elem?}
 use Rattle.atomic_table.specs.Table.{State, Act, Valid, Step, step, stepped, carried_after}
 use prog.Atomic.{either}
+use Rattle.line_rule.specs.declared.words.TheConstants.{STALL}
 use Rattle.line_rule.specs.declared.view.QueuedWriter.{QueuedWriter}
 use Rattle.line_rule.specs.declared.view.LineHold.{LineHold}
 use Rattle.line_rule.specs.declared.content.LineSlot.{LineSlot}
 use Rattle.line_rule.specs.Chain.{handling, all_answers}
-use Rattle.line_rule.specs.Events.{LineEvent, comes, elects, builds, stalls, drops, resumes, exits, completes, Core, Enabled, after, grouped}
+use Rattle.line_rule.specs.Events.{LineEvent, comes, elects, builds, stalls, drops, resumes, exits, completes, Core, Enabled, after, grouped, halted}
 use Rattle.line_rule.specs.Laws.{Laws}
 use Rattle.line_rule.specs.Rule.{Listed}
 use Rattle.line_rule.specs.Plays.{Sat, squad_at_cut, squad_with_end}
@@ -66,6 +67,14 @@ module _ {Request Reply : Type 0} where
 
   abbrev pub IsResume : Lead Request Reply → Lists Request Reply → Lists Request Reply → Type 0
   IsResume lead = HappensAlone (resumes lead.own lead.group)
+
+  -- a leader stalls writes
+  abbrev pub IsStalled : Lists Request Reply → Type 0
+  IsStalled a = (own : QueuedWriter Request) × (group : List (QueuedWriter Request)) × (a.0.1 ≡ halted own group)
+
+  -- nothing moves, and a leader stalls writes if the number found is the marker
+  abbrev pub ShowsStall : ℕ → Lists Request Reply → Lists Request Reply → Type 0
+  ShowsStall found a b = Stays a b × (found ≡ STALL → IsStalled a)
 
   -- e leaves the queue, with this reply
   abbrev pub IsDrop : QueuedWriter Request → Reply → Lists Request Reply → Lists Request Reply → Type 0

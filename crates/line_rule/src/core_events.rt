@@ -1,5 +1,5 @@
 //! The events of the list, and of the second one, are events of the write path's core.
-ghost use Rattle.std.specs.Prelude.{◌≡◌, List, [], true, false, ℕ, Some};
+ghost use Rattle.std.specs.Prelude.{◌≡◌, List, [], true, false, ℕ, Some, None};
 ghost use Rattle.std.specs.List.{list_any};
 ghost use Rattle.model_base.specs.Calls.{Command, Reply as CoreReply, refused};
 ghost use Rattle.model_base.specs.declared.write.Refusal.TheVariants as no;
@@ -15,9 +15,9 @@ ghost use Rattle.line_rule.specs.declared.view.Squad.{Squad};
 ghost use Rattle.line_rule.specs.Chain.{AllCoded, all_answers};
 ghost use Rattle.line_rule.specs.Events.{grouped, comes, elects};
 ghost use Rattle.line_rule.specs.Standing.{ahead, line_of};
-ghost use Rattle.line_rule.specs.Steps.{Lists, HappensAlone, IsBuild, IsStall, IsDrop, IsResume, IsComplete, IsBoundary, IsSecond, IsNext, IsServedOut};
+ghost use Rattle.line_rule.specs.Steps.{Lists, HappensAlone, IsBuild, IsStall, IsStalled, IsDrop, IsResume, IsComplete, IsBoundary, IsSecond, IsNext, IsServedOut};
 ghost use Rattle.line_rule.specs.Handing.{IsInNone, IsJoined};
-ghost use Rattle.line_rule.specs.CoreEvents.{IsSame, HasItems, HasReplies, LeavesWith, AllLeaveWith, IsGroupOf, IsCoreOf, StandsAs, IsTaken, IsCommit, HasLeft, IsToLog};
+ghost use Rattle.line_rule.specs.CoreEvents.{IsSame, HasItems, HasReplies, LeavesWith, AllLeaveWith, IsGroupOf, IsCoreOf, StandsAs, IsTaken, IsCommit, IsRefusedAtOnce, HasLeft, IsToLog};
 ghost use Rattle.line_rule.specs.Grouping.{code_by};
 ghost use Rattle.model_base.specs.declared.group.Item.{Item};
 ghost use Rattle.line_rule.specs.Before.{lists_at_opening};
@@ -35,7 +35,8 @@ use crate::code::codes_stand_for_items;
 /// leader asks for no slowdown. A client that has left gets its reply.
 ///
 /// A leader that has a group in hand that may be slowed down stalls writes, and ends that. In between nobody comes and
-/// the group isn't logged, and writers of the queue that may not be slowed down leave it.
+/// the group isn't logged, and writers of the queue that may not be slowed down leave it. A commit that may not be
+/// slowed down is refused before it comes, and any other one can't come until the stall is over.
 ///
 /// Where there is one stage, a logged group leaves by the core's exit, once it is published. Where groups are handed
 /// on, a logged group is cut off from the first list by `boundary`, goes to the end of the second queue by `second`,
@@ -121,6 +122,18 @@ pub fn list_and_core<Request, Reply>()
         (stops delays : ℕ) → StandsAs writer_of reply_of ws a s → HasItems writer_of a.0.0
         → reply_of p ≡ refused (no.Incomplete stops delays 0) → IsDrop e p a b
         → IsTaken writer_of reply_of o (core.Leave e.by stops delays) s [] b }
+    // While a leader stalls writes, the core's `link` refuses a commit that may not be slowed down, and the lists stay
+    // as they are. In the running list this is a load of the newest writer that finds the marker (`ShowsStall`).
+    ensures link_refused { (writer_of : QueuedWriter Request → Writer) (reply_of : Reply → CoreReply) (o : Options)
+        (s : State) (a : Lists Request Reply) (ws : List Writer) (c : ℕ) (w : Writer)
+        → IsCoreOf writer_of reply_of ws a (list_half_of s) → IsStalled a → IsCommit o s c w
+        → w.options.no_slowdown ≡ true
+        → IsRefusedAtOnce o s c w × IsTaken writer_of reply_of o (core.Link c) s ws a }
+    // Any other commit can't be linked then.
+    ensures link_barred { (writer_of : QueuedWriter Request → Writer) (reply_of : Reply → CoreReply) (o : Options)
+        (s : State) (a : Lists Request Reply) (ws : List Writer) (c : ℕ) (w : Writer)
+        → IsCoreOf writer_of reply_of ws a (list_half_of s) → IsStalled a → IsCommit o s c w
+        → w.options.no_slowdown ≡ false → step o s (core.Link c) ≡ None }
     ensures unstall { (writer_of : QueuedWriter Request → Writer) (reply_of : Reply → CoreReply) (o : Options)
         (s : State) (a b : Lists Request Reply) (ws : List Writer) (lead : Lead Request Reply)
         → StandsAs writer_of reply_of ws a s → IsResume lead a b

@@ -36,7 +36,7 @@
 //! | Step | Who makes it | What it does | Event of the write path |
 //! |---|---|---|---|
 //! | store of `STATE_IN_LIST` to STATE `i` ([`Begin`]) | client `i` | takes its empty slot | |
-//! | load of NEWEST ([`ReadNewest`]) | anybody | sees a client's number | |
+//! | load of NEWEST ([`ReadNewest`]) | anybody | sees a client's number, or a mark; at `STALL` a leader stalls writes | link, where it is `STALL` and the client's commit is refused |
 //! | store of OLDER `i` ([`NameOlder`]) | client `i` | names the writer that it saw, and its own code | |
 //! | compare-exchange of NEWEST from that writer to `i` ([`Link`]) | client `i` | gives its slot with the request; where it replaced 0 it takes the log, and leads | link, and elect where it replaced 0 |
 //! | load of STATE `i` ([`ReadState`]) | client `i` | at `STATE_LEADS_LOG` it takes the log and its own slot, and leads; at `STATE_PARALLEL` it works in parallel with its leader; at `STATE_DONE` it takes its slot with the reply | elect, where it leads |

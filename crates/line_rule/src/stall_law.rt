@@ -9,9 +9,9 @@ ghost use Rattle.line_rule.specs.declared.view.Stall.TheVariants.{Aimed, Stopped
 ghost use Rattle.line_rule.specs.Chain.{state_at, older_at, pack, newest};
 ghost use Rattle.line_rule.specs.Events.{is_hasty};
 ghost use Rattle.line_rule.specs.Laws.{laws_for};
-ghost use Rattle.line_rule.specs.Plays.{Sat, in_hand};
+ghost use Rattle.line_rule.specs.Plays.{Sat, in_hand, after_read_newest};
 ghost use Rattle.line_rule.specs.Stalls.{after_withdraw, after_aim_stall, after_stall, after_hold, after_give_back, after_pass_by, after_pass_first, after_dismiss, after_resume};
-ghost use Rattle.line_rule.specs.Steps.{Stays, HappensWhere, IsStall, IsDrop, IsResume, IsComplete, LoadIs, StoreIs, ExchangeIs};
+ghost use Rattle.line_rule.specs.Steps.{Stays, ShowsStall, HappensWhere, IsStall, IsDrop, IsResume, IsComplete, LoadIs, StoreIs, ExchangeIs};
 ghost use Rattle.line_rule.specs.Before.{IsClient, IsNextAfter, IsAt, HasFirst};
 
 use crate::rule::{GivesRun, HasGroupingItem, LogOfGroups};
@@ -21,12 +21,17 @@ use crate::words::{STALL, STATE_DONE};
 /// that keeps the rule, where the caller may make the step. The leader has its whole group. A writer leaves the queue
 /// at the store that sets a link past it, and gets its reply later. While writes are stalled nobody links, and no group
 /// leaves. A writer that is about to link may go back instead, which is no event.
+///
+/// A load that finds the marker in the place of the newest writer is one by which a leader stalls writes at that moment.
 pub fn stall_steps_and_events<
     Request: HasGroupingItem,
     Reply: GivesRun,
     Log: LogOfGroups<Request, Reply, Right>,
     Right,
 >()
+    ensures read_newest { (z : Start Log.About) (slots id : ℕ) (me : Sat Request Reply Log Right)
+        → LoadIs (laws_for Request.item_of Reply.run_of Log.LogOfGroups z) z.clients ShowsStall
+        slots id me 0 after_read_newest }
     ensures withdraw { (z : Start Log.About) (slots id word c w : ℕ) (me : Sat Request Reply Log Right)
         → IsAt c (Preparing w) me → me.1 ≡ (c, Empty) ∷ []
         → LoadIs (laws_for Request.item_of Reply.run_of Log.LogOfGroups z) z.clients (λ _. Stays)

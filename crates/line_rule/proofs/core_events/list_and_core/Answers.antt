@@ -1,7 +1,7 @@
 use Rattle.std.proofs.Common.{refl}
 use Rattle.line_rule.proofs.CoreLaws.{coded_items}
 use Rattle.line_rule.proofs.CoreSteps.{boundary_core, second_core, next_core, next_there, serves_core, comes_core, leads_core, groups_core, logs_there, log_leaves, fault_leaves, refuse_leaves, told_core, exits_core}
-use Rattle.line_rule.proofs.CoreStalls.{stalls_core, drops_core, resumes_core}
+use Rattle.line_rule.proofs.CoreStalls.{stalls_core, drops_core, resumes_core, refused_core, barred_core}
 use Rattle.line_rule.proofs.core_events.list_and_core.Goals as goal
 
 pub returns-clause-open : goal.returns-clause-open
@@ -57,6 +57,12 @@ returns-clause-stall g c writer_of reply_of o s a b old built lead (same, r) is 
 
 pub returns-clause-leave : goal.returns-clause-leave
 returns-clause-leave g c writer_of reply_of o s a b ws e p stops delays (same, r) has is (newer, older, ev) = drops_core writer_of reply_of o s a b ws newer e older p stops delays same r has is ev
+
+pub returns-clause-link_refused : goal.returns-clause-link_refused
+returns-clause-link_refused g c writer_of reply_of o s a ws client w r held commits hasty = refused_core writer_of reply_of o s a a ws client w r held commits hasty
+
+pub returns-clause-link_barred : goal.returns-clause-link_barred
+returns-clause-link_barred g c writer_of reply_of o s a ws client w r held commits slow = barred_core writer_of reply_of o s a a ws client w r held commits slow
 
 pub returns-clause-unstall : goal.returns-clause-unstall
 returns-clause-unstall g c writer_of reply_of o s a b ws lead (same, r) ev = resumes_core writer_of reply_of o s a b ws lead.own lead.group same r ev

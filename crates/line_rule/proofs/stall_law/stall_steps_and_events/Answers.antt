@@ -1,9 +1,12 @@
 use Rattle.std.proofs.Common.{refl}
 use mathlib.Core.Option.{none}
-use Rattle.line_rule.proofs.Stalls.{withdraws_is, aims_stall_is, stalls_is, resumes_is}
+use Rattle.line_rule.proofs.Stalls.{shows_is, withdraws_is, aims_stall_is, stalls_is, resumes_is}
 use Rattle.line_rule.proofs.Drops.{holds_is, gives_back_is}
 use Rattle.line_rule.proofs.Departs.{passes_by_is, passes_first_is, dismisses_is}
 use Rattle.line_rule.proofs.stall_law.stall_steps_and_events.Goals as goal
+
+pub returns-clause-read_newest : goal.returns-clause-read_newest
+returns-clause-read_newest g a z slots id me = shows_is _ z.clients slots id me
 
 pub returns-clause-withdraw : goal.returns-clause-withdraw
 returns-clause-withdraw g a z slots id word c w me (mine, at) slot = withdraws_is _ z.clients slots id me c word w mine at slot
