@@ -1,56 +1,75 @@
--- What holds of each element of a list, and what a search finds.
-use Rattle.std.proofs.Common.{◌≡◌, ◌⊎◌, ◌||◌, inl, inr, Bool, true, false, List, [], ◌∷◌, ◌++◌, Option, Some, None, cond, refl, subst}
-use Rattle.std.specs.Prelude.{find, is_some}
-use Rattle.std.specs.List.{list_any}
+-- What holds of each element of a list, what a search finds, and tests.
+use Rattle.std.proofs.Common.{◌≡◌, ◌&&◌, ◌||◌, Bool, true, false, List, [], ◌∷◌, ◌++◌, Option, Some, None, cond, map, not, refl, subst}
+use Rattle.std.specs.Prelude.{find, is_some, option_map}
+use Rattle.std.specs.List.{list_all, list_any}
+use Rattle.std.specs.Option.{option_or}
+use Rattle.clap.proofs.WalkLemmas.{both}
+
+-- ---- options and tests
+
+pub or_none : {X : Type 0} (o : Option X) → option_or o None ≡ o
+or_none None = refl
+or_none (Some x) = refl
+
+pub some_or : {X : Type 0} (o p : Option X) → is_some o ≡ true → option_or o p ≡ o
+some_or None p e = cc
+some_or (Some x) p e = refl
+
+pub none_told : {X : Type 0} (o : Option X) → is_some o ≡ false → o ≡ None
+none_told None e = refl
+none_told (Some x) e = cc
+
+pub some_told : {X : Type 0} (o : Option X) → is_some o ≡ true → (x : X) × (o ≡ Some x)
+some_told None e = cc
+some_told (Some x) e = (x, refl)
+
+pub none_some : {X : Type 0} {x : X} → ◌≡◌ {A = Option X} None (Some x) → ⊥
+none_some e = cc
+
+pub not_told : (b : Bool) → not b ≡ true → b ≡ false
+not_told true e = cc
+not_told false e = refl
+
+-- the cases of a choice
+pub cond_cases : {X R : Type 0} (b : Bool) (x y z : X) → cond b x y ≡ z → (b ≡ true → x ≡ z → R) → (b ≡ false → y ≡ z → R) → R
+cond_cases true x y z e first second = first refl e
+cond_cases false x y z e first second = second refl e
+
+-- ---- lists
 
 abbrev pub Each : {X : Type 0} → (X → Type 0) → List X → Type 0
 Each P [] = Unit {0}
 Each P (x ∷ xs) = P x × Each P xs
 
-pub each_more : {X : Type 0} (P : X → Type 0) (xs : List X) (x : X) → Each P xs → P x → Each P (xs ++ x ∷ [])
-each_more P [] x all p = (p, tt)
-each_more P (y ∷ xs) x all p = (all.0, each_more P xs x all.1 p)
+pub each_append : {X : Type 0} (P : X → Type 0) (xs ys : List X) → Each P xs → Each P ys → Each P (xs ++ ys)
+each_append P [] ys first second = second
+each_append P (x ∷ xs) ys first second = (first.0, each_append P xs ys first.1 second)
 
+pub each_weaker : {X : Type 0} (P Q : X → Type 0) → ((x : X) → P x → Q x) → (xs : List X) → Each P xs → Each Q xs
+each_weaker P Q weaker [] all = tt
+each_weaker P Q weaker (x ∷ xs) all = (weaker x all.0, each_weaker P Q weaker xs all.1)
+
+pub each_passes : {X : Type 0} (p : X → Bool) (xs : List X) → list_all p xs ≡ true → Each (λ x. p x ≡ true) xs
+each_passes p [] e = tt
+each_passes p (x ∷ xs) e = let parts = both _ _ e in (parts.0, each_passes p xs parts.1)
+
+-- what is found has what each has, and passes the test
 pub find_holds : {X : Type 0} (P : X → Type 0) (p : X → Bool) (xs : List X) → Each P xs → (x : X) → find p xs ≡ Some x → P x
 find_holds P p [] all x e = cc
-find_holds P p (y ∷ xs) all x e = go (p y) e (find_holds P p xs all.1 x)
-  where
-    go : (b : Bool) → cond b (Some y) (find p xs) ≡ Some x → (find p xs ≡ Some x → P x) → P x
-    go true is rest = let same : y ≡ x = cc in subst P same all.0
-    go false is rest = rest is
+find_holds P p (y ∷ xs) all x e =
+    cond_cases (p y) (Some y) (find p xs) (Some x) e (λ here is. let same : y ≡ x = cc in subst P same all.0) (λ other rest. find_holds P p xs all.1 x rest)
 
--- what is found passes the test
 pub find_passes : {X : Type 0} (p : X → Bool) (xs : List X) (x : X) → find p xs ≡ Some x → p x ≡ true
 find_passes p [] x e = cc
-find_passes {X} p (y ∷ xs) x e = go (p y) refl e (find_passes p xs x)
-  where
-    go : (b : Bool) → p y ≡ b → cond b (Some y) (find p xs) ≡ Some x → (find p xs ≡ Some x → p x ≡ true) → p x ≡ true
-    go true here is rest = let same : y ≡ x = cc in subst (λ (z : X). p z ≡ true) same here
-    go false here is rest = rest is
+find_passes p (y ∷ xs) x e =
+    cond_cases (p y) (Some y) (find p xs) (Some x) e (λ here is. let same : y ≡ x = cc in subst (λ z. p z ≡ true) same here) (λ other rest. find_passes p xs x rest)
 
--- where nothing is found, nothing passes the test
-pub none_passes : {X : Type 0} (p : X → Bool) (xs : List X) → find p xs ≡ None → list_any p xs ≡ false
-none_passes p [] e = refl
-none_passes p (x ∷ xs) e = go (p x) e (none_passes p xs)
-  where
-    go : (b : Bool) → cond b (Some x) (find p xs) ≡ None → (find p xs ≡ None → list_any p xs ≡ false) → (b || list_any p xs) ≡ false
-    go true is rest = cc
-    go false is rest = rest is
+pub find_map : {X Y : Type 0} (p : Y → Bool) (f : X → Y) (xs : List X) → find p (map f xs) ≡ option_map f (find (λ (x : X). p (f x)) xs)
+find_map p f [] = refl
+find_map p f (x ∷ xs) =
+    elim (p (f x)) as (λ b. cond b (Some (f x)) (find p (map f xs)) ≡ option_map f (cond b (Some x) (find (λ y. p (f y)) xs))) [ true ↦ refl | false ↦ find_map p f xs ]
 
--- ---- tests
-
-pub either : (a b : Bool) → (a || b) ≡ true → (a ≡ true) ⊎ (b ≡ true)
-either true b e = inl refl
-either false b e = inr e
-
-pub cond_true : {X : Type 0} (b : Bool) (x y : X) → b ≡ true → cond b x y ≡ x
-cond_true true x y e = refl
-cond_true false x y e = cc
-
-pub cond_false : {X : Type 0} (b : Bool) (x y : X) → b ≡ false → cond b x y ≡ y
-cond_false true x y e = cc
-cond_false false x y e = refl
-
-pub some_told : {X : Type 0} (o : Option X) → is_some o ≡ true → (x : X) × (o ≡ Some x)
-some_told None e = cc
-some_told (Some x) e = (x, refl)
+-- something passes the test where something is found
+pub any_found : {X : Type 0} (p : X → Bool) (xs : List X) → list_any p xs ≡ is_some (find p xs)
+any_found p [] = refl
+any_found p (x ∷ xs) = elim (p x) as (λ b. (b || list_any p xs) ≡ is_some (cond b (Some x) (find p xs))) [ true ↦ refl | false ↦ any_found p xs ]

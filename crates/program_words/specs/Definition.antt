@@ -1,89 +1,61 @@
 -- The command of `clap` that reads the words of a call: what clap's parse looks at in a command.
-use Rattle.std.specs.Prelude.{ℕ, [], ◌∷◌, Some, true, codes}
-use Rattle.model_base.specs.declared.limits.TheConstants.{MAX_CLIENTS, MAX_SIZE}
+use Rattle.std.specs.Prelude.{List, [], ◌∷◌, ◌++◌, Option, Some, None, true, codes, fold, map, option_to_list}
+use Rattle.clap.specs.declared.builder.action.ArgAction.{ArgAction}
 use Rattle.clap.specs.declared.builder.action.ArgAction.TheVariants.{SetTrue}
-use Rattle.clap.specs.Words.{App, Rule, Text, new_app, new_rule, with_rule, with_subcommand}
+use Rattle.clap.specs.Simple.{new_shape}
+use Rattle.clap.specs.Words.{App, Rule, Shape, Text, new_app, new_rule, with_subcommand}
+use Rattle.clap.specs.declared.builder.value_parser.ValueParser.{ValueParser}
 use Rattle.clap.specs.declared.builder.value_parser.ValueParser.TheVariants.{Unsigned}
+use Rattle.program_words.specs.Commands.{Command, commands}
+use Rattle.program_words.specs.Options.{Kind, Known, Place, no_value, number_within, word_among}
+use Rattle.program_words.specs.declared.definition.Argument.{Argument}
+use Rattle.program_words.specs.declared.definition.Argument.TheVariants.{Flag, Number, NumberOr, Placed, Word}
 
--- an option `--name` that takes a whole number from `least` to `most`, and is `default` unless it is given
-abbrev pub number_option : Text → ℕ → ℕ → Text → Rule
-number_option name least most default =
-    record (new_rule name) { long = Some name; parser = Some (Unsigned least most); defaults = default ∷ [] }
+-- a flag takes no value; every other option takes one, as it does in clap if nothing is said
+abbrev pub action_for : Kind → Option ArgAction
+action_for no_value = Some SetTrue
+action_for _ = None
 
--- an option `--name` that takes a whole number from `least` to `most`, and has no default
-abbrev pub optional_number : Text → ℕ → ℕ → Rule
-optional_number name least most = record (new_rule name) { long = Some name; parser = Some (Unsigned least most) }
+-- the matches may have any word as the value of an option that takes one of some words
+abbrev pub parser_for : Kind → Option ValueParser
+parser_for (number_within least most unless_given) = Some (Unsigned least most)
+parser_for _ = None
 
--- a word in a fixed place, which may not be left out: a whole number from `least` to `most`
-abbrev pub number_word : Text → ℕ → ℕ → Rule
-number_word name least most = record (new_rule name) { required = true; parser = Some (Unsigned least most) }
+abbrev pub defaults_for : Kind → List Text
+defaults_for no_value = []
+defaults_for (number_within least most unless_given) = option_to_list unless_given
+defaults_for (word_among words unless_given) = unless_given ∷ []
 
--- a flag `--name`, which takes no value
-abbrev pub flag : Text → Rule
-flag name = record (new_rule name) { long = Some name; action = Some SetTrue }
+-- an option `--name`
+abbrev pub option_rule : Known → Rule
+option_rule option = record (new_rule option.name) {
+  long = Some option.name;
+  action = action_for option.kind;
+  parser = parser_for option.kind;
+  defaults = defaults_for option.kind;
+}
 
--- what the table is made of: `one` tree under one lock, or trees in `shards`. The matches may have any word as its
--- value
-abbrev pub table : Rule
-table = record (new_rule (codes "table")) { long = Some (codes "table"); defaults = codes "one" ∷ [] }
+-- a number in a fixed place, which may not be left out
+abbrev pub place_rule : Place → Rule
+place_rule place =
+    record (new_rule place.name) { required = true; parser = Some (Unsigned place.least place.most) }
 
--- how many shards the table has, if it is in shards
-abbrev pub shards : Rule
-shards = number_option (codes "shards") 1 64 (codes "16")
+-- an option or a number in its place, as the code lists it
+abbrev pub listed_rule : Argument → Rule
+listed_rule (Flag name) = option_rule (record { name = name.now; kind = no_value })
+listed_rule (Number name least most) =
+    option_rule (record { name = name.now; kind = number_within least most None })
+listed_rule (NumberOr name least most unless_given) =
+    option_rule (record { name = name.now; kind = number_within least most (Some unless_given.now) })
+listed_rule (Word name unless_given) =
+    option_rule (record { name = name.now; kind = word_among [] unless_given.now })
+listed_rule (Placed name least most) = place_rule (record { name = name.now; least = least; most = most })
 
--- whether the log is handed on before a group is inserted
-abbrev pub pipelined : Rule
-pipelined = flag (codes "pipelined")
-
--- the most bytes of a batch
-abbrev pub batch_bytes : Rule
-batch_bytes = number_option (codes "batch-bytes") 12 MAX_SIZE (codes "16777216")
-
--- the most bytes of a write group
-abbrev pub group_bytes : Rule
-group_bytes = number_option (codes "group-bytes") 1 16777216 (codes "1048576")
-
--- the sequence number before that of the first batch
-abbrev pub last : Rule
-last = number_option (codes "last") 0 72057594037927935 (codes "0")
-
--- the number of the log, if it has one
-abbrev pub number : Rule
-number = optional_number (codes "number") 1 4294967295
-
--- whether the log goes on after what it recovers
-abbrev pub resume : Rule
-resume = flag (codes "resume")
-
--- which ends of the log its recovery accepts. The matches may have any word as its value
-abbrev pub mode : Rule
-mode = record (new_rule (codes "mode")) { long = Some (codes "mode"); defaults = codes "point" ∷ [] }
-
--- the seed from which a script's numbers are drawn, how many clients it has, and how many batches each commits
-abbrev pub seed : Rule
-seed = number_word (codes "SEED") 0 2147483647
-
-abbrev pub clients : Rule
-clients = number_word (codes "CLIENTS") 1 MAX_CLIENTS
-
-abbrev pub batches : Rule
-batches = number_word (codes "BATCHES") 1 100000
-
--- the commands, with their options
-
-abbrev pub run : App
-run = with_rule (with_rule (with_rule (with_rule (with_rule (with_rule (with_rule (with_rule (with_rule
-    (new_app (codes "run")) pipelined) table) shards) group_bytes) batch_bytes) last) number) resume) mode
-
-abbrev pub recover : App
-recover = with_rule (with_rule (new_app (codes "recover")) number) mode
-
-abbrev pub replay : App
-replay = with_rule (with_rule (with_rule (with_rule (new_app (codes "replay")) pipelined) group_bytes) batch_bytes) last
-
-abbrev pub generate : App
-generate = with_rule (with_rule (with_rule (with_rule (with_rule (with_rule (new_app (codes "gen")) pipelined) table)
-    shards) seed) clients) batches
+-- a command, with its options and its numbers in their order
+abbrev pub shape : Command → Shape
+shape command = record (new_shape command.name) {
+  rules = map option_rule command.options ++ map place_rule command.places;
+}
 
 -- the program, which requires a command, and has no help
 abbrev pub program : App
@@ -96,5 +68,4 @@ program = record (new_app (codes "writepath")) {
 }
 
 abbrev pub writepath : App
-writepath = with_subcommand (with_subcommand (with_subcommand (with_subcommand program run.top) recover.top) replay.top)
-    generate.top
+writepath = fold with_subcommand program (map shape commands)

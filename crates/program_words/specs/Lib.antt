@@ -1,3 +1,5 @@
+pub mod Options
+pub mod Commands
 pub mod Definition
 pub mod Meaning
 pub mod Lawful

@@ -4,8 +4,9 @@ ghost use Rattle.std.specs.Prelude.{◌≡◌, IfOk, Some, None, Err, option_map
 ghost use Rattle.clap.specs.Words.{first_of, found_of, kind_of, rows_of};
 ghost use Rattle.program_words.specs.declared.invocation.WordsError.TheVariants.{NoMemory};
 ghost use Rattle.program_words.specs.Limits.{KeepsLimits};
+ghost use Rattle.program_words.specs.Commands as commands;
 ghost use Rattle.program_words.specs.Meaning as meaning;
-ghost use Rattle.program_words.specs.Meaning.{invocation_of, refusal_of};
+ghost use Rattle.program_words.specs.Meaning.{invocation_of, refusal_of, texts_in};
 
 use crate::definition;
 use clap::ArgMatches;
@@ -127,7 +128,7 @@ fn invocation_by(command: &str, options: &ArgMatches) -> Option<Invocation>
 }
 
 fn run_by(options: &ArgMatches) -> Option<Invocation>
-    ensures { result ≡ meaning.run_by (rows_of (found_of options.now)) }
+    ensures { result ≡ commands.asked_by (texts_in (rows_of (found_of options.now))) (commands.run).made }
 {
     Some(Invocation::Run {
         pipelined: flag_in("pipelined", options)?,
@@ -142,7 +143,7 @@ fn run_by(options: &ArgMatches) -> Option<Invocation>
 }
 
 fn recover_by(options: &ArgMatches) -> Option<Invocation>
-    ensures { result ≡ meaning.recover_by (rows_of (found_of options.now)) }
+    ensures { result ≡ commands.asked_by (texts_in (rows_of (found_of options.now))) (commands.recover).made }
 {
     Some(Invocation::Recover {
         number: number_in("number", options),
@@ -151,7 +152,7 @@ fn recover_by(options: &ArgMatches) -> Option<Invocation>
 }
 
 fn replay_by(options: &ArgMatches) -> Option<Invocation>
-    ensures { result ≡ meaning.replay_by (rows_of (found_of options.now)) }
+    ensures { result ≡ commands.asked_by (texts_in (rows_of (found_of options.now))) (commands.replay).made }
 {
     Some(Invocation::Replay {
         pipelined: flag_in("pipelined", options)?,
@@ -162,7 +163,7 @@ fn replay_by(options: &ArgMatches) -> Option<Invocation>
 }
 
 fn generate_by(options: &ArgMatches) -> Option<Invocation>
-    ensures { result ≡ meaning.generate_by (rows_of (found_of options.now)) }
+    ensures { result ≡ commands.asked_by (texts_in (rows_of (found_of options.now))) (commands.generate).made }
 {
     Some(Invocation::Generate {
         pipelined: flag_in("pipelined", options)?,
@@ -175,14 +176,14 @@ fn generate_by(options: &ArgMatches) -> Option<Invocation>
 
 /// How many shards the table has, by the matches; `Some(None)` if it is one tree.
 fn shards_in(options: &ArgMatches) -> Option<Option<u64>>
-    ensures { result ≡ meaning.shards_in (rows_of (found_of options.now)) }
+    ensures { result ≡ commands.shards_in (texts_in (rows_of (found_of options.now))) }
 {
     shards_of(text_in("table", options)?, number_in("shards", options))
 }
 
 /// How many shards a table of this kind has, where `shards` is the number that the matches have for them.
 fn shards_of(kind: &str, shards: Option<u64>) -> Option<Option<u64>>
-    ensures { result ≡ meaning.shards_of kind.now shards }
+    ensures { result ≡ commands.shards_of kind.now shards }
 {
     match kind {
         "one" => Some(None),
@@ -193,14 +194,14 @@ fn shards_of(kind: &str, shards: Option<u64>) -> Option<Option<u64>>
 
 /// Which ends of the log its recovery accepts, by the matches.
 fn mode_in(options: &ArgMatches) -> Option<Mode>
-    ensures { result ≡ meaning.mode_in (rows_of (found_of options.now)) }
+    ensures { result ≡ commands.mode_in (texts_in (rows_of (found_of options.now))) }
 {
     mode_of(text_in("mode", options)?)
 }
 
 /// The mode of this name.
 fn mode_of(name: &str) -> Option<Mode>
-    ensures { result ≡ meaning.mode_of name.now }
+    ensures { result ≡ commands.mode_of name.now }
 {
     match name {
         "point" => Some(Mode::Point),
@@ -219,14 +220,14 @@ fn text_in<'a>(id: &str, options: &ArgMatches<'a>) -> Option<&'a str>
 
 /// Whether a flag is given, by the matches.
 fn flag_in(id: &str, options: &ArgMatches) -> Option<bool>
-    ensures { result ≡ meaning.flag_in id.now (rows_of (found_of options.now)) }
+    ensures { result ≡ commands.flag_in id.now (texts_in (rows_of (found_of options.now))) }
 {
     options.get_one::<bool>(id)
 }
 
 /// The number that the matches have for an option, or for a word in its place.
 fn number_in(id: &str, options: &ArgMatches) -> Option<u64>
-    ensures { result ≡ meaning.number_in id.now (rows_of (found_of options.now)) }
+    ensures { result ≡ commands.number_in id.now (texts_in (rows_of (found_of options.now))) }
 {
     options.get_one::<u64>(id)
 }

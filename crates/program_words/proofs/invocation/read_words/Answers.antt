@@ -1,7 +1,7 @@
 use Rattle.std.proofs.Common.{◌≡◌, ◌∙◌, Some, None, ap, sym, rules}
 use Rattle.std.specs.Result.{result_ok}
 use Rattle.clap.specs.Words.{app_of, found_of, kind_of, is_simple, is_simple_and_free, rows_of}
-use Rattle.program_words.proofs.Ranges.{asked_keeps}
+use Rattle.program_words.proofs.Limits.{asked_keeps}
 use Rattle.std.proofs.lemmas.Result.{IfOk-weaker}
 use Rattle.program_words.proofs.Reading.{answer_is, asked_met, asked_without, no_answer_is, refused_words, simple, simple_and_free}
 use Rattle.program_words.proofs.invocation.read_words.Goals as goal

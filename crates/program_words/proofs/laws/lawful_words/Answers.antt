@@ -1,4 +1,4 @@
-use Rattle.program_words.proofs.Commands.{lawful_asks}
+use Rattle.program_words.proofs.Levels.{lawful_asks}
 use Rattle.program_words.proofs.laws.lawful_words.Goals as goal
 
 pub returns : goal.returns

@@ -2,7 +2,7 @@ use Rattle.std.proofs.Common.{◌≡◌, ◌∙◌, Some, ap}
 use Rattle.clap.specs.Words.{Rule, rule_of}
 use Rattle.clap.specs.declared.builder.arg.Arg.{Arg}
 use Rattle.program_words.proofs.Additions.{with_parser}
-use Rattle.program_words.proofs.definition.optional_number.Goals as goal
+use Rattle.program_words.proofs.definition.number.Goals as goal
 
 pub returns : goal.returns
 returns c =
