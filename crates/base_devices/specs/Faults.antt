@@ -1,5 +1,5 @@
 -- Counts of faults, and when a call may fail.
-use Rattle.std.specs.Prelude.{◌≡◌, ℕ, ◌≤◌, Result, OnErr, OnOk}
+use Rattle.std.specs.Prelude.{◌≡◌, ℕ, ◌-◌, ◌^◌, ◌≤◌, min, List, sum_by, Result, OnErr, OnOk}
 pub use Rattle.model_base.specs.Counts.{Rose}
 
 -- the count hasn't fallen in the call; it rose if the call failed, and stayed if it worked
@@ -7,3 +7,7 @@ pub record HasCause {T E : Type 0} (before now : ℕ) (result : Result T E) : Ty
   pub later : before ≤ now
   pub failed : OnErr result (Rose before now)
   pub worked : OnOk result (now ≡ before)
+
+-- how many calls of several devices have failed in all, by the count of each; the count stops at the greatest u64
+abbrev pub count_in_all : {D : Type 0} → (D → ℕ) → List D → ℕ
+count_in_all faults devices = min (sum_by faults devices) (2 ^ 64 - 1)

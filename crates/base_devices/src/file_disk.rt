@@ -23,7 +23,8 @@ use std::rt::Files;
 /// another one has the lock. So the calls of a second such disk on the file fail until the first one is dropped, and
 /// then it finds all that the first one did. A program that doesn't ask for the lock isn't kept out.
 ///
-/// A disk that [`FileDisk::to_read`] makes opens the file for reading, without a lock, and makes none. It may read
+/// A disk that [`FileDisk::to_read`] makes opens the file for reading, without a lock, and makes none. Where there is
+/// none, its length is 0, and a read fails. It may read
 /// while another program writes: it keeps to the length that the file had at its first call, and a read fails where
 /// the file has become too short for it. `append`, `rewind`, `cut` and `sync` fail, and do nothing.
 ///

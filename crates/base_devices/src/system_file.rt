@@ -73,12 +73,17 @@ impl<R: Files<File = File> + Drop> SystemFile<R> {
         }
     }
 
-    /// How many bytes the file has.
+    /// How many bytes the file has. One that is only read and isn't there has none.
     pub(crate) fn len(&mut self) -> io::Result<u64>
         ensures small { IfOk result (λ n. n < 2 ^ 63) }
         ensures adds_none { added_to self.new ≡ added_to self.old }
     {
-        self.open(true)?;
+        if let Err(error) = self.open(true) {
+            return match self.access {
+                Access::Read if error.kind() == ErrorKind::NotFound => Ok(0),
+                _ => Err(error),
+            };
+        }
         Ok(self.len)
     }
 

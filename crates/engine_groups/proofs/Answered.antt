@@ -6,7 +6,7 @@ use mathlib.Core.List.{IsPrefix}
 use mathlib.Core.Logic.{dite}
 use native.Mathlib.Decide.{ℕ_discrete}
 use Rattle.std.proofs.lemmas.Bool.{ne_eqb, eq-eqb}
-use Rattle.base_devices.specs.declared.disk.Disk.{Ghosts}
+use Rattle.log_writer.specs.declared.group_log.GroupLog.{Ghosts}
 use Rattle.model_base.specs.declared.write.Refusal.{Refusal}
 use Rattle.model_base.specs.declared.write.Refusal.TheVariants.{Empty, TooLarge, SyncWithoutLog, SelfStop, NoMemory, Incomplete, LogFault, SequenceFull}
 use Rattle.model_base.specs.declared.write.WriteOptions.{WriteOptions}
@@ -20,8 +20,8 @@ use Rattle.model_base.specs.Replies.{IsLater, MetStall}
 use Rattle.model_base.specs.Tokens.{tokens_of, holds_stop}
 use Rattle.model_base.proofs.Prefixes.{prefix_length, prefix_self, prefix_trans}
 use Rattle.model_base.proofs.Runs.{later_in}
-use Rattle.log_writer.specs.declared.writer.LogWriter.{LogWriter}
-use Rattle.log_writer.specs.Written.{Wrote as LogWrote}
+use Rattle.engine_parts.specs.declared.log.OpenLog.{OpenLog}
+use Rattle.engine_parts.specs.Logs.{Wrote as LogWrote}
 use Rattle.log_batch.specs.Contents.{Contents}
 use Rattle.table_rule.specs.declared.content.MemberVersions.{MemberVersions}
 use Rattle.table_rule.specs.Histories.{Begins, last_of, versions_of}
@@ -129,14 +129,14 @@ refuses_late settings v records how why w passed late =
     subst (λ (o : Option Refusal). MatchOption o (IsRefusedLate v records how why w) (λ (early : Refusal). (why ≡ early) × Keeps v w)) (sym passed) late
 
 -- what a client concludes from an answer to this batch, where its account was `v` and is now `w`
-pub record Concludes {D : Type 0} {ghosts : Ghosts D} (opened : LogWriter D ghosts) (settings : Settings) (v : Account) (batch : Contents) (how : WriteOptions) (answer : Result Receipt Refused) (w : Account) : Type 0 where
+pub record Concludes {D : Type 0} {ghosts : Ghosts D} (opened : OpenLog D ghosts) (settings : Settings) (v : Account) (batch : Contents) (how : WriteOptions) (answer : Result Receipt Refused) (w : Account) : Type 0 where
   pub accepted : IfOk answer (λ (r : Receipt). Wrote settings v batch.records how r.run.first r.group_last w)
   pub back : IfOk answer (λ (r : Receipt). (r.batch ≡ record batch { sequence = r.run.first }) × (r.run.last + 1 ≡ r.run.first + count_of batch.records))
-  pub synced : IfOk answer (λ (r : Receipt). how.sync ≡ true → (calls : List GroupCall) × (log : LogWriter D ghosts) × LogWrote opened calls log × IsSyncedBy r.run.first batch.records calls)
+  pub synced : IfOk answer (λ (r : Receipt). how.sync ≡ true → (calls : List GroupCall) × (log : OpenLog D ghosts) × LogWrote opened calls log × IsSyncedBy r.run.first batch.records calls)
   pub refused : IfErr answer (λ (e : Refused). Refuses settings v batch.records how e.why w)
   pub unchanged : IfErr answer (λ (e : Refused). e.batch ≡ batch)
 
-module _ {C D : Type 0} {ghosts : Ghosts D} (controller : Controller C) (opened : LogWriter D ghosts) (start : ℕ) (opening : Pairs) (k : ℕ) (settings : Settings) (q : Request) (p : Answer) (mine : List (Request × Answer)) (handled : List (Handling Request Answer)) (kept : AreHandled controller opened start handled) (own : of k handled ≡ mine ++ (q, p) ∷ []) (seen now : List (List MemberVersions)) (sees : Begins seen now)
+module _ {C D : Type 0} {ghosts : Ghosts D} (controller : Controller C) (opened : OpenLog D ghosts) (start : ℕ) (opening : Pairs) (k : ℕ) (settings : Settings) (q : Request) (p : Answer) (mine : List (Request × Answer)) (handled : List (Handling Request Answer)) (kept : AreHandled controller opened start handled) (own : of k handled ≡ mine ++ (q, p) ∷ []) (seen now : List (List MemberVersions)) (sees : Begins seen now)
     (known after : List ControllerCall) (more : SeesMore k known after) (noted_known : IsPrefix known (noted_in q.note)) (sees_note : IfSome p.note (λ (n : Noted). IsPrefix (seen_by_note n) after))
     (passed : early_refusal settings.batch_bytes (holds_stop (tokens_of k known)) q.batch.records q.options ≡ None) (free : holds_stop (tokens_of k known) ≡ false) (above : IsAbove (last_of start seen) p.answer) where
   is : commits_of k (map commit_of handled) ≡ own_commits k mine ++ commit k q p ∷ []
@@ -190,7 +190,7 @@ module _ {C D : Type 0} {ghosts : Ghosts D} (controller : Controller C) (opened 
   answered_err e err = refuses_late settings old q.batch.records q.options e.why new passed (inr (refused_by e.why e refl err (subst (ComesBack q.batch) err back).1))
 
   -- a batch that had to be synced was synced, by one of the calls that wrote the log
-  pub answered_synced : (r : Receipt) → p.answer ≡ Ok r → q.options.sync ≡ true → (calls : List GroupCall) × (log : LogWriter D ghosts) × LogWrote opened calls log × IsSyncedBy r.run.first q.batch.records calls
+  pub answered_synced : (r : Receipt) → p.answer ≡ Ok r → q.options.sync ≡ true → (calls : List GroupCall) × (log : OpenLog D ghosts) × LogWrote opened calls log × IsSyncedBy r.run.first q.batch.records calls
   answered_synced r ok sync =
       let w = kept.written in
       let h = have_synced start k (map commit_of handled) (own_commits k mine) (commit k q p) w.worked r.run.first r.group_last kept.answered w.parts is (ap answer_in ok) sync (logged_if settings.batch_bytes (holds_stop (tokens_of k known)) q.batch.records q.options passed sync) in
@@ -202,7 +202,7 @@ module _ {C D : Type 0} {ghosts : Ghosts D} (controller : Controller C) (opened 
   concludes (Err e) err reached = let b = subst (ComesBack q.batch) err back in record { accepted = tt; back = tt; synced = tt; refused = answered_err e err; unchanged = b.0 }
 
 -- what a client concludes whose commit met a stall, and is in no group
-pub concludes_met : {D : Type 0} {ghosts : Ghosts D} (opened : LogWriter D ghosts) (settings : Settings) (start : ℕ) (opening : Pairs) (k : ℕ) (own : List Commit) (batch : Contents) (how : WriteOptions) (before now : List (List MemberVersions)) (known after : List ControllerCall) (numbers : Look) (by place : ℕ)
+pub concludes_met : {D : Type 0} {ghosts : Ghosts D} (opened : OpenLog D ghosts) (settings : Settings) (start : ℕ) (opening : Pairs) (k : ℕ) (own : List Commit) (batch : Contents) (how : WriteOptions) (before now : List (List MemberVersions)) (known after : List ControllerCall) (numbers : Look) (by place : ℕ)
     → Begins before now → SeesMore k known after → early_refusal settings.batch_bytes (holds_stop (tokens_of k known)) batch.records how ≡ None → holds_stop (tokens_of k known) ≡ false → how.no_slowdown ≡ true
     → IsLater after (length known) place (record { client = by; action = look; told = Some numbers }) → MetStall after k by place numbers
     → Concludes opened settings (account_of start opening k own before known) batch how (Err (held_up_with numbers batch)) (account_of start opening k own now after)

@@ -2,7 +2,7 @@
 use Rattle.std.proofs.Common.{◌≡◌, ℕ, ◌-◌, Bool, true, false, List, [], ◌∷◌, ◌++◌, Option, None, Result, Ok, Err, IfOk, OnOk, OnErr, length, refl, ap, sym, ◌∙◌, subst, append-nil}
 use Rattle.std.specs.List.{AllByRecursion}
 use mathlib.Core.List.{IsPrefix}
-use Rattle.base_devices.specs.declared.disk.Disk.{Ghosts}
+use Rattle.log_writer.specs.declared.group_log.GroupLog.{Ghosts}
 use Rattle.model_base.specs.Controller.{ControllerCall, Action, Look, opening, unstop, unslow}
 use Rattle.crossbeam_utils.specs.Seq.{cell_view}
 use Rattle.model_base.specs.Groups.{is_delay}

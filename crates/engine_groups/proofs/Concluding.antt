@@ -1,7 +1,7 @@
 -- What a client concludes from the answer to its request, whether that was answered in a group or met a stall.
 use Rattle.std.proofs.Common.{◌≡◌, ◌⊎◌, ℕ, false, ◌≤◌, List, [], ◌∷◌, ◌++◌, Option, None, Some, IfOk, IfSome, Result, Err, ⊎_elim, length, refl, sym, ap, ◌∙◌, subst}
 use mathlib.Core.List.{IsPrefix}
-use Rattle.base_devices.specs.declared.disk.Disk.{Ghosts}
+use Rattle.log_writer.specs.declared.group_log.GroupLog.{Ghosts}
 use Rattle.model_base.specs.Controller.{ControllerCall, look}
 use Rattle.model_base.specs.Progress.{early_refusal}
 use Rattle.model_base.specs.Tokens.{holds_stop, tokens_of}
@@ -12,7 +12,7 @@ use Rattle.engine_controller.specs.Noted.{Noted}
 use Rattle.engine_controller.specs.Passes.{seen_by, seen_by_note, GoesOn, IsNoteOf}
 use Rattle.engine_controller.specs.declared.controller.Controller.{Controller}
 use Rattle.engine_controller.proofs.Account.{goes_begins, goes_tokens}
-use Rattle.log_writer.specs.declared.writer.LogWriter.{LogWriter}
+use Rattle.engine_parts.specs.declared.log.OpenLog.{OpenLog}
 use Rattle.model_accounts.specs.Accounts.{Account}
 use Rattle.engine_calls.specs.declared.answers.Receipt.{Receipt}
 use Rattle.engine_calls.specs.declared.answers.Refused.{Refused}
@@ -29,7 +29,7 @@ use Rattle.engine_groups.proofs.Answered.{Concludes, concludes, concludes_met, n
 use Rattle.engine_groups.proofs.AtStall.{leader_later, met_leader, met_self}
 
 -- the note of an answer is the controller's
-pub note_is : {C D T S U P : Type 0} {ghosts : Ghosts D} (controller : Controller C) (opened : LogWriter D ghosts) (start : ℕ) (q : Request) (p : Answer) (v w : EngineClient D T C S U P ghosts)
+pub note_is : {C D T S U P : Type 0} {ghosts : Ghosts D} (controller : Controller C) (opened : OpenLog D ghosts) (start : ℕ) (q : Request) (p : Answer) (v w : EngineClient D T C S U P ghosts)
     → IsAnsweredInGroup controller opened start q p v w ⊎ IsLeftOut controller q p v w → IfSome p.note (IsNoteOf controller)
 note_is {C} {D} {T} {S} {U} {P} {ghosts} controller opened start q p v w answered =
     let there : IsAnsweredInGroup controller opened start q p v w → IfSome p.note (IsNoteOf controller) = λ h.

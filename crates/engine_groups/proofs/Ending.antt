@@ -4,7 +4,7 @@ use Rattle.std.specs.Option.{option_map}
 use Rattle.std.specs.List.{AllByRecursion}
 use Rattle.std.proofs.lemmas.Option.{slice_get-map, slice_get_cases}
 use Rattle.std.proofs.lemmas.List.{length-map}
-use Rattle.base_devices.specs.declared.disk.Disk.{Ghosts}
+use Rattle.log_writer.specs.declared.group_log.GroupLog.{Ghosts}
 use Rattle.model_base.specs.Attempts.{Attempt}
 use Rattle.model_base.specs.Controller.{ControllerCall}
 use Rattle.model_base.specs.LogContents.{GroupCall}
@@ -26,7 +26,7 @@ use Rattle.model_runs.specs.Written.{WritesLog}
 use Rattle.engine_controller.specs.declared.pass.Pass.{Pass}
 use Rattle.engine_controller.specs.declared.pass.Passes.{Passes}
 use Rattle.engine_controller.specs.Passes.{seen_by, AreAll, IsHistoryOf, IsOthersOf, IsPassOf, client_of as pass_client}
-use Rattle.log_writer.specs.declared.writer.LogWriter.{LogWriter}
+use Rattle.engine_parts.specs.declared.log.OpenLog.{OpenLog}
 use Rattle.engine_parts.specs.LogLaw.{Covers}
 use Rattle.engine_groups.specs.Clients.{IsClientOf, IsEngine, map_at_opening, opened_log, account_in, own_commits, pass_in, seat_in, writer_in}
 use Rattle.engine_parts.specs.Handled.{commit_of}
@@ -110,7 +110,7 @@ module _ {D T C G S U P : Type 0} {ghosts : Ghosts D} (meaning : Meaning T S U P
   }
 
   -- the engine's numbers are those that the list's law is about
-  pub stands_here : (our_turn : T → U → Type 0) (history : U → List (List MemberVersions)) (asked : List ControllerCall) (log : LogWriter D ghosts) (turn : U) (last : ℕ) (handled : List (Handling Request Answer))
+  pub stands_here : (our_turn : T → U → Type 0) (history : U → List (List MemberVersions)) (asked : List ControllerCall) (log : OpenLog D ghosts) (turn : U) (last : ℕ) (handled : List (Handling Request Answer))
       → Covers our_turn history (about_of e.list).table.value (opened_log e) (about_of e.list).start (about_of e.list).clients (about_of e.list).group_bytes asked log turn last handled
       → Covers our_turn history e.table (opened_log e) (meaning.opening e.table).start (clients_of e.list) (bound_of e.list) asked log turn last handled
   stands_here our_turn history asked log turn last handled s =

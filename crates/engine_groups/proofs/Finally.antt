@@ -1,10 +1,10 @@
 -- At the end the right to launch is in one place, and what is published is what was handled.
 use Rattle.std.proofs.Common.{◌≡◌, ◌⊎◌, inl, inr, ⊎_elim, Bool, true, false, map, List, [], Option, Some, None, refl, sym, ap, ◌∙◌, subst}
-use Rattle.base_devices.specs.declared.disk.Disk.{Ghosts}
+use Rattle.log_writer.specs.declared.group_log.GroupLog.{Ghosts}
 use Rattle.table_rule.specs.declared.content.MemberVersions.{MemberVersions}
 use Rattle.line_rule.specs.declared.view.Handling.{Handling}
 use Rattle.line_rule.specs.Laws.{given_runs}
-use Rattle.log_writer.specs.Words.{fault_of}
+use Rattle.engine_parts.specs.Logs.{fault_of}
 use Rattle.engine_controller.specs.Passes.{seen_by_note}
 use Rattle.engine_stage_laws.specs.Served.{AreServed}
 use Rattle.engine_stage_laws.proofs.Serving.{consistent_served}

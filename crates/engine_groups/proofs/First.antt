@@ -1,10 +1,10 @@
 -- What is true of the log, the note and the right of a leader when an engine is opened.
 use Rattle.std.proofs.Common.{◌≡◌, ◌⊎◌, inl, inr, ⊎_elim, ℕ, Bool, true, false, List, [], Option, None, Some, refl, sym, ap, ◌∙◌, subst}
-use Rattle.base_devices.specs.declared.disk.Disk.{Ghosts}
+use Rattle.log_writer.specs.declared.group_log.GroupLog.{Ghosts}
 use Rattle.model_base.specs.Controller.{ControllerCall}
-use Rattle.log_writer.specs.declared.writer.LogWriter.{LogWriter}
-use Rattle.log_writer.specs.Words.{fault_of}
-use Rattle.log_writer.specs.Written.{no_call}
+use Rattle.engine_parts.specs.declared.log.OpenLog.{OpenLog}
+use Rattle.engine_parts.specs.Logs.{fault_of}
+use Rattle.engine_parts.specs.Logs.{Wrote}
 use Rattle.table_rule.specs.declared.content.MemberVersions.{MemberVersions}
 use Rattle.engine_controller.specs.declared.controller.Controller.{Controller}
 use Rattle.engine_rule.specs.Consistent.{AreConsistent}
@@ -15,27 +15,27 @@ use Rattle.engine_parts.specs.LogLaw.{Covers}
 use Rattle.engine_groups.specs.Law.{ServesIs, TurnIs}
 
 -- an opened log, a table where nothing is published, its turn, and a controller that nobody has asked
-pub stands_first : {D : Type 0} {ghosts : Ghosts D} {T U : Type 0} (our_turn : T → U → Type 0) (history : U → List (List MemberVersions)) (table : T) (log : LogWriter D ghosts) (start clients group_bytes : ℕ) (turn : U) (asked : List ControllerCall)
-    → AreConsistent start clients group_bytes [] [] start None [] [] → our_turn table turn → history turn ≡ [] → fault_of log ≡ None → asked ≡ []
+pub stands_first : {D : Type 0} {ghosts : Ghosts D} {T U : Type 0} (our_turn : T → U → Type 0) (history : U → List (List MemberVersions)) (table : T) (log : OpenLog D ghosts) (start clients group_bytes : ℕ) (turn : U) (asked : List ControllerCall)
+    → AreConsistent start clients group_bytes [] [] start None [] [] → our_turn table turn → history turn ≡ [] → fault_of log ≡ None → asked ≡ [] → Wrote log [] log
     → Covers our_turn history table log start clients group_bytes asked log turn start []
-stands_first our_turn history table log start clients group_bytes turn asked first our none alive unasked = record {
+stands_first our_turn history table log start clients group_bytes turn asked first our none alive unasked begun = record {
   our = our;
   calls = [];
-  wrote = no_call;
+  wrote = begun;
   consistent = subst (λ (z : List ControllerCall × Option ℕ × List (List MemberVersions)). AreConsistent start clients group_bytes z.0 [] start z.1 z.2 []) (λ i. (sym unasked i, sym alive i, sym none i)) first;
 }
 
 -- nothing was handled yet
-pub kept_first : {C D : Type 0} {ghosts : Ghosts D} (controller : Controller C) (opened : LogWriter D ghosts) (start clients group_bytes : ℕ)
-    → AreConsistent start clients group_bytes [] [] start None [] [] → AreHandled controller opened start []
-kept_first controller opened start clients group_bytes first = record {
+pub kept_first : {C D : Type 0} {ghosts : Ghosts D} (controller : Controller C) (opened : OpenLog D ghosts) (start clients group_bytes : ℕ)
+    → AreConsistent start clients group_bytes [] [] start None [] [] → Wrote opened [] opened → AreHandled controller opened start []
+kept_first controller opened start clients group_bytes first begun = record {
   answered = tt;
   handed_back = tt;
   shown = tt;
   written = record {
     calls = [];
     log = opened;
-    wrote = no_call;
+    wrote = begun;
     worked = first.written.worked;
     lost = first.written.lost;
     both = first.written.both;

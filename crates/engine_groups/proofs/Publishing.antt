@@ -1,7 +1,7 @@
 -- A leader that has answered its group, and what it does with the group's parts.
 use Rattle.std.proofs.Common.{◌≡◌, ℕ, true, false, List, [], ◌∷◌, ◌++◌, map, Option, Some, None, IfSome, is_none, sym, ap, ◌∙◌, subst}
 use Rattle.std.proofs.lemmas.Bool.{false≢true}
-use Rattle.base_devices.specs.declared.disk.Disk.{Ghosts}
+use Rattle.log_writer.specs.declared.group_log.GroupLog.{Ghosts}
 use Rattle.table_calls.specs.Account.{IsReady}
 use Rattle.table_rule.specs.declared.content.MemberVersions.{MemberVersions}
 use Rattle.table_rule.specs.Histories.{last_of}

@@ -1,7 +1,7 @@
 -- What an engine is opened with, and what its clients are then.
 use Rattle.std.specs.Prelude.{◌≡◌, ℕ, ◌+◌, List, [], ◌∷◌, map, ⊤}
 use Rattle.std.specs.List.{range_with_len}
-use Rattle.base_devices.specs.declared.disk.Disk.{Ghosts}
+use Rattle.log_writer.specs.declared.group_log.GroupLog.{Ghosts}
 use Rattle.table_rule.specs.Histories.{In}
 use Rattle.table_calls.specs.Account.{IsReady}
 use Rattle.engine_controller.specs.declared.controller.Controller.{Controller}

@@ -1,13 +1,13 @@
 -- An engine and its clients, and a client's account.
 use Rattle.std.specs.Prelude.{◌≡◌, ◌⊎◌, ℕ, ◌<◌, ◌≤◌, List, [], ◌∷◌, ◌++◌, None, Some, vec_capacity}
 use mathlib.Core.List.{IsPrefix}
-use Rattle.base_devices.specs.declared.disk.Disk.{Ghosts}
+use Rattle.log_writer.specs.declared.group_log.GroupLog.{Ghosts}
 use Rattle.model_base.specs.declared.limits.TheConstants.{MAX_SIZE}
 use Rattle.model_base.specs.History.{max_sequence}
 use Rattle.model_base.specs.Map.{Pairs}
 use Rattle.model_base.specs.Trace.{Settings}
-use Rattle.log_writer.specs.declared.writer.LogWriter.{LogWriter}
-use Rattle.log_writer.specs.Words.{disk_of, fault_of}
+use Rattle.engine_parts.specs.declared.log.OpenLog.{OpenLog}
+use Rattle.engine_parts.specs.Logs.{faults_of, fault_of}
 use Rattle.table_rule.specs.Histories.{map_of}
 use Rattle.table_calls.specs.Account.{IsReady}
 use Rattle.line_rule.specs.declared.words.TheConstants.{STALL}
@@ -50,7 +50,7 @@ module _ {Device Versions Time Seat Turn Part : Type 0} {ghosts : Ghosts Device}
 
   -- the engine's log as it was opened
   abbrev pub opened_log : {Watch : Type 0} → GroupEngine Device Versions Time Watch Seat Turn Part ghosts
-      → LogWriter Device ghosts
+      → OpenLog Device ghosts
   opened_log e = (about_of e.list).opened.value
 
   -- the client's lists are empty, and have room for all clients
@@ -118,7 +118,7 @@ module _ {Device Versions Time Seat Turn Part : Type 0} {ghosts : Ghosts Device}
       clients = clients_of e.list;
       group_bytes = bound_of e.list;
       batch_bytes = e.batch_bytes;
-      opened = ghosts.faults (disk_of (opened_log e));
+      opened = faults_of (opened_log e);
     }
 
   -- the room for closing is empty and large enough for all clients, and its `others` is the controller's
@@ -134,7 +134,7 @@ module _ {Device Versions Time Seat Turn Part : Type 0} {ghosts : Ghosts Device}
 
   -- A request was answered, and there is a list of all that was handled by then, in which the client's own requests are
   -- exactly those that it has answers to, with this one.
-  pub record IsAnswered (controller : Controller Time) (opened : LogWriter Device ghosts) (start : ℕ) (q : Request)
+  pub record IsAnswered (controller : Controller Time) (opened : OpenLog Device ghosts) (start : ℕ) (q : Request)
       (p : Answer)
       (v w : EngineClient Device Versions Time Seat Turn Part ghosts) : Type 0 where
     pub told_now : told_of w ≡ told_of v ++ (q, p) ∷ []
@@ -146,7 +146,7 @@ module _ {Device Versions Time Seat Turn Part : Type 0} {ghosts : Ghosts Device}
     pub table_same : w.table ≡ v.table
 
   -- The request was linked with a note of what the client had seen by then, and was answered in a group.
-  pub record IsAnsweredInGroup (controller : Controller Time) (opened : LogWriter Device ghosts) (start : ℕ)
+  pub record IsAnsweredInGroup (controller : Controller Time) (opened : OpenLog Device ghosts) (start : ℕ)
       (q : Request) (p : Answer)
       (v w : EngineClient Device Versions Time Seat Turn Part ghosts) : Type 0 where
     pub note : Noted

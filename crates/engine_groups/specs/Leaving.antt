@@ -1,7 +1,7 @@
 -- A leader that has answered its group, and gives the log on.
 use Rattle.std.specs.Prelude.{◌≡◌, ℕ, ◌≤◌, false, List, [], ◌∷◌, ◌++◌, map, Option, Some, None, is_none, vec_len, vec_capacity}
-use Rattle.base_devices.specs.declared.disk.Disk.{Ghosts}
-use Rattle.log_writer.specs.declared.writer.LogWriter.{LogWriter}
+use Rattle.log_writer.specs.declared.group_log.GroupLog.{Ghosts}
+use Rattle.engine_parts.specs.declared.log.OpenLog.{OpenLog}
 use Rattle.table_rule.specs.declared.content.MemberVersions.{MemberVersions}
 use Rattle.table_rule.specs.Histories.{last_of, made_by, versions_in}
 use Rattle.table_tree.specs.Parts.{group_of}
@@ -139,7 +139,7 @@ module _ {Device Versions Time Watch Seat Turn Part : Type 0} {ghosts : Ghosts D
 -- the request was answered, and there is a list of all that was handled by then, in which the client's own requests are
 -- exactly those that it has answers to, with this one
 pub record HasAnswered {Time Device : Type 0} {ghosts : Ghosts Device} (controller : Controller Time)
-    (opened : LogWriter Device ghosts)
+    (opened : OpenLog Device ghosts)
     (from number : ℕ) (mine : List (Request × Answer)) (q : Request) (p : Answer)
     (now : List (Request × Answer)) : Type 0
   where

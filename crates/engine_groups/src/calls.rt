@@ -4,27 +4,28 @@ ghost use Rattle.std.specs.Prelude.{List, map};
 
 use crate::engine::{ClosingRoom, EngineClient, GroupEngine};
 use base_bytes::{Bytes, Read, Reads, Rows};
-use base_devices::{Clock, Disk};
+use base_devices::Clock;
 use engine_calls::{Clients, Closed, Engine, Gate, Held, NotHeld, Receipt, Refused};
+use engine_parts::OpenLog;
 use log_batch::Batch;
-use log_writer::LogWriter;
+use log_writer::GroupLog;
 use model_base::{NoMemory, WriteOptions};
 use std::rt;
 use std::sync::Wait;
 use table_calls::Table;
 use table_tree::{Nodes, Parts};
 
-impl<Device: Disk, Versions: Table<Nodes, Parts>, Time: Clock + Drop, Watch: Gate + Drop> Engine
+impl<Device: GroupLog, Versions: Table<Nodes, Parts>, Time: Clock + Drop, Watch: Gate + Drop> Engine
     for GroupEngine<Device, Versions, Time, Watch> {
     type Client = EngineClient<Device, Versions, Time>;
 
     type Room = ClosingRoom<Device, Versions, Time>;
 
-    type Log = LogWriter<Device>;
+    type Log = OpenLog<Device>;
 
     ghost use Rattle.model_accounts.specs.Closing.{AreOurs, HasOneTrace};
-    ghost use Rattle.log_writer.specs.Words.{fault_of, disk_of};
-    ghost use Rattle.log_writer.specs.Written.{Wrote};
+    ghost use Rattle.engine_parts.specs.Logs.{fault_of, faults_of};
+    ghost use Rattle.engine_parts.specs.Logs.{Wrote};
     ghost use Rattle.line_writers.specs.Seats.{clients_of};
     ghost use Rattle.engine_groups.specs.Clients.{IsClientOf, HasRoomToClose, account_in, settings_of, opened_log};
 
@@ -40,7 +41,7 @@ impl<Device: Disk, Versions: Table<Nodes, Parts>, Time: Clock + Drop, Watch: Gat
 
     ghost fault = { λ log. fault_of log };
 
-    ghost faults = { λ log. Device.faults (disk_of log) };
+    ghost faults = { λ log. faults_of log };
 
     fn write<R: Wait + rt::Clock>(
         &self,
@@ -121,11 +122,11 @@ impl<Device: Disk, Versions: Table<Nodes, Parts>, Time: Clock + Drop, Watch: Gat
         self,
         rt: &R,
         clients: Clients<EngineClient<Device, Versions, Time>, ClosingRoom<Device, Versions, Time>>,
-    ) -> Closed<LogWriter<Device>>
+    ) -> Closed<OpenLog<Device>>
         requires all { AreOurs (IsClientOf Versions.Table self) (account_in Versions.Table)
             (clients_of self.list) clients.clients.items }
         requires room { HasRoomToClose self.controller (clients_of self.list) clients.room }
-        ensures { HasOneTrace (settings_of Versions.Table self) (Device.faults (disk_of result.log))
+        ensures { HasOneTrace (settings_of Versions.Table self) (faults_of result.log)
             (map (account_in Versions.Table) clients.clients.items) result.last (fault_of result.log)
             (λ calls. Wrote (opened_log self) calls result.log) }
     {

@@ -9,19 +9,19 @@ ghost use Rattle.engine_groups.specs.Clients.{writer_in, seat_in, pass_in};
 use crate::engine::{ClosingRoom, EngineClient, GroupEngine};
 use crate::laws;
 use crate::leader::{Held, Leadership, Right, one_turn};
-use base_devices::{Clock, Disk};
+use base_devices::Clock;
 use engine_calls::{Clients, Closed, Gate};
 use engine_controller::{Controller, Note, Pass, Passes};
-use engine_parts::{LogPath, SealedAnswer, SealedRequest, take_first};
+use engine_parts::{LogPath, OpenLog, SealedAnswer, SealedRequest, take_first};
 use line_writers::Writer;
-use log_writer::LogWriter;
+use log_writer::GroupLog;
 use std::rt;
 use std::sync::Wait;
 use table_calls::{Seats, Table};
 use table_tree::{Nodes, Parts};
 
 /// Takes the clients apart into their writers, seats and passes.
-pub(crate) fn part_all<Device: Disk, Versions: Table<Nodes, Parts>, Time>(
+pub(crate) fn part_all<Device: GroupLog, Versions: Table<Nodes, Parts>, Time>(
     clients: &mut Vec<EngineClient<Device, Versions, Time>>,
     writers: &mut Vec<
         Writer<SealedRequest, SealedAnswer, Leadership<Device, Versions, Time>, Right<Versions>>,
@@ -83,13 +83,13 @@ fn end_controller<Time: Clock, R: Wait + rt::Clock>(
 }
 
 impl<
-    Device: Disk,
+    Device: GroupLog,
     Versions: Table<Nodes, Parts>,
     Time: Clock + Drop,
     Watch: Gate + Drop,
 > GroupEngine<Device, Versions, Time, Watch> {
-    ghost use Rattle.log_writer.specs.Words.{fault_of, disk_of};
-    ghost use Rattle.log_writer.specs.Written.{Wrote};
+    ghost use Rattle.engine_parts.specs.Logs.{fault_of, faults_of};
+    ghost use Rattle.engine_parts.specs.Logs.{Wrote};
     ghost use Rattle.model_accounts.specs.Closing.{AreOurs, HasOneTrace};
     ghost use Rattle.line_writers.specs.Seats.{clients_of};
     ghost use Rattle.engine_groups.specs.Clients.{IsClientOf, account_in, settings_of, opened_log, HasRoomToClose};
@@ -100,11 +100,11 @@ impl<
         self,
         rt: &R,
         clients: Clients<EngineClient<Device, Versions, Time>, ClosingRoom<Device, Versions, Time>>,
-    ) -> Closed<LogWriter<Device>>
+    ) -> Closed<OpenLog<Device>>
         requires all { AreOurs (IsClientOf Versions.Table self) (account_in Versions.Table)
             (clients_of self.list) clients.clients.items }
         requires room { HasRoomToClose self.controller (clients_of self.list) clients.room }
-        ensures { HasOneTrace (settings_of Versions.Table self) (Device.faults (disk_of result.log))
+        ensures { HasOneTrace (settings_of Versions.Table self) (faults_of result.log)
             (map (account_in Versions.Table) clients.clients.items) result.last (fault_of result.log)
             (λ calls. Wrote (opened_log self) calls result.log) }
     {

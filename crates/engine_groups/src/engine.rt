@@ -1,18 +1,18 @@
 //! The engine and its clients.
 
 use crate::leader::{Leadership, Right};
-use base_devices::Disk;
 use base_waiting::Bell;
 use engine_controller::{Controller, Others, Pass};
 use engine_parts::{Envelope, Layout, SealedAnswer, SealedRequest};
 use line_writers::{Lists, Writer, WriterList};
+use log_writer::GroupLog;
 use std::alloc::Global;
 use std::snapshot::Snapshot;
 use table_calls::Table;
 use table_tree::{Nodes, Parts};
 
 /// A write path whose clients write in groups.
-pub struct GroupEngine<Device: Disk, Versions: Table<Nodes, Parts>, Time, Watch> {
+pub struct GroupEngine<Device: GroupLog, Versions: Table<Nodes, Parts>, Time, Watch> {
     pub(crate) list: WriterList<
         SealedRequest,
         SealedAnswer,
@@ -29,7 +29,7 @@ pub struct GroupEngine<Device: Disk, Versions: Table<Nodes, Parts>, Time, Watch>
 }
 
 /// A client of the engine.
-pub struct EngineClient<Device: Disk, Versions: Table<Nodes, Parts>, Time> {
+pub struct EngineClient<Device: GroupLog, Versions: Table<Nodes, Parts>, Time> {
     pub(crate) number: u32,
     pub(crate) start: u64,
     /// The table as it was when the client was made. The table's opening says over which map the client reads.
@@ -50,7 +50,7 @@ pub struct EngineClient<Device: Disk, Versions: Table<Nodes, Parts>, Time> {
 
 /// The room that closing needs, and `others`, which shows there that only the clients called the controller. Seats
 /// can't be shared by threads, so the room isn't a part of the engine.
-pub struct ClosingRoom<Device: Disk, Versions: Table<Nodes, Parts>, Time> {
+pub struct ClosingRoom<Device: GroupLog, Versions: Table<Nodes, Parts>, Time> {
     pub(crate) writers: Vec<
         Writer<SealedRequest, SealedAnswer, Leadership<Device, Versions, Time>, Right<Versions>>,
     >,

@@ -13,10 +13,11 @@ ghost use Rattle.engine_groups.specs.Clients.{IsIdle};
 ghost use Rattle.engine_groups.specs.Law.{law_in};
 
 use crate::engine::{EngineClient, GroupEngine};
-use base_devices::{Clock, Disk};
+use base_devices::Clock;
 use crossbeam_utils::Backoff;
 use engine_calls::Gate;
 use engine_parts::{SealedAnswer, SealedRequest, turn_away_if_stalled};
+use log_writer::GroupLog;
 use model_base::Item;
 use std::rt;
 use std::sync::Wait;
@@ -24,7 +25,7 @@ use table_calls::Table;
 use table_tree::{Nodes, Parts};
 
 impl<
-    Device: Disk,
+    Device: GroupLog,
     Versions: Table<Nodes, Parts>,
     Time: Clock + Drop,
     Watch: Gate + Drop,

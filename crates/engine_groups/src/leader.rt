@@ -3,12 +3,11 @@
 ghost use Rattle.std.specs.Prelude.{◌≡◌, ◌⊎◌, None, Some};
 ghost use Rattle.engine_groups.specs.Turns.{turn_of};
 
-use base_devices::Disk;
 use engine_controller::{Controller, Note};
-use engine_parts::{LogPath, SealedAnswer, SealedRequest};
+use engine_parts::{LogPath, OpenLog, SealedAnswer, SealedRequest};
 use line_rule::LogOfGroups;
 use line_writers::PipelinedRole;
-use log_writer::LogWriter;
+use log_writer::GroupLog;
 use std::snapshot::Snapshot;
 use table_calls::Table;
 use table_tree::{Nodes, Parts};
@@ -16,10 +15,10 @@ use table_tree::{Nodes, Parts};
 /// The engine that a list of writers is for: its table, its controller, its log as it was opened, its numbers, and
 /// whether its groups go into the table in a second stage.
 #[derive(Drop)]
-pub struct EngineAtOpening<Device: Disk, Versions, Time> {
+pub struct EngineAtOpening<Device: GroupLog, Versions, Time> {
     pub table: Snapshot<Versions>,
     pub controller: Snapshot<Controller<Time>>,
-    pub opened: Snapshot<LogWriter<Device>>,
+    pub opened: Snapshot<OpenLog<Device>>,
     pub start: u64,
     pub clients: u64,
     pub group_bytes: u64,
@@ -30,14 +29,14 @@ pub struct EngineAtOpening<Device: Disk, Versions, Time> {
 /// right to launch its group where there is one stage, and what the leader before it had seen of the write controller.
 /// Path and clock are in a box: a slot of the line is as large as the largest value that it may hold, and each
 /// client's request and answer go through a slot.
-pub struct Leadership<Device: Disk, Versions: Table<Nodes, Parts>, Time> {
+pub struct Leadership<Device: GroupLog, Versions: Table<Nodes, Parts>, Time> {
     pub held: Box<Held<Device, Time>>,
     pub turn: Option<Versions::Turn>,
     pub asked: Note,
 }
 
 /// What goes from leader to leader in one box.
-pub struct Held<Device: Disk, Time> {
+pub struct Held<Device: GroupLog, Time> {
     pub path: LogPath<Device>,
     pub clock: Time,
 }
@@ -48,7 +47,7 @@ pub struct Right<Versions: Table<Nodes, Parts>> {
 }
 
 /// The right to launch that a leader of the second list was given.
-pub(crate) fn turn_in<Device: Disk, Versions: Table<Nodes, Parts>, Time>(
+pub(crate) fn turn_in<Device: GroupLog, Versions: Table<Nodes, Parts>, Time>(
     role: PipelinedRole<Leadership<Device, Versions, Time>, Right<Versions>, SealedAnswer>,
 ) -> Versions::Turn
     requires { (u : Versions.Turn) × (turn_of role ≡ Some u) }
@@ -73,7 +72,7 @@ pub(crate) fn one_turn<Turn>(with_log: Option<Turn>, apart: Option<Turn>) -> Tur
     }
 }
 
-impl<Device: Disk, Versions: Table<Nodes, Parts>, Time> LogOfGroups<
+impl<Device: GroupLog, Versions: Table<Nodes, Parts>, Time> LogOfGroups<
     SealedRequest,
     SealedAnswer,
     Right<Versions>,

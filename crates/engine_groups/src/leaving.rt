@@ -12,17 +12,18 @@ ghost use Rattle.engine_groups.specs.Leaving.{HasAnswered, IsFlat, IsToHandOn, I
 
 use crate::engine::{EngineClient, GroupEngine};
 use crate::leader::{Leadership, Right, turn_in};
-use base_devices::{Clock, Disk};
+use base_devices::Clock;
 use engine_calls::Gate;
 use engine_memtable::lead;
 use engine_parts::SealedAnswer;
+use log_writer::GroupLog;
 use std::rt;
 use std::sync::Wait;
 use table_calls::Table;
 use table_tree::{Nodes, Parts};
 
 impl<
-    Device: Disk,
+    Device: GroupLog,
     Versions: Table<Nodes, Parts>,
     Time: Clock + Drop,
     Watch: Gate + Drop,

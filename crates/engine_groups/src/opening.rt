@@ -2,7 +2,7 @@
 
 ghost use Rattle.std.specs.Prelude.{true, false, ◌≡◌, ◌⊎◌, ◌≤◌, ◌<◌, ◌+◌, ℕ, [], length, vec_capacity, IfOk, IfErr, None, Some, slice_get};
 ghost use Rattle.model_base.specs.History.{max_sequence};
-ghost use Rattle.log_writer.specs.Words.{disk_of, fault_of};
+ghost use Rattle.engine_parts.specs.Logs.{faults_of, fault_of};
 ghost use Rattle.table_calls.specs.Account.{IsReady};
 ghost use Rattle.line_writers.specs.Roles.{IsNew, AreNew};
 ghost use Rattle.line_writers.specs.Rooms.{AreReady, AllReady};
@@ -18,14 +18,14 @@ ghost use Rattle.engine_groups.specs.AtStart.{AreSeatsAtStart, ArePassesAtStart,
 use crate::engine::{ClosingRoom, EngineClient, GroupEngine};
 use crate::laws;
 use crate::leader::{EngineAtOpening, Held, Leadership, Right, one_turn};
-use base_devices::{Clock, Disk};
+use base_devices::Clock;
 use base_waiting::Bell;
 use engine_calls::{Clients, Gate};
 use engine_controller::{Controller, Note, Pass, Passes};
-use engine_parts::{Envelope, Layout, LogPath, SealedAnswer, SealedRequest};
+use engine_parts::{Envelope, Layout, LogPath, OpenLog, SealedAnswer, SealedRequest};
 use line_rule::Start;
 use line_writers::{Lists, Writer, WriterList};
-use log_writer::LogWriter;
+use log_writer::GroupLog;
 use model_base::{MAX_CLIENTS, MAX_SIZE, Options};
 use std::alloc::{AllocFailed, Global};
 use std::snapshot::Snapshot;
@@ -33,22 +33,22 @@ use table_calls::{Seats, Table};
 use table_tree::{Nodes, Parts};
 
 /// What an engine should have been opened with, handed back as it was.
-pub struct OpenRefused<Device: Disk, Versions: Table<Nodes, Parts>, Time, Watch> {
-    pub log: LogWriter<Device>,
+pub struct OpenRefused<Device: GroupLog, Versions: Table<Nodes, Parts>, Time, Watch> {
+    pub log: OpenLog<Device>,
     pub clock: Time,
     pub table: Versions,
     pub seats: Seats<Versions::Seat, Versions::Turn>,
     pub gate: Watch,
 }
 
-impl<Device: Disk, Versions: Table<Nodes, Parts>, Time, Watch> OpenRefused<
+impl<Device: GroupLog, Versions: Table<Nodes, Parts>, Time, Watch> OpenRefused<
     Device,
     Versions,
     Time,
     Watch,
 > {
     fn of(
-        log: LogWriter<Device>,
+        log: OpenLog<Device>,
         clock: Time,
         table: Versions,
         seats: Seats<Versions::Seat, Versions::Turn>,
@@ -89,10 +89,10 @@ fn part_turn<Turn>(pipelined: bool, turn: Turn) -> (Option<Turn>, Option<Turn>)
 }
 
 /// What the list of writers is made for: this engine, as it is opened.
-fn start_with<Device: Disk, Versions, Time>(
+fn start_with<Device: GroupLog, Versions, Time>(
     table: &Versions,
     controller: &Controller<Time>,
-    log: &LogWriter<Device>,
+    log: &OpenLog<Device>,
     options: Options,
     clients: u32,
     pipelined: bool,
@@ -123,7 +123,7 @@ fn start_with<Device: Disk, Versions, Time>(
 
 /// What the engine should have been opened with, taken back out of the leadership and the right that the list should
 /// have begun with.
-fn given_back<Device: Disk, Versions: Table<Nodes, Parts>, Time: Drop, Watch>(
+fn given_back<Device: GroupLog, Versions: Table<Nodes, Parts>, Time: Drop, Watch>(
     leadership: Leadership<Device, Versions, Time>,
     right: Right<Versions>,
     table: Versions,
@@ -161,7 +161,7 @@ fn given_back<Device: Disk, Versions: Table<Nodes, Parts>, Time: Drop, Watch>(
 }
 
 impl<
-    Device: Disk,
+    Device: GroupLog,
     Versions: Table<Nodes, Parts>,
     Time: Clock + Drop,
     Watch: Gate + Drop,
@@ -171,7 +171,7 @@ impl<
     /// into the table while later ones are logged, and its members may put in their own parts.
     pub fn open(
         alloc: Global,
-        log: LogWriter<Device>,
+        log: OpenLog<Device>,
         clock: Time,
         table: Versions,
         seats: Seats<Versions::Seat, Versions::Turn>,
@@ -195,7 +195,7 @@ impl<
         ensures engine { IfOk result (λ r. (r.0.table ≡ table) × (opened_log r.0 ≡ log)
             × (settings_of Versions.Table r.0
             ≡ settings_with options (map_at_opening Versions.Table table) (Versions.opening table).clients
-            (Device.faults (disk_of log)))) }
+            (faults_of log))) }
         ensures clients { IfOk result (λ r. AreOurs (IsClientOf Versions.Table r.0)
             (account_in Versions.Table) (clients_of r.0.list) r.1.clients.items) }
         ensures new { IfOk result (λ r. (i : ℕ) (c : _) → slice_get r.1.clients.items i ≡ Some c
@@ -275,7 +275,7 @@ impl<
         ensures engine { IfOk result (λ r. (r.0.table ≡ table) × (opened_log r.0 ≡ held.value.path.log)
             × (settings_of Versions.Table r.0
             ≡ settings_with options (map_at_opening Versions.Table table) (Versions.opening table).clients
-            (Device.faults (disk_of held.value.path.log)))) }
+            (faults_of held.value.path.log))) }
         ensures clients { IfOk result (λ r. AreOurs (IsClientOf Versions.Table r.0)
             (account_in Versions.Table) (clients_of r.0.list) r.1.clients.items) }
         ensures new { IfOk result (λ r. (i : ℕ) (c : _) → slice_get r.1.clients.items i ≡ Some c

@@ -4,11 +4,12 @@ ghost use Rattle.line_writers.specs.Seats.{Belongs, IsUnchanged};
 
 use crate::engine::GroupEngine;
 use crate::leader::{Leadership, Right};
-use base_devices::{Clock, Disk};
+use base_devices::Clock;
 use base_waiting::{Bell, Pauses};
 use engine_calls::Gate;
 use engine_parts::{SealedAnswer, SealedRequest};
 use line_writers::Writer;
+use log_writer::GroupLog;
 use std::rt;
 use std::sync::Wait;
 use table_calls::Table;
@@ -41,7 +42,7 @@ fn spin_and_yield<R: Wait + rt::Clock>(rt: &R, yields: &Bell) {
 }
 
 impl<
-    Device: Disk,
+    Device: GroupLog,
     Versions: Table<Nodes, Parts>,
     Time: Clock + Drop,
     Watch: Gate + Drop,

@@ -6,8 +6,9 @@ ghost use Rattle.base_bytes.specs.Answers.{found_value};
 
 use crate::engine::{EngineClient, GroupEngine};
 use base_bytes::{Bytes, Read, Reads, Rows};
-use base_devices::{Clock, Disk};
+use base_devices::Clock;
 use engine_calls::Gate;
+use log_writer::GroupLog;
 use model_base::NoMemory;
 use std::rt;
 use std::sync::Wait;
@@ -15,7 +16,7 @@ use table_calls::Table;
 use table_tree::{Nodes, Parts};
 
 impl<
-    Device: Disk,
+    Device: GroupLog,
     Versions: Table<Nodes, Parts>,
     Time: Clock + Drop,
     Watch: Gate + Drop,

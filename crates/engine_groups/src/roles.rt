@@ -9,18 +9,19 @@ ghost use Rattle.engine_groups.specs.Law.{dropped_in, kept_in, law_in};
 
 use crate::engine::GroupEngine;
 use crate::leader::{Leadership, Right};
-use base_devices::{Clock, Disk};
+use base_devices::Clock;
 use engine_calls::Gate;
 use engine_memtable::work;
 use engine_parts::{SealedAnswer, SealedRequest};
 use line_writers::{PipelinedRole, Role, Writer};
+use log_writer::GroupLog;
 use std::rt;
 use std::sync::Wait;
 use table_calls::Table;
 use table_tree::{Nodes, Parts};
 
 impl<
-    Device: Disk,
+    Device: GroupLog,
     Versions: Table<Nodes, Parts>,
     Time: Clock + Drop,
     Watch: Gate + Drop,

@@ -8,10 +8,11 @@ ghost use Rattle.engine_groups.specs.Clients.{IsClientOf};
 ghost use Rattle.engine_parts.specs.Runs.{IsAbove};
 
 use crate::engine::{EngineClient, GroupEngine};
-use base_devices::{Clock, Disk};
+use base_devices::Clock;
 use crossbeam_utils::Backoff;
 use engine_calls::{Gate, Receipt, Refused};
 use engine_controller::Note;
+use log_writer::GroupLog;
 use model_base::Refusal;
 use std::rt;
 use std::sync::Wait;
@@ -58,7 +59,7 @@ fn is_above(shown: u64, answer: &Result<Receipt, Refused>) -> bool
 }
 
 impl<
-    Device: Disk,
+    Device: GroupLog,
     Versions: Table<Nodes, Parts>,
     Time: Clock + Drop,
     Watch: Gate + Drop,

@@ -20,20 +20,21 @@ ghost use Rattle.engine_groups.specs.Stalling.{AreLetGo, IsSame, KeepsGroup, Lea
 use crate::engine::GroupEngine;
 use crate::laws;
 use crate::leader::{Leadership, Right};
-use base_devices::{Clock, Disk};
+use base_devices::Clock;
 use engine_calls::Gate;
 use engine_controller::{Look, Pass};
 use engine_parts::{
     Delay, SealedAnswer, SealedRequest, drop_if_stalled, holds_writes_up, may_proceed,
 };
 use line_writers::{Requests, Room, Writer};
+use log_writer::GroupLog;
 use std::rt;
 use std::sync::Wait;
 use table_calls::Table;
 use table_tree::{Nodes, Parts};
 
 impl<
-    Device: Disk,
+    Device: GroupLog,
     Versions: Table<Nodes, Parts>,
     Time: Clock + Drop,
     Watch: Gate + Drop,

@@ -7,15 +7,16 @@ ghost use Rattle.model_accounts.specs.Accounts.{Keeps, Asks, GivesBack};
 ghost use Rattle.engine_groups.specs.Clients.{IsClientOf, account_in};
 
 use crate::engine::{EngineClient, GroupEngine};
-use base_devices::{Clock, Disk};
+use base_devices::Clock;
 use engine_calls::{Gate, Held, NotHeld};
+use log_writer::GroupLog;
 use std::rt;
 use std::sync::Wait;
 use table_calls::Table;
 use table_tree::{Nodes, Parts};
 
 impl<
-    Device: Disk,
+    Device: GroupLog,
     Versions: Table<Nodes, Parts>,
     Time: Clock + Drop,
     Watch: Gate + Drop,

@@ -28,7 +28,7 @@ use crate::laws;
 use crate::leader::Leadership;
 use crate::leading::publish_alone;
 use crate::seeing::await_above;
-use base_devices::{Clock, Disk};
+use base_devices::Clock;
 use engine_calls::{Gate, Receipt, Refused};
 use engine_parts::{
     Answer, Delay, Request, SealedAnswer, SealedRequest, ask, log_phase, may_be_apart,
@@ -36,6 +36,7 @@ use engine_parts::{
 };
 use line_writers::Role;
 use log_batch::{Batch, Measure, refusal_at_once};
+use log_writer::GroupLog;
 use model_base::{Item, Refusal, WriteOptions};
 use std::rt;
 use std::snapshot::Snapshot;
@@ -44,7 +45,7 @@ use table_calls::Table;
 use table_tree::{Nodes, Parts};
 
 impl<
-    Device: Disk,
+    Device: GroupLog,
     Versions: Table<Nodes, Parts>,
     Time: Clock + Drop,
     Watch: Gate + Drop,
@@ -52,8 +53,8 @@ impl<
     ghost use Rattle.model_base.specs.Batch as model;
     ghost use Rattle.model_accounts.specs.Accounts.{Wrote, Refuses};
     ghost use Rattle.model_runs.specs.Written.{IsSyncedBy};
-    ghost use Rattle.log_writer.specs.declared.writer.LogWriter.{LogWriter as Log};
-    ghost use Rattle.log_writer.specs.Written.{Wrote as WroteLog};
+    ghost use Rattle.engine_parts.specs.declared.log.OpenLog.{OpenLog as Log};
+    ghost use Rattle.engine_parts.specs.Logs.{Wrote as WroteLog};
     ghost use Rattle.model_base.specs.LogContents.{GroupCall};
     ghost use Rattle.engine_groups.specs.Clients.{account_in, settings_of};
 
@@ -74,7 +75,7 @@ impl<
             × (r.run.last + 1 ≡ r.run.first + model.count_of batch.records)) }
         // a batch that had to be synced was written by a call of the log writer that synced
         ensures synced { IfOk result (λ r. options.sync ≡ true → (calls : List GroupCall)
-            × (log : Log Device ⟦<Device as Disk>⟧)
+            × (log : Log Device ⟦<Device as GroupLog>⟧)
             × WroteLog (opened_log self.now) calls log × IsSyncedBy r.run.first batch.records calls) }
         ensures err { IfErr result (λ e. Refuses (settings_of Versions.Table self.now)
             (account_in Versions.Table client.old) batch.records options e.why

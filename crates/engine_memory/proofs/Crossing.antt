@@ -7,7 +7,7 @@ use denote.Param.Send.{IsSend, IsSync, AllSend, AllSync, struct_send, struct_syn
 use Rattle.std.proofs.Crossing.{crosses, Vec-send}
 use Rattle.std.proofs.alloc.Global.TheSendSync as heap
 use Rattle.base_waiting.proofs.bell.Bell.TheSendSync as bell
-use Rattle.base_devices.specs.declared.disk.Disk.{Ghosts}
+use Rattle.log_writer.specs.declared.group_log.GroupLog.{Ghosts}
 use Rattle.engine_calls.proofs.answers.Receipt.TheSendSync as receipt
 use Rattle.engine_calls.proofs.answers.Refused.TheSendSync as refused
 use Rattle.engine_controller.proofs.controller.Controller.TheSendSync as controller

@@ -2,7 +2,7 @@
 
 ghost use Rattle.std.specs.Prelude.{◌≡◌, ◌≤◌, ◌<◌, ◌+◌, ℕ, [], None, Some, slice_get, IfOk, IfErr};
 ghost use Rattle.model_base.specs.History.{max_sequence};
-ghost use Rattle.log_writer.specs.Words.{disk_of, fault_of};
+ghost use Rattle.engine_parts.specs.Logs.{faults_of, fault_of};
 ghost use Rattle.line_writers.specs.Seats.{clients_of, piped_of};
 ghost use Rattle.model_accounts.specs.Accounts.{newcomer};
 ghost use Rattle.model_accounts.specs.Closing.{AreOurs};
@@ -10,11 +10,12 @@ ghost use Rattle.model_base.specs.Settings.{settings_of as settings_with};
 ghost use Rattle.engine_groups.specs.Clients.{IsClientOf, HasRoomToClose, account_in, settings_of, opened_log};
 ghost use Rattle.table_memory.specs.Meaning.{memory_table, opening_of};
 
-use base_devices::{Clock, Disk};
+use base_devices::Clock;
 use base_maps::ByteMap;
 use engine_calls::Gate;
 use engine_groups::{Clients, ClosingRoom, EngineClient, GroupEngine, OpenRefused};
-use log_writer::LogWriter;
+use engine_parts::OpenLog;
+use log_writer::GroupLog;
 use model_base::{MAX_CLIENTS, MAX_SIZE, Options};
 use std::alloc::Global;
 use table_memory::MemoryTable;
@@ -24,9 +25,9 @@ use table_rule::maps_as_bases;
 /// the map's last sequence, and with `clients` clients, none of which has done anything. Where memory is short, log,
 /// clock and gate are handed back. Where the engine is pipelined, its groups go into the table in a stage of their
 /// own.
-pub fn open_engine<Device: Disk, Time: Clock + Drop, Watch: Gate + Drop>(
+pub fn open_engine<Device: GroupLog, Time: Clock + Drop, Watch: Gate + Drop>(
     alloc: Global,
-    log: LogWriter<Device>,
+    log: OpenLog<Device>,
     clock: Time,
     clients: u32,
     base_last: u64,
@@ -40,7 +41,7 @@ pub fn open_engine<Device: Disk, Time: Clock + Drop, Watch: Gate + Drop>(
         GroupEngine<Device, MemoryTable, Time, Watch>,
         Clients<EngineClient<Device, MemoryTable, Time>, ClosingRoom<Device, MemoryTable, Time>>,
     ),
-    (LogWriter<Device>, Time, Watch),
+    (OpenLog<Device>, Time, Watch),
 >
     requires options { (options.last ≤ max_sequence) × (options.batch_bytes ≤ MAX_SIZE) }
     requires clients { (0 < clients) × (clients ≤ MAX_CLIENTS) }
@@ -49,7 +50,7 @@ pub fn open_engine<Device: Disk, Time: Clock + Drop, Watch: Gate + Drop>(
     requires map { (base_last ≤ options.last) × (base_last ≡ 0 → map.now ≡ []) }
     ensures engine { IfOk result (λ r. (opened_log r.0 ≡ log)
         × (settings_of memory_table r.0
-        ≡ settings_with options map.now clients (Device.faults (disk_of log)))) }
+        ≡ settings_with options map.now clients (faults_of log))) }
     // The table has as many shards as are asked for. All else is the same for each number of shards.
     ensures table { IfOk result (λ r. (opening_of r.0.table).shards ≡ shards) }
     ensures clients { IfOk result (λ r. AreOurs (IsClientOf memory_table r.0)

@@ -1,14 +1,15 @@
 -- What a leader's steps result in.
 use Rattle.std.proofs.Common.{rules, ◌≡◌, inl, inr, ℕ, zero, suc, ◌==◌, ◌+◌, ◌<◌, ◌≤◌, Bool, true, false, cond, nat_le, map, List, [], ◌∷◌, ◌++◌, Option, Some, None, Result, Ok, Err, length, get_or, refl, ap, sym, ◌∙◌, subst, ⊎_elim, arith, length-append}
 use Rattle.std.specs.List.{AllByRecursion}
-use Rattle.base_devices.specs.declared.disk.Disk.{Ghosts}
+use Rattle.log_writer.specs.declared.group_log.GroupLog.{Ghosts}
 use Rattle.model_base.specs.declared.write.WriteOptions.{WriteOptions}
 use Rattle.model_base.specs.Batch.{count_of}
 use Rattle.model_base.specs.History.{max_sequence}
 use Rattle.log_batch.specs.Contents.{Contents}
 use Rattle.log_writer.specs.declared.errors.Fault.{Fault}
-use Rattle.log_writer.specs.declared.writer.LogWriter.{LogWriter}
-use Rattle.log_writer.specs.Adding.{Adds, call_of, count_of_fault}
+use Rattle.engine_parts.specs.declared.log.OpenLog.{OpenLog}
+use Rattle.log_writer.specs.Adding.{call_of, count_of_fault}
+use Rattle.engine_parts.specs.Logs.{Adds}
 use Rattle.table_rule.specs.declared.content.Version.{Version}
 use Rattle.table_tree.specs.declared.parts.MemberNodes.{MemberNodes}
 use Rattle.table_rule.specs.Batches.{new_versions, number_from}
@@ -95,7 +96,7 @@ pub head_is : {A : Type 0} (xs rest : List A) (x d : A) → xs ≡ x ∷ rest �
 head_is xs rest x d e = ap (λ l. get_or l 0 d) e
 
 module _ {D : Type 0} {ghosts : Ghosts D} (group_bytes clients last : ℕ) (xs : List (ℕ × Request)) (led : IsLedGroup group_bytes clients xs) (options : WriteOptions) (same : options ≡ led.first.1.options) (batches : List Contents) (are : batches ≡ batches_of last xs) (some : 0 < length batches)
-    (log log' : LogWriter D ghosts) (result : Result (Unit {0}) Fault) (skipped : options.no_log ≡ true → (result ≡ Ok tt) × (log' ≡ log)) (adds : options.no_log ≡ false → Adds (call_of (last + 1) batches options.sync result) log log') where
+    (log log' : OpenLog D ghosts) (result : Result (Unit {0}) Fault) (skipped : options.no_log ≡ true → (result ≡ Ok tt) × (log' ≡ log)) (adds : options.no_log ≡ false → Adds (call_of (last + 1) batches options.sync result) log log') where
   from : map (λ (c : Contents). c.records) batches ≡ batches_from last (commit_requests_of xs)
   from = ap (map (λ (c : Contents). c.records)) are ∙ batches_are last xs
 

@@ -3,12 +3,12 @@ use Rattle.std.proofs.Common.{◌≡◌, ℕ, ◌+◌, ◌-◌, Bool, true, get_
 use Rattle.std.specs.List.{AllByRecursion, AllZip}
 use Rattle.std.proofs.lemmas.List.{map-append, length-map, drop_all, take_all}
 use mathlib.Core.List.{IsPrefix}
-use Rattle.base_devices.specs.declared.disk.Disk.{Ghosts}
+use Rattle.log_writer.specs.declared.group_log.GroupLog.{Ghosts}
 use Rattle.model_base.specs.Controller.{ControllerCall, Look, HoldUp, delay}
 use Rattle.model_base.specs.Grouping.{size_of}
 use Rattle.model_base.specs.Tokens.{tokens_of}
-use Rattle.log_writer.specs.declared.writer.LogWriter.{LogWriter}
-use Rattle.log_writer.specs.Words.{fault_of}
+use Rattle.engine_parts.specs.declared.log.OpenLog.{OpenLog}
+use Rattle.engine_parts.specs.Logs.{fault_of}
 use Rattle.table_rule.specs.declared.content.MemberVersions.{MemberVersions}
 use Rattle.line_rule.specs.declared.view.Handling.{Handling}
 use Rattle.engine_controller.specs.Delays.{delays_of}
@@ -246,7 +246,7 @@ module _ {C : Type 0} (controller : Controller C) (d : Delay) (numbers : Look) w
 
 -- The law of log and table
 
-module _ {D : Type 0} {ghosts : Ghosts D} {T U : Type 0} (our_turn : T → U → Type 0) (history : U → List (List MemberVersions)) (opened : LogWriter D ghosts) (log : LogWriter D ghosts) (turn : U) (last : ℕ) where
+module _ {D : Type 0} {ghosts : Ghosts D} {T U : Type 0} (our_turn : T → U → Type 0) (history : U → List (List MemberVersions)) (opened : OpenLog D ghosts) (log : OpenLog D ghosts) (turn : U) (last : ℕ) where
   -- the law holds for equal numbers under other names
   pub stands_by : (table table' : T) (start start' clients clients' group_bytes group_bytes' : ℕ) (asked asked' : List ControllerCall) (hs : List (Handling Request Answer))
       → table ≡ table' → start ≡ start' → clients ≡ clients' → group_bytes ≡ group_bytes' → asked ≡ asked'

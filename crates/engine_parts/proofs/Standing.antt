@@ -1,13 +1,11 @@
 -- Each way in which a leader's work may end keeps the law of log and table.
 use Rattle.std.proofs.Common.{◌≡◌, ◌⊎◌, inl, inr, ℕ, ◌+◌, ◌≤◌, map, List, [], ◌∷◌, ◌++◌, Option, Some, None, MatchOption, length, refl, ap, sym, ◌∙◌, subst, ⊎_elim}
-use Rattle.base_devices.specs.declared.disk.Disk.{Ghosts}
+use Rattle.log_writer.specs.declared.group_log.GroupLog.{Ghosts}
 use Rattle.model_base.specs.History.{max_sequence}
 use Rattle.model_base.specs.Controller.{ControllerCall, Look}
-use Rattle.model_base.specs.Log.{record_text}
-use Rattle.log_writer.specs.declared.writer.LogWriter.{LogWriter}
-use Rattle.log_writer.specs.Words.{fault_of, len_of, number_of}
-use Rattle.log_writer.specs.Adding.{GroupCall, Adds, Grows, Stops, record_of_call}
-use Rattle.log_writer.specs.Written.{Wrote, one_more}
+use Rattle.engine_parts.specs.declared.log.OpenLog.{OpenLog}
+use Rattle.engine_parts.specs.Logs.{fault_of, Wrote, Adds}
+use Rattle.model_base.specs.LogContents.{GroupCall}
 use Rattle.table_rule.specs.declared.content.MemberVersions.{MemberVersions}
 use Rattle.table_rule.specs.Histories.{last_of}
 use Rattle.table_rule.proofs.Images.{images_versions}
@@ -27,14 +25,14 @@ use Rattle.engine_rule.proofs.Reaching.{last_bound, versions_length}
 use Rattle.engine_rule.proofs.Steps.{consistent_accepted, consistent_after_fault, consistent_with_fault}
 
 -- the log stays as it was, since there was nothing to write; or one call that worked wrote the batches
-abbrev pub LogsOn : {D : Type 0} {ghosts : Ghosts D} → ℕ → List CommitRequest → LogWriter D ghosts → LogWriter D ghosts → Type 0
+abbrev pub LogsOn : {D : Type 0} {ghosts : Ghosts D} → ℕ → List CommitRequest → OpenLog D ghosts → OpenLog D ghosts → Type 0
 LogsOn last asks old new = ((new ≡ old) × (AreUnlogged asks ⊎ (batches_from last asks ≡ []))) ⊎ ((c : GroupCall) × Adds c old new × WritesBatches last asks c × SyncsFor asks c.sync × (c.failed ≡ None))
 
-module _ {D : Type 0} {ghosts : Ghosts D} {T U : Type 0} (our_turn : T → U → Type 0) (history : U → List (List MemberVersions)) (table : T) (opened : LogWriter D ghosts) (start clients group_bytes : ℕ) where
-  abbrev pub Stands : List ControllerCall → LogWriter D ghosts → U → ℕ → List (Handling Request Answer) → Type 0
+module _ {D : Type 0} {ghosts : Ghosts D} {T U : Type 0} (our_turn : T → U → Type 0) (history : U → List (List MemberVersions)) (table : T) (opened : OpenLog D ghosts) (start clients group_bytes : ℕ) where
+  abbrev pub Stands : List ControllerCall → OpenLog D ghosts → U → ℕ → List (Handling Request Answer) → Type 0
   Stands asked log turn last hs = Covers our_turn history table opened start clients group_bytes asked log turn last hs
 
-  module _ (asked : List ControllerCall) (log : LogWriter D ghosts) (turn : U) (last : ℕ) (hs : List (Handling Request Answer)) (s : Stands asked log turn last hs) where
+  module _ (asked : List ControllerCall) (log : OpenLog D ghosts) (turn : U) (last : ℕ) (hs : List (Handling Request Answer)) (s : Stands asked log turn last hs) where
     pub last_low : start ≤ max_sequence → last ≤ max_sequence
     last_low low = subst (λ n. n ≤ max_sequence) (sym s.consistent.last_is) (last_bound start None (map commit_of hs) s.consistent.answered low)
 
@@ -53,15 +51,15 @@ module _ {D : Type 0} {ghosts : Ghosts D} {T U : Type 0} (our_turn : T → U →
           let commits = map_append commit_of hs (handled_with xs (failures delay n xs)) ∙ ap (λ l. map commit_of hs ++ l) (commits_failed delay n xs) in
           record { our = s.our; calls = s.calls; wrote = s.wrote; consistent = subst (λ (z : List Commit × Option ℕ). AreConsistent start clients group_bytes went z.0 last z.1 (history turn) s.calls) (λ i. (sym commits i, sym dead i)) new }
 
-      pub stands_failed : fault_of log ≡ None → (n : ℕ) (c : GroupCall) (log' : LogWriter D ghosts) → Adds c log log' → WritesBatches last (commit_requests_of xs) c → c.failed ≡ Some n → Stands went log' turn last (hs ++ handled_with xs (failures delay n xs))
+      pub stands_failed : fault_of log ≡ None → (n : ℕ) (c : GroupCall) (log' : OpenLog D ghosts) → Adds c log log' → WritesBatches last (commit_requests_of xs) c → c.failed ≡ Some n → Stands went log' turn last (hs ++ handled_with xs (failures delay n xs))
       stands_failed alive n c log' adds writes failed_is =
           let old = subst (λ f. AreConsistent start clients group_bytes asked (map commit_of hs) last f (history turn) s.calls) alive s.consistent in
           let new = consistent_with_fault start clients group_bytes (map commit_of hs) last (history turn) s.calls (commit_requests_of xs) asked (seen_at delay) numbers lawful whole is_asked comes went proceeds n old c writes failed_is in
           let commits = map_append commit_of hs (handled_with xs (failures delay n xs)) ∙ ap (λ l. map commit_of hs ++ l) (commits_failed delay n xs) in
-          let stops = subst (λ f. MatchOption f (Grows (record_text (number_of log) (len_of log) (record_of_call c)) log log') (Stops log log')) failed_is (adds.kept alive) in
-          record { our = s.our; calls = s.calls ++ c ∷ []; wrote = one_more c s.wrote adds; consistent = subst (λ (z : List Commit × Option ℕ). AreConsistent start clients group_bytes went z.0 last z.1 (history turn) (s.calls ++ c ∷ [])) (λ i. (sym commits i, sym stops.fault i)) new }
+          let stops : fault_of log' ≡ Some n = adds.fault alive ∙ failed_is in
+          record { our = s.our; calls = s.calls ++ c ∷ []; wrote = adds.wrote opened s.calls s.wrote; consistent = subst (λ (z : List Commit × Option ℕ). AreConsistent start clients group_bytes went z.0 last z.1 (history turn) (s.calls ++ c ∷ [])) (λ i. (sym commits i, sym stops i)) new }
 
-      pub stands_written : fault_of log ≡ None → (log' : LogWriter D ghosts) (turn' : U) → our_turn table turn' → LogsOn last (commit_requests_of xs) log log' → Publishes (versions_from last (commit_requests_of xs)) (history turn) (history turn')
+      pub stands_written : fault_of log ≡ None → (log' : OpenLog D ghosts) (turn' : U) → our_turn table turn' → LogsOn last (commit_requests_of xs) log log' → Publishes (versions_from last (commit_requests_of xs)) (history turn) (history turn')
           → Stands went log' turn' (last_with_all last (commit_requests_of xs)) (hs ++ handled_with xs (replies_of delay last (last_with_all last (commit_requests_of xs)) xs))
       stands_written alive log' turn' our logs published =
           let old = subst (λ f. AreConsistent start clients group_bytes asked (map commit_of hs) last f (history turn) s.calls) alive s.consistent in
@@ -73,9 +71,9 @@ module _ {D : Type 0} {ghosts : Ghosts D} {T U : Type 0} (our_turn : T → U →
           record { our = our; calls = s.calls; wrote = subst (Wrote opened s.calls) (sym t.0) s.wrote; consistent = subst (λ (z : List Commit × Option ℕ). AreConsistent start clients group_bytes went z.0 end z.1 (history turn') s.calls) (λ i. (sym commits i, sym (ap fault_of t.0 ∙ alive) i)) new })
           (λ (t : (c : GroupCall) × Adds c log log' × WritesBatches last (commit_requests_of xs) c × SyncsFor (commit_requests_of xs) c.sync × (c.failed ≡ None)).
           let c = t.0 in
-          let grows = subst (λ f. MatchOption f (Grows (record_text (number_of log) (len_of log) (record_of_call c)) log log') (Stops log log')) t.4 (t.1.kept alive) in
+          let grows : fault_of log' ≡ None = t.1.fault alive ∙ t.4 in
           let new = consistent_accepted start clients group_bytes asked (seen_at delay) went (map commit_of hs) last (history turn) s.calls old (commit_requests_of xs) lawful numbers whole is_asked comes proceeds (history turn') (s.calls ++ c ∷ []) published (inr (c, refl, t.2, t.3, t.4)) in
-          record { our = our; calls = s.calls ++ c ∷ []; wrote = one_more c s.wrote t.1; consistent = subst (λ (z : List Commit × Option ℕ). AreConsistent start clients group_bytes went z.0 end z.1 (history turn') (s.calls ++ c ∷ [])) (λ i. (sym commits i, sym grows.fault i)) new })
+          record { our = our; calls = s.calls ++ c ∷ []; wrote = t.1.wrote opened s.calls s.wrote; consistent = subst (λ (z : List Commit × Option ℕ). AreConsistent start clients group_bytes went z.0 end z.1 (history turn') (s.calls ++ c ∷ [])) (λ i. (sym commits i, sym grows i)) new })
           logs
 
 pub none_of : {A B : Type 0} (f : A → B) (xs : List A) → map f xs ≡ [] → xs ≡ []

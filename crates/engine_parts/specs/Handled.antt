@@ -6,9 +6,9 @@ use Rattle.model_base.specs.declared.write.Refusal.TheVariants.{Empty, TooLarge,
 use Rattle.model_base.specs.Batch.{Record, count_of}
 use Rattle.model_base.specs.History.{max_sequence}
 use Rattle.model_base.specs.LogContents.{GroupCall}
-use Rattle.base_devices.specs.declared.disk.Disk.{Ghosts}
-use Rattle.log_writer.specs.declared.writer.LogWriter.{LogWriter}
-use Rattle.log_writer.specs.Written.{Wrote}
+use Rattle.log_writer.specs.declared.group_log.GroupLog.{Ghosts}
+use Rattle.engine_parts.specs.declared.log.OpenLog.{OpenLog}
+use Rattle.engine_parts.specs.Logs.{Wrote}
 use Rattle.engine_rule.specs.Entries.{entries_of}
 use Rattle.engine_rule.specs.LogCalls.{WroteParts}
 use Rattle.log_batch.specs.Contents.{Contents}
@@ -107,11 +107,11 @@ pub record ShowsDelay {Time : Type 0} (controller : Controller Time) (h : Handli
       × IsDelayed (noted_in h.asked.note) (seen_for h.reply) numbers
 
 -- Calls have written a log from the opened one, and the first of them (`worked`) wrote the history of these commits.
-pub record HasWritten {Device : Type 0} {ghosts : Ghosts Device} (opened : LogWriter Device ghosts)
+pub record HasWritten {Device : Type 0} {ghosts : Ghosts Device} (opened : OpenLog Device ghosts)
     (commits : List Commit) : Type 0
   where
     pub calls : List GroupCall
-    pub log : LogWriter Device ghosts
+    pub log : OpenLog Device ghosts
     pub wrote : Wrote opened calls log
     pub worked : List GroupCall
     pub lost : List GroupCall
@@ -121,7 +121,7 @@ pub record HasWritten {Device : Type 0} {ghosts : Ghosts Device} (opened : LogWr
 -- What holds of all that was handled, wherever the log is: the answers are right, hand the batches back, and show the
 -- delay where writes are held up; and the log has what was accepted and should be logged.
 pub record AreHandled {Time Device : Type 0} {ghosts : Ghosts Device} (controller : Controller Time)
-    (opened : LogWriter Device ghosts)
+    (opened : OpenLog Device ghosts)
     (start : ℕ) (handled : List (Handling Request Answer)) : Type 0 where
   pub answered : AreAnswered start None (map commit_of handled)
   pub handed_back : AllByRecursion HandsBack handled

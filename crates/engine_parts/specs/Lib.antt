@@ -7,4 +7,5 @@ pub mod Numbering
 pub mod Layout
 pub mod Led
 pub mod Staged
+pub mod Logs
 pub mod LogLaw

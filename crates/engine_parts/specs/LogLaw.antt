@@ -1,9 +1,9 @@
 -- What a log covers, and what it was opened for.
 use Rattle.std.specs.Prelude.{ℕ, List, ◌++◌, map, Option, ⊤}
-use Rattle.base_devices.specs.declared.disk.Disk.{Ghosts}
-use Rattle.log_writer.specs.declared.writer.LogWriter.{LogWriter}
-use Rattle.log_writer.specs.Words.{fault_of}
-use Rattle.log_writer.specs.Written.{Wrote}
+use Rattle.log_writer.specs.declared.group_log.GroupLog.{Ghosts}
+use Rattle.engine_parts.specs.declared.log.OpenLog.{OpenLog}
+use Rattle.engine_parts.specs.Logs.{fault_of}
+use Rattle.engine_parts.specs.Logs.{Wrote}
 use Rattle.model_base.specs.Controller.{ControllerCall}
 use Rattle.model_base.specs.LogContents.{GroupCall}
 use Rattle.table_rule.specs.declared.content.MemberVersions.{MemberVersions}
@@ -20,8 +20,8 @@ use Rattle.engine_parts.specs.Staged.{published_with}
 -- when its group went on or was refused.
 pub record Covers {Device : Type 0} {ghosts : Ghosts Device} {Versions Turn : Type 0}
     (our_turn : Versions → Turn → Type 0) (history : Turn → List (List MemberVersions)) (table : Versions)
-    (opened : LogWriter Device ghosts)
-    (start clients group_bytes : ℕ) (asked : List ControllerCall) (log : LogWriter Device ghosts) (turn : Turn)
+    (opened : OpenLog Device ghosts)
+    (start clients group_bytes : ℕ) (asked : List ControllerCall) (log : OpenLog Device ghosts) (turn : Turn)
     (last : ℕ)
     (handled : List (Handling Request Answer)) : Type 0 where
   pub our : our_turn table turn
@@ -31,9 +31,9 @@ pub record Covers {Device : Type 0} {ghosts : Ghosts Device} {Versions Turn : Ty
       (history turn) calls
 
 -- What `Covers` says, for the log alone, where these groups are published or will be.
-abbrev pub LogCovers : {Device : Type 0} {ghosts : Ghosts Device} → LogWriter Device ghosts → ℕ → ℕ → ℕ
+abbrev pub LogCovers : {Device : Type 0} {ghosts : Ghosts Device} → OpenLog Device ghosts → ℕ → ℕ → ℕ
     → List ControllerCall
-    → LogWriter Device ghosts → List (List MemberVersions) → ℕ → List (Handling Request Answer) → Type 0
+    → OpenLog Device ghosts → List (List MemberVersions) → ℕ → List (Handling Request Answer) → Type 0
 LogCovers opened start clients group_bytes asked log published last handled =
     Covers (λ (t : ⊤) (u : List (List MemberVersions)). ⊤) (λ u. u) tt opened start clients group_bytes asked log
     published last handled
@@ -49,8 +49,8 @@ pub record Past (Log : Type 0) : Type 0 where
   pub handled : List (Handling Request Answer)
 
 -- the log and the last sequence given are what this past has made, in a write path with this number of clients
-abbrev pub StandsForPast : {Device : Type 0} {ghosts : Ghosts Device} → ℕ → Past (LogWriter Device ghosts)
-    → LogWriter Device ghosts → ℕ → Type 0
+abbrev pub StandsForPast : {Device : Type 0} {ghosts : Ghosts Device} → ℕ → Past (OpenLog Device ghosts)
+    → OpenLog Device ghosts → ℕ → Type 0
 StandsForPast clients p log last =
     LogCovers p.opened p.start clients p.group_bytes p.asked log p.published last p.handled
 

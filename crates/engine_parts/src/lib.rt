@@ -9,12 +9,14 @@
 //! - `specs/Asking`: how a leader's view of the write controller goes on.
 //! - `specs/Numbering`, `Layout`: what a leader lays out while it gives runs, and its answers.
 //! - `specs/Led`, `Staged`: the group that a leader has in hand, before and after it is logged.
+//! - `specs/Logs`: what the log shows, whatever it is made of.
 //! - `specs/LogLaw`: what the log covers.
 #![tactic(auto)]
 
 mod asking;
 mod envelope;
 mod layout;
+mod log;
 mod logging;
 mod numbering;
 mod requests;
@@ -25,6 +27,7 @@ pub use asking::{
 };
 pub use envelope::{Envelope, SealedAnswer, SealedRequest};
 pub use layout::Layout;
+pub use log::OpenLog;
 pub use logging::{LogPath, log_phase};
 pub use numbering::{Numbering, may_be_apart, take_first};
 pub use requests::{Answer, Delay, Request};

@@ -4,9 +4,10 @@ ghost use Rattle.std.specs.Prelude.{◌≡◌, ◌≤◌, ◌<◌, ◌+◌, ◌-
 ghost use Rattle.std.specs.List.{AllByRecursion};
 ghost use Rattle.model_base.specs.History.{max_sequence};
 ghost use Rattle.model_base.specs.Controller.{ControllerCall};
-ghost use Rattle.log_writer.specs.declared.writer.LogWriter.{LogWriter as Log};
+ghost use Rattle.engine_parts.specs.declared.log.OpenLog.{OpenLog as Log};
 ghost use Rattle.log_writer.specs.Groups.{counts_of, body_lens_of};
-ghost use Rattle.log_writer.specs.Adding.{Adds, call_of};
+ghost use Rattle.log_writer.specs.Adding.{call_of};
+ghost use Rattle.engine_parts.specs.Logs.{Adds};
 ghost use Rattle.table_tree.specs.Parts.{group_of};
 ghost use Rattle.engine_parts.specs.Handled.{HandsBack, IsReplyOf, seen_at, handled_with, InOrder};
 ghost use Rattle.engine_parts.specs.Numbering.{AreHelpers, AreEnough, answers, others_in};
@@ -17,22 +18,22 @@ ghost use Rattle.engine_parts.specs.Staged.{IsStaged};
 
 use crate::envelope::{SealedAnswer, SealedRequest};
 use crate::layout::Layout;
+use crate::log::OpenLog;
 use crate::numbering::{GroupFate, answer_all, lay_out, refuse_all};
 use crate::requests::Delay;
-use base_devices::Disk;
 use log_batch::Batch;
-use log_writer::{Fault, LogWriter};
+use log_writer::{Fault, GroupLog};
 use model_base::WriteOptions;
 
 /// The log, and the last sequence given.
-pub struct LogPath<Device: Disk> {
-    pub log: LogWriter<Device>,
+pub struct LogPath<Device: GroupLog> {
+    pub log: OpenLog<Device>,
     pub last: u64,
 }
 
 /// Writes the batches that got runs after `last` to the log, unless they must stay out of it.
-fn log_group<Device: Disk>(
-    log: &mut LogWriter<Device>,
+fn log_group<Device: GroupLog>(
+    log: &mut OpenLog<Device>,
     last: u64,
     batches: &[Batch],
     options: WriteOptions,
@@ -47,13 +48,13 @@ fn log_group<Device: Disk>(
     if options.no_log {
         return Ok(());
     }
-    log.add_group(last + 1, batches, options.sync)
+    log.log.add_group(last + 1, batches, options.sync)
 }
 
 /// Writes a group to the log, and answers each member. Where members have runs, it returns the group's last sequence.
 /// Then the layout has what must go into the table (one part for all members; or, if the parts may be apart, perhaps
 /// one for each member with a run), and the members that should work in parallel with the leader.
-pub fn log_phase<Device: Disk>(
+pub fn log_phase<Device: GroupLog>(
     path: &mut LogPath<Device>,
     leader: u32,
     apart: bool,
@@ -71,7 +72,7 @@ pub fn log_phase<Device: Disk>(
         × (length requests.old.items ≤ vec_capacity layout.old.batches)
         × (length requests.old.items ≤ vec_capacity layout.old.members) }
     requires replies { (replies.old.items ≡ []) × (length requests.old.items ≤ vec_capacity replies.old) }
-    ensures path { (past : Past (Log Device ⟦<Device as Disk>⟧)) (went : List ControllerCall)
+    ensures path { (past : Past (Log Device ⟦<Device as GroupLog>⟧)) (went : List ControllerCall)
         → GoesOnWith past.group_bytes layout.old.parts.clients past.asked requests.old.items (seen_at delay.now) went
         → StandsForPast layout.old.parts.clients past path.old.log path.old.last
         → StandsForPast layout.old.parts.clients (with_group past went result layout.new.parts.parts
@@ -92,7 +93,7 @@ pub fn log_phase<Device: Disk>(
 {
     let last = path.last;
     // Nothing is written after a fault: nobody knows what the log holds there, and recovery may end at it.
-    if let Some(count) = path.log.fault() {
+    if let Some(count) = path.log.log.fault() {
         refuse_all(count, delay, requests, replies);
         return None;
     }

@@ -8,3 +8,7 @@ pub mod Telling
 pub mod Numbered
 pub mod Zeros
 pub mod CutOff
+pub mod Accepting
+pub mod LogByLog
+pub mod Unread
+pub mod Faults

@@ -9,7 +9,8 @@ use Rattle.std.specs.List.{AllByRecursion}
 use Rattle.model_base.specs.Batch.{Record, count_of, IsBatch}
 use Rattle.model_base.specs.Log.{Fragment, fragments_text, FitFrom, AreOneRecord, kinds_of, record_of, all_fragments}
 use Rattle.model_base.specs.Reading.{end_of, HasFragments}
-use Rattle.model_base.specs.Recovery.{Logged, logged_bytes, last_after, MayFollow, AreInOrder, last_sequence, Keeps}
+use Rattle.model_base.specs.Recovery.{Logged, logged_bytes, last_after, MayFollow, AreInOrder, last_sequence}
+use Rattle.model_base.specs.RecoveredLogs.{KeepsAfter}
 use Rattle.log_recovery.specs.Keeping.{MayBeKept}
 use Rattle.log_laws.proofs.Placed.{placed_append}
 use Rattle.log_reader.proofs.OneMore.{fit_joined}
@@ -31,11 +32,11 @@ in_order_more last [] b ordered may = (may, tt)
 in_order_more last (c ∷ cs) b ordered may = (ordered.0, in_order_more (last_after last c) cs b ordered.1 may)
 
 -- With no records, nothing is kept.
-pub keeps_none : (number : Option ℕ) (file : List ℕ) → Keeps number file 0 []
-keeps_none number file = record { within = omega arith; spelled = record { groups = []; whole = tt; same = refl; fit = tt; spelled = refl }; are_batches = tt; in_order = tt }
+pub keeps_none : (last : ℕ) (number : Option ℕ) (file : List ℕ) → KeepsAfter last number file 0 []
+keeps_none last number file = record { within = omega arith; spelled = record { groups = []; whole = tt; same = refl; fit = tt; spelled = refl }; are_batches = tt; in_order = tt }
 
 -- the fragments before the offset up to which records are kept
-module _ (number : Option ℕ) (file : List ℕ) (kept : ℕ) (bs : List Logged) (keeps : Keeps number file kept bs) where
+module _ (last : ℕ) (number : Option ℕ) (file : List ℕ) (kept : ℕ) (bs : List Logged) (keeps : KeepsAfter last number file kept bs) where
   pub fragments : List Fragment
   fragments = all_fragments keeps.spelled.groups
 
@@ -52,14 +53,14 @@ module _ (number : Option ℕ) (file : List ℕ) (kept : ℕ) (bs : List Logged)
   }
 
 -- A batch that comes next in the file and may follow is kept too.
-pub keeps_more : (number : Option ℕ) (file : List ℕ) (kept : ℕ) (bs : List Logged) (b : Logged) (fs : List Fragment) → Keeps number file kept bs → AreOneRecord (kinds_of fs) → HasFragments number file kept fs
-    → record_of fs ≡ logged_bytes b → IsBatch (logged_bytes b) b.first b.records → MayFollow (last_sequence 0 bs) b → Keeps number file (end_of number kept fs) (bs ++ b ∷ [])
+pub keeps_more : (last : ℕ) (number : Option ℕ) (file : List ℕ) (kept : ℕ) (bs : List Logged) (b : Logged) (fs : List Fragment) → KeepsAfter last number file kept bs → AreOneRecord (kinds_of fs) → HasFragments number file kept fs
+    → record_of fs ≡ logged_bytes b → IsBatch (logged_bytes b) b.first b.records → MayFollow (last_sequence last bs) b → KeepsAfter last number file (end_of number kept fs) (bs ++ b ∷ [])
 unfolding fragments
-keeps_more number file kept bs b fs keeps one stands bytes is may =
+keeps_more last number file kept bs b fs keeps one stands bytes is may =
     let groups = keeps.spelled.groups in
     let flat : List Fragment = all_fragments groups in
     let piece : List ℕ = fragments_text number kept fs in
-    let end : end_of number 0 flat ≡ kept = end_is number file kept bs keeps in
+    let end : end_of number 0 flat ≡ kept = end_is last number file kept bs keeps in
     let joined : all_fragments (groups ++ fs ∷ []) ≡ flat ++ fs = flat_map-append (λ (l : List Fragment). l) groups (fs ∷ []) ∙ ap (λ (l : List Fragment). flat ++ l) (append-nil fs) in
     let taken : take (kept + length piece) file ≡ take kept file ++ piece =
     take-add kept (length piece) file ∙ ap (λ (l : List ℕ). take kept file ++ take (length piece) l) stands.there ∙ ap (λ (l : List ℕ). take kept file ++ l) (take-append_seam piece stands.rest) in
@@ -74,7 +75,7 @@ keeps_more number file kept bs b fs keeps one stands bytes is may =
         spelled = taken ∙ ap (λ (l : List ℕ). l ++ piece) keeps.spelled.spelled ∙ sym laid ∙ ap (fragments_text number 0) (sym joined);
       };
       are_batches = all_more (λ c. IsBatch (logged_bytes c) c.first c.records) bs b keeps.are_batches is;
-      in_order = in_order_more 0 bs b keeps.in_order may;
+      in_order = in_order_more last bs b keeps.in_order may;
     }
 
 -- the bytes of a batch determine its sequence and its count
@@ -145,30 +146,30 @@ no_shorter number xs ys rest e =
     omega (arith, ap length (ap (fragments_text number 0) e ∙ placed_append number 0 ys rest), length-append (fragments_text number 0 ys) (fragments_text number (end_of number 0 ys) rest))
 
 -- Where more than this is kept, there is such a record.
-pub more_kept : (number : Option ℕ) (file : List ℕ) (kept kept' : ℕ) (bs cs : List Logged) → Keeps number file kept bs → Keeps number file kept' cs → kept < kept' → KeptNext number file kept (last_sequence 0 bs)
+pub more_kept : (last : ℕ) (number : Option ℕ) (file : List ℕ) (kept kept' : ℕ) (bs cs : List Logged) → KeepsAfter last number file kept bs → KeepsAfter last number file kept' cs → kept < kept' → KeptNext number file kept (last_sequence last bs)
 unfolding AreBatches fragments
-more_kept number file kept kept' bs cs a b less =
+more_kept last number file kept kept' bs cs a b less =
     ⊎_elim
-    (λ h. absurd (omega (arith, no_shorter number _ _ h.0 h.1, end_is number file kept bs a, end_is number file kept' cs b, less)))
-    (λ h. let more = groups_front number file 0 a.spelled.groups b.spelled.groups h.0 a.spelled.whole b.spelled.whole (all_stand number file kept' cs b) h.1 in by_more more.0 more.1)
-    (one_front number file 0 (fragments number file kept bs a) (fragments number file kept' cs b) (all_stand number file kept bs a) (all_stand number file kept' cs b))
+    (λ h. absurd (omega (arith, no_shorter number _ _ h.0 h.1, end_is last number file kept bs a, end_is last number file kept' cs b, less)))
+    (λ h. let more = groups_front number file 0 a.spelled.groups b.spelled.groups h.0 a.spelled.whole b.spelled.whole (all_stand last number file kept' cs b) h.1 in by_more more.0 more.1)
+    (one_front number file 0 (fragments last number file kept bs a) (fragments last number file kept' cs b) (all_stand last number file kept bs a) (all_stand last number file kept' cs b))
   where
-    by_more : (more : List (List Fragment)) → b.spelled.groups ≡ a.spelled.groups ++ more → KeptNext number file kept (last_sequence 0 bs)
+    by_more : (more : List (List Fragment)) → b.spelled.groups ≡ a.spelled.groups ++ more → KeptNext number file kept (last_sequence last bs)
     by_more [] e =
         let same : b.spelled.groups ≡ a.spelled.groups = e ∙ append-nil a.spelled.groups in
-        absurd (omega (arith, ap (λ (gs : List (List Fragment)). end_of number 0 (all_fragments gs)) same, end_is number file kept bs a, end_is number file kept' cs b, less))
+        absurd (omega (arith, ap (λ (gs : List (List Fragment)). end_of number 0 (all_fragments gs)) same, end_is last number file kept bs a, end_is last number file kept' cs b, less))
     by_more (g ∷ more) e =
         let front : List Fragment = all_fragments a.spelled.groups in
         let flat : all_fragments b.spelled.groups ≡ front ++ (g ++ all_fragments more) = ap all_fragments e ∙ flat_map-append (λ (l : List Fragment). l) a.spelled.groups (g ∷ more) in
         let behind_kept : HasFragments number file kept (g ++ all_fragments more) =
-        subst (λ n. HasFragments number file n (g ++ all_fragments more)) (end_is number file kept bs a) (stand_back number file 0 front (g ++ all_fragments more) (subst (HasFragments number file 0) flat (all_stand number file kept' cs b))) in
+        subst (λ n. HasFragments number file n (g ++ all_fragments more)) (end_is last number file kept bs a) (stand_back number file 0 front (g ++ all_fragments more) (subst (HasFragments number file 0) flat (all_stand last number file kept' cs b))) in
         let names : map logged_bytes cs ≡ map logged_bytes bs ++ record_of g ∷ map record_of more =
         b.spelled.same ∙ ap (map record_of) e ∙ map-append record_of a.spelled.groups (g ∷ more) ∙ ap (λ (l : List (List ℕ)). l ++ record_of g ∷ map record_of more) (sym a.spelled.same) in
         record {
           fs = g;
           one = whole_at a.spelled.groups (subst Whole e b.spelled.whole);
           stands = stand_front number file kept g (all_fragments more) behind_kept;
-          may = next_may 0 0 bs cs (record_of g) (map record_of more) refl names a.are_batches b.are_batches b.in_order;
+          may = next_may last last bs cs (record_of g) (map record_of more) refl names a.are_batches b.are_batches b.in_order;
         }
       where
         whole_at : (gs : List (List Fragment)) → Whole (gs ++ g ∷ more) → AreOneRecord (kinds_of g)

@@ -36,3 +36,7 @@ numbered_more old new bytes end a is =
     let b = a.kept.batch in
     subst (λ (m : Pairs). IsNumbered m new.last) (sym a.map)
     (subst (IsNumbered (after_records old.map b.records)) (sym a.last) (after_batch old.map old.last b a.kept.may is))
+
+-- it holds of what is kept at first
+pub none_numbered : (map : Pairs) (last : ℕ) → map ≡ [] → last ≡ 0 → IsNumbered map last
+none_numbered map last map_is last_is = record { within = omega (arith, last_is); none = λ z. map_is }

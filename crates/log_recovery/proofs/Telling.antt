@@ -1,17 +1,20 @@
 -- What the steps of recovery give where the disk tells its content.
-use Rattle.std.proofs.Common.{◌≡◌, ℕ, List, Option, Some, None, MatchOption, IfSome, sym, subst}
+use Rattle.std.proofs.Common.{◌≡◌, ℕ, List, [], length, Option, Some, None, MatchOption, IfSome, refl, sym, ◌∙◌, subst}
+use Rattle.std.proofs.lemmas.List.{nil_from_length}
 use Rattle.base_devices.specs.Disk.{Disk}
 use Rattle.model_base.specs.declared.log.EndReason.{EndReason}
-use Rattle.model_base.specs.Reading.{ReadingEnds}
+use Rattle.model_base.specs.declared.log.EndReason.TheVariants as ends
+use Rattle.model_base.specs.Log.{plain_log}
+use Rattle.model_base.specs.Reading.{seen_within, ReadingEnds, clean}
 use Rattle.log_reader.specs.declared.reader.Next.{Next}
 use Rattle.log_reader.specs.declared.reader.Next.TheVariants as next
 use Rattle.log_reader.specs.Reader.{Reader, Follows}
 use Rattle.log_reader.specs.Records.{Reads}
 use Rattle.log_recovery.specs.declared.kept.Kept.{Kept}
-use Rattle.log_recovery.specs.declared.recovery.Recovered.{Recovered}
+use Rattle.log_recovery.specs.declared.recovery.End.{End}
 use Rattle.log_recovery.specs.Keeping.{KeepsFront, Adds, Refuses}
-use Rattle.log_recovery.specs.Recovering.{HasRecovered}
-use Rattle.log_recovery.proofs.Recovers.{keeps_read, refuses_read, ends_reading}
+use Rattle.log_recovery.specs.Recovering.{HasKept, HasRecovered}
+use Rattle.log_recovery.proofs.Recovers.{keeps_read, refuses_read, ends_reading, begins, first_recovered}
 
 if_both : (told : Option Disk) (P Q R : Disk → Type 0) → IfSome told P → IfSome told Q → ((d : Disk) → P d → Q d → R d) → IfSome told R
 if_both None P Q R p q f = tt
@@ -51,27 +54,50 @@ kept_refuses old new bytes end None why m e = absurd (cc)
 kept_refuses old new bytes end (Some w) why m e = let same : w ≡ why = cc in (m.0, subst (Refuses old.last bytes) same m.1)
 
 -- one more record is kept
-pub front_more : (number : Option ℕ) (told : Option Disk) (old new : Kept) (place start end : ℕ) (in_hand bytes : List ℕ) → old.end ≡ place → bytes ≡ in_hand → Adds old new bytes end
-    → IfSome told (λ d. KeepsFront number d.content old) → IfSome told (λ d. Reads number d.content place in_hand (next.Record start end)) → IfSome told (λ d. KeepsFront number d.content new)
-front_more number told old new place start end in_hand bytes there bytes_are adds front says =
-    if_both told (λ d. KeepsFront number d.content old) (λ d. Reads number d.content place in_hand (next.Record start end)) (λ d. KeepsFront number d.content new) front says
-    (λ d f r. keeps_read number d.content old new place start end in_hand bytes there bytes_are f r adds)
-
--- the answer, from what is kept and from this end
-abbrev pub answer : Kept → ℕ → EndReason → Recovered
-answer kept at why = record { groups = kept.groups; map = kept.map; last = kept.last; kept = kept.end; end = record { at = at; why = why } }
+pub front_more : (number : Option ℕ) (told : Option Disk) (before old new : Kept) (place start end : ℕ) (in_hand bytes : List ℕ) → old.end ≡ place → bytes ≡ in_hand → Adds old new bytes end
+    → IfSome told (λ d. KeepsFront number d.content before old) → IfSome told (λ d. Reads number d.content place in_hand (next.Record start end)) → IfSome told (λ d. KeepsFront number d.content before new)
+front_more number told before old new place start end in_hand bytes there bytes_are adds front says =
+    if_both told (λ d. KeepsFront number d.content before old) (λ d. Reads number d.content place in_hand (next.Record start end)) (λ d. KeepsFront number d.content before new) front says
+    (λ d f r. keeps_read number d.content before old new place start end in_hand bytes there bytes_are f r adds)
 
 -- a record that isn't kept ends recovery
-pub refused : (number : Option ℕ) (told : Option Disk) (old new : Kept) (place start end : ℕ) (in_hand bytes : List ℕ) (why : EndReason) → old.end ≡ place → bytes ≡ in_hand → (new ≡ old) × Refuses old.last bytes why
-    → IfSome told (λ d. KeepsFront number d.content old) → IfSome told (λ d. Reads number d.content place in_hand (next.Record start end)) → IfSome told (λ d. HasRecovered number d.content (answer new start why))
-refused number told old new place start end in_hand bytes why there bytes_are refuses front says =
-    subst (λ (k : Kept). IfSome told (λ d. HasRecovered number d.content (answer k start why))) (sym refuses.0)
-    (if_both told (λ d. KeepsFront number d.content old) (λ d. Reads number d.content place in_hand (next.Record start end)) (λ d. HasRecovered number d.content (answer old start why)) front says
-    (λ d f r. refuses_read number d.content old place start end in_hand bytes why there bytes_are f r refuses.1))
+pub refused : (number : Option ℕ) (told : Option Disk) (before old new : Kept) (place start end : ℕ) (in_hand bytes : List ℕ) (why : EndReason) → old.end ≡ place → bytes ≡ in_hand → (new ≡ old) × Refuses old.last bytes why
+    → IfSome told (λ d. KeepsFront number d.content before old) → IfSome told (λ d. Reads number d.content place in_hand (next.Record start end)) → IfSome told (λ d. HasKept number d.content before new (record { at = start; why = why }))
+refused number told before old new place start end in_hand bytes why there bytes_are refuses front says =
+    let ended : End = record { at = start; why = why } in
+    subst (λ (k : Kept). IfSome told (λ d. HasKept number d.content before k ended)) (sym refuses.0)
+    (if_both told (λ d. KeepsFront number d.content before old) (λ d. Reads number d.content place in_hand (next.Record start end)) (λ d. HasKept number d.content before old ended) front says
+    (λ d f r. refuses_read number d.content before old place start end in_hand bytes why there bytes_are f r refuses.1))
 
 -- so does anything that can't be read
-pub ended : (number : Option ℕ) (told : Option Disk) (kept : Kept) (place at : ℕ) (in_hand : List ℕ) (why : EndReason) → kept.end ≡ place
-    → IfSome told (λ d. KeepsFront number d.content kept) → IfSome told (λ d. Reads number d.content place in_hand (next.End at why)) → IfSome told (λ d. HasRecovered number d.content (answer kept at why))
-ended number told kept place at in_hand why there front says =
-    if_both told (λ d. KeepsFront number d.content kept) (λ d. Reads number d.content place in_hand (next.End at why)) (λ d. HasRecovered number d.content (answer kept at why)) front says
-    (λ d f r. ends_reading number d.content kept (record { at = at; why = why }) f (subst (λ n. ReadingEnds number d.content n at why) (sym there) r))
+pub ended : (number : Option ℕ) (told : Option Disk) (before kept : Kept) (place at : ℕ) (in_hand : List ℕ) (why : EndReason) → kept.end ≡ place
+    → IfSome told (λ d. KeepsFront number d.content before kept) → IfSome told (λ d. Reads number d.content place in_hand (next.End at why)) → IfSome told (λ d. HasKept number d.content before kept (record { at = at; why = why }))
+ended number told before kept place at in_hand why there front says =
+    let end : End = record { at = at; why = why } in
+    if_both told (λ d. KeepsFront number d.content before kept) (λ d. Reads number d.content place in_hand (next.End at why)) (λ d. HasKept number d.content before kept end) front says
+    (λ d f r. ends_reading number d.content before kept end f (subst (λ n. ReadingEnds number d.content n at why) (sym there) r))
+
+-- at first nothing of the disk is kept
+pub begun : (number : Option ℕ) (told : Option Disk) (before kept : Kept) → kept.groups.items ≡ before.groups.items → kept.map ≡ before.map → kept.last ≡ before.last → kept.end ≡ 0 → IfSome told (λ d. KeepsFront number d.content before kept)
+begun number told before kept groups map_is last end = if_all told (λ d. KeepsFront number d.content before kept) (λ d. begins number d.content before kept groups map_is last end)
+
+-- of a log without bytes nothing is read, and so nothing is kept
+no_bytes : ReadingEnds plain_log [] 0 0 ends.Clean
+unfolding seen_within
+no_bytes = clean {at = 0} (record { begun = tt; stand = record { rest = []; there = refl; fit = tt }; is_next = refl })
+
+pub nothing_kept : (told : Option Disk) (len : ℕ) (before kept : Kept) → len ≡ 0 → IfSome told (λ d. len ≡ length d.content) → kept.groups.items ≡ before.groups.items → kept.map ≡ before.map → kept.last ≡ before.last → kept.end ≡ 0
+    → IfSome told (λ d. HasKept plain_log d.content before kept (record { at = 0; why = ends.Clean }))
+nothing_kept told len before kept none long groups map_is last end =
+    let ended : End = record { at = 0; why = ends.Clean } in
+    if_both told (λ d. len ≡ length d.content) (λ d. KeepsFront plain_log d.content before kept) (λ d. HasKept plain_log d.content before kept ended) long (begun plain_log told before kept groups map_is last end)
+    (λ d is front.
+    let no_content : d.content ≡ [] = nil_from_length d.content (sym is ∙ none) in
+    ends_reading plain_log d.content before kept ended front
+    (subst (λ n. ReadingEnds plain_log d.content n 0 ends.Clean) (sym end) (subst (λ l. ReadingEnds plain_log l 0 0 ends.Clean) (sym no_content) no_bytes)))
+
+-- what is kept of the first log is what is recovered from it
+pub recovered_first : (number : Option ℕ) (told : Option Disk) (before kept : Kept) (end : End) → before.groups.items ≡ [] → before.map ≡ [] → before.last ≡ 0 → IfSome told (λ d. HasKept number d.content before kept end)
+    → IfSome told (λ d. HasRecovered number d.content (record { groups = kept.groups; map = kept.map; last = kept.last; kept = kept.end; end = end }))
+recovered_first number None before kept end groups map_is last has = tt
+recovered_first number (Some d) before kept end groups map_is last has = first_recovered number d.content before kept end groups map_is last has

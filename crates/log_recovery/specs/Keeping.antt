@@ -5,7 +5,8 @@ use Rattle.model_base.specs.declared.log.EndReason.TheVariants as ends
 use Rattle.model_base.specs.Batch.{count_of, IsBatch}
 use Rattle.model_base.specs.History.{max_sequence}
 use Rattle.model_base.specs.Map.{after_records}
-use Rattle.model_base.specs.Recovery.{Logged, logged_bytes, last_after, last_sequence, MayFollow, Keeps, RecordEnds}
+use Rattle.model_base.specs.Recovery.{Logged, logged_bytes, last_after, last_sequence, MayFollow, RecordEnds}
+use Rattle.model_base.specs.RecoveredLogs.{KeepsAfter}
 use Rattle.log_recovery.specs.declared.kept.GroupNote.{GroupNote}
 use Rattle.log_recovery.specs.declared.kept.Kept.{Kept}
 
@@ -13,17 +14,18 @@ use Rattle.log_recovery.specs.declared.kept.Kept.{Kept}
 abbrev pub note_of : Logged → GroupNote
 note_of b = record { first = b.first; count = count_of b.records; size = length (logged_bytes b) }
 
--- what is kept shows these batches: their notes, their map and their last sequence
-pub record Shows (kept : Kept) (batches : List Logged) : Type 0 where
-  pub groups : kept.groups.items ≡ map note_of batches
-  pub map_is : kept.map ≡ fold (λ m b. after_records m b.records) [] batches
-  pub last : kept.last ≡ last_sequence 0 batches
+-- what is kept shows what was kept before, and then these batches: their notes, their map and their last sequence
+pub record ShowsAfter (before kept : Kept) (batches : List Logged) : Type 0 where
+  pub groups : kept.groups.items ≡ before.groups.items ++ map note_of batches
+  pub map_is : kept.map ≡ fold (λ m b. after_records m b.records) before.map batches
+  pub last : kept.last ≡ last_sequence before.last batches
 
--- what is kept is all records of the file up to the offset `kept.end`, in a log with this number, if it has one
-pub record KeepsFront (number : Option ℕ) (file : List ℕ) (kept : Kept) : Type 0 where
+-- What is kept since then is all records of the file up to the offset `kept.end`, in a log with this number, if it has
+-- one. Their runs rise above those that were kept before.
+pub record KeepsFront (number : Option ℕ) (file : List ℕ) (before kept : Kept) : Type 0 where
   pub batches : List Logged
-  pub shows : Shows kept batches
-  pub keeps : Keeps number file kept.end batches
+  pub shows : ShowsAfter before kept batches
+  pub keeps : KeepsAfter before.last number file kept.end batches
 
 -- these bytes are a batch that may follow the last sequence
 pub record MayBeKept (last : ℕ) (bytes : List ℕ) : Type 0 where

@@ -71,6 +71,6 @@ pub record IsDamage (number : Option ℕ) (mode : Mode) (file : List ℕ) (at : 
 
 -- what an error says of the file
 abbrev pub TellsDamage : Option ℕ → Mode → List ℕ → RecoverError → Type 0
-TellsDamage number mode file (Damage at why) = IsDamage number mode file at why
+TellsDamage number mode file (Damage log at why) = IsDamage number mode file at why
 TellsDamage number mode file (Fault count) = ⊤
 TellsDamage number mode file NoMemory = ⊤

@@ -11,9 +11,11 @@
 #![tactic(auto)]
 
 mod kept;
+mod many;
 mod modes;
 mod recovery;
 
 pub use kept::GroupNote;
+pub use many::{RecoveredMany, recover_many};
 pub use modes::Mode;
 pub use recovery::{End, RecoverError, Recovered, recover, recover_mode};

@@ -4,7 +4,7 @@ ghost use Rattle.std.specs.Prelude.{◌≡◌, ◌≤◌, IfOk, IfErr, IfSome, O
 ghost use Rattle.log_reader.specs.OnlyReads.{OnlyReads};
 ghost use Rattle.log_recovery.specs.declared.modes.Mode.TheVariants.{Point};
 ghost use Rattle.log_recovery.specs.Modes.{Accepts, TellsDamage};
-ghost use Rattle.log_recovery.specs.Recovering.{HasRecovered, IsNumbered, IsRecoverError};
+ghost use Rattle.log_recovery.specs.Recovering.{HasKept, HasRecovered, IsNumbered, IsOfFirstLog, IsRecoverError};
 
 use crate::kept::{GroupNote, Kept};
 use crate::modes::{Mode, accepts};
@@ -38,8 +38,9 @@ pub enum RecoverError {
     /// The disk failed, and this is its count of faults.
     Fault { count: u64 },
     NoMemory,
-    /// Recovery ends at this offset for this reason, which the mode doesn't accept.
-    Damage { at: u64, why: EndReason },
+    /// Recovery ends in this log, counted from 1 where there are several, at this offset for this reason, which the mode
+    /// doesn't accept.
+    Damage { log: u64, at: u64, why: EndReason },
 }
 
 impl From<NoMemory> for RecoverError {
@@ -76,17 +77,36 @@ pub fn recover<D: Disk>(
     // The disk tells what it told before, its count of faults doesn't fall, and its time goes on.
     ensures disk { OnlyReads ⟦<D as Disk>⟧ disk.old disk.new }
 {
-    let mut log = LogReader::open(alloc, number)?;
     let mut kept = Kept::new(alloc);
+    let end = keep_log(alloc, disk, number, &mut kept)?;
+    Ok(answer_of(kept, end))
+}
+
+/// Keeps what the log recovers that a disk holds, after what was kept before, and answers where recovery of it ends.
+/// Where this fails, what is kept is of no use.
+pub(crate) fn keep_log<D: Disk>(
+    alloc: Global,
+    disk: &mut D,
+    number: Option<u32>,
+    kept: &mut Kept,
+) -> Result<End, RecoverError>
+    ensures recovered { IfSome (D.told disk.old) (λ d. IfOk result (HasKept number d.content kept.old kept.new)) }
+    ensures numbered { OnOk result (IsNumbered kept.old.map kept.old.last → IsNumbered kept.new.map kept.new.last) }
+    ensures worked { OnOk result (D.faults disk.new ≡ D.faults disk.old) }
+    ensures error { IfErr result (IsRecoverError Point (D.faults disk.old) (D.faults disk.new)) }
+    ensures disk { OnlyReads ⟦<D as Disk>⟧ disk.old disk.new }
+{
+    let mut log = LogReader::open(alloc, number)?;
+    kept.end = 0;
     // All records before the reader's place are kept, and their runs rise.
     loop {
         match log.next(disk) {
             Next::Record { start, end } => {
                 if let Some(why) = kept.keep(log.record(), end)? {
-                    return Ok(answer_of(kept, End { at: start, why }));
+                    return Ok(End { at: start, why });
                 }
             }
-            Next::End { at, why } => return Ok(answer_of(kept, End { at, why })),
+            Next::End { at, why } => return Ok(End { at, why }),
             Next::Fault { count } => return Err(RecoverError::Fault { count }),
             Next::NoMemory => return Err(RecoverError::NoMemory),
         }
@@ -111,6 +131,7 @@ pub fn recover_mode<D: Disk>(
     // A refusal is true too: recovery does end at this place for this reason, and the mode doesn't accept that. No
     // clause says which ends a crash leaves.
     ensures damage { IfSome (D.told disk.old) (λ d. IfErr result (TellsDamage number mode d.content)) }
+    ensures log { IfErr result IsOfFirstLog }
     ensures numbered { IfOk result (λ r. IsNumbered r.map r.last) }
     ensures worked { OnOk result (D.faults disk.new ≡ D.faults disk.old) }
     // `Damage` comes only with no fault counted, and never in the mode `Point`. The other errors are those of
@@ -122,7 +143,7 @@ pub fn recover_mode<D: Disk>(
     let End { at, why } = recovered.end;
     match accepts(disk, number, mode, recovered.end) {
         Ok(true) => Ok(recovered),
-        Ok(false) => Err(RecoverError::Damage { at, why }),
+        Ok(false) => Err(RecoverError::Damage { log: 1, at, why }),
         Err(count) => Err(RecoverError::Fault { count }),
     }
 }

@@ -13,3 +13,5 @@ pub mod Kept
 pub mod Recovering
 pub mod OneRecovery
 pub mod ImageOfFile
+pub mod Fronts
+pub mod OneLog

@@ -9,15 +9,17 @@
 //! proved with the crate.
 #![tactic(auto)]
 
-ghost use Rattle.std.specs.Prelude.{◌≡◌, ◌⊎◌, ℕ, List, [], ◌∷◌, map, Option, Some, None, ⊤};
+ghost use Rattle.std.specs.Prelude.{◌≡◌, ◌⊎◌, ◌≤◌, ℕ, List, [], ◌∷◌, length, map, take, Option, Some, None, ⊤};
 ghost use Rattle.model_base.specs.declared.batch.BatchError.{BatchError};
 ghost use Rattle.model_base.specs.declared.log.Damage.TheVariants.{ShortHeader};
 ghost use Rattle.model_base.specs.declared.log.EndReason.{EndReason};
 ghost use Rattle.model_base.specs.declared.log.EndReason.TheVariants.{Clean, Broken};
 ghost use Rattle.model_base.specs.Batch.{Record, IsBatch, IsBatchError};
 ghost use Rattle.model_base.specs.Log.{SpellsWhole, plain_log};
-ghost use Rattle.model_base.specs.Recovery.{logged_bytes, Recovered, IsRecovered, IsRead, NoChance, NoChanceForReader};
-ghost use Rattle.log_laws.specs.Prefixes.{IsPrefix, RecoversPrefix};
+ghost use Rattle.model_base.specs.Recovery.{Logged, logged_bytes, Recovered, IsRecovered, IsRead, NoChance, NoChanceForReader};
+ghost use Rattle.log_laws.specs.Prefixes.{IsPrefix, RecoversPrefix, AreTheseBatches, BeginsWith};
+ghost use Rattle.log_laws.specs.Fronts.{AreFront, NoChances, RecoverPrefix, plain_text, records_in};
+ghost use Rattle.model_base.specs.RecoveredLogs.{RecoveredLogs, AreRecovered, in_first};
 ghost use Rattle.log_recovery_laws.specs.Images.{MeetsNoOther};
 ghost use Rattle.log_recovery_laws.specs.Reads.{AreBytes, Answer, found, ended, Reads, nothing_until};
 
@@ -82,6 +84,31 @@ pub fn a_crash_leaves_a_prefix()
 pub fn an_image_of_the_file()
     ensures recovered { (number : Option ℕ) (image file : List ℕ) (r : Recovered) → IsRecovered number file r
         → MeetsNoOther number image file → RecoversPrefix number (map logged_bytes r.batches) image (λ n. ⊤) }
+{}
+
+/// What several logs recover of which a crash left a front is a prefix of their records, log by log, unless a checksum
+/// is right by chance. It has all that are there for certain, if these are batches whose runs rise.
+pub fn fronts_recover_prefixes()
+    ensures prefix { (safe : ℕ) (logs : List (List (List ℕ))) (images : List (List ℕ)) → AreFront safe logs images
+        → NoChances logs images → RecoverPrefix (records_in logs) images (λ n. ⊤) }
+    ensures certain { (safe : ℕ) (logs : List (List (List ℕ))) (images : List (List ℕ)) (batches : List Logged)
+        → AreFront safe logs images → NoChances logs images
+        → AreTheseBatches (take safe (records_in logs)) batches
+        → RecoverPrefix (records_in logs) images (λ n. safe ≤ n) }
+{}
+
+/// What one log recovers as the only one of several is what it recovers, and images of one log are a front of it just
+/// where the one image begins with the text of the records that are there for certain.
+pub fn one_of_several()
+    ensures recovered { (file : List ℕ) (s : RecoveredLogs) → AreRecovered plain_log (file ∷ []) s
+        → (r : Recovered) × IsRecovered plain_log file r × (s ≡ in_first r) }
+    ensures back { (file : List ℕ) (r : Recovered) → IsRecovered plain_log file r
+        → AreRecovered plain_log (file ∷ []) (in_first r) }
+    ensures prefix { (least : ℕ) (records : List (List ℕ)) (file : List ℕ)
+        → RecoverPrefix records (file ∷ []) (λ n. least ≤ n)
+        → RecoversPrefix plain_log records file (λ n. least ≤ n) }
+    ensures front { (safe : ℕ) (records : List (List ℕ)) (image : List ℕ) → AreFront safe (records ∷ []) (image ∷ [])
+        → (safe ≤ length records) × BeginsWith (plain_text (take safe records)) image }
 {}
 
 /// Examples: the only result of recovery for an empty file, and for a file of a single byte, which is 0.

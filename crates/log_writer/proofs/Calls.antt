@@ -93,7 +93,7 @@ begun_front (d ∷ calls) more = with_failed d.failed (begun_front calls more)
     with_failed (Some n) front = (record_of_call d ∷ [], refl)
 
 -- Among which calls those that have synced are, when there is one call more.
-all_more : {A : Type 0} (P : A → Type 0) (xs : List A) (x : A) → AllByRecursion P xs → P x → AllByRecursion P (xs ++ x ∷ [])
+pub all_more : {A : Type 0} (P : A → Type 0) (xs : List A) (x : A) → AllByRecursion P xs → P x → AllByRecursion P (xs ++ x ∷ [])
 all_more P [] x all one = (one, tt)
 all_more P (y ∷ ys) x all one = (all.0, all_more P ys x all.1 one)
 

@@ -8,3 +8,17 @@ pub mod Surviving
 pub mod Held
 pub mod Beginning
 pub mod Filling
+pub mod SetFronts
+pub mod Setting
+pub mod Splitting
+pub mod SetStates
+pub mod SetCrashes
+pub mod SetRecords
+pub mod SetContents
+pub mod SetOpening
+pub mod Cutting
+pub mod SetFilled
+pub mod SetJoining
+pub mod SetEnd
+pub mod SetHeld
+pub mod SetUnused

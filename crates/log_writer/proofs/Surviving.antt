@@ -1,5 +1,5 @@
 -- What a crash at any moment of many calls leaves.
-use Rattle.std.proofs.Common.{◌≡◌, ℕ, ◌≤◌, Bool, List, [], ◌++◌, length, take, Option, Some, None, Result, Ok, Err, IfSome, MatchOption, refl, sym, ◌∙◌, ap, subst, arith, length-append}
+use Rattle.std.proofs.Common.{◌≡◌, ℕ, ◌≤◌, Bool, List, [], ◌++◌, length, take, Option, Some, None, Result, Ok, Err, IfSome, refl, sym, ◌∙◌, ap, subst, arith, length-append}
 use Rattle.std.proofs.Math.Seq.{take-take}
 use Rattle.std.proofs.lemmas.List.{take-append-le, append-nil}
 use Rattle.base_devices.specs.Disk.{Disk, IsDisk, IsImage, Told, LeavesOnly}
@@ -11,8 +11,9 @@ use Rattle.log_writer.specs.declared.writer.LogWriter.{LogWriter}
 use Rattle.log_writer.specs.Crashes.{safe_len, KeepsSafe, KeepsWhatWasSafe, KeepsPrefix}
 use Rattle.log_writer.specs.Puts.{StaysInFront, ArePut, Puts}
 use Rattle.log_writer.specs.Words.{disk_of, number_of, len_of, fault_of}
-use Rattle.log_writer.specs.Adding.{GroupCall, record_of_call, answer_of, Grows, Stops, Adds}
+use Rattle.log_writer.specs.Adding.{GroupCall, record_of_call, answer_of, Adds}
 use Rattle.log_writer.specs.Written.{Wrote, no_call, one_more, IsWritten, written_by, begun_by, HoldsCalls, HasCauseSince}
+use Rattle.log_writer.specs.FaultLaws.{Caused, caused_calls}
 use Rattle.log_writer.proofs.Calls.{begun_front}
 use Rattle.log_writer.proofs.Keeping.{after_front, after_shorter, front_kept, keeps_prefix, leaves_safe, leaves_same}
 use Rattle.log_writer.proofs.Putting.{told_more, told_is, leaves_so, leaves_more, stays_more, stays_self, put_stays, keeps_before, keeps_image}
@@ -25,7 +26,7 @@ told_none : (a : Option Disk) → Told a a StaysInFront
 told_none None = tt
 told_none (Some x) = stays_self x
 
-safe_before : (a b : Option Disk) (image : List ℕ) → Told a b StaysInFront → KeepsWhatWasSafe b image → KeepsWhatWasSafe a image
+pub safe_before : (a b : Option Disk) (image : List ℕ) → Told a b StaysInFront → KeepsWhatWasSafe b image → KeepsWhatWasSafe a image
 safe_before None b image stays keeps = tt
 safe_before (Some x) None image stays keeps = absurd stays
 safe_before (Some x) (Some y) image stays keeps = keeps_before x y image stays keeps
@@ -49,7 +50,7 @@ module _ {D : Type 0} {ghosts : Ghosts D} (laws : Laws ghosts) where
     later = omega arith;
   }
 
-  survives_put : (old new : LogWriter D ghosts) (bytes : List ℕ) (sync : Bool) (r : Result (Unit {0}) ℕ) → Puts ghosts (disk_of old) (disk_of new) bytes sync r → Survives old new
+  pub survives_put : (old new : LogWriter D ghosts) (bytes : List ℕ) (sync : Bool) (r : Result (Unit {0}) ℕ) → Puts ghosts (disk_of old) (disk_of new) bytes sync r → Survives old new
   survives_put old new bytes sync r put = record {
     stays = told_is (ghosts.told (disk_of old)) (ghosts.told (disk_of new)) (laws.is_disk (disk_of old)) put.are_put (λ x y d p. put_stays_so x y bytes sync r d p);
     leaves = leaves_safe ghosts.moment ghosts.from ghosts.since (ghosts.told (disk_of old)) (length bytes) (disk_of old) (disk_of new) put.crash;
@@ -63,7 +64,7 @@ module _ {D : Type 0} {ghosts : Ghosts D} (laws : Laws ghosts) where
       by_fault None is_none kept = survives_put old new (record_text (number_of old) (len_of old) (record_of_call c)) c.sync (answer_of c.failed) (adds.put is_none)
       by_fault (Some count) is_some kept = subst (λ (log : LogWriter D ghosts). Survives old log) (sym kept.1) (survives_none old)
 
-  survives_more : (a b c : LogWriter D ghosts) → Survives a b → Survives b c → Survives a c
+  pub survives_more : (a b c : LogWriter D ghosts) → Survives a b → Survives b c → Survives a c
   survives_more a b c first second = record {
     stays = told_more (ghosts.told (disk_of a)) (ghosts.told (disk_of b)) (ghosts.told (disk_of c)) first.stays second.stays stays_more;
     leaves = leaves_more ghosts.moment ghosts.from ghosts.since (KeepsWhatWasSafe (ghosts.told (disk_of a))) (KeepsWhatWasSafe (ghosts.told (disk_of b))) (disk_of a) (disk_of b) (disk_of c) first.leaves second.leaves
@@ -75,40 +76,16 @@ module _ {D : Type 0} {ghosts : Ghosts D} (laws : Laws ghosts) where
   survives old calls new no_call = survives_none old
   survives old calls new (one_more {calls = before} {now = now} c wrote adds) = survives_more old now new (survives old before now wrote) (survives_call c now new adds)
 
-  -- with one call more, a fault still has its cause in one of the calls
-  caused_call : (disk : D) (c : GroupCall) (now new : LogWriter D ghosts) → HasCauseSince disk now → Adds c now new → HasCauseSince disk new
-  caused_call disk c now new since adds = by_fault (fault_of now) refl adds.dead
-    where
-      by_answer : (f : Option ℕ) → fault_of now ≡ None → Puts ghosts (disk_of now) (disk_of new) (record_text (number_of now) (len_of now) (record_of_call c)) c.sync (answer_of f)
-          → MatchOption f (Grows (record_text (number_of now) (len_of now) (record_of_call c)) now new) (Stops now new) → HasCauseSince disk new
-      by_answer None is_none put grows = record {
-        later = omega (arith, since.later, (put.cause).later);
-        rose = subst (λ (f : Option ℕ). IfSome f (λ count. Rose (ghosts.faults disk) count × (count ≤ ghosts.faults (disk_of new)))) (sym grows.fault) tt;
-        no_fault = λ none. (put.cause).worked ∙ since.no_fault is_none;
-      }
-      by_answer (Some count) is_none put stops = record {
-        later = omega (arith, since.later, (put.cause).later);
-        rose = subst (λ (f : Option ℕ). IfSome f (λ n. Rose (ghosts.faults disk) n × (n ≤ ghosts.faults (disk_of new)))) (sym stops.fault)
-            (omega (arith, since.later, (put.cause).failed, stops.count_is), omega (arith, stops.count_is));
-        no_fault = λ none. let wrong : ◌≡◌ {A = Option ℕ} None (Some count) = sym none ∙ stops.fault in absurd (cc);
-      }
-
-      by_fault : (f : Option ℕ) → fault_of now ≡ f → IfSome f (λ count. (c.failed ≡ Some count) × (new ≡ now)) → HasCauseSince disk new
-      by_fault None is_none kept = by_answer c.failed is_none (adds.put is_none) (adds.kept is_none)
-      by_fault (Some count) is_some kept = subst (λ (log : LogWriter D ghosts). HasCauseSince disk log) (sym kept.1) since
-
-  caused_calls : (disk : D) (opened : LogWriter D ghosts) (calls : List GroupCall) (new : LogWriter D ghosts) → HasCauseSince disk opened → Wrote opened calls new → HasCauseSince disk new
-  caused_calls disk opened calls new first no_call = first
-  caused_calls disk opened calls new first (one_more {calls = before} {now = now} c wrote adds) = caused_call disk c now new (caused_calls disk opened before now first wrote) adds
-
+  -- a fault came in one of the calls since the log was opened
   pub caused : (b : Beginning) (disk : D) (calls : List GroupCall) (log : LogWriter D ghosts) → IsWritten b disk calls log → HasCauseSince disk log
-  caused b disk calls log is = caused_calls disk is.begun calls log
-      (record {
+  caused b disk calls log is =
+      let first : Caused (ghosts.faults disk) is.begun = record {
         later = omega (arith, (is.has_begun).no_fault);
         rose = subst (λ (f : Option ℕ). IfSome f (λ n. Rose (ghosts.faults disk) n × (n ≤ ghosts.faults (disk_of is.begun)))) (sym (is.has_begun).fault) tt;
         no_fault = λ none. (is.has_begun).no_fault;
-      })
-      is.wrote
+      } in
+      let since : Caused (ghosts.faults disk) log = caused_calls (ghosts.faults disk) is.begun calls log first is.wrote in
+      record { later = since.later; rose = since.rose; no_fault = since.no_fault }
 
 -- Each image begins with the text of the records that were safe.
 pub safe_begins : (b : Beginning) (d : Disk) (calls : List GroupCall) (safe : ℕ) (image : List ℕ) → HoldsCalls b d calls safe → KeepsSafe d image → BeginsWith (text_after b (take safe (written_by calls))) image

@@ -1,5 +1,5 @@
 -- A call of `add_group`, and what it does to the log.
-use Rattle.std.specs.Prelude.{◌≡◌, ℕ, ◌+◌, Bool, List, length, Option, Some, None, Result, Ok, Err, IfSome, MatchOption}
+use Rattle.std.specs.Prelude.{◌≡◌, ℕ, ◌+◌, Bool, true, List, [], length, Option, Some, None, Result, Ok, Err, IfSome, MatchOption}
 use Rattle.base_devices.specs.declared.disk.Disk.{Ghosts}
 pub use Rattle.model_base.specs.LogContents.{GroupCall, record_of_call}
 use Rattle.model_base.specs.Log.{record_text}
@@ -52,3 +52,16 @@ module _ {D : Type 0} {ghosts : Ghosts D} where
     pub put : fault_of old ≡ None
         → Puts ghosts (disk_of old) (disk_of new) (text_at_end c old) c.sync (answer_of c.failed)
     pub kept : fault_of old ≡ None → MatchOption c.failed (Grows (text_at_end c old) old new) (Stops old new)
+
+  -- the disk was synced; the log is as it was
+  pub record Syncs (old new : LogWriter D ghosts) : Type 0 where
+    pub number : number_of new ≡ number_of old
+    pub len : len_of new ≡ len_of old
+    pub fault : fault_of new ≡ None
+    pub put : Puts ghosts (disk_of old) (disk_of new) [] true (answer_of None)
+
+  -- the sync failed, and the log takes no more
+  pub record FailsToSync (old new : LogWriter D ghosts) (count : ℕ) : Type 0 where
+    pub number : number_of new ≡ number_of old
+    pub stops : Stops old new count
+    pub put : Puts ghosts (disk_of old) (disk_of new) [] true (answer_of (Some count))

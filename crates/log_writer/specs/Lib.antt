@@ -5,3 +5,12 @@ pub mod Opening
 pub mod Groups
 pub mod Adding
 pub mod Written
+pub mod GroupLogs
+pub mod FaultLaws
+pub mod Sets
+pub mod SetFaultLaws
+pub mod SetCrashes
+pub mod SetSplits
+pub mod SetContents
+pub mod SetOpening
+pub mod SetWritten

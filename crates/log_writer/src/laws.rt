@@ -3,12 +3,18 @@
 ghost use Rattle.std.specs.Prelude.{◌≡◌, ◌+◌, ◌≤◌, ℕ, List, [], ◌∷◌, ◌++◌, length, take, Option, Some, None, IfSome};
 ghost use Rattle.base_devices.specs.Disk.{IsImage, LeavesOnly, Told};
 ghost use Rattle.model_base.specs.Log.{Beginning, new_log, text_after};
+ghost use Rattle.log_laws.specs.Fronts.{records_in};
 ghost use Rattle.log_laws.specs.Prefixes.{BeginsWith};
 ghost use Rattle.log_writer.specs.declared.writer.LogWriter.{LogWriter as Log};
 ghost use Rattle.log_writer.specs.Words.{disk_of};
 ghost use Rattle.log_writer.specs.Opening.{HasOpened, HasReused, HasResumed, HasBegun};
 ghost use Rattle.log_writer.specs.Adding.{GroupCall, Adds};
 ghost use Rattle.log_writer.specs.Crashes.{KeepsPrefix};
+ghost use Rattle.log_writer.specs.declared.set.LogSet.{LogSet as Set};
+ghost use Rattle.log_writer.specs.Sets.{WroteSet, fault_in};
+ghost use Rattle.log_writer.specs.SetSplits.{IsSplit};
+ghost use Rattle.log_writer.specs.SetCrashes.{HasOpenedSet, AreSafeAfterFirst, LeavesFront};
+ghost use Rattle.log_writer.specs.SetContents.{HoldLogs};
 ghost use Rattle.log_writer.specs.Written.{Wrote, IsWritten, written_by, begun_by, first_fault, HaveSynced, HoldsCalls, HoldsSynced, IsTextOver, Stands, HasCauseSince};
 
 use base_devices::Disk;
@@ -71,4 +77,27 @@ pub fn crashes_between_calls<D: Disk>()
     ensures held { (b : Beginning) (disk : D) (calls : List GroupCall) (log : Log D ⟦<D as Disk>⟧)
         → IsWritten b disk calls log → IfSome (D.told disk) (λ d.
         LeavesOnly D.moment D.from D.since disk (disk_of log) (HoldsSynced b d.reach calls)) }
+{}
+
+/// Which calls wrote which log of a set: those that wrote a log come after one another, and before those that wrote the
+/// logs after it.
+pub fn calls_of_each_log<D: Disk>()
+    ensures split { (old new : Set D ⟦<D as Disk>⟧) (calls : List GroupCall) → fault_in old ≡ None
+        → WroteSet old calls new → IsSplit old calls new }
+{}
+
+/// At any moment of calls of a set, once others had returned, a crash leaves a front of what its logs have.
+pub fn crashes_of_sets<D: Disk>()
+    ensures front { (disks : List D) (opened between last : Set D ⟦<D as Disk>⟧) (before after : List GroupCall)
+        → AreSafeAfterFirst ⟦<D as Disk>⟧ disks → HasOpenedSet disks opened → IsSplit opened before between
+        → IsSplit between after last → fault_in between ≡ None
+        → (safe : ℕ) × (logs : List (List (List ℕ))) × HaveSynced before safe
+        × (records_in logs ≡ begun_by (before ++ after)) × LeavesFront between last safe logs }
+{}
+
+/// What the disks hold, once calls have written a set that was opened on them: the logs' texts, and of the record whose
+/// call failed a front at most, where that call was to put it. Nothing is in the logs after that one.
+pub fn contents_of_sets<D: Disk>()
+    ensures hold { (disks : List D) (opened last : Set D ⟦<D as Disk>⟧) (calls : List GroupCall)
+        → HasOpenedSet disks opened → IsSplit opened calls last → HoldLogs last calls }
 {}

@@ -27,12 +27,23 @@
 //! a call that synced has returned, each image begins with the text up to the end of that call.
 #![tactic(auto)]
 
+mod counts;
 mod errors;
 mod group_bytes;
+mod group_log;
 mod laws;
 mod puts;
+mod set;
+mod set_laws;
+mod set_opening;
 mod writer;
 
 pub use errors::{Fault, OpenError};
-pub use laws::{beginnings, crashes_between_calls, written_by_calls};
+pub use group_log::GroupLog;
+pub use laws::{
+    beginnings, calls_of_each_log, contents_of_sets, crashes_between_calls, crashes_of_sets,
+    written_by_calls,
+};
+pub use set::LogSet;
+pub use set_laws::{one_cut_of_sets, sets_are_filled, synced_in_sets};
 pub use writer::LogWriter;

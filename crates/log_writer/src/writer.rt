@@ -3,7 +3,7 @@
 ghost use Rattle.std.specs.Prelude.{◌≡◌, ◌≤◌, vec_len, IfOk, IfSome, None};
 ghost use Rattle.std.proofs.Props.{props};
 
-use crate::puts::{keep, put_group};
+use crate::puts::{keep, put_group, sync_if};
 use crate::{Fault, OpenError};
 use base_devices::Disk;
 use log_batch::Batch;
@@ -28,13 +28,14 @@ pub struct LogWriter<D: Disk> {
 }
 
 impl<D: Disk> LogWriter<D> {
-    ghost use Rattle.std.specs.Prelude.{◌+◌, ◌-◌, ◌^◌, ◌<◌, length, IsTrue, IfErr, OnOk};
+    ghost use Rattle.std.specs.Prelude.{◌+◌, ◌-◌, ◌^◌, ◌<◌, length, IsTrue, IfErr, OnOk, MatchOption, Some};
     ghost use Rattle.model_base.specs.History.{max_sequence};
     ghost use Rattle.log_writer.specs.Words.{disk_of, number_of, len_of, fault_of, room_of};
     ghost use Rattle.log_writer.specs.Groups.{counts_of, body_lens_of, record_of_group};
     ghost use Rattle.log_writer.specs.Crashes.{LeavesPrefix, IsDurable};
-    ghost use Rattle.log_writer.specs.Adding.{Adds, call_of};
+    ghost use Rattle.log_writer.specs.Adding.{Adds, Syncs, FailsToSync, call_of, count_of_fault};
     ghost use Rattle.log_writer.specs.Opening.{HasOpened, HasReused, HasResumed, SpellsInFront, IsOpenError, IsReuseError, IsResumeError};
+    ghost use Rattle.log_writer.specs.SetOpening.{IsEmpty, IsNew};
 
     /// Opens the log of an empty disk, with one look at its length.
     pub fn open(alloc: Global, mut disk: D) -> Result<LogWriter<D>, (D, OpenError)>
@@ -62,6 +63,22 @@ impl<D: Disk> LogWriter<D> {
                 fault: None,
             }),
             Err(_) => Err((disk, OpenError::NoMemory)),
+        }
+    }
+
+    /// The log of an empty disk, over this block.
+    pub(crate) fn on(disk: D, block: Vec<u8>) -> LogWriter<D>
+        requires block { vec_len block ≡ BLOCK_LEN }
+        requires empty { IsEmpty ⟦<D as Disk>⟧ disk }
+        ensures disk { disk_of result ≡ disk }
+        ensures new { IsNew result }
+    {
+        LogWriter {
+            disk,
+            block,
+            number: None,
+            len: 0,
+            fault: None,
         }
     }
 
@@ -189,6 +206,36 @@ impl<D: Disk> LogWriter<D> {
         }
     }
 
+    /// Makes all that was written safe, by one sync of the disk. A fault ends the log, as it does in [`add_group`].
+    ///
+    /// [`add_group`]: LogWriter::add_group
+    pub fn sync(&mut self) -> Result<(), Fault>
+        ensures dead { IfSome (fault_of self.old)
+            (λ count. (count_of_fault result ≡ Some count) × (self.new ≡ self.old)) }
+        ensures synced { fault_of self.old ≡ None
+            → MatchOption (count_of_fault result) (Syncs self.old self.new) (FailsToSync self.old self.new) }
+        ensures room { room_of self.new ≡ room_of self.old }
+    {
+        if let Some(kept) = self.fault {
+            return Err(Fault { count: kept });
+        }
+        match sync_if(&mut self.disk, true) {
+            Ok(()) => Ok(()),
+            Err(_) => {
+                let count = self.disk.faults();
+                self.fault = Some(count);
+                Err(Fault { count })
+            }
+        }
+    }
+
+    /// How many calls of the disk have failed.
+    pub(crate) fn faults(&self) -> u64
+        ensures { result ≡ D.faults (disk_of self.now) }
+    {
+        self.disk.faults()
+    }
+
     /// The length of the log: the bytes that it kept, and those of the groups that were written whole.
     pub fn len(&self) -> u64
         ensures { result ≡ len_of self.now }
@@ -226,7 +273,7 @@ impl<D: Disk> LogWriter<D> {
 }
 
 /// Room to put a fragment together: as many bytes as a block has.
-fn empty_block(alloc: Global) -> Result<Vec<u8>, NoMemory>
+pub(crate) fn empty_block(alloc: Global) -> Result<Vec<u8>, NoMemory>
     ensures { IfOk result (λ block. vec_len block ≡ BLOCK_LEN) }
 {
     Ok(vec![in alloc; 0u8; BLOCK_LEN]?)

@@ -26,10 +26,10 @@ transcript_closes settings trace groups parts fault client commands calls a is_h
   statuses = subst (λ n. AreStatuses trace groups fault n 0 a.attempts) run.number part.statuses;
 }
 
-pub closing : (settings : Settings) (ended : ℕ) (script : List (List Command)) (transcripts : List (List Call)) (accounts : List Account) (trace : Trace) (groups : List Group) (last log_len : ℕ)
+pub closing : (settings : Settings) (ended : ℕ) (script : List (List Command)) (transcripts : List (List Call)) (accounts : List Account) (trace : Trace) (groups : List Group) (last : ℕ) (log_lens : List ℕ)
     (fault : Option ℕ) → settings.clients ≡ length script → HaveRun settings script transcripts accounts → IsClosing settings ended trace groups accounts last fault
-    → IsLegalIn settings ended script trace (all_attempts accounts) (outcome_of trace transcripts last log_len fault)
-closing settings ended script transcripts accounts trace groups last log_len fault clients runs close = record {
+    → IsLegalIn settings ended script trace (all_attempts accounts) (outcome_of trace transcripts last log_lens fault)
+closing settings ended script transcripts accounts trace groups last log_lens fault clients runs close = record {
   is_trace = close.is_trace;
   history = refl;
   clients = clients;

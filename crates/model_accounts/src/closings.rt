@@ -29,10 +29,11 @@ ghost use Rattle.model_accounts.specs.Answered.{IsAmong};
 /// outcome is legal.
 pub fn closed_runs_are_legal()
     ensures legal { (settings : Settings) (ended : ℕ) (script : Script) (calls : List (List Call))
-        (accounts : List Account) (trace : Trace) (groups : List Group) (last log_len : ℕ) (fault : Option ℕ)
+        (accounts : List Account) (trace : Trace) (groups : List Group) (last : ℕ) (log_lens : List ℕ)
+        (fault : Option ℕ)
         → settings.clients ≡ length script → HaveRun settings script calls accounts
         → IsClosing settings ended trace groups accounts last fault
-        → IsLegalIn settings ended script trace (all_attempts accounts) (outcome_of trace calls last log_len fault) }
+        → IsLegalIn settings ended script trace (all_attempts accounts) (outcome_of trace calls last log_lens fault) }
 {}
 
 /// The groups of an outcome, from what the holder of the log knew, one leader after another.

@@ -40,12 +40,12 @@ pub record Call : Type 0 where
   pub command : Command
   pub reply : Reply
 
--- each client's calls with their replies, the one history, the sequence published last and the map at it, the log's
--- length and its fault
+-- each client's calls with their replies, the one history, the sequence published last and the map at it, the lengths
+-- of the logs that were begun (there is one, unless the run has several), and the log's fault
 pub record Outcome : Type 0 where
   pub transcripts : List (List Call)
   pub history : List Entry
   pub last : ℕ
   pub state : Pairs
-  pub log_len : ℕ
+  pub log_lens : List ℕ
   pub fault : Option ℕ

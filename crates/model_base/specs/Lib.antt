@@ -8,6 +8,7 @@ pub mod Reading
 pub mod Map
 pub mod History
 pub mod Recovery
+pub mod RecoveredLogs
 pub mod Calls
 pub mod Text
 pub mod Grouping

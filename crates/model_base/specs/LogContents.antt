@@ -20,12 +20,12 @@ pub record AreGroupsOf (entries : List Entry) (groups : List (List Entry)) : Typ
 abbrev pub records_of : List (List Entry) → List (List ℕ)
 records_of groups = map record_of_entries groups
 
--- The log holds these groups after the bytes that it kept: its content, up to the printed length, is those bytes and
--- the text of the groups' records.
+-- The one log holds these groups after the bytes that it kept: its content, up to the printed length, is those bytes
+-- and the text of the groups' records.
 pub record IsLogOf (b : Beginning) (o : Outcome) (content : List ℕ) (groups : List (List Entry)) : Type 0 where
   pub of_history : AreGroupsOf o.history groups
-  pub content_is : take o.log_len content ≡ text_after b (records_of groups)
-  pub length_is : o.log_len ≡ length (text_after b (records_of groups))
+  pub content_is : take (length (text_after b (records_of groups))) content ≡ text_after b (records_of groups)
+  pub length_is : o.log_lens ≡ length (text_after b (records_of groups)) ∷ []
 
 -- a call of `add_group`: its arguments, and the count of faults that it was answered if it failed
 pub record GroupCall : Type 0 where

@@ -61,15 +61,15 @@ pub record IsLegalIn (settings : Settings) (ended : ℕ) (script : List (List Co
   pub state : o.state ≡ map_over trace.opening trace.entries
   pub fault : IfSome o.fault (λ count. Rose settings.opened count × (count ≤ ended))
 
--- the outcome of a trace, with the clients' calls, the last sequence, the log's length and its fault
-abbrev pub outcome_of : Trace → List (List Call) → ℕ → ℕ → Option ℕ → Outcome
-outcome_of trace transcripts last log_len fault =
+-- the outcome of a trace, with the clients' calls, the last sequence, the lengths of the logs and their fault
+abbrev pub outcome_of : Trace → List (List Call) → ℕ → List ℕ → Option ℕ → Outcome
+outcome_of trace transcripts last log_lens fault =
     record {
       transcripts = transcripts;
       history = trace.entries;
       last = last;
       state = map_over trace.opening trace.entries;
-      log_len = log_len;
+      log_lens = log_lens;
       fault = fault;
     }
 

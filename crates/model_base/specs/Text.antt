@@ -16,6 +16,7 @@ use Rattle.model_base.specs.Map.{Pairs}
 use Rattle.model_base.specs.History.{Entry, last_of}
 use Rattle.model_base.specs.Calls.{Reply, quiet, accepted, refused, found, found_each, rows, done, held, not_held, no_memory, Call, Outcome}
 use Rattle.model_base.specs.Recovery.{Logged, logged_bytes, Recovered, recovered_last, recovered_map}
+use Rattle.model_base.specs.RecoveredLogs.{RecoveredLogs, map_of_logs, last_of_logs}
 
 -- words with one space between them, and a line feed
 abbrev pub line : List (List ℕ) → List ℕ
@@ -80,14 +81,15 @@ abbrev pub state_text : (List ℕ → List ℕ) → ℕ → Pairs → List ℕ
 state_text word last pairs = line (codes "state" ∷ decimal last ∷ decimal (length pairs) ∷ [])
     ++ flat_map (λ p. line (word p.0 ∷ word p.1 ∷ [])) pairs
 
-abbrev pub log_text : ℕ → Option ℕ → List ℕ
-log_text len None = line (codes "log" ∷ decimal len ∷ [])
-log_text len (Some count) = line (codes "log" ∷ decimal len ∷ codes "fault" ∷ decimal count ∷ [])
+-- the lengths of the logs that were begun, and the count of the fault
+abbrev pub log_text : List ℕ → Option ℕ → List ℕ
+log_text lens None = line (codes "log" ∷ map decimal lens)
+log_text lens (Some count) = line (codes "log" ∷ map decimal lens ++ codes "fault" ∷ decimal count ∷ [])
 
 -- what `run` prints
 abbrev pub outcome_text : Outcome → List ℕ
 outcome_text o = clients_text o.transcripts ++ history_text o.history ++ state_text (λ w. w) o.last o.state
-    ++ log_text o.log_len o.fault
+    ++ log_text o.log_lens o.fault
 
 abbrev pub damage_words : Damage → List (List ℕ)
 damage_words ShortHeader = codes "shortheader" ∷ []
@@ -122,3 +124,9 @@ group_text b = line (decimal b.first ∷ decimal (count_of b.records) ∷ decima
 abbrev pub recovered_text : Recovered → List ℕ
 recovered_text r = line (codes "groups" ∷ decimal (length r.batches) ∷ []) ++ flat_map group_text r.batches
     ++ state_text hex_word (recovered_last r) (recovered_map r) ++ line (codes "end" ∷ decimal r.at ∷ end_words r.why)
+
+-- what `recover` prints of several logs: the end names the log in which it is, counted from 1
+abbrev pub recovered_logs_text : RecoveredLogs → List ℕ
+recovered_logs_text r = line (codes "groups" ∷ decimal (length r.batches) ∷ []) ++ flat_map group_text r.batches
+    ++ state_text hex_word (last_of_logs r) (map_of_logs r)
+    ++ line (codes "end" ∷ decimal r.log ∷ decimal r.at ∷ end_words r.why)

@@ -48,7 +48,7 @@ two_records = record {
   history = record (entry_at 1 1 put_a1) { count = 2; records = put_a1 ∷ value (codes "b") (codes "22") ∷ [] } ∷ [];
   last = 2;
   state = (codes "a", codes "1") ∷ (codes "b", codes "22") ∷ [];
-  log_len = 0;
+  log_lens = 0 ∷ [];
   fault = None;
 }
 
@@ -83,7 +83,7 @@ one_commit = record {
   history = entry_at 1 1 put_a1 ∷ [];
   last = 1;
   state = (codes "a", codes "1") ∷ [];
-  log_len = 24;
+  log_lens = 24 ∷ [];
   fault = None;
 }
 
@@ -97,7 +97,7 @@ refused_commit = record {
   history = [];
   last = 0;
   state = [];
-  log_len = 0;
+  log_lens = 0 ∷ [];
   fault = Some 1;
 }
 
@@ -118,7 +118,7 @@ failed_write = record {
   history = entry_at 1 1 put_a1 ∷ [];
   last = 1;
   state = (codes "a", codes "1") ∷ [];
-  log_len = 24;
+  log_lens = 24 ∷ [];
   fault = Some 1;
 }
 
@@ -137,7 +137,7 @@ stale_read = record {
   history = entry_at 1 1 put_a1 ∷ entry_at 2 2 put_a2 ∷ [];
   last = 2;
   state = (codes "a", codes "2") ∷ [];
-  log_len = 48;
+  log_lens = 48 ∷ [];
   fault = None;
 }
 
@@ -166,7 +166,7 @@ went_on = record {
   history = entry_at 1 2 put_b2 ∷ [];
   last = 2;
   state = (codes "a", codes "1") ∷ (codes "b", codes "2") ∷ [];
-  log_len = 48;
+  log_lens = 48 ∷ [];
   fault = None;
 }
 
@@ -185,7 +185,7 @@ run_below_what_was_read = record {
   history = entry_at 1 1 put_a1 ∷ record (entry_at 1 2 put_b2) { client = 2 } ∷ [];
   last = 2;
   state = (codes "a", codes "1") ∷ (codes "b", codes "2") ∷ [];
-  log_len = 48;
+  log_lens = 48 ∷ [];
   fault = None;
 }
 
@@ -276,3 +276,21 @@ told_of_a_stop =
       told = Some (record { stops = 1; delays = 0; wait = 0 });
     }
     ∷ record { client = 2; action = controller.unstop; told = None } ∷ []
+
+abbrev pub put_c3 : Record
+put_c3 = value (codes "c") (codes "3")
+
+-- `put a 1`, `commit`, `put b 2`, `commit`, `put c 3`, `commit`: all are accepted. The first is in a log of its own, and
+-- the others are in the next one.
+abbrev pub three_calls : List Call
+three_calls = adds put_a1 ∷ commits 1 put_a1 ∷ adds put_b2 ∷ commits 2 put_b2 ∷ adds put_c3 ∷ commits 3 put_c3 ∷ []
+
+abbrev pub in_two_logs : Outcome
+in_two_logs = record {
+  transcripts = three_calls ∷ [];
+  history = entry_at 1 1 put_a1 ∷ entry_at 2 2 put_b2 ∷ entry_at 3 3 put_c3 ∷ [];
+  last = 3;
+  state = (codes "a", codes "1") ∷ (codes "b", codes "2") ∷ (codes "c", codes "3") ∷ [];
+  log_lens = 24 ∷ 48 ∷ [];
+  fault = None;
+}

@@ -1,12 +1,13 @@
 //! What batches do to a map, and what the history and the log have of them.
 
-ghost use Rattle.std.specs.Prelude.{◌≡◌, [], ◌∷◌, codes, true, Some, None};
+ghost use Rattle.std.specs.Prelude.{◌≡◌, ℕ, List, [], ◌∷◌, length, take, codes, true, Some, None};
 ghost use Rattle.model_base.specs.declared.history.Flag.TheVariants.{Log, NoLog, Sync};
 ghost use Rattle.model_base.specs.Batch.{value, deletion, single_deletion, log_data, batch};
 ghost use Rattle.model_base.specs.Map.{after_records, value_at};
-ghost use Rattle.model_base.specs.History.{flag_of};
-ghost use Rattle.model_base.specs.Log.{text, plain_log, new_log};
-ghost use Rattle.model_base.specs.LogContents.{IsLogOf, record_of_entries};
+ghost use Rattle.model_base.specs.Calls.{Outcome};
+ghost use Rattle.model_base.specs.History.{Entry, flag_of};
+ghost use Rattle.model_base.specs.Log.{Beginning, text, text_after, plain_log, new_log};
+ghost use Rattle.model_base.specs.LogContents.{IsLogOf, record_of_entries, records_of};
 ghost use Rattle.model_rows.specs.Examples.{put_a1, put_a2, put_b2, plain};
 ghost use Rattle.model_rows.specs.Runs.{one_commit, entry_at};
 
@@ -36,4 +37,11 @@ pub fn logs_of_histories()
         ≡ batch 1 (put_a1 ∷ put_b2 ∷ []) }
     ensures one_commit { IsLogOf new_log one_commit (text plain_log (batch 1 (put_a1 ∷ []) ∷ []))
         ((entry_at 1 1 put_a1 ∷ []) ∷ []) }
+{}
+
+/// What the one log holds of an outcome is its content up to the printed length.
+pub fn log_up_to_its_length()
+    ensures content { (b : Beginning) (o : Outcome) (content : List ℕ) (groups : List (List Entry)) (len : ℕ)
+        → o.log_lens ≡ len ∷ [] → IsLogOf b o content groups
+        → (take len content ≡ text_after b (records_of groups)) × (len ≡ length (text_after b (records_of groups))) }
 {}

@@ -19,7 +19,7 @@ pub use bytes::{batches, group_of_two_batches, sizes_of_batches, varints};
 pub use checksums::{checksum_of_digits, checksum_of_empty_record};
 pub use generators::{first_batch, first_draws, summary};
 pub use grouping::{group_of_one, groups_by_options, groups_by_size, groups_of_alone};
-pub use histories::{flags_of_commits, logs_of_histories, maps_of_batches};
+pub use histories::{flags_of_commits, log_up_to_its_length, logs_of_histories, maps_of_batches};
 pub use logs::{end_of_block, log_of_one_batch, long_records, record_of_no_bytes};
 pub use numbered_logs::{log_over_an_older_one, numbered_log_of_one_batch, numbered_log_recovered};
 pub use outcomes::{
@@ -27,9 +27,11 @@ pub use outcomes::{
     refused_by_a_later_stop, refused_commit, run_below_what_was_read, stale_read, waited_out,
     went_on, written_while_stopped,
 };
-pub use recoveries::{empty_log_recovered, two_batches_recovered};
+pub use recoveries::{empty_log_recovered, two_batches_recovered, two_logs_recovered};
 pub use scripts::{
     faults_of_scripts, one_script, passed_over_lines, records_and_flags, whole_scripts,
 };
 pub use stalls::{histories_of_stalls, refused_at_a_stall, refused_without_a_stall};
-pub use texts::{digits_of_bytes, text_of_one_commit, text_of_refused_commit};
+pub use texts::{
+    digits_of_bytes, lines_of_logs, text_of_one_commit, text_of_refused_commit, text_of_two_logs,
+};

@@ -1,8 +1,8 @@
 //! What the program prints.
 
-ghost use Rattle.std.specs.Prelude.{◌≡◌, [], ◌∷◌, codes};
-ghost use Rattle.model_base.specs.Text.{hex, outcome_text};
-ghost use Rattle.model_rows.specs.Runs.{one_commit, refused_commit};
+ghost use Rattle.std.specs.Prelude.{◌≡◌, ℕ, [], ◌∷◌, codes, decimal, Some, None};
+ghost use Rattle.model_base.specs.Text.{hex, line, log_text, outcome_text};
+ghost use Rattle.model_rows.specs.Runs.{one_commit, refused_commit, in_two_logs};
 
 /// Two digits for each byte.
 pub fn digits_of_bytes()
@@ -19,4 +19,22 @@ pub fn text_of_one_commit()
 pub fn text_of_refused_commit()
     ensures text { outcome_text refused_commit ≡ codes
         "client 1\nno logfault 1\nnil 0\nhistory 0\nstate 0 0\nlog 0 fault 1\n" }
+{}
+
+/// The line of the log has its length, and then the count of its fault. Of several logs it has the lengths of those that
+/// were begun.
+pub fn lines_of_logs()
+    ensures one { (len : ℕ) → log_text (len ∷ []) None ≡ line (codes "log" ∷ decimal len ∷ []) }
+    ensures one_with_a_fault { (len count : ℕ) → log_text (len ∷ []) (Some count)
+        ≡ line (codes "log" ∷ decimal len ∷ codes "fault" ∷ decimal count ∷ []) }
+    ensures two { log_text (24 ∷ 48 ∷ []) None ≡ codes "log 24 48\n" }
+    // The write of the second log's first record failed.
+    ensures two_with_a_fault { log_text (24 ∷ 0 ∷ []) (Some 1) ≡ codes "log 24 0 fault 1\n" }
+{}
+
+/// The text of a run of `put a 1`, `commit`, `put b 2`, `commit`, `put c 3` and `commit` over two logs, of which the
+/// first is full with one record.
+pub fn text_of_two_logs()
+    ensures text { outcome_text in_two_logs ≡ codes
+        "client 1\nok 1 1\nok 2 2\nok 3 3\nhistory 3\n1 1 1 1 log 0100000000000000010000000101610131\n2 2 1 2 log 0200000000000000010000000101620132\n3 3 1 3 log 0300000000000000010000000101630133\nstate 3 3\na 1\nb 2\nc 3\nlog 24 48\n" }
 {}

@@ -1,3 +1,5 @@
 pub mod SyncedGroups
 pub mod TwoGroups
 pub mod GroupByGroup
+pub mod OneLog
+pub mod TwoLogs

@@ -97,7 +97,7 @@ module _ (group_bytes : ℕ) (attempts : List (List Attempt)) (o : Outcome) wher
     -- by the disk's own call, which failed.
     pub record HoldsFailedWrite (x : List ℕ) (place : ℕ) (content : List ℕ) : Type 0 where
       pub failed : IsFailedWrite x
-      pub behind : o.log_len ≤ place
+      pub behind : length (text_after b (records_of groups)) ≤ place
       pub front : HoldsFront (text_after b (records_of groups ++ x ∷ [])) place content
 
     -- What the disk holds at the end, and its place there. If no call failed, it holds the log's text over what was
@@ -127,7 +127,7 @@ pub record IsRun (settings : Settings) (ended : ℕ) (script : List (List Comman
   pub attempts : List (List Attempt)
   pub legal : IsLegalIn settings ended script trace attempts o
   pub writes : WritesLog settings.group_bytes wrote trace attempts o.fault
-  pub length_is : o.log_len ≡ length (text_after b (records_of writes.parts))
+  pub length_is : o.log_lens ≡ length (text_after b (records_of writes.parts)) ∷ []
 
 -- what the log of a run holds, and what a crash leaves of it
 pub record IsSafe {settings : Settings} {ended : ℕ} {script : List (List Command)} {b : Beginning}

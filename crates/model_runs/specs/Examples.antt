@@ -1,5 +1,6 @@
--- Two batches of one client, the first of which was to be synced; and calls that may have written a log.
-use Rattle.std.specs.Prelude.{◌≡◌, ℕ, Bool, true, false, List, [], ◌∷◌, codes, replicate, Option, Some, None}
+-- Two batches of one client, the first of which was to be synced, in one log or in two; and calls that may have written
+-- a log.
+use Rattle.std.specs.Prelude.{◌≡◌, ℕ, Bool, true, false, List, [], ◌∷◌, length, codes, replicate, Option, Some, None}
 use Rattle.model_base.specs.declared.history.Flag.{Flag}
 use Rattle.model_base.specs.declared.history.Flag.TheVariants.{Log, Sync}
 use Rattle.model_base.specs.Batch.{Record, value}
@@ -7,6 +8,7 @@ use Rattle.model_base.specs.Log.{Beginning, text, plain_log, new_log}
 use Rattle.model_base.specs.History.{Entry}
 use Rattle.model_base.specs.LogContents.{GroupCall, records_of}
 use Rattle.model_runs.specs.Crashes.{text_through}
+use Rattle.model_runs.specs.SeveralLogs.{Held}
 
 -- batches of one record: `put a 1` and `put b 2`
 abbrev pub put_a : List Record
@@ -60,3 +62,26 @@ over_old_bytes = record { number = Some 7; kept = [] }
 -- whichever calls have returned, the image has only the old bytes: these are zeros
 abbrev pub nothing_written : List GroupCall → List GroupCall → List ℕ → Type 0
 nothing_written before after image = image ≡ zeros 56
+
+-- the groups in two logs, each in one of its own: where the first was to be synced, and where none was
+abbrev pub in_two_logs : List (List (List Entry))
+in_two_logs = ((entry_of 1 Sync put_a ∷ []) ∷ []) ∷ ((entry_of 2 Log put_b ∷ []) ∷ []) ∷ []
+
+abbrev pub unsynced_in_two_logs : List (List (List Entry))
+unsynced_in_two_logs = ((entry_of 1 Log put_a ∷ []) ∷ []) ∷ ((entry_of 2 Log put_b ∷ []) ∷ []) ∷ []
+
+-- the text of the second, where it is the first of its log; it has 24 bytes too
+abbrev pub text_in_second_log : List ℕ
+text_in_second_log = text plain_log (records_of ((entry_of 2 Log put_b ∷ []) ∷ []))
+
+-- whichever calls have returned, only the second log has bytes
+abbrev pub only_in_second_log : List GroupCall → List GroupCall → List (List ℕ) → Type 0
+only_in_second_log before after images = images ≡ [] ∷ text_in_second_log ∷ []
+
+-- once all calls have returned, no log has bytes
+abbrev pub none_at_the_end : List GroupCall → List GroupCall → List (List ℕ) → Type 0
+none_at_the_end before after images = (after ≡ []) × (images ≡ [] ∷ [] ∷ [])
+
+-- a disk with these bytes, and its place after them
+abbrev pub held_up_to_its_end : List ℕ → Held
+held_up_to_its_end content = record { content = content; place = length content }

@@ -3,3 +3,4 @@ pub mod Written
 pub mod Crashes
 pub mod Examples
 pub mod Refusals
+pub mod SeveralLogs

@@ -5,13 +5,16 @@
 //!   except one that failed.
 //! - `specs/Crashes`: a run, with how its log was written (`IsRun`); and of that run the log at its end, and each image
 //!   that a crash may leave (`IsSafe`).
+//! - `specs/SeveralLogs`: the same of a run over several logs, which are written one after another.
 //! - `specs/Refusals`: which refusals are left where the log has no fault.
 //!
-//! The law and the examples are the contracts of functions that do nothing.
+//! The laws and the examples are the contracts of functions that do nothing.
 #![tactic(auto)]
 
 mod examples;
 mod laws;
+mod several_logs;
 
 pub use examples::{synced_before_the_next_group, written_group_by_group};
-pub use laws::synced_groups_are_recovered;
+pub use laws::{one_log_of_several, synced_groups_are_recovered};
+pub use several_logs::{filled_one_after_another, held_by_several_logs, safe_before_the_next_log};

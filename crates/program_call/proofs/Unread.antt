@@ -1,11 +1,8 @@
 -- No script was read, or no schedule: what is printed then, also where the source failed.
-use Rattle.std.proofs.Common.{◌≡◌, ◌≢◌, ◌⊎◌, inl, inr, ⊎_elim, ℕ, List, length, Option, Some, None, Ok, Err, IfSome, le_trans, ap, ◌∙◌, arith}
-use Rattle.base_devices.specs.Disk.{Disk}
+use Rattle.std.proofs.Common.{◌≡◌, ◌≢◌, ◌⊎◌, inl, inr, ⊎_elim, ℕ, List, Option, Some, None, Ok, Err, IfSome, le_trans, ap, ◌∙◌, arith}
 use Rattle.model_base.specs.Counts.{Rose}
 use Rattle.model_base.specs.Script.{Script, Fault, script_of, whole_grammar}
 use Rattle.model_base.specs.declared.script.ScriptFault.{ScriptFault}
-use Rattle.run_outcome.specs.declared.log_start.LogStart.{LogStart}
-use Rattle.run_outcome.specs.declared.log_start.LogStart.TheVariants.{New}
 use Rattle.run_outcome.specs.Running.{IsReached}
 use Rattle.program_text.specs.Refusals.{source_fault, script_fault}
 use Rattle.program_call.specs.declared.reading.ReadError.{ReadError}
@@ -64,14 +61,23 @@ unread_counted kf kfs n sold snew given is (read.Script line kind) tells at =
 unread_counted kf kfs n sold snew given is read.NoMemory tells at = tells.2
 
 -- where the source didn't fail and the text is a script, it was left unread only because there was no memory
-pub unread_completes : (left : Option (List ℕ)) (told : Option Disk) (start : LogStart) (failed fails kf kfs n : ℕ) (sold snew : Option (List ℕ)) (given : Status) → n ≡ code given → (why : ReadError)
+pub unread_completes : (left : Option (List ℕ)) (failed fails kf kfs n : ℕ) (sold snew : Option (List ℕ)) (given : Status) → n ≡ code given → (why : ReadError)
     → IsScriptError left failed fails why → TellsReadError sold snew kf kfs why given → NoFault failed fails
-    → IfSome left (λ text. IfSome told (λ d. (script : Script) → script_of whole_grammar text ≡ Ok script → (length d.content ≡ 0) ⊎ (start ≢ New) → (n ≡ 0) ⊎ (n ≡ 6)))
-unread_completes None told start failed fails kf kfs n sold snew given is why error tells stood = tt
-unread_completes (Some text) None start failed fails kf kfs n sold snew given is why error tells stood = tt
-unread_completes (Some text) (Some d) start failed fails kf kfs n sold snew given is (read.Fault count) error tells stood = λ script said fit. absurd (stood (le_trans error.0 error.1))
-unread_completes (Some text) (Some d) start failed fails kf kfs n sold snew given is (read.Script line kind) error tells stood = λ script said fit. absurd (cc (error, said))
-unread_completes (Some text) (Some d) start failed fails kf kfs n sold snew given is read.NoMemory error tells stood = λ script said fit. inr (is ∙ ap code tells.0)
+    → IfSome left (λ text. (script : Script) → script_of whole_grammar text ≡ Ok script → (n ≡ 0) ⊎ (n ≡ 6))
+unread_completes None failed fails kf kfs n sold snew given is why error tells stood = tt
+unread_completes (Some text) failed fails kf kfs n sold snew given is (read.Fault count) error tells stood = λ script said. absurd (stood (le_trans error.0 error.1))
+unread_completes (Some text) failed fails kf kfs n sold snew given is (read.Script line kind) error tells stood = λ script said. absurd (cc (error, said))
+unread_completes (Some text) failed fails kf kfs n sold snew given is read.NoMemory error tells stood = λ script said. inr (is ∙ ap code tells.0)
+
+-- where the source didn't fail and there was memory, a text that is no script was refused as one
+pub unread_other : (left : Option (List ℕ)) (failed fails kf kfs n : ℕ) (sold snew : Option (List ℕ)) (given : Status) → n ≡ code given → (why : ReadError)
+    → IsScriptError left failed fails why → TellsReadError sold snew kf kfs why given → n ≢ 6 → NoFault failed fails
+    → IfSome left (λ text. (f : Fault) → script_of whole_grammar text ≡ Err f → n ≡ 2)
+unread_other None failed fails kf kfs n sold snew given is why error tells memory stood = tt
+unread_other (Some text) failed fails kf kfs n sold snew given is (read.Fault count) error tells memory stood = λ f other. absurd (stood (le_trans error.0 error.1))
+unread_other (Some text) failed fails kf kfs n sold snew given is (read.Script line kind) error tells memory stood =
+    λ f other. ⊎_elim (λ said. said.0) (λ lacks. absurd (memory lacks.0)) (refused_as sold snew kf kfs _ _ given n is tells)
+unread_other (Some text) failed fails kf kfs n sold snew given is read.NoMemory error tells memory stood = λ f other. absurd (memory (is ∙ ap code tells.0))
 
 -- the same where the text is a script with a schedule
 pub unread_schedule_completes : (left : Option (List ℕ)) (failed fails kf kfs n : ℕ) (sold snew : Option (List ℕ)) (given : Status) → n ≡ code given → (why : ReadError)
@@ -83,7 +89,7 @@ unread_schedule_completes (Some text) failed fails kf kfs n sold snew given is (
 unread_schedule_completes (Some text) failed fails kf kfs n sold snew given is read.NoMemory error tells stood = λ schedule said. inr (is ∙ ap code tells.0)
 
 -- the status where nothing was read is none of those at which something was run
-unread_status : (kf kfs n : ℕ) (sold snew : Option (List ℕ)) (given : Status) → n ≡ code given → (why : ReadError) → TellsReadError sold snew kf kfs why given → (n ≡ 2) ⊎ (n ≡ 4) ⊎ (n ≡ 6)
+pub unread_status : (kf kfs n : ℕ) (sold snew : Option (List ℕ)) (given : Status) → n ≡ code given → (why : ReadError) → TellsReadError sold snew kf kfs why given → (n ≡ 2) ⊎ (n ≡ 4) ⊎ (n ≡ 6)
 unread_status kf kfs n sold snew given is (read.Fault count) tells = inr (inl (is ∙ ap code tells.0))
 unread_status kf kfs n sold snew given is (read.Script line kind) tells = ⊎_elim (λ said. inl said.0) (λ lacks. inr (inr lacks.0)) (refused_as sold snew kf kfs _ _ given n is tells)
 unread_status kf kfs n sold snew given is read.NoMemory tells = inr (inr (is ∙ ap code tells.0))

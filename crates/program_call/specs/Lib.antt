@@ -3,6 +3,10 @@ pub mod Asking
 pub mod Reading
 pub mod Replays
 pub mod Reports
+pub mod Logs
 pub mod Outcomes
-pub mod Recovers
+pub mod OneLog
+pub mod SeveralLogs
 pub mod Answers
+pub mod SeveralDisks
+pub mod Carrying

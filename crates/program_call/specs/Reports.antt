@@ -1,5 +1,5 @@
 -- What is printed for each way to end a call, and with which status.
-use Rattle.std.specs.Prelude.{◌≡◌, ◌⊎◌, ℕ, true, false, List, take, Option, None, IsSome, is_some, if◌then◌else◌, Result, Ok, Err}
+use Rattle.std.specs.Prelude.{◌≡◌, ◌⊎◌, ℕ, Bool, true, false, List, take, Option, None, IsSome, is_some, if◌then◌else◌, Result, Ok, Err}
 use Rattle.std.specs.Io.KnownBytes.{Appends}
 use Rattle.model_base.specs.Counts.{Rose}
 use Rattle.model_base.specs.Calls as calls
@@ -25,10 +25,14 @@ use Rattle.log_recovery.specs.declared.recovery.Recovered.{Recovered}
 use Rattle.log_recovery.specs.declared.recovery.RecoverError.{RecoverError}
 use Rattle.log_recovery.specs.declared.recovery.RecoverError.TheVariants as none
 use Rattle.model_base.specs.Recovery as recovery
+use Rattle.model_base.specs.RecoveredLogs as recovered_logs
+use Rattle.model_base.specs.declared.log.EndReason.{EndReason}
 use Rattle.log_recovery.specs.Recovering.{ShowsRecovered}
+use Rattle.log_recovery.specs.RecoveringLogs.{ShowsLogs}
+use Rattle.log_recovery.specs.declared.many.RecoveredMany.{RecoveredMany}
 use Rattle.run_outcome.specs.Shows.{ShowsOutcome, ran_short}
 use Rattle.program_call.specs.Texts.{SaysTo}
-use Rattle.program_text.specs.Refusals.{damage, script_fault, source_fault, disk_fault, not_empty}
+use Rattle.program_text.specs.Refusals.{damage, logs_damage, script_fault, source_fault, disk_fault, not_empty}
 
 -- the refusal's text was printed, and the status goes with it
 abbrev pub PrintsRefusal : Option (List ℕ) → Option (List ℕ) → ℕ → ℕ → List ℕ → Status → Status → Type 0
@@ -88,48 +92,49 @@ TellsEnd form old new failed fails end.NoMemory given = SaysNothing old new fail
 TellsEnd form old new failed fails end.NoOutcome given = SaysNothing old new failed fails given
 TellsEnd form old new failed fails (end.Ran shown) given = TellsOutcome form old new failed fails shown given
 
+-- The status of a text that tells a result; `Is` says which texts do. At 5 the sink failed, and took a prefix of the
+-- text; else it has counted no fault. At 6 there was no memory for the text.
+abbrev pub EndsWithText : Option (List ℕ) → Option (List ℕ) → ℕ → ℕ → (List ℕ → Type 0) → Status → Type 0
+EndsWithText old new failed fails Is status.Done = (text : List ℕ) × Is text × Appends old new text × (fails ≡ failed)
+EndsWithText old new failed fails Is status.Sink = Rose failed fails × (text : List ℕ) × Is text × (n : ℕ)
+    × Appends old new (take n text)
+EndsWithText old new failed fails Is status.Memory = (new ≡ old) × (fails ≡ failed)
+EndsWithText old new failed fails Is other = ⊥
+
 -- the text is that of whatever recovery the values show
 abbrev pub IsTextOf : Recovered → List ℕ → Type 0
 IsTextOf shown text = (r : recovery.Recovered) → ShowsRecovered shown r → text ≡ model.recovered_text r
 
--- The status of a recovery's text. At 5 the sink failed, and took a prefix of the text; else it has counted no fault.
--- At 6 there was no memory for the text.
-abbrev pub EndsWithRecovery : Option (List ℕ) → Option (List ℕ) → ℕ → ℕ → Recovered → Status → Type 0
-EndsWithRecovery old new failed fails shown status.Done = (text : List ℕ) × IsTextOf shown text × Appends old new text
-    × (fails ≡ failed)
-EndsWithRecovery old new failed fails shown status.Sink = Rose failed fails × (text : List ℕ) × IsTextOf shown text
-    × (n : ℕ) × Appends old new (take n text)
-EndsWithRecovery old new failed fails shown status.Memory = (new ≡ old) × (fails ≡ failed)
-EndsWithRecovery old new failed fails shown other = ⊥
+-- the text is that of whatever recovery of several logs the values show
+abbrev pub IsTextOfLogs : RecoveredMany → List ℕ → Type 0
+IsTextOfLogs shown text = (r : recovered_logs.RecoveredLogs) → ShowsLogs shown r → text ≡ model.recovered_logs_text r
 
-abbrev pub TellsRecoverError : Option (List ℕ) → Option (List ℕ) → ℕ → ℕ → RecoverError → Status → Type 0
-TellsRecoverError old new failed fails (none.Fault count) given =
+-- the refusal of an end of recovery that isn't accepted, of several logs or of one
+abbrev pub damage_of : Bool → ℕ → ℕ → EndReason → List ℕ
+damage_of true log at why = logs_damage log at why
+damage_of false log at why = damage at why
+
+abbrev pub TellsRecoverError : Bool → Option (List ℕ) → Option (List ℕ) → ℕ → ℕ → RecoverError → Status → Type 0
+TellsRecoverError several old new failed fails (none.Fault count) given =
     PrintsRefusal old new failed fails (disk_fault count) status.Disk given
-TellsRecoverError old new failed fails none.NoMemory given = SaysNothing old new failed fails given
-TellsRecoverError old new failed fails (none.Damage at why) given =
-    Refuses old new failed fails (damage at why) status.Damage given
+TellsRecoverError several old new failed fails none.NoMemory given = SaysNothing old new failed fails given
+TellsRecoverError several old new failed fails (none.Damage log at why) given =
+    Refuses old new failed fails (damage_of several log at why) status.Damage given
 
-abbrev pub TellsRecovery : Option (List ℕ) → Option (List ℕ) → ℕ → ℕ → Result Recovered RecoverError → Status → Type 0
-TellsRecovery old new failed fails (Ok shown) given = EndsWithRecovery old new failed fails shown given
-TellsRecovery old new failed fails (Err why) given = TellsRecoverError old new failed fails why given
+-- The status of what was recovered from several logs or from one, or of why nothing was; `Is` says which texts tell
+-- what was recovered.
+abbrev pub TellsFound : {T : Type 0} → (T → List ℕ → Type 0) → Bool → Option (List ℕ) → Option (List ℕ) → ℕ → ℕ
+    → Result T RecoverError → Status → Type 0
+TellsFound Is several old new failed fails (Ok shown) given = EndsWithText old new failed fails (Is shown) given
+TellsFound Is several old new failed fails (Err why) given = TellsRecoverError several old new failed fails why given
 
 -- the text is that of whatever result of a schedule the values show
 abbrev pub IsReplayText : Replayed → List ℕ → Type 0
 IsReplayText shown text = (r : core.Replayed) → ShowsReplayed shown r → text ≡ replay_text r
 
--- The status of a schedule's text. At 5 the sink failed, and took a prefix of the text; else it has counted no fault.
--- At 6 there was no memory for the text.
-abbrev pub EndsWithReplay : Option (List ℕ) → Option (List ℕ) → ℕ → ℕ → Replayed → Status → Type 0
-EndsWithReplay old new failed fails shown status.Done = (text : List ℕ) × IsReplayText shown text × Appends old new text
-    × (fails ≡ failed)
-EndsWithReplay old new failed fails shown status.Sink = Rose failed fails × (text : List ℕ) × IsReplayText shown text
-    × (n : ℕ) × Appends old new (take n text)
-EndsWithReplay old new failed fails shown status.Memory = (new ≡ old) × (fails ≡ failed)
-EndsWithReplay old new failed fails shown other = ⊥
-
 -- the status of a schedule's text, or there was no memory for the result itself
 abbrev pub TellsReplay : Option (List ℕ) → Option (List ℕ) → ℕ → ℕ → Result Replayed NoMemory → Status → Type 0
-TellsReplay old new failed fails (Ok shown) given = EndsWithReplay old new failed fails shown given
+TellsReplay old new failed fails (Ok shown) given = EndsWithText old new failed fails (IsReplayText shown) given
 TellsReplay old new failed fails (Err why) given = SaysNothing old new failed fails given
 
 -- a status's number
@@ -143,3 +148,7 @@ code status.Sink = 5
 code status.Memory = 6
 code status.NotEmpty = 7
 code status.Damage = 8
+
+-- a status with which a run ends, once its script was read
+abbrev pub HasRunStatus : ℕ → Type 0
+HasRunStatus n = (n ≡ 0) ⊎ (n ≡ 3) ⊎ (n ≡ 5) ⊎ (n ≡ 6) ⊎ (n ≡ 7) ⊎ (n ≡ 8)

@@ -1,29 +1,20 @@
-//! The call that the program makes.
+//! The call that the program makes, over one disk.
 
-ghost use Rattle.std.specs.Prelude.{◌≡◌, ◌≢◌, ◌<◌, ◌≤◌, ◌^◌, ℕ, Option, IfSome, MatchOption};
+ghost use Rattle.std.specs.Prelude.{◌≡◌, ◌<◌, ℕ, [], ◌∷◌, Option};
 ghost use Rattle.model_base.specs.declared.options.Options.{Options as RunOptions};
 ghost use Rattle.replay_core.specs.declared.state.CoreOptions.{CoreOptions as ReplayOptions};
 ghost use Rattle.log_recovery.specs.declared.modes.Mode.{Mode as Accepting};
-ghost use Rattle.program_words.specs.Limits.{KeepsLimits};
 ghost use Rattle.run_outcome.specs.declared.log_start.LogStart.{LogStart as Start};
 ghost use Rattle.program_call.specs.Answers.{AnswersNothing, AnswersRun, AnswersGenerate, AnswersRecover, AnswersReplay};
-ghost use Rattle.program_call.specs.Asking.{AskNothing, AskToRun, AskToGenerate, AskToRecover, AskToReplay, IsToRun, IsToGenerate, IsToReplay, start_of};
+ghost use Rattle.program_call.specs.Asking.{AskNothing, AskToRun, AskToGenerate, AskToRecover, AskToRecoverLogs, AskToReplay};
+ghost use Rattle.program_call.specs.OneLog.{log_of_run, log_of_generated, log_to_recover};
+ghost use Rattle.program_call.specs.SeveralLogs.{logs_to_recover};
 
-use crate::ended::{Ended, end_with};
-use crate::generating::run_generated;
-use crate::recovering::recover_log;
-use crate::replaying::replay;
-use crate::report::{Status, refuse};
-use crate::running::{run_script, shards_or_one};
+use crate::ended::{Ended, EndedMany, end_with};
+use crate::many::run_many_gated;
+use crate::report::Status;
 use base_devices::{Clock, Disk, Sink, Source};
 use engine_calls::{Gate, OpenGate};
-use log_recovery::Mode;
-use model_base::Options;
-use program_text::usage;
-use program_words::{Invocation, WordsError, read_words};
-use replay_core::CoreOptions;
-use run_execution::{Host, Setup};
-use run_outcome::LogStart;
 use std::alloc::Global;
 use std::rt;
 use std::sync::Wait;
@@ -50,11 +41,18 @@ use std::thread::Threads;
 /// runs the schedule on the write path's core, and prints the clients' replies, the history and the published state;
 /// it doesn't look at the disk. The disk is given back however the call ends.
 ///
+/// This is the call over several disks ([`run_many`]) where there is one. So `run` with `--logs` has one log, which has
+/// no greatest length; `recover` with more than one takes the disk for the first of them, and its text names that log.
+///
+/// [`run_many`]: crate::run_many
+///
 /// | Option | Commands | Range | Without it | Meaning |
 /// |---|---|---|---|---|
 /// | `--batch-bytes` | `run`, `replay` | 12 to 16777216 | 16777216 | the most bytes of a batch |
 /// | `--group-bytes` | `run`, `replay` | 1 to 16777216 | 1048576 | the most bytes of a write group |
 /// | `--last` | `run`, `replay` | 0 to 2^56 - 1 | 0 | the sequence before the first batch, or the recovered last one |
+/// | `--log-bytes` | `run` | 1 to 2^40 | 67108864 | with several logs, from which length on a log is full |
+/// | `--logs` | `run`, `recover` | 1 to 16 | one log | how many logs; not with `--number` or `--resume` |
 /// | `--mode` | `run`, `recover` | `point`, `tail`, `absolute` | `point` | which ends the log's recovery accepts |
 /// | `--number` | `run`, `recover` | 1 to 4294967295 | none | the number that the log's headers have |
 /// | `--pipelined` | `run`, `gen`, `replay` | no value | a single stage | the log is handed on before a group is inserted |
@@ -85,20 +83,24 @@ pub fn run<
     ensures words { result.status ≡ 1 → AskNothing words.now }
     // One clause for unlawful words, and one for the words of each command. The record that it names has what is
     // promised as its fields.
-    ensures nothing { AskNothing words.now → AnswersNothing ⟦<S as Source>⟧ ⟦<D as Disk>⟧ ⟦<K as Sink>⟧
-        source.old source.new disk result.disk sink.old sink.new result.status }
-    ensures run { (options : RunOptions) (start : Start) (mode : Accepting) → AskToRun words.now options start mode
-        → AnswersRun ⟦<S as Source>⟧ ⟦<D as Disk>⟧ ⟦<K as Sink>⟧
-        source.old source.new disk result.disk sink.old sink.new options start mode result.status }
+    ensures nothing { AskNothing words.now → AnswersNothing ⟦<S as Source>⟧ ⟦<K as Sink>⟧
+        source.old source.new sink.old sink.new disk result.disk result.status }
+    ensures run { (options : RunOptions) (start : Start) (mode : Accepting) → AskToRun words.now 1 options start mode
+        → AnswersRun ⟦<S as Source>⟧ ⟦<K as Sink>⟧ source.old source.new sink.old sink.new
+        (log_of_run ⟦<D as Disk>⟧ options start mode disk result.disk) result.status }
     ensures generate { (seed clients batches : ℕ) → AskToGenerate words.now seed clients batches
-        → AnswersGenerate ⟦<S as Source>⟧ ⟦<D as Disk>⟧ ⟦<K as Sink>⟧
-        source.old source.new disk result.disk sink.old sink.new seed clients batches result.status }
+        → AnswersGenerate ⟦<S as Source>⟧ ⟦<K as Sink>⟧ source.old source.new sink.old sink.new
+        (log_of_generated ⟦<D as Disk>⟧ disk result.disk) seed clients batches result.status }
     ensures recover { (number : Option ℕ) (mode : Accepting) → AskToRecover words.now number mode
-        → AnswersRecover ⟦<S as Source>⟧ ⟦<D as Disk>⟧ ⟦<K as Sink>⟧
-        source.old source.new disk result.disk sink.old sink.new number mode result.status }
+        → AnswersRecover ⟦<S as Source>⟧ ⟦<K as Sink>⟧ source.old source.new sink.old sink.new
+        (log_to_recover ⟦<D as Disk>⟧ number mode disk result.disk) result.status }
+    // Where several logs should be recovered, the disk has the first of them.
+    ensures recover_logs { (mode : Accepting) (used : ℕ) → AskToRecoverLogs words.now 1 mode used
+        → AnswersRecover ⟦<S as Source>⟧ ⟦<K as Sink>⟧ source.old source.new sink.old sink.new
+        (logs_to_recover ⟦<D as Disk>⟧ mode (disk ∷ []) (result.disk ∷ [])) result.status }
     ensures replay { (options : ReplayOptions) → AskToReplay words.now options
-        → AnswersReplay ⟦<S as Source>⟧ ⟦<D as Disk>⟧ ⟦<K as Sink>⟧
-        source.old source.new disk result.disk sink.old sink.new options result.status }
+        → AnswersReplay ⟦<S as Source>⟧ ⟦<K as Sink>⟧ source.old source.new sink.old sink.new
+        disk result.disk options result.status }
 {
     run_gated(rt, alloc, words, source, disk, sink, clock, &OpenGate)
 }
@@ -127,172 +129,33 @@ pub fn run_gated<
     ensures words { result.status ≡ 1 → AskNothing words.now }
     // One clause for unlawful words, and one for the words of each command. The record that it names has what is
     // promised as its fields.
-    ensures nothing { AskNothing words.now → AnswersNothing ⟦<S as Source>⟧ ⟦<D as Disk>⟧ ⟦<K as Sink>⟧
-        source.old source.new disk result.disk sink.old sink.new result.status }
-    ensures run { (options : RunOptions) (start : Start) (mode : Accepting) → AskToRun words.now options start mode
-        → AnswersRun ⟦<S as Source>⟧ ⟦<D as Disk>⟧ ⟦<K as Sink>⟧
-        source.old source.new disk result.disk sink.old sink.new options start mode result.status }
+    ensures nothing { AskNothing words.now → AnswersNothing ⟦<S as Source>⟧ ⟦<K as Sink>⟧
+        source.old source.new sink.old sink.new disk result.disk result.status }
+    ensures run { (options : RunOptions) (start : Start) (mode : Accepting) → AskToRun words.now 1 options start mode
+        → AnswersRun ⟦<S as Source>⟧ ⟦<K as Sink>⟧ source.old source.new sink.old sink.new
+        (log_of_run ⟦<D as Disk>⟧ options start mode disk result.disk) result.status }
     ensures generate { (seed clients batches : ℕ) → AskToGenerate words.now seed clients batches
-        → AnswersGenerate ⟦<S as Source>⟧ ⟦<D as Disk>⟧ ⟦<K as Sink>⟧
-        source.old source.new disk result.disk sink.old sink.new seed clients batches result.status }
+        → AnswersGenerate ⟦<S as Source>⟧ ⟦<K as Sink>⟧ source.old source.new sink.old sink.new
+        (log_of_generated ⟦<D as Disk>⟧ disk result.disk) seed clients batches result.status }
     ensures recover { (number : Option ℕ) (mode : Accepting) → AskToRecover words.now number mode
-        → AnswersRecover ⟦<S as Source>⟧ ⟦<D as Disk>⟧ ⟦<K as Sink>⟧
-        source.old source.new disk result.disk sink.old sink.new number mode result.status }
+        → AnswersRecover ⟦<S as Source>⟧ ⟦<K as Sink>⟧ source.old source.new sink.old sink.new
+        (log_to_recover ⟦<D as Disk>⟧ number mode disk result.disk) result.status }
+    // Where several logs should be recovered, the disk has the first of them.
+    ensures recover_logs { (mode : Accepting) (used : ℕ) → AskToRecoverLogs words.now 1 mode used
+        → AnswersRecover ⟦<S as Source>⟧ ⟦<K as Sink>⟧ source.old source.new sink.old sink.new
+        (logs_to_recover ⟦<D as Disk>⟧ mode (disk ∷ []) (result.disk ∷ [])) result.status }
     ensures replay { (options : ReplayOptions) → AskToReplay words.now options
-        → AnswersReplay ⟦<S as Source>⟧ ⟦<D as Disk>⟧ ⟦<K as Sink>⟧
-        source.old source.new disk result.disk sink.old sink.new options result.status }
+        → AnswersReplay ⟦<S as Source>⟧ ⟦<K as Sink>⟧ source.old source.new sink.old sink.new
+        disk result.disk options result.status }
 {
-    let host = Host { rt, alloc, gate };
-    match read_words(alloc, words) {
-        Ok(asked) => carry_out(&host, asked, source, disk, sink, clock),
-        Err(WordsError::Usage) => {
-            refuse(sink, usage());
-            end_with(Status::Usage, disk)
-        }
-        Err(WordsError::NoMemory) => end_with(Status::Memory, disk),
-    }
-}
-
-/// Does what lawful words ask for.
-fn carry_out<
-    S: Source,
-    D: Disk + Send,
-    K: Sink,
-    C: Clock + Send + Drop,
-    G: Gate + Sync,
-    R: Threads + Wait + rt::Clock + Sync,
->(
-    host: &Host<'_, R, G>,
-    asked: Invocation,
-    source: &mut S,
-    disk: D,
-    sink: &mut K,
-    clock: C,
-) -> Ended<D>
-    requires { KeepsLimits asked }
-    ensures other { (result.status < 9) × (result.status ≢ 1) }
-    ensures run { (options : RunOptions) (start : Start) (mode : Accepting) → IsToRun asked options start mode
-        → AnswersRun ⟦<S as Source>⟧ ⟦<D as Disk>⟧ ⟦<K as Sink>⟧
-        source.old source.new disk result.disk sink.old sink.new options start mode result.status }
-    ensures generate { (seed clients batches : ℕ) → IsToGenerate asked seed clients batches
-        → AnswersGenerate ⟦<S as Source>⟧ ⟦<D as Disk>⟧ ⟦<K as Sink>⟧
-        source.old source.new disk result.disk sink.old sink.new seed clients batches result.status }
-    ensures recover { (number : Option ℕ) (mode : Accepting) → asked ≡ Invocation.Recover number mode
-        → AnswersRecover ⟦<S as Source>⟧ ⟦<D as Disk>⟧ ⟦<K as Sink>⟧
-        source.old source.new disk result.disk sink.old sink.new number mode result.status }
-    ensures replay { (options : ReplayOptions) → IsToReplay asked options
-        → AnswersReplay ⟦<S as Source>⟧ ⟦<D as Disk>⟧ ⟦<K as Sink>⟧
-        source.old source.new disk result.disk sink.old sink.new options result.status }
-{
-    match asked {
-        Invocation::Run {
-            pipelined,
-            shards,
-            group_bytes,
-            batch_bytes,
-            last,
-            number,
-            resume,
-            mode,
-        } => {
-            let start = log_start(number, resume);
-            let setup = setup_of(
-                pipelined,
-                shards,
-                group_bytes,
-                batch_bytes,
-                last,
-                start,
-                mode,
-            );
-            run_script(host, setup, source, disk, sink, clock)
-        }
-        Invocation::Generate {
-            pipelined,
-            shards,
-            seed,
-            clients,
-            batches,
-        } => {
-            let shards = shards_or_one(shards);
-            run_generated(
-                host, seed, clients, batches, shards, pipelined, disk, sink, clock,
-            )
-        }
-        Invocation::Recover { number, mode } => {
-            recover_log(host.alloc, log_number(number), mode, disk, sink)
-        }
-        Invocation::Replay {
-            pipelined,
-            group_bytes,
-            batch_bytes,
-            last,
-        } => {
-            let options = CoreOptions {
-                pipelined,
-                group_bytes,
-                batch_bytes,
-                last,
-            };
-            replay(host.alloc, options, source, disk, sink)
-        }
-    }
-}
-
-/// The number of a log, as its headers have it.
-fn log_number(number: Option<u64>) -> Option<u32>
-    requires { IfSome number (λ n. (1 ≤ n) × (n < 2 ^ 32)) }
-    ensures { result ≡ number }
-{
-    match number {
-        Some(number) => Some(number as u32),
-        None => None,
-    }
-}
-
-/// How the log of a run is opened, by what the words say about it.
-fn log_start(number: Option<u64>, resume: bool) -> LogStart
-    requires { IfSome number (λ n. (1 ≤ n) × (n < 2 ^ 32)) }
-    ensures { result ≡ start_of number resume }
-{
-    let number = log_number(number);
-    if resume {
-        return LogStart::Behind { number };
-    }
-    match number {
-        Some(number) => LogStart::Over { number },
-        None => LogStart::New,
-    }
-}
-
-/// How the write path is set up for `run`, by what the words say about it.
-fn setup_of(
-    pipelined: bool,
-    shards: Option<u64>,
-    group_bytes: u64,
-    batch_bytes: u64,
-    last: u64,
-    start: LogStart,
-    mode: Mode,
-) -> Setup
-    requires { IfSome shards (λ n. (1 ≤ n) × (n ≤ 64)) }
-    ensures start { result.start ≡ start }
-    ensures mode { result.mode ≡ mode }
-    ensures stages { result.pipelined ≡ pipelined }
-    ensures shards { MatchOption shards (result.shards ≡ 1) (λ n. result.shards ≡ n) }
-    ensures some { 0 < result.shards }
-    ensures options { result.options ≡ record { last = last; group_bytes = group_bytes; batch_bytes = batch_bytes } }
-{
-    let options = Options {
-        last,
-        group_bytes,
-        batch_bytes,
+    let Ok(mut disks) = Vec::with_capacity(alloc, 1) else {
+        return end_with(Status::Memory, disk);
     };
-    Setup {
-        options,
-        start,
-        mode,
-        shards: shards_or_one(shards),
-        pipelined,
-    }
+    disks.push_reserved(disk);
+    let EndedMany { status, mut disks } = run_many_gated(
+        rt, alloc, words, source, disks, sink, clock, gate,
+    );
+    let disk = disks.take_last();
+    disks.destroy_empty();
+    Ended { status, disk }
 }

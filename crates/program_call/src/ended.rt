@@ -34,3 +34,21 @@ pub fn end_with<D>(status: Status, disk: D) -> Ended<D>
         disk,
     }
 }
+
+/// How a call over several disks ended, and the disks that it was handed, in their order. The status is as in
+/// [`Ended`]; with several logs the text at 8 is `damage LOG AT REASON`.
+pub struct EndedMany<D> {
+    pub status: u8,
+    pub disks: Vec<D>,
+}
+
+/// The end of a call over several disks with a status.
+pub fn end_many<D>(status: Status, disks: Vec<D>) -> EndedMany<D>
+    ensures status { result.status ≡ code status }
+    ensures disks { result.disks ≡ disks }
+{
+    EndedMany {
+        status: status as u8,
+        disks,
+    }
+}

@@ -1,16 +1,8 @@
 //! The command `gen`: the script that a seed makes is run, and a summary of its outcome is printed.
 
-ghost use Rattle.std.specs.Prelude.{◌≡◌, ◌<◌, ◌⊎◌, ◌≤◌, length, IfSome};
-ghost use Rattle.model_base.specs.Generator.{script_of_seed};
-ghost use Rattle.run_laws.specs.Summaries.{summary_of};
-ghost use Rattle.std.specs.Io.KnownBytes.{Appends};
-ghost use Rattle.program_call.specs.Answers.{RunsScript};
-ghost use Rattle.program_call.specs.Asking.{usual_options};
-ghost use Rattle.program_call.specs.Outcomes.{observation_of, IsGenerated};
-ghost use Rattle.program_call.specs.Texts.{NoFault};
-ghost use Rattle.run_outcome.specs.declared.log_start.LogStart.TheVariants.{New};
-ghost use Rattle.log_recovery.specs.declared.modes.Mode.TheVariants.{Point};
-ghost use Rattle.program_call.specs.declared.report.Form.TheVariants as form;
+ghost use Rattle.std.specs.Prelude.{◌≡◌, ◌<◌, ◌≤◌};
+ghost use Rattle.program_call.specs.Answers.{RunsGenerated};
+ghost use Rattle.program_call.specs.OneLog.{log_of_generated};
 
 use crate::ended::{Ended, end_with};
 use crate::report::{Form, Status};
@@ -55,16 +47,8 @@ pub fn run_generated<
     requires clients { (1 ≤ clients) × (clients ≤ MAX_CLIENTS) }
     requires batches { (1 ≤ batches) × (batches ≤ 100000) }
     requires shards { 0 < shards }
-    ensures status { (result.status ≡ 0) ⊎ (result.status ≡ 3) ⊎ (result.status ≡ 5) ⊎ (result.status ≡ 6)
-        ⊎ (result.status ≡ 7) }
-    ensures runs { RunsScript ⟦<D as Disk>⟧ ⟦<K as Sink>⟧ (observation_of ⟦<D as Disk>⟧ ⟦<K as Sink>⟧
-        (IsGenerated seed clients batches) form.Summary usual_options New Point disk result.disk sink.old sink.new)
-        disk result.disk sink.old sink.new result.status }
-    ensures completes { NoFault (K.faults sink.old) (K.faults sink.new)
-        → NoFault (D.faults disk) (D.faults result.disk)
-        → IfSome (D.told disk) (λ d. length d.content ≡ 0 → (result.status ≡ 0) ⊎ (result.status ≡ 6)) }
-    ensures one_summary { result.status ≡ 0
-        → Appends (K.taken sink.old) (K.taken sink.new) (summary_of (script_of_seed seed clients batches)) }
+    ensures { RunsGenerated ⟦<K as Sink>⟧ sink.old sink.new (log_of_generated ⟦<D as Disk>⟧ disk result.disk)
+        seed clients batches result.status }
 {
     let Ok(script) = generate(host.alloc, seed, clients as u32, batches) else {
         return end_with(Status::Memory, disk);

@@ -1,6 +1,6 @@
 //! What a call prints, and the status that it ends with.
 
-ghost use Rattle.std.specs.Prelude.{◌≡◌, ◌≤◌, ℕ, [], ◌∷◌, ◌++◌, decimal, IfOk, OnErr};
+ghost use Rattle.std.specs.Prelude.{◌≡◌, ◌≤◌, ℕ, true, false, [], ◌∷◌, ◌++◌, decimal, IfOk, OnErr};
 ghost use Rattle.base_devices.specs.Faults.{HasCause};
 ghost use Rattle.base_devices.specs.Streams.{WritesAll};
 ghost use Rattle.model_base.specs.Calls as calls;
@@ -8,18 +8,18 @@ ghost use Rattle.model_base.specs.History.{IsHistory};
 ghost use Rattle.run_outcome.specs.Shows.{ShowsOutcome};
 ghost use Rattle.program_call.specs.Texts.{SaysTo};
 ghost use Rattle.program_call.specs.Reports as reports;
-ghost use Rattle.program_call.specs.Reports.{SaysNothing, TellsReadError, TellsEnd, TellsOutcome, TellsRecovery, TellsRecoverError, EndsWithRecovery, TellsReplay, EndsWithReplay, ran_status};
+ghost use Rattle.program_call.specs.Reports.{SaysNothing, TellsReadError, TellsEnd, TellsOutcome, TellsFound, TellsRecoverError, TellsReplay, EndsWithText, IsTextOf, IsTextOfLogs, damage_of, ran_status};
 
 use crate::reading::ReadError;
 use base_bytes::Bytes;
 use base_devices::{Failed, Sink, write_all};
 use base_maps::ByteMap;
 use itoa::Buffer;
-use log_recovery::{RecoverError, Recovered};
-use model_base::NoMemory;
+use log_recovery::{RecoverError, Recovered, RecoveredMany};
+use model_base::{EndReason, NoMemory};
 use program_text::{
-    log_damage, log_not_empty, outcome_text, recovered_text, replayed_text, script_fault,
-    summary_text,
+    log_damage, log_not_empty, logs_damage, outcome_text, recovered_logs_text, recovered_text,
+    replayed_text, script_fault, summary_text,
 };
 use replay_schedules::Replayed;
 use run_execution::RunEnd;
@@ -174,23 +174,60 @@ fn status_of(outcome: &Outcome<ByteMap>) -> Status
     }
 }
 
+/// Prints a text that tells a result, if there was memory to make it.
+fn tell_text<K: Sink>(sink: &mut K, text: Result<Bytes, NoMemory>) -> Status
+    ensures made { IfOk text (λ t. EndsWithText (K.taken sink.old) (K.taken sink.new) (K.faults sink.old)
+        (K.faults sink.new) (λ told. told ≡ t) result) }
+    ensures none { OnErr text (SaysNothing (K.taken sink.old) (K.taken sink.new) (K.faults sink.old)
+        (K.faults sink.new) result) }
+{
+    match text {
+        Ok(text) => match write_all(sink, text.as_slice()) {
+            Ok(()) => Status::Done,
+            Err(_) => Status::Sink,
+        },
+        Err(NoMemory) => Status::Memory,
+    }
+}
+
 /// Prints what a log recovers, whole, or says why nothing was recovered.
 pub fn tell_recovery<K: Sink>(
     alloc: Global,
     sink: &mut K,
     found: &Result<Recovered, RecoverError>,
 ) -> Status
-    ensures { TellsRecovery (K.taken sink.old) (K.taken sink.new) (K.faults sink.old)
+    ensures { TellsFound IsTextOf false (K.taken sink.old) (K.taken sink.new) (K.faults sink.old)
         (K.faults sink.new) found.now result }
 {
     match found {
-        Ok(recovered) => tell_recovered(alloc, sink, recovered),
-        Err(why) => tell_recover_error(alloc, sink, *why),
+        Ok(recovered) => tell_text(sink, recovered_text(alloc, recovered)),
+        Err(why) => tell_recover_error(alloc, sink, *why, false),
     }
 }
 
-fn tell_recover_error<K: Sink>(alloc: Global, sink: &mut K, why: RecoverError) -> Status
-    ensures { TellsRecoverError (K.taken sink.old) (K.taken sink.new) (K.faults sink.old)
+/// Prints what several logs recover, whole, or says why nothing was recovered.
+pub fn tell_logs<K: Sink>(
+    alloc: Global,
+    sink: &mut K,
+    found: &Result<RecoveredMany, RecoverError>,
+) -> Status
+    ensures { TellsFound IsTextOfLogs true (K.taken sink.old) (K.taken sink.new) (K.faults sink.old)
+        (K.faults sink.new) found.now result }
+{
+    match found {
+        Ok(recovered) => tell_text(sink, recovered_logs_text(alloc, recovered)),
+        Err(why) => tell_recover_error(alloc, sink, *why, true),
+    }
+}
+
+/// Says why nothing was recovered, of several logs or of one.
+fn tell_recover_error<K: Sink>(
+    alloc: Global,
+    sink: &mut K,
+    why: RecoverError,
+    several: bool,
+) -> Status
+    ensures { TellsRecoverError several (K.taken sink.old) (K.taken sink.new) (K.faults sink.old)
         (K.faults sink.new) why result }
 {
     match why {
@@ -199,22 +236,27 @@ fn tell_recover_error<K: Sink>(alloc: Global, sink: &mut K, why: RecoverError) -
             Status::Disk
         }
         RecoverError::NoMemory => Status::Memory,
-        RecoverError::Damage { at, why } => {
-            refuse_with(sink, log_damage(alloc, at, why), Status::Damage)
+        RecoverError::Damage { log, at, why } => {
+            let text = damage_text(alloc, several, log, at, why);
+            refuse_with(sink, text, Status::Damage)
         }
     }
 }
 
-fn tell_recovered<K: Sink>(alloc: Global, sink: &mut K, recovered: &Recovered) -> Status
-    ensures { EndsWithRecovery (K.taken sink.old) (K.taken sink.new) (K.faults sink.old)
-        (K.faults sink.new) recovered.now result }
+/// The refusal of an end of recovery that isn't accepted, of several logs or of one.
+fn damage_text(
+    alloc: Global,
+    several: bool,
+    log: u64,
+    at: u64,
+    why: EndReason,
+) -> Result<Bytes, NoMemory>
+    ensures { IfOk result (λ t. t ≡ damage_of several log at why) }
 {
-    let Ok(text) = recovered_text(alloc, recovered) else {
-        return Status::Memory;
-    };
-    match write_all(sink, text.as_slice()) {
-        Err(_) => Status::Sink,
-        Ok(()) => Status::Done,
+    if several {
+        logs_damage(alloc, log, at, why)
+    } else {
+        log_damage(alloc, at, why)
     }
 }
 
@@ -228,20 +270,7 @@ pub fn tell_replay<K: Sink>(
         (K.faults sink.new) replayed.now result }
 {
     match replayed {
-        Ok(replayed) => tell_replayed(alloc, sink, replayed),
+        Ok(replayed) => tell_text(sink, replayed_text(alloc, replayed)),
         Err(NoMemory) => Status::Memory,
     }
-}
-
-fn tell_replayed<K: Sink>(alloc: Global, sink: &mut K, replayed: &Replayed) -> Status
-    ensures { EndsWithReplay (K.taken sink.old) (K.taken sink.new) (K.faults sink.old)
-        (K.faults sink.new) replayed.now result }
-{
-    let Ok(text) = replayed_text(alloc, replayed) else {
-        return Status::Memory;
-    };
-    let Ok(()) = write_all(sink, text.as_slice()) else {
-        return Status::Sink;
-    };
-    Status::Done
 }

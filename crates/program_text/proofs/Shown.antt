@@ -79,4 +79,4 @@ history_shown ss es all = rw (length_shown ss es all, entries_shown ss es all) r
 
 -- the text of the whole outcome
 pub outcome_shown : (v : Outcome Pairs) (o : calls.Outcome) → ShowsOutcome v o → shown_text v ≡ outcome_text o
-outcome_shown v o shows = rw (clients_shown 1 _ _ shows.transcripts, history_shown _ _ shows.history, ← shows.last, ← shows.state, ← shows.log_len, ← shows.fault) refl
+outcome_shown v o shows = rw (clients_shown 1 _ _ shows.transcripts, history_shown _ _ shows.history, ← shows.last, ← shows.state, ← shows.log_lens, ← shows.fault) refl

@@ -1,6 +1,6 @@
 -- How lines are put together from pieces.
 use Rattle.std.proofs.Common.{◌≡◌, ℕ, zero, suc, ◌/◌, ◌%◌, ◌<◌, List, [], ◌∷◌, ◌++◌, map, get_or, Bool, true, ◌&&◌, Fits, w8, eqb-true, refl, sym, ap, ◌∙◌, arith, inl, inr}
-use Rattle.std.specs.Prelude.{decimal, flat_map, false, slice_index, ◌==◌}
+use Rattle.std.specs.Prelude.{codes, decimal, flat_map, false, slice_index, ◌==◌, None, Some}
 use Rattle.std.specs.List.{join_with_byte}
 use Rattle.std.specs.Fmt.{digit_glyph}
 use Rattle.std.proofs.lemmas.Bool.{and_parts, cases_lt}
@@ -9,7 +9,7 @@ use Rattle.std.proofs.lemmas.Grind.{flat_map-append}
 use Rattle.hex.specs.Hex.{encode_with, encode_lower, lower_digits}
 use Rattle.base_bytes.specs.declared.answers.Found.{Found}
 use Rattle.base_bytes.specs.Answers.{found_value}
-use Rattle.model_base.specs.Text.{line, hex, found_word}
+use Rattle.model_base.specs.Text.{line, hex, found_word, log_text}
 use Rattle.program_text.specs.ShownText.{pair_words}
 
 -- a word and then numbers, each after a space, are the words joined by spaces
@@ -21,6 +21,34 @@ spaced w (n ∷ ns) = ap (λ t. w ++ 32 ∷ t) (spaced (decimal n) ns)
 pub spaced_words : (w : List ℕ) (ws : List (List ℕ)) → join_with_byte 32 (w ∷ ws) ≡ w ++ flat_map (λ v. 32 ∷ v) ws
 spaced_words w [] = sym (append-nil w)
 spaced_words w (v ∷ ws) = ap (λ t. w ++ 32 ∷ t) (spaced_words v ws)
+
+-- a word, numbers and words, joined by spaces
+spaced_numbers : (w : List ℕ) (ns : List ℕ) (ws : List (List ℕ)) → join_with_byte 32 (w ∷ map decimal ns ++ ws) ≡ (w ++ flat_map (λ n. 32 ∷ decimal n) ns) ++ flat_map (λ v. 32 ∷ v) ws
+spaced_numbers w [] ws = spaced_words w ws ∙ ap (λ t. t ++ flat_map (λ v. 32 ∷ v) ws) (sym (append-nil w))
+spaced_numbers w (n ∷ ns) ws =
+    ap (λ t. w ++ 32 ∷ t) (spaced_numbers (decimal n) ns ws) ∙ sym (append_assoc w ((32 ∷ decimal n) ++ flat_map (λ m. 32 ∷ decimal m) ns) (flat_map (λ v. 32 ∷ v) ws))
+
+length_pieces : (text w f l e : List ℕ) → (((text ++ w) ++ f) ++ l) ++ e ≡ text ++ ((w ++ (f ++ l)) ++ e)
+length_pieces text w f l e = simp append_assoc
+
+fault_more : (text w f l a b e : List ℕ) → (((text ++ w) ++ f) ++ l) ++ ((a ++ b) ++ e) ≡ text ++ (((w ++ (f ++ l)) ++ (a ++ (b ++ []))) ++ e)
+fault_more text w f l a b e = simp (append_assoc, append-nil)
+
+-- the line of the logs' lengths, without a fault and with one
+pub log_pieces : (text : List ℕ) (full : List ℕ) (len : ℕ)
+    → (((text ++ codes "log") ++ flat_map (λ n. 32 ∷ decimal n) full) ++ flat_map (λ n. 32 ∷ decimal n) (len ∷ [])) ++ (10 ∷ []) ≡ text ++ log_text (full ++ len ∷ []) None
+log_pieces text full len =
+    length_pieces text (codes "log") (flat_map (λ n. 32 ∷ decimal n) full) (flat_map (λ n. 32 ∷ decimal n) (len ∷ [])) (10 ∷ [])
+    ∙ ap (λ t. text ++ ((codes "log" ++ t) ++ (10 ∷ []))) (sym (flat_map-append (λ n. 32 ∷ decimal n) full (len ∷ [])))
+    ∙ ap (λ t. text ++ (t ++ (10 ∷ []))) (sym (spaced (codes "log") (full ++ len ∷ [])))
+
+pub fault_pieces : (text : List ℕ) (full : List ℕ) (len count : ℕ)
+    → (((text ++ codes "log") ++ flat_map (λ n. 32 ∷ decimal n) full) ++ flat_map (λ n. 32 ∷ decimal n) (len ∷ [])) ++ line (codes " fault" ∷ decimal count ∷ [])
+    ≡ text ++ log_text (full ++ len ∷ []) (Some count)
+fault_pieces text full len count =
+    fault_more text (codes "log") (flat_map (λ n. 32 ∷ decimal n) full) (flat_map (λ n. 32 ∷ decimal n) (len ∷ [])) (codes " fault") (32 ∷ decimal count) (10 ∷ [])
+    ∙ ap (λ t. text ++ (((codes "log" ++ t) ++ flat_map (λ v. 32 ∷ v) (codes "fault" ∷ decimal count ∷ [])) ++ (10 ∷ []))) (sym (flat_map-append (λ n. 32 ∷ decimal n) full (len ∷ [])))
+    ∙ ap (λ t. text ++ (t ++ (10 ∷ []))) (sym (spaced_numbers (codes "log") (full ++ len ∷ []) (codes "fault" ∷ decimal count ∷ [])))
 
 joined_more : (text w a b f e : List ℕ) → (((text ++ w) ++ (a ++ (b ++ []))) ++ f) ++ e ≡ text ++ ((w ++ (a ++ (b ++ f))) ++ e)
 joined_more text w a b f e = simp (append_assoc, append-nil)

@@ -22,3 +22,7 @@ not_empty len = line (codes "log" ∷ codes "not" ∷ codes "empty" ∷ decimal 
 -- the log's recovery ends at this place for this reason, which isn't accepted
 abbrev pub damage : ℕ → EndReason → List ℕ
 damage at why = line (codes "damage" ∷ decimal at ∷ end_words why)
+
+-- the same of several logs, with the number of the log in which recovery ends
+abbrev pub logs_damage : ℕ → ℕ → EndReason → List ℕ
+logs_damage log at why = line (codes "damage" ∷ decimal log ∷ decimal at ∷ end_words why)

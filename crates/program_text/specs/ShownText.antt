@@ -12,6 +12,7 @@ use Rattle.run_outcome.specs.declared.history_entry.HistoryEntry.{HistoryEntry}
 use Rattle.run_outcome.specs.declared.outcome.Outcome.{Outcome}
 use Rattle.log_recovery.specs.declared.kept.GroupNote.{GroupNote}
 use Rattle.log_recovery.specs.declared.recovery.Recovered.{Recovered}
+use Rattle.log_recovery.specs.declared.many.RecoveredMany.{RecoveredMany}
 use Rattle.replay_core.specs.declared.step.Counts.{Counts}
 use Rattle.replay_schedules.specs.declared.replaying.Replayed.{Replayed}
 use Rattle.model_base.specs.Map.{Pairs}
@@ -64,7 +65,7 @@ history_lines entries = line (codes "history" ∷ decimal (length entries) ∷ [
 
 abbrev pub shown_text : Outcome Pairs → List ℕ
 shown_text v = clients_lines v.transcripts.items ++ history_lines v.history
-    ++ state_text plain v.last v.state ++ log_text v.log_len v.fault
+    ++ state_text plain v.last v.state ++ log_text (v.full_lens.items ++ v.log_len ∷ []) v.fault
 
 abbrev pub group_line : GroupNote → List ℕ
 group_line g = line (decimal g.first ∷ decimal g.count ∷ decimal g.size ∷ [])
@@ -79,6 +80,11 @@ end_line at why = line (codes "end" ∷ decimal at ∷ end_words why)
 abbrev pub shown_recovered_text : Recovered → List ℕ
 shown_recovered_text v = groups_lines v.groups.items ++ state_text hex_word v.last v.map
     ++ end_line v.end.at v.end.why
+
+-- the same of several logs, with the number of the log in which recovery ended
+abbrev pub shown_recovered_logs_text : RecoveredMany → List ℕ
+shown_recovered_logs_text v = groups_lines v.groups.items ++ state_text hex_word v.last v.map
+    ++ line (codes "end" ∷ decimal v.log ∷ decimal v.end.at ∷ end_words v.end.why)
 
 -- how many events were taken, and how many were skipped
 abbrev pub counts_line : Counts → List ℕ

@@ -133,14 +133,20 @@ pub fn put_entries(text: &mut Bytes, entries: &[HistoryEntry<Batch>]) -> Result<
     Ok(())
 }
 
-/// Appends the log's length to the text, and the count of its fault, if it has one.
-pub fn put_log(text: &mut Bytes, len: u64, fault: Option<u64>) -> Result<(), NoMemory>
-    ensures { OnOk result (text.new ≡ text.old ++ log_text len fault) }
+/// Appends the lengths of the full logs and of the last one to the text, and the count of the fault, if there is one.
+pub fn put_log(
+    text: &mut Bytes,
+    full_lens: &[u64],
+    len: u64,
+    fault: Option<u64>,
+) -> Result<(), NoMemory>
+    ensures { OnOk result (text.new ≡ text.old ++ log_text (full_lens.now ++ len ∷ []) fault) }
 {
-    let Some(count) = fault else {
-        return put_line(text, b"log", &[len]);
-    };
     text.append(b"log")?;
+    put_numbers(text, full_lens)?;
     put_numbers(text, &[len])?;
-    put_line(text, b" fault", &[count])
+    match fault {
+        None => text.append(b"\n"),
+        Some(count) => put_line(text, b" fault", &[count]),
+    }
 }

@@ -1,7 +1,9 @@
 //! The text of what a log recovers.
 
-ghost use Rattle.std.specs.Prelude.{◌≡◌, ◌++◌, [], ◌∷◌, OnOk, IfOk};
+ghost use Rattle.std.specs.Prelude.{◌≡◌, ◌++◌, [], ◌∷◌, decimal, OnOk, IfOk};
 ghost use Rattle.model_base.specs.Recovery as recovery;
+ghost use Rattle.model_base.specs.RecoveredLogs.{RecoveredLogs};
+ghost use Rattle.log_recovery.specs.RecoveringLogs.{ShowsLogs};
 ghost use Rattle.model_base.specs.Text as model;
 ghost use Rattle.model_base.specs.Text.{line, damage_words, end_words};
 ghost use Rattle.log_recovery.specs.Recovering.{ShowsRecovered};
@@ -11,7 +13,7 @@ ghost use Rattle.program_text.specs.ShownText.{group_line, groups_lines, end_lin
 use crate::lines::{put_line, put_number, put_numbers};
 use crate::recovered_state::put_recovered_map;
 use base_bytes::Bytes;
-use log_recovery::{GroupNote, Recovered};
+use log_recovery::{GroupNote, Recovered, RecoveredMany};
 use model_base::{Damage, EndReason, NoMemory};
 use std::alloc::Global;
 
@@ -26,6 +28,48 @@ pub fn recovered_text(alloc: Global, recovered: &Recovered) -> Result<Bytes, NoM
     put_recovered_map(&mut text, recovered.last, &recovered.map)?;
     put_end(&mut text, recovered.end.at, recovered.end.why)?;
     Ok(text)
+}
+
+/// The same of several logs, with the number of the log in which recovery ended.
+pub fn recovered_logs_text(alloc: Global, recovered: &RecoveredMany) -> Result<Bytes, NoMemory>
+    ensures { IfOk result (λ t. (r : RecoveredLogs) → ShowsLogs recovered.now r → t ≡ model.recovered_logs_text r) }
+{
+    let mut text = Bytes::new(alloc);
+    put_groups(&mut text, &recovered.groups)?;
+    put_recovered_map(&mut text, recovered.last, &recovered.map)?;
+    put_numbered_end(
+        &mut text,
+        b"end",
+        recovered.log,
+        recovered.end.at,
+        recovered.end.why,
+    )?;
+    Ok(text)
+}
+
+/// The refusal of several logs: recovery ends in this one, at this place for this reason, which isn't accepted.
+pub fn logs_damage(alloc: Global, log: u64, at: u64, why: EndReason) -> Result<Bytes, NoMemory>
+    ensures { IfOk result (λ t. t ≡ texts.logs_damage log at why) }
+{
+    let mut text = Bytes::new(alloc);
+    put_numbered_end(&mut text, b"damage", log, at, why)?;
+    Ok(text)
+}
+
+/// Appends to the text a word, in which log and where recovery ended, and why.
+fn put_numbered_end(
+    text: &mut Bytes,
+    word: &[u8],
+    log: u64,
+    at: u64,
+    why: EndReason,
+) -> Result<(), NoMemory>
+    ensures { OnOk result (text.new ≡ text.old ++ line (word.now ∷ decimal log ∷ decimal at ∷ end_words why)) }
+{
+    text.append(word)?;
+    put_numbers(text, &[log, at])?;
+    text.append(b" ")?;
+    put_reason(text, why)
 }
 
 fn put_group(text: &mut Bytes, group: &GroupNote) -> Result<(), NoMemory>

@@ -26,7 +26,12 @@ pub fn outcome_text(alloc: Global, outcome: &Outcome<ByteMap>) -> Result<Bytes, 
     put_clients(&mut text, &outcome.transcripts)?;
     put_history(&mut text, &outcome.history)?;
     put_map(&mut text, outcome.last, &outcome.state)?;
-    put_log(&mut text, outcome.log_len, outcome.fault)?;
+    put_log(
+        &mut text,
+        &outcome.full_lens,
+        outcome.log_len,
+        outcome.fault,
+    )?;
     Ok(text)
 }
 

@@ -4,7 +4,7 @@ use Rattle.std.specs.Str.Parse.{digits_value, without_leading_plus}
 use Rattle.clap.specs.ValueTests.{is_numeral}
 use Rattle.log_recovery.specs.declared.modes.Mode.{Mode}
 use Rattle.log_recovery.specs.declared.modes.Mode.TheVariants.{Point, Tail, Absolute}
-use Rattle.program_words.specs.Options.{Known, Place, Word, batch_bytes, batches, clients, group_bytes, last, mode, number, pipelined, resume, seed, shards, table}
+use Rattle.program_words.specs.Options.{Known, Place, Word, batch_bytes, batches, clients, group_bytes, last, log_bytes, logs, mode, number, pipelined, resume, seed, shards, table}
 use Rattle.program_words.specs.declared.invocation.Invocation.{Invocation}
 use Rattle.program_words.specs.declared.invocation.Invocation.TheVariants.{Run, Recover, Replay, Generate}
 
@@ -91,7 +91,8 @@ pub record Command : Type 0 where
 abbrev pub run : Command
 run = record {
   name = codes "run";
-  options = pipelined ∷ table ∷ shards ∷ group_bytes ∷ batch_bytes ∷ last ∷ number ∷ resume ∷ mode ∷ [];
+  options = pipelined ∷ table ∷ shards ∷ group_bytes ∷ batch_bytes ∷ last ∷ number ∷ resume ∷ mode ∷ logs ∷ log_bytes
+      ∷ [];
   places = [];
   made =
       with_flag pipelined.name λ in_stages.
@@ -102,18 +103,21 @@ run = record {
       with_optional number.name λ its_number.
       with_flag resume.name λ goes_on.
       with_mode λ accepting.
-      asks (Run in_stages in_shards most_of_group most_of_batch before its_number goes_on accepting);
+      with_optional logs.name λ of_logs.
+      with_number log_bytes.name λ full_at.
+      asks (Run in_stages in_shards most_of_group most_of_batch before its_number goes_on accepting of_logs full_at);
 }
 
 abbrev pub recover : Command
 recover = record {
   name = codes "recover";
-  options = number ∷ mode ∷ [];
+  options = number ∷ mode ∷ logs ∷ [];
   places = [];
   made =
       with_optional number.name λ its_number.
       with_mode λ accepting.
-      asks (Recover its_number accepting);
+      with_optional logs.name λ of_logs.
+      asks (Recover its_number accepting of_logs);
 }
 
 abbrev pub replay : Command

@@ -12,13 +12,17 @@ KeepsShards shards = IfSome shards (λ n. (1 ≤ n) × (n ≤ 64))
 abbrev pub KeepsNumber : Option ℕ → Type 0
 KeepsNumber number = IfSome number (λ n. (1 ≤ n) × (n < 2 ^ 32))
 
+-- there are from 1 to 16 logs, where their number is given
+abbrev pub KeepsLogs : Option ℕ → Type 0
+KeepsLogs logs = IfSome logs (λ n. (1 ≤ n) × (n ≤ 16))
+
 -- a batch's limit has room for its header at least, a write group's for one byte, and the sequence number is below
 -- 2^56; a script made from a seed has from 1 to 64 clients, each with from 1 to 100000 batches
 abbrev pub KeepsLimits : Invocation → Type 0
-KeepsLimits (Run pipelined shards group_bytes batch_bytes last number resume mode) = KeepsShards shards
+KeepsLimits (Run pipelined shards group_bytes batch_bytes last number resume mode logs log_bytes) = KeepsShards shards
     × (1 ≤ group_bytes) × (group_bytes ≤ 16777216) × (12 ≤ batch_bytes) × (batch_bytes ≤ MAX_SIZE) × (last < 2 ^ 56)
-    × KeepsNumber number
-KeepsLimits (Recover number mode) = KeepsNumber number
+    × KeepsNumber number × KeepsLogs logs × (1 ≤ log_bytes) × (log_bytes ≤ 2 ^ 40)
+KeepsLimits (Recover number mode logs) = KeepsNumber number × KeepsLogs logs
 KeepsLimits (Replay pipelined group_bytes batch_bytes last) = (1 ≤ group_bytes) × (group_bytes ≤ 16777216)
     × (12 ≤ batch_bytes) × (batch_bytes ≤ MAX_SIZE) × (last < 2 ^ 56)
 KeepsLimits (Generate pipelined shards seed clients batches) = KeepsShards shards × (seed < 2 ^ 31) × (1 ≤ clients)

@@ -68,6 +68,14 @@ mode = record {
   kind = word_among (codes "point" ∷ codes "tail" ∷ codes "absolute" ∷ []) (codes "point");
 }
 
+-- over how many logs a run goes, or recovery, if that is said; it is one otherwise
+abbrev pub logs : Known
+logs = record { name = codes "logs"; kind = number_within 1 16 None }
+
+-- from which length on a log is full, if the run has several
+abbrev pub log_bytes : Known
+log_bytes = record { name = codes "log-bytes"; kind = number_within 1 (2 ^ 40) (Some (codes "67108864")) }
+
 -- ---- the numbers of `gen`
 
 -- the seed from which a script's numbers are drawn

@@ -54,7 +54,13 @@ const RESUME: Argument = Argument::Flag("resume");
 /// last write was cut off; with `absolute` that of a whole log alone.
 const MODE: Argument = Argument::Word("mode", "point");
 
-const RUN: [Argument; 9] = [
+/// Over how many logs a run goes, or recovery, if that is said; it is one otherwise.
+const LOGS: Argument = Argument::Number("logs", 1, 16);
+
+/// From which length on a log is full, if the run has several. The greatest is `2^40`.
+const LOG_BYTES: Argument = Argument::NumberOr("log-bytes", 1, 1099511627776, "67108864");
+
+const RUN: [Argument; 11] = [
     PIPELINED,
     TABLE,
     SHARDS,
@@ -64,9 +70,11 @@ const RUN: [Argument; 9] = [
     NUMBER,
     RESUME,
     MODE,
+    LOGS,
+    LOG_BYTES,
 ];
 
-const RECOVER: [Argument; 2] = [NUMBER, MODE];
+const RECOVER: [Argument; 3] = [NUMBER, MODE, LOGS];
 
 const REPLAY: [Argument; 4] = [PIPELINED, GROUP_BYTES, BATCH_BYTES, LAST];
 

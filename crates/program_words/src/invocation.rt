@@ -37,6 +37,10 @@ pub enum Invocation {
         resume: bool,
         /// Which ends of the log its recovery accepts, if the log goes on.
         mode: Mode,
+        /// How many logs there may be, if that is said.
+        logs: Option<u64>,
+        /// From which length on a log is full, if there are several.
+        log_bytes: u64,
     },
     /// To say what the log recovers.
     Recover {
@@ -44,6 +48,8 @@ pub enum Invocation {
         number: Option<u64>,
         /// Which ends of the log its recovery accepts.
         mode: Mode,
+        /// How many logs are recovered, if that is said.
+        logs: Option<u64>,
     },
     /// To run a schedule on the core.
     Replay {
@@ -139,6 +145,8 @@ fn run_by(options: &ArgMatches) -> Option<Invocation>
         number: number_in("number", options),
         resume: flag_in("resume", options)?,
         mode: mode_in(options)?,
+        logs: number_in("logs", options),
+        log_bytes: number_in("log-bytes", options)?,
     })
 }
 
@@ -148,6 +156,7 @@ fn recover_by(options: &ArgMatches) -> Option<Invocation>
     Some(Invocation::Recover {
         number: number_in("number", options),
         mode: mode_in(options)?,
+        logs: number_in("logs", options),
     })
 }
 

@@ -1,5 +1,5 @@
 -- What the calls for a history's groups wrote, with one more call where the log has a fault.
-use Rattle.std.proofs.Common.{◌≡◌, ℕ, zero, suc, ◌+◌, ◌<◌, true, List, [], ◌∷◌, ◌++◌, length, take, map, Option, Some, None, MatchOption, slice_get, refl, ap, sym, ◌∙◌, subst, arith}
+use Rattle.std.proofs.Common.{◌≡◌, ℕ, zero, suc, ◌+◌, ◌-◌, ◌<◌, ◌≤◌, min, true, List, [], ◌∷◌, ◌++◌, length, take, map, Option, Some, None, MatchOption, slice_get, refl, ap, sym, ◌∙◌, subst, arith}
 use Rattle.std.proofs.Math.Seq.{take-take}
 use Rattle.std.proofs.lemmas.List.{take-map, append-nil}
 use Rattle.std.specs.List.{AllZip}
@@ -12,9 +12,10 @@ use Rattle.model_base.specs.Calls.{Outcome}
 use Rattle.model_base.specs.LogContents.{GroupCall, record_of_call, record_of_entries, records_of}
 use Rattle.log_laws.specs.Prefixes.{BeginsWith, HoldsFront}
 use Rattle.log_writer.specs.Written.{if_worked, first_fault, written_by, begun_by, HaveSynced as HaveCallsSynced, HoldsSynced as HoldsCallsSynced, HoldsCalls}
+use Rattle.log_writer.proofs.Calls.{begun_written}
 use Rattle.log_writer.proofs.Keeping.{after_front, after_shorter}
 use Rattle.model_runs.specs.Lost.{IsLostGroup}
-use Rattle.model_runs.specs.Crashes.{HasSync, HaveSynced, HoldsSynced, text_through, over, failed_record, HoldsFailedWrite}
+use Rattle.model_runs.specs.Crashes.{HasSync, HaveSynced, HoldsSynced, text_through, over, failed_record, with_failed_record, IsFailedWrite, HoldsFailedWrite}
 use Rattle.model_runs.specs.Written.{WroteEntries, AreLost}
 use Rattle.model_accounts.proofs.Logs.{same_records, has_synced}
 
@@ -49,12 +50,31 @@ synced_for (group ∷ groups) [] more n each have = absurd each
 synced_for (group ∷ groups) (c ∷ calls) more zero each have = ((λ to_sync. have.0 (each.0).ok (has_synced group c each.0 to_sync)), synced_for groups calls more zero each.1 have.1)
 synced_for (group ∷ groups) (c ∷ calls) more (suc n) each have = synced_for groups calls more n each.1 have
 
+-- and so it is of the first of them
+pub synced_first : (n : ℕ) (groups : List (List Entry)) (calls more : List GroupCall) (safe : ℕ) → AllZip WroteEntries groups calls → HaveCallsSynced (take n (calls ++ more)) safe → HaveSynced (take n groups) safe
+synced_first zero groups calls more zero each have = tt
+synced_first zero groups calls more (suc safe) each have = tt
+synced_first (suc n) [] calls more zero each have = tt
+synced_first (suc n) [] calls more (suc safe) each have = tt
+synced_first (suc n) (group ∷ groups) [] more safe each have = absurd each
+synced_first (suc n) (group ∷ groups) (c ∷ calls) more zero each have = ((λ to_sync. have.0 (each.0).ok (has_synced group c each.0 to_sync)), synced_first n groups calls more zero each.1 have.1)
+synced_first (suc n) (group ∷ groups) (c ∷ calls) more (suc safe) each have = synced_first n groups calls more safe each.1 have
+
+-- where those that had to be synced are among the first m, they are among the first n, if that is no less, or all
+pub synced_on : (groups : List (List Entry)) (m n all : ℕ) → length groups ≤ all → min m all ≤ n → HaveSynced groups m → HaveSynced groups n
+synced_on [] m zero all few less have = tt
+synced_on [] m (suc n) all few less have = tt
+synced_on (group ∷ groups) zero zero all few less have = have
+synced_on (group ∷ groups) (suc m) zero all few less have = absurd (omega (arith, few, less))
+synced_on (group ∷ groups) zero (suc n) all few less have = synced_on groups zero n (all - 1) (omega (arith, few)) (omega arith) have.1
+synced_on (group ∷ groups) (suc m) (suc n) all few less have = synced_on groups m n (all - 1) (omega (arith, few)) (omega (arith, few, less)) have
+
 -- a group that had to be synced has its call
-record IsSyncCall (calls : List GroupCall) (k : ℕ) : Type 0 where
-  call : GroupCall
-  there : slice_get calls k ≡ Some call
-  worked : call.failed ≡ None
-  to_sync : call.sync ≡ true
+pub record IsSyncCall (calls : List GroupCall) (k : ℕ) : Type 0 where
+  pub call : GroupCall
+  pub there : slice_get calls k ≡ Some call
+  pub worked : call.failed ≡ None
+  pub to_sync : call.sync ≡ true
 
 sync_call : (groups : List (List Entry)) (calls more : List GroupCall) (k : ℕ) (group : List Entry) → AllZip WroteEntries groups calls → slice_get groups k ≡ Some group → HasSync group → IsSyncCall (calls ++ more) k
 sync_call [] calls more k group each at has = absurd (cc at)
@@ -101,7 +121,7 @@ among_synced (d ∷ calls) (suc safe) (suc k) c have at worked to_sync = let les
 -- A log's content, however it began
 module _ (b : Beginning) where
   -- what begins with the text of records begins with the text of the first of them
-  begins_first : (records : List (List ℕ)) (n : ℕ) (image : List ℕ) → BeginsWith (text_after b records) image → BeginsWith (text_after b (take n records)) image
+  pub begins_first : (records : List (List ℕ)) (n : ℕ) (image : List ℕ) → BeginsWith (text_after b records) image → BeginsWith (text_after b (take n records)) image
   begins_first records n image begins =
       let shorter = after_shorter b records n in
       let front : ℕ = length (text_after b (take n records)) in
@@ -163,26 +183,42 @@ module _ (b : Beginning) (group_bytes : ℕ) (attempts : List (List Attempt)) (l
       let one : begun_by lost ≡ record_of_call c ∷ [] = ap begun_by are.1 ∙ ap (λ f. record_of_call c ∷ if_worked f [] []) (are.2).failed in
       begun_for groups calls lost each ∙ ap (λ l. map record_of_call calls ++ l) one ∙ ap (λ l. l ++ record_of_call c ∷ []) (same_records groups calls each)
 
+  -- all that was begun is what was written, and the record of the call that failed, if one did
+  pub with_lost : (fault : Option ℕ) → AreLost group_bytes attempts fault last lost → begun_by (calls ++ lost) ≡ with_failed_record (written_by (calls ++ lost)) (failed_record lost)
+  with_lost None are = begun_written (calls ++ lost) (none_failed are) ∙ ap (with_failed_record (written_by (calls ++ lost))) (sym (ap failed_record are))
+  with_lost (Some count) are = begun_is count are ∙ sym (λ i. with_failed_record (written_is (Some count) are i) (ap failed_record are.1 i))
+
+  -- whether a call failed is the log's fault
+  pub fault_is : (fault : Option ℕ) → AreLost group_bytes attempts fault last lost → first_fault (calls ++ lost) ≡ fault
+  fault_is None are = none_failed are
+  fault_is (Some count) are = first_for groups calls lost each ∙ (ap first_fault are.1 ∙ (ap (λ f. if_worked f None f) (are.2).failed))
+
+  -- the record of the call that failed is that of the one group whose write failed
+  pub is_failed : (count : ℕ) (are : AreLost group_bytes attempts (Some count) last lost) (o : Outcome) → o.last ≡ last → o.fault ≡ Some count → IsFailedWrite group_bytes attempts o (record_of_call are.0)
+  is_failed count are o end e =
+      let c = are.0 in
+      let call = are.2 in
+      record {
+        count = count;
+        fault = e;
+        batches = c.batches;
+        lost = subst (λ (n : ℕ). IsLostGroup group_bytes attempts count n c.batches) (sym end) call.batches;
+        same = ap (λ (n : ℕ). group_record n c.batches) (call.first ∙ ap (λ (n : ℕ). n + 1) (sym end));
+      }
+
   -- Where no write failed, the groups' text is over what was there. Else one more record was tried, and a front of it
   -- may be after them.
   pub failed_write : (begun : List ℕ) (d : Disk) (safe : ℕ) → HoldsCalls b d (calls ++ lost) safe → (first_fault (calls ++ lost) ≡ None → d.content ≡ over (text_after b (written_by (calls ++ lost))) begun)
-      → (o : Outcome) → o.last ≡ last → o.log_len ≡ length (text_after b records) → (fault : Option ℕ) → o.fault ≡ fault
+      → (o : Outcome) → o.last ≡ last → o.log_lens ≡ length (text_after b records) ∷ [] → (fault : Option ℕ) → o.fault ≡ fault
       → AreLost group_bytes attempts fault last lost → MatchOption fault (d.content ≡ over (text_after b records) begun) (λ count. (x : List ℕ) × (failed_record lost ≡ Some x) × HoldsFailedWrite group_bytes attempts o b groups x d.place d.content)
   failed_write begun d safe holds whole o end len None e are = whole (none_failed are) ∙ ap (λ (l : List (List ℕ)). over (text_after b l) begun) (written_is None are)
   failed_write begun d safe holds whole o end len (Some count) e are =
-      let c = are.0 in
-      let call = are.2 in (
+      let c = are.0 in (
         record_of_call c,
         ap failed_record are.1,
         record {
-          failed = record {
-            count = count;
-            fault = e;
-            batches = c.batches;
-            lost = subst (λ (n : ℕ). IsLostGroup group_bytes attempts count n c.batches) (sym end) call.batches;
-            same = ap (λ (n : ℕ). group_record n c.batches) (call.first ∙ ap (λ (n : ℕ). n + 1) (sym end));
-          };
-          behind = omega (arith, len, holds.behind, ap (λ (l : List (List ℕ)). length (text_after b l)) (written_is (Some count) are));
+          failed = is_failed count are o end e;
+          behind = omega (arith, holds.behind, ap (λ (l : List (List ℕ)). length (text_after b l)) (written_is (Some count) are));
           front = subst (λ (l : List (List ℕ)). HoldsFront (text_after b l) d.place d.content) (begun_is count are) holds.front;
         },
       )

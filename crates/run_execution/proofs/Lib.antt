@@ -6,3 +6,9 @@ pub mod SafeLogs
 mod Openings
 mod Resumed
 mod RunEnds
+pub mod Bare
+mod Cuts
+mod HeldGroups
+mod SetShapes
+mod SafeSets
+mod SetRunEnds

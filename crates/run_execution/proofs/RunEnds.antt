@@ -27,9 +27,10 @@ use Rattle.run_threads.specs.declared.run.ClientsEnd.{ClientsEnd}
 use Rattle.run_threads.specs.declared.run.ClientsEnd.TheVariants.{NotRun, Untold, Told}
 use Rattle.run_threads.specs.Runs.{HaveRun, ComesTo, log_of, outcome_with}
 use Rattle.run_execution.specs.declared.opening.Opened.{Opened}
+use Rattle.run_execution.specs.declared.end.RunEnd.{RunEnd}
 use Rattle.run_execution.specs.declared.end.RunEnd.TheVariants.{NoMemory}
 use Rattle.log_recovery.specs.declared.modes.Mode.{Mode}
-use Rattle.run_execution.specs.Ends.{HasOutcome, HasOpenedAs, IsOpenedFor, IsAccepted, IsRefused, options_behind, execution_on, EndsOn, end_of_run}
+use Rattle.run_execution.specs.Ends.{HasOutcome, HasOpenedAs, IsOpenedFor, IsAccepted, IsRefused, options_behind, execution_on, EndsOn, IsEndOfRun}
 use Rattle.run_execution.proofs.LegalRuns.{small_entries, refused_for_themselves}
 use Rattle.run_execution.proofs.Openings.{OnlyNow, ImageLaw, keeps_as, recovers_as, content_as, empty_as, found_as, no_fault_as, crash_as}
 use Rattle.run_execution.proofs.SafeLogs.{len_is, safe_log, left_since, kept_left, held_images, is_written, goes_on, later}
@@ -93,10 +94,10 @@ module _ {D : Type 0} {ghosts : Ghosts D} where
       -- all clients have run: there is an outcome
       has_outcome : Ran → HasOutcome execution (ghosts.told disk) (ghosts.told (disk_of log))
       has_outcome ran =
-          let o = outcome_of ran.trace ran.transcripts last (len_of log) (fault_of log) in
+          let o = outcome_of ran.trace ran.transcripts last (len_of log ∷ []) (fault_of log) in
           let b = beginning_of start before in
           let ended = ghosts.faults (disk_of log) in
-          let legal = ran.legal (len_of log) in
+          let legal = ran.legal (len_of log ∷ []) in
           let calls = ran.writes.calls ++ ran.writes.lost in
           let written = is_written b disk opened log calls begun ran.writes.by in
           let run : IsRunOf execution o = record {
@@ -113,7 +114,7 @@ module _ {D : Type 0} {ghosts : Ghosts D} where
               none_else = ran.writes.none_else;
               by = (log, written, refl);
             };
-            length_is = len_is b ran.trace ran.attempts settings.group_bytes (λ cs. Wrote opened cs log) log ran.writes (stands calls log written);
+            length_is = ap (λ (n : ℕ). n ∷ []) (len_is b ran.trace ran.attempts settings.group_bytes (λ cs. Wrote opened cs log) log ran.writes (stands calls log written));
           } in
           record {
             outcome = o;
@@ -130,14 +131,15 @@ module _ {D : Type 0} {ghosts : Ghosts D} where
 
       -- and the values show it, where they are at hand
       module _ (transcripts : Vec (Vec Reply Global) Global) (history : List (HistoryEntry Contents)) (state : Pairs) where
-        has_run : (ran : Ran) → ((log_len : ℕ) → ShowsOutcome (outcome_with transcripts history last state log_len (fault_of log)) (outcome_of ran.trace ran.transcripts last log_len (fault_of log)))
-            → HasRun execution (ghosts.told disk) (ghosts.told (disk_of log)) (outcome_with transcripts history last state (len_of log) (fault_of log))
+        has_run : (full_lens : Vec ℕ Global) → full_lens.items ≡ [] → (ran : Ran)
+            → ((lens : Vec ℕ Global) (log_len : ℕ) → ShowsOutcome (outcome_with transcripts history last state lens log_len (fault_of log)) (outcome_of ran.trace ran.transcripts last (lens.items ++ log_len ∷ []) (fault_of log)))
+            → HasRun execution (ghosts.told disk) (ghosts.told (disk_of log)) (outcome_with transcripts history last state full_lens (len_of log) (fault_of log))
         unfolding has_outcome
-        has_run ran shows =
+        has_run full_lens none ran shows =
             let there = has_outcome ran in
             record {
               outcome = there.outcome;
-              shows = shows (len_of log);
+              shows = subst (λ (l : List ℕ). ShowsOutcome (outcome_with transcripts history last state full_lens (len_of log) (fault_of log)) (outcome_of ran.trace ran.transcripts last (l ++ len_of log ∷ []) (fault_of log))) none (shows full_lens (len_of log));
               run = there.run;
               refusals = there.refusals;
               counted = there.counted;
@@ -146,12 +148,15 @@ module _ {D : Type 0} {ghosts : Ghosts D} where
 
     -- how the run ends, from its result
     pub is_end : (mode : Mode) → IsAccepted start mode (ghosts.told disk) → OnlyNow ghosts disk → (ran : ClientsEnd (LogWriter D ghosts)) → ComesTo settings script (Wrote opened) fault_of (λ l. ghosts.faults (disk_of l)) ran
-        → EndsOn ghosts options start mode script disk (disk_of (log_of ran)) (end_of_run ran)
-    is_end mode accepted only (NotRun log) wrote =
-        subst (λ (l : LogWriter D ghosts). IsRefused ghosts start mode disk (disk_of l) NoMemory) (sym (not_written opened [] log wrote refl))
-        (inr (accepted, found_as start before disk opened goes has_opened), no_fault_as start before disk opened has_opened, crash_as start mode before disk opened only goes accepted has_opened)
-    is_end mode accepted only (Untold log last) ran = (before, goes, has_outcome log last ran)
-    is_end mode accepted only (Told log last transcripts history state) told = (before, goes, has_run log last transcripts history state told.0 told.1)
+        → (told : RunEnd) → IsEndOfRun ran told → EndsOn ghosts options start mode script disk (disk_of (log_of ran)) told
+    is_end mode accepted only (NotRun log) wrote told e =
+        subst (λ (r : RunEnd). EndsOn ghosts options start mode script disk (disk_of log) r) (sym e)
+        (subst (λ (l : LogWriter D ghosts). IsRefused ghosts start mode disk (disk_of l) NoMemory) (sym (not_written opened [] log wrote refl))
+        (inr (accepted, found_as start before disk opened goes has_opened), no_fault_as start before disk opened has_opened, crash_as start mode before disk opened only goes accepted has_opened))
+    is_end mode accepted only (Untold log last) ran told e =
+        subst (λ (r : RunEnd). EndsOn ghosts options start mode script disk (disk_of log) r) (sym e) (before, goes, has_outcome log last ran)
+    is_end mode accepted only (Told log last transcripts history state) both told e =
+        subst (λ (r : RunEnd). EndsOn ghosts options start mode script disk (disk_of log) r) (sym e.2) (before, goes, has_run log last transcripts history state e.0 e.1 both.0 both.1)
 
   -- the disk's time has gone on, and its count of faults hasn't fallen, whether calls wrote the log or none did
   abbrev WentOn : LogWriter D ghosts → LogWriter D ghosts → Type 0

@@ -1,5 +1,5 @@
 -- What the log holds after a run of many clients, and what a crash leaves of it.
-use Rattle.std.proofs.Common.{◌≡◌, ℕ, zero, suc, ◌+◌, ◌-◌, ◌<◌, ◌≤◌, List, [], ◌∷◌, ◌++◌, length, take, drop, map, flat_map, Option, Some, None, IfSome, slice_get, refl, ap, sym, ◌∙◌, subst, arith, length-append, length-take}
+use Rattle.std.proofs.Common.{◌≡◌, ℕ, zero, suc, ◌+◌, ◌-◌, ◌<◌, ◌≤◌, Bool, List, [], ◌∷◌, ◌++◌, length, take, drop, map, flat_map, Option, Some, None, Result, IfSome, slice_get, refl, ap, sym, ◌∙◌, subst, arith, length-append, length-take}
 use Rattle.std.proofs.lemmas.List.{take-append-le, append-nil}
 use Rattle.std.specs.Prelude.{⊤}
 use Rattle.std.specs.List.{AllByRecursion, AllZip}
@@ -24,7 +24,8 @@ use Rattle.log_writer.specs.declared.writer.LogWriter.{LogWriter}
 use Rattle.log_writer.specs.Words.{disk_of, len_of, fault_of}
 use Rattle.log_writer.specs.Opening.{HasBegun}
 use Rattle.log_writer.specs.Crashes.{AreRisingBatches}
-use Rattle.log_writer.specs.Adding.{GroupCall, Adds}
+use Rattle.log_writer.specs.Puts.{Puts}
+use Rattle.log_writer.specs.Adding.{GroupCall, answer_of, text_at_end, Adds}
 use Rattle.log_writer.specs.Written.{Wrote, no_call, one_more, IsWritten, IsLeftSince, first_fault, written_by, HaveSynced as HaveCallsSynced, HoldsSynced as HoldsCallsSynced, HoldsCalls, IsTextOver, Stands}
 use Rattle.log_writer.proofs.Calls.{synced_later}
 use Rattle.log_writer.proofs.Keeping.{keeps_prefix, after_none}
@@ -103,7 +104,7 @@ module _ (b : Beginning) (trace : Trace) (keeps : KeepsBatches b trace.start) (a
           enough = (omega (arith, enough), synced_is b group_bytes attempts last groups calls lost each (prefix.many - length kept) (synced_later all safe (prefix.many - length kept) holds.have_synced (omega (arith, enough))));
         }
 
-    crash_safe : o.log_len ≡ length (text_after b records) → (reached : ℕ) (any : List ℕ → Type 0) (since : List GroupCall → List GroupCall → List ℕ → Type 0) → ((image : List ℕ) → any image → HoldsCallsSynced b reached all image)
+    crash_safe : o.log_lens ≡ length (text_after b records) ∷ [] → (reached : ℕ) (any : List ℕ → Type 0) (since : List GroupCall → List GroupCall → List ℕ → Type 0) → ((image : List ℕ) → any image → HoldsCallsSynced b reached all image)
         → ((image : List ℕ) → since [] all image → BeginsWith b.kept image) → KeepsSynced b groups all since
         → IsCrashSafe group_bytes attempts o b groups begun d.content d.place all lost reached any since (IsImage d)
     crash_safe len reached any since held kept kept_since = record {
@@ -116,12 +117,12 @@ module _ (b : Beginning) (trace : Trace) (keeps : KeepsBatches b trace.start) (a
     }
 
     -- and the content up to the log's length is the groups' text
-    log_left : o.log_len ≡ length (text_after b records) → IsLogOf b o d.content groups
+    log_left : o.log_lens ≡ length (text_after b records) ∷ [] → IsLogOf b o d.content groups
     log_left len =
         let same : text_after b (written_by all) ≡ text_after b records = ap (text_after b) written in
         record {
           of_history = record { cut = ap logged_entries history ∙ sym cut; none_empty = each_has_entries groups calls each; runs = runs };
-          content_is = ap (λ (n : ℕ). take n d.content) (len ∙ ap length (sym same)) ∙ written_front b d all safe holds ∙ same;
+          content_is = ap (λ (l : List ℕ). take (length l) d.content) (sym same) ∙ written_front b d all safe holds ∙ same;
           length_is = len;
         }
 
@@ -157,7 +158,7 @@ tells_on (Some x) (Some y) None first second = second
 tells_on (Some x) (Some y) (Some z) first second = tt
 
 -- batches of at most 16 MiB, of no more than 64 clients
-all_suit : (settings : Settings) → settings.clients ≤ MAX_CLIENTS → (entries : List Entry) → AllByRecursion (λ (e : Entry). IsClient settings e.client) entries
+pub all_suit : (settings : Settings) → settings.clients ≤ MAX_CLIENTS → (entries : List Entry) → AllByRecursion (λ (e : Entry). IsClient settings e.client) entries
     → AllByRecursion (λ (e : Entry). size_of_batch e.records ≤ MAX_SIZE) entries → AllByRecursion Suits entries
 all_suit settings few [] clients small = tt
 all_suit settings few (e ∷ entries) clients small = ((small.0, let within = clients.0.1 in omega (arith, within, few)), all_suit settings few entries clients.1 small.1)
@@ -186,23 +187,25 @@ since_images b moment from since (Some d) old new before P kept holds leaves ima
 
 module _ {D : Type 0} {ghosts : Ghosts D} where
   -- No call turns back the disk's time or its count of faults, and a disk that tells its content goes on to tell it.
-  record GoesFurther (old new : LogWriter D ghosts) : Type 0 where
-    told : Told (ghosts.told (disk_of old)) (ghosts.told (disk_of new)) (λ x y. ⊤)
-    time : GoesOn ghosts.moment ghosts.from (disk_of old) (disk_of new)
-    faults : ghosts.faults (disk_of old) ≤ ghosts.faults (disk_of new)
+  pub record GoesFurther (old new : LogWriter D ghosts) : Type 0 where
+    pub told : Told (ghosts.told (disk_of old)) (ghosts.told (disk_of new)) (λ x y. ⊤)
+    pub time : GoesOn ghosts.moment ghosts.from (disk_of old) (disk_of new)
+    pub faults : ghosts.faults (disk_of old) ≤ ghosts.faults (disk_of new)
 
-  stays : (log : LogWriter D ghosts) → GoesFurther log log
+  pub stays : (log : LogWriter D ghosts) → GoesFurther log log
   stays log = record { told = tells_same (ghosts.told (disk_of log)); time = record { later = omega arith; forgets = omega arith }; faults = omega arith }
 
-  call_goes_on : (c : GroupCall) (old new : LogWriter D ghosts) (fault : Option ℕ) → fault_of old ≡ fault → Adds c old new → GoesFurther old new
-  call_goes_on c old new None alive adds =
-      let put = adds.put alive in
+  pub put_goes_on : (old new : LogWriter D ghosts) (bytes : List ℕ) (sync : Bool) (result : Result (Unit {0}) ℕ) → Puts ghosts (disk_of old) (disk_of new) bytes sync result → GoesFurther old new
+  put_goes_on old new bytes sync result put =
       let crash = put.crash in
       record {
         told = both_tell (ghosts.told (disk_of old)) (ghosts.told (disk_of new)) _ put.are_put;
         time = record { later = crash.later; forgets = crash.forgets };
         faults = (put.cause).later;
       }
+
+  pub call_goes_on : (c : GroupCall) (old new : LogWriter D ghosts) (fault : Option ℕ) → fault_of old ≡ fault → Adds c old new → GoesFurther old new
+  call_goes_on c old new None alive adds = put_goes_on old new (text_at_end c old) c.sync (answer_of c.failed) (adds.put alive)
   call_goes_on c old new (Some count) dead adds =
       let kept = subst (λ (f : Option ℕ). IfSome f (λ n. (c.failed ≡ Some n) × (new ≡ old))) dead adds.dead in
       subst (λ (log : LogWriter D ghosts). GoesFurther old log) (sym kept.1) (stays old)

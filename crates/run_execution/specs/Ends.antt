@@ -1,5 +1,6 @@
 -- How a run ends, and what is true then.
-use Rattle.std.specs.Prelude.{◌≡◌, ◌≢◌, ◌⊎◌, ◌<◌, ℕ, max, List, [], length, take, Option, None, IfSome, ⊤}
+use Rattle.std.specs.Prelude.{◌≡◌, ◌≢◌, ◌⊎◌, ◌<◌, ℕ, max, List, [], length, take, Option, None, IfSome, Vec, ⊤}
+use Rattle.std.specs.declared.alloc.Global.{Global}
 use Rattle.std.specs.List.{AllByRecursion}
 use Rattle.base_devices.specs.Disk.{Disk, Told}
 use Rattle.base_devices.specs.declared.disk.Disk.{Ghosts}
@@ -36,12 +37,13 @@ end_of (why.Fault count) = end.DiskFault count
 end_of (why.NotEmpty len) = end.NotEmpty len
 end_of why.NoMemory = end.NoMemory
 
--- how a run over an opened log ended
-abbrev pub end_of_run : {D : Type 0} {ghosts : Ghosts D} → ClientsEnd (LogWriter D ghosts) → RunEnd
-end_of_run (clients.NotRun log) = end.NoMemory
-end_of_run (clients.Untold log last) = end.NoOutcome
-end_of_run (clients.Told log last transcripts history state) =
-    end.Ran (outcome_with transcripts history last state (len_of log) (fault_of log))
+-- how a run over an opened log ended; there are no full logs, so the list of their lengths has no elements
+abbrev pub IsEndOfRun : {D : Type 0} {ghosts : Ghosts D} → ClientsEnd (LogWriter D ghosts) → RunEnd → Type 0
+IsEndOfRun (clients.NotRun log) told = told ≡ end.NoMemory
+IsEndOfRun (clients.Untold log last) told = told ≡ end.NoOutcome
+IsEndOfRun (clients.Told log last transcripts history state) told = (full_lens : Vec ℕ Global)
+    × (full_lens.items ≡ [])
+    × (told ≡ end.Ran (outcome_with transcripts history last state full_lens (len_of log) (fault_of log)))
 
 -- A script was run, and this is its outcome. The log is that of the outcome, where the disk tells its content. Where
 -- the log has no fault, the disk has counted none in the run, and commits were refused only for causes of their own.

@@ -1,16 +1,19 @@
 //! How a run ends.
 
 ghost use Rattle.std.specs.Prelude.{◌≡◌};
+ghost use Rattle.log_writer.specs.SetWritten.{disks_of};
 ghost use Rattle.log_writer.specs.Words.{disk_of};
 ghost use Rattle.run_threads.specs.Runs.{log_of};
-ghost use Rattle.run_execution.specs.Ends.{end_of_run};
+ghost use Rattle.run_execution.specs.Ends.{IsEndOfRun};
+ghost use Rattle.run_execution.specs.SetEnds.{IsEndOfSet};
 
 use base_devices::Disk;
 use base_maps::ByteMap;
-use log_writer::{LogWriter, OpenError};
+use log_writer::{LogSet, LogWriter, OpenError};
 use model_base::EndReason;
 use run_outcome::Outcome;
 use run_threads::ClientsEnd;
+use std::alloc::Global;
 
 /// How a run ended.
 #[derive(Drop)]
@@ -45,9 +48,9 @@ impl From<OpenError> for RunEnd {
 }
 
 /// Gives the disk of a run's log back, with how the run ended.
-pub fn end_run<D: Disk>(ran: ClientsEnd<LogWriter<D>>) -> (D, RunEnd)
+pub fn end_run<D: Disk>(alloc: Global, ran: ClientsEnd<LogWriter<D>>) -> (D, RunEnd)
     ensures disk { result.0 ≡ disk_of (log_of ran) }
-    ensures end { result.1 ≡ end_of_run ran }
+    ensures end { IsEndOfRun ran result.1 }
 {
     match ran {
         ClientsEnd::NotRun { log } => (log.into_disk(), RunEnd::NoMemory),
@@ -66,10 +69,46 @@ pub fn end_run<D: Disk>(ran: ClientsEnd<LogWriter<D>>) -> (D, RunEnd)
                 history,
                 last,
                 state,
+                full_lens: Vec::new(alloc),
                 log_len,
                 fault,
             };
             (log.into_disk(), RunEnd::Ran(outcome))
+        }
+    }
+}
+
+/// Gives the disks of a run's set of logs back, with how the run ended.
+pub fn end_set_run<D: Disk>(ran: ClientsEnd<LogSet<D>>) -> (Vec<D>, RunEnd)
+    ensures disks { result.0.items ≡ disks_of (log_of ran) }
+    ensures end { IsEndOfSet ran result.1 }
+{
+    match ran {
+        ClientsEnd::NotRun { log } => (log.into_disks(), RunEnd::NoMemory),
+        ClientsEnd::Untold { log, last: _ } => (log.into_disks(), RunEnd::NoOutcome),
+        ClientsEnd::Told {
+            log,
+            last,
+            transcripts,
+            history,
+            state,
+        } => {
+            let fault = log.fault();
+            let (disks, mut full_lens) = log.into_parts();
+            // The last one is that of the log that was written to last.
+            let Some(log_len) = full_lens.pop() else {
+                unreachable!()
+            };
+            let outcome = Outcome {
+                transcripts,
+                history,
+                last,
+                state,
+                full_lens,
+                log_len,
+                fault,
+            };
+            (disks, RunEnd::Ran(outcome))
         }
     }
 }

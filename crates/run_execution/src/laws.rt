@@ -1,6 +1,15 @@
 //! From the result of a run over an opened log to the end of the whole run.
 
-ghost use Rattle.std.specs.Prelude.{◌≤◌, ℕ, List, length};
+ghost use Rattle.std.specs.Prelude.{◌≡◌, ◌≤◌, ℕ, List, [], length};
+ghost use Rattle.std.specs.List.{AllZip};
+ghost use Rattle.model_base.specs.LogContents.{GroupCall};
+ghost use Rattle.model_base.specs.Settings.{settings_of};
+ghost use Rattle.log_writer.specs.declared.set.LogSet.{LogSet as Set};
+ghost use Rattle.log_writer.specs.Sets.{WroteSet, count_in, fault_in, limit_of, logs_of};
+ghost use Rattle.log_writer.specs.SetCrashes.{HasOpenedSet};
+ghost use Rattle.log_writer.specs.SetWritten.{disks_of};
+ghost use Rattle.run_execution.specs.declared.end.RunEnd.{RunEnd as End};
+ghost use Rattle.run_execution.specs.SetEnds.{EndsOnSet, IsEndOfSet};
 ghost use Rattle.model_base.specs.Calls.{Command};
 ghost use Rattle.model_base.specs.Map.{Pairs};
 ghost use Rattle.model_base.specs.declared.options.Options.{Options as RunOptions};
@@ -10,24 +19,28 @@ ghost use Rattle.log_writer.specs.Words.{disk_of};
 ghost use Rattle.run_outcome.specs.declared.log_start.LogStart.{LogStart};
 ghost use Rattle.run_outcome.specs.Running.{Before, GoesOn, GoesOnFrom};
 ghost use Rattle.run_threads.specs.declared.run.ClientsEnd.{ClientsEnd as Ended};
-ghost use Rattle.run_threads.specs.Runs.{log_of};
-ghost use Rattle.run_execution.specs.Ends.{EndsOn, HasOpenedAs, IsAccepted, HasRunOver, end_of_run, options_behind};
+ghost use Rattle.run_threads.specs.Runs.{ComesTo, log_of};
+ghost use Rattle.run_execution.specs.Ends.{EndsOn, HasOpenedAs, IsAccepted, HasRunOver, IsEndOfRun, options_behind};
 
 use base_devices::Disk;
-use log_recovery_laws::an_image_of_the_file;
-use log_writer::{beginnings, crashes_between_calls, written_by_calls};
+use log_recovery_laws::{an_image_of_the_file, fronts_recover_prefixes};
+use log_writer::{
+    beginnings, calls_of_each_log, contents_of_sets, crashes_between_calls, one_cut_of_sets,
+    sets_are_filled, synced_in_sets, written_by_calls,
+};
 use model_base::{MAX_CLIENTS, MAX_SIZE};
 
 /// What follows if a log was opened on a disk, and all clients of a script have run over it, or none has.
 pub fn runs_leave_safe_logs<D: Disk>()
     // Then the run ends as it should, and the log is left as it should be.
     ensures ends { (disk : D) (opened : Log D ⟦<D as Disk>⟧) (options : RunOptions) (start : LogStart) (mode : Mode)
-        (before : Before) (script : List (List Command)) (ran : Ended (Log D ⟦<D as Disk>⟧))
+        (before : Before) (script : List (List Command)) (ran : Ended (Log D ⟦<D as Disk>⟧)) (end : End)
         → GoesOnFrom start (D.told disk) before → IsAccepted start mode (D.told disk)
         → HasOpenedAs start before disk opened
         → length script ≤ MAX_CLIENTS → options.batch_bytes ≤ MAX_SIZE
         → HasRunOver opened (options_behind options before) before.map (D.faults disk) script ran
-        → EndsOn ⟦<D as Disk>⟧ options start mode script disk (disk_of (log_of ran)) (end_of_run ran) }
+        → IsEndOfRun ran end
+        → EndsOn ⟦<D as Disk>⟧ options start mode script disk (disk_of (log_of ran)) end }
     // The disk's time has gone on, and its count of faults hasn't fallen.
     ensures time { (opened : Log D ⟦<D as Disk>⟧) (options : RunOptions) (map : Pairs) (script : List (List Command))
         (counted : ℕ) (ran : Ended (Log D ⟦<D as Disk>⟧)) → HasRunOver opened options map counted script ran
@@ -38,4 +51,26 @@ pub fn runs_leave_safe_logs<D: Disk>()
     written_by_calls::<D>();
     crashes_between_calls::<D>();
     an_image_of_the_file();
+}
+
+/// What follows if a set of logs was opened on disks, and all clients of a script have run over it, or none has.
+pub fn runs_leave_safe_sets<D: Disk>()
+    ensures ends { (disks : List D) (opened : Set D ⟦<D as Disk>⟧) (options : RunOptions) (limit : ℕ)
+        (script : List (List Command)) (ran : Ended (Set D ⟦<D as Disk>⟧)) (end : End)
+        → HasOpenedSet disks opened → limit_of opened ≡ limit → length script ≤ MAX_CLIENTS
+        → options.batch_bytes ≤ MAX_SIZE
+        → ComesTo (settings_of options [] (length script) (count_in (logs_of opened))) script (WroteSet opened) fault_in
+        (λ set. count_in (logs_of set)) ran → IsEndOfSet ran end
+        → EndsOnSet ⟦<D as Disk>⟧ options limit script disks (disks_of (log_of ran)) end }
+    ensures time { (opened : Set D ⟦<D as Disk>⟧) (calls : List GroupCall) (set : Set D ⟦<D as Disk>⟧)
+        → WroteSet opened calls set
+        → AllZip (λ old new. GoesOn D.moment D.from old new × (D.faults old ≤ D.faults new)) (disks_of opened)
+        (disks_of set) }
+{
+    calls_of_each_log::<D>();
+    contents_of_sets::<D>();
+    one_cut_of_sets::<D>();
+    sets_are_filled::<D>();
+    synced_in_sets::<D>();
+    fronts_recover_prefixes();
 }

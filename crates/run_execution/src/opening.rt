@@ -77,7 +77,9 @@ fn open_behind<D: Disk>(
         Ok(recovered) => recovered,
         Err(RecoverError::Fault { count }) => return Err((disk, RunEnd::DiskFault { count })),
         Err(RecoverError::NoMemory) => return Err((disk, RunEnd::NoMemory)),
-        Err(RecoverError::Damage { at, why }) => return Err((disk, RunEnd::Damage { at, why })),
+        Err(RecoverError::Damage { log: _, at, why }) => {
+            return Err((disk, RunEnd::Damage { at, why }));
+        }
     };
     let Recovered {
         groups: _,

@@ -5,19 +5,22 @@ ghost use Rattle.model_base.specs.History.{max_sequence};
 ghost use Rattle.run_scripts.specs.Scripts.{commands_of, FitsBatches};
 ghost use Rattle.log_writer.specs.Words.{disk_of};
 ghost use Rattle.run_outcome.specs.Running.{GoesOn};
+ghost use Rattle.std.specs.List.{AllZip};
 ghost use Rattle.run_execution.specs.Ends.{EndsOn, IsAccepted, IsOpenedFor, Ran};
+ghost use Rattle.run_execution.specs.SetEnds.{EndsOnSet};
 
-use crate::end::{RunEnd, end_run};
-use crate::laws::runs_leave_safe_logs;
+use crate::end::{RunEnd, end_run, end_set_run};
+use crate::laws::{runs_leave_safe_logs, runs_leave_safe_sets};
 use crate::opening::{Opened, open_log};
+use crate::over_log::run_on;
 use crate::setup::{Host, Setup};
 use crate::shared_gate::SharedGate;
 use base_devices::{Clock, Disk};
+use base_maps::ByteMap;
 use engine_calls::Gate;
-use engine_memory::open_engine;
+use log_writer::LogSet;
 use model_base::{MAX_CLIENTS, MAX_SIZE, Options};
 use run_scripts::Script;
-use run_threads::run_engine;
 use std::rt;
 use std::sync::Wait;
 use std::thread::Threads;
@@ -81,8 +84,6 @@ fn run_over<
     ensures later { D.faults (disk_of opened.log) ≤ D.faults result.0 }
     ensures time { GoesOn D.moment D.from (disk_of opened.log) result.0 }
 {
-    let commands = script.clients.as_slice();
-    let clients = commands.len() as u32;
     let Opened { log, map, last } = opened;
     let Setup {
         options,
@@ -96,12 +97,58 @@ fn run_over<
         ..options
     };
     runs_leave_safe_logs::<D>();
-    match open_engine(
-        host.alloc, log, clock, clients, last, &map, shared, options, shards, pipelined,
-    ) {
-        Ok((engine, clients)) => end_run(run_engine(
-            host.rt, host.alloc, engine, clients, map, commands, host.gate,
-        )),
-        Err((log, _clock, _gate)) => (log.into_disk(), RunEnd::NoMemory),
+    let ran = run_on(
+        host, log, map, last, clock, shared, script, options, shards, pipelined,
+    );
+    end_run(host.alloc, ran)
+}
+
+/// Runs a script over a new set of logs, one on each of these disks, and gives the disks back. A log is full once it
+/// has as many bytes as the limit. The gate hears of what happens.
+pub fn execute_set<
+    D: Disk + Send,
+    C: Clock + Send + Drop,
+    G: Gate + Sync,
+    R: Threads + Wait + rt::Clock + Sync,
+>(
+    host: &Host<'_, R, G>,
+    disks: Vec<D>,
+    limit: u64,
+    clock: C,
+    script: &Script,
+    setup: Setup,
+) -> (Vec<D>, RunEnd)
+    requires disks { (0 < length disks.items) × (length disks.items ≤ 16) }
+    requires limit { 0 < limit }
+    requires clients { (1 ≤ length script.now.clients.items) × (length script.now.clients.items ≤ MAX_CLIENTS) }
+    requires fits { FitsBatches script.now }
+    requires options { (setup.options.last ≤ max_sequence) × (setup.options.batch_bytes ≤ MAX_SIZE) }
+    requires shards { 0 < setup.shards }
+    // What comes of it: a legal outcome, and how its logs were written, one after another; or why they were not opened,
+    // with the disks left alone.
+    ensures end { EndsOnSet ⟦<D as Disk>⟧ setup.options limit (commands_of script.now) disks.items result.0.items
+        result.1 }
+    // no disk's count of faults falls
+    ensures later { AllZip (λ old new. D.faults old ≤ D.faults new) disks.items result.0.items }
+    ensures time { AllZip (GoesOn D.moment D.from) disks.items result.0.items }
+{
+    let Setup {
+        options,
+        start: _,
+        mode: _,
+        shards,
+        pipelined,
+    } = setup;
+    match LogSet::open(host.alloc, disks, limit) {
+        Ok(set) => {
+            let shared = SharedGate { gate: host.gate };
+            let map = ByteMap::new(host.alloc);
+            let ran = run_on(
+                host, set, map, 0, clock, shared, script, options, shards, pipelined,
+            );
+            runs_leave_safe_sets::<D>();
+            end_set_run(ran)
+        }
+        Err((disks, why)) => (disks, RunEnd::from(why)),
     }
 }

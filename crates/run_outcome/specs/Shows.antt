@@ -1,6 +1,6 @@
 -- The replies, the entries and the outcome of the model that the code's values show. The records of an accepted batch
 -- are in no value of a reply.
-use Rattle.std.specs.Prelude.{◌≡◌, Bool, true, false, not, List, filter}
+use Rattle.std.specs.Prelude.{◌≡◌, Bool, true, false, not, List, [], ◌∷◌, ◌++◌, filter}
 use Rattle.std.specs.List.{AllZip, list_any}
 use Rattle.model_base.specs.Batch.{Record}
 use Rattle.model_base.specs.Map.{Pairs}
@@ -59,7 +59,7 @@ pub record ShowsOutcome (shown : Outcome Pairs) (o : calls.Outcome) : Type 0 whe
   pub history : AllZip ShowsEntry shown.history o.history
   pub last : o.last ≡ shown.last
   pub state : o.state ≡ shown.state
-  pub log_len : o.log_len ≡ shown.log_len
+  pub log_lens : o.log_lens ≡ shown.full_lens.items ++ shown.log_len ∷ []
   pub fault : o.fault ≡ shown.fault
 
 -- a client ran out of memory

@@ -16,8 +16,9 @@ pub struct Outcome<M> {
     /// The published sequence, and the map there.
     pub last: u64,
     pub state: M,
-    /// The log's length: the bytes that it kept, and those of the groups that were written whole. Then the count of
-    /// the log's fault, if it has one.
+    /// The lengths of the full logs, if there are several; then that of the log that was written to last: the bytes
+    /// that it kept, and those of the groups that were written whole. Then the count of the fault, if there is one.
+    pub full_lens: Vec<u64>,
     pub log_len: u64,
     pub fault: Option<u64>,
 }

@@ -83,8 +83,8 @@ module _ {L : Type 0} (settings : Settings) (wrote : List GroupCall → L → Ty
 
   -- the clients' replies show a legal outcome of the trace, whether its values are at hand or not
   module _ (script : List (List calls.Command)) (replies : Vec (Vec Reply Global) Global) (told : HaveReplied settings script replies.items accounts)
-      (legal : (transcripts : List (List calls.Call)) (log_len : ℕ) → clients.HaveRun settings script transcripts accounts
-      → IsLegalIn settings (faults log) script trace (all_attempts accounts) (outcome_of trace transcripts last log_len (fault log)))
+      (legal : (transcripts : List (List calls.Call)) (log_lens : List ℕ) → clients.HaveRun settings script transcripts accounts
+      → IsLegalIn settings (faults log) script trace (all_attempts accounts) (outcome_of trace transcripts last log_lens (fault log)))
       (writes : WritesLog settings.group_bytes (λ calls. wrote calls log) trace (all_attempts accounts) (fault log)) where
     pub have_run : HaveRun settings script wrote fault faults log last
     have_run = record {
@@ -92,7 +92,7 @@ module _ {L : Type 0} (settings : Settings) (wrote : List GroupCall → L → Ty
       attempts = all_attempts accounts;
       transcripts = told.transcripts;
       writes = writes;
-      legal = λ log_len. legal told.transcripts log_len told.run;
+      legal = λ log_lens. legal told.transcripts log_lens told.run;
     }
 
     pub have_told : (shown : List (HistoryEntry Contents)) (state : Pairs) → ShowsEntries shown trace.entries → state ≡ history.map_over trace.opening trace.entries
@@ -100,12 +100,12 @@ module _ {L : Type 0} (settings : Settings) (wrote : List GroupCall → L → Ty
     unfolding have_run
     have_told shown state shows is = (
       have_run,
-      λ log_len. record {
+      λ full_lens log_len. record {
         transcripts = told.show;
         history = shows;
         last = refl;
         state = sym is;
-        log_len = refl;
+        log_lens = refl;
         fault = refl;
       },
     )

@@ -1,5 +1,5 @@
 -- What a run of all clients over a write path results in: nothing, or a legal outcome whose values may be at hand.
-use Rattle.std.specs.Prelude.{ℕ, List, [], Option, Vec}
+use Rattle.std.specs.Prelude.{ℕ, List, [], ◌∷◌, ◌++◌, Option, Vec}
 use Rattle.std.specs.declared.alloc.Global.{Global}
 use Rattle.model_base.specs.Trace.{Trace, Settings}
 use Rattle.model_base.specs.Attempts.{Attempt}
@@ -16,14 +16,15 @@ use Rattle.model_runs.specs.Written.{WritesLog}
 use Rattle.run_threads.specs.declared.run.ClientsEnd.{ClientsEnd}
 use Rattle.run_threads.specs.declared.run.ClientsEnd.TheVariants.{NotRun, Untold, Told}
 
--- the outcome of these values, with the log's length and its fault
-abbrev pub outcome_with : Vec (Vec Reply Global) Global → List (HistoryEntry Contents) → ℕ → Pairs → ℕ → Option ℕ
-    → Outcome Pairs
-outcome_with transcripts history last state log_len fault = record {
+-- the outcome of these values, with the lengths of the full logs and of the last one, and the fault
+abbrev pub outcome_with : Vec (Vec Reply Global) Global → List (HistoryEntry Contents) → ℕ → Pairs → Vec ℕ Global → ℕ
+    → Option ℕ → Outcome Pairs
+outcome_with transcripts history last state full_lens log_len fault = record {
   transcripts = transcripts;
   history = history;
   last = last;
   state = state;
+  full_lens = full_lens;
   log_len = log_len;
   fault = fault;
 }
@@ -38,15 +39,15 @@ log_of (Told log last transcripts history state) = log
 -- its disk's count of faults.
 module _ {L : Type 0} (settings : Settings) (script : List (List Command)) (wrote : List GroupCall → L → Type 0)
     (fault : L → Option ℕ) (faults : L → ℕ) where
-  -- All clients have run: there is one trace, their replies are a legal outcome of it, whatever the log's length, and
+  -- All clients have run: there is one trace, their replies are a legal outcome of it, whatever the logs' lengths, and
   -- the log was written by the calls for its history.
   pub record HaveRun (log : L) (last : ℕ) : Type 0 where
     pub trace : Trace
     pub attempts : List (List Attempt)
     pub transcripts : List (List Call)
     pub writes : WritesLog settings.group_bytes (λ calls. wrote calls log) trace attempts (fault log)
-    pub legal : (log_len : ℕ)
-        → IsLegalIn settings (faults log) script trace attempts (outcome_of trace transcripts last log_len (fault log))
+    pub legal : (log_lens : List ℕ)
+        → IsLegalIn settings (faults log) script trace attempts (outcome_of trace transcripts last log_lens (fault log))
 
   -- Where there was no memory for the run itself, the log was written by no call. Else all clients have run, and the
   -- values, where they are at hand, show the outcome.
@@ -54,5 +55,6 @@ module _ {L : Type 0} (settings : Settings) (script : List (List Command)) (wrot
   ComesTo (NotRun log) = wrote [] log
   ComesTo (Untold log last) = HaveRun log last
   ComesTo (Told log last transcripts history state) = (run : HaveRun log last)
-      × ((log_len : ℕ) → ShowsOutcome (outcome_with transcripts history last state log_len (fault log))
-      (outcome_of run.trace run.transcripts last log_len (fault log)))
+      × ((full_lens : Vec ℕ Global) (log_len : ℕ)
+      → ShowsOutcome (outcome_with transcripts history last state full_lens log_len (fault log))
+      (outcome_of run.trace run.transcripts last (full_lens.items ++ log_len ∷ []) (fault log)))

@@ -52,6 +52,7 @@ fn an_outcome_tells_of_want_of_memory(rt: HostRuntime) -> Result<(), Fail> {
         history: History::of_one(BatchList::new(rt.alloc())),
         last: 1,
         state: ByteMap::new(rt.alloc()),
+        full_lens: Vec::new(rt.alloc()),
         log_len: 24,
         fault: None,
     };

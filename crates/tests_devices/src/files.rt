@@ -102,7 +102,7 @@ fn file_is_a_disk(rt: HostRuntime) -> Result<(), Fail> {
 
 // Calls on a file that doesn't exist. None of a disk to read makes it, nor does a first read of another one.
 const NO_FILE: [Row; 3] = [
-    (Call::Len, Err(Failed)),
+    (Call::Len, Ok(0)),
     (Call::Read(0), Err(Failed)),
     (Call::Append(b"a"), Err(Failed)),
 ];

@@ -1,6 +1,6 @@
 -- Which clients may call an engine whose table is in memory.
 use Rattle.std.specs.Prelude.{◌≡◌, ℕ, ◌+◌, ◌<◌, List, length, slice_index_or}
-use Rattle.base_devices.specs.declared.disk.Disk.{Ghosts}
+use Rattle.log_writer.specs.declared.group_log.GroupLog.{Ghosts}
 use Rattle.base_devices.specs.declared.stepped_clock.SteppedClock.{SteppedClock}
 use Rattle.table_tree.specs.declared.node.Nodes.{Nodes}
 use Rattle.table_memory.specs.declared.memory_table.MemoryTable.{MemoryTable}
@@ -13,7 +13,7 @@ use Rattle.engine_groups.specs.declared.engine.EngineClient.{EngineClient}
 use Rattle.engine_groups.specs.declared.engine.ClosingRoom.{ClosingRoom}
 use Rattle.engine_groups.specs.Clients.{IsClientOf, HasRoomToClose, account_in}
 
--- an engine over a disk, one of its clients, and all of them
+-- an engine over a log, one of its clients, and all of them
 abbrev pub Path : (D : Type 0) → Ghosts D → Type 0
 Path D ghosts = GroupEngine D MemoryTable SteppedClock OpenGate Seat Turn Nodes ghosts
 

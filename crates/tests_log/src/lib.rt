@@ -15,6 +15,8 @@
 //! - `recovery`: what is recovered from whole logs, and from those with another last record
 //! - `damage`: what is recovered from logs that were cut or changed
 //! - `modes`: what each mode of recovery accepts
+//! - `several_logs`: what several logs recover, one after another
+//! - `log_sets`: groups on several disks, one after another, their faults and crashes
 //! - `numbered_logs`: logs with a number, read and recovered
 #![tactic(auto)]
 
@@ -29,6 +31,8 @@ mod checks;
 #[cfg(test)]
 mod damage;
 #[cfg(test)]
+mod log_sets;
+#[cfg(test)]
 mod logs;
 #[cfg(test)]
 mod modes;
@@ -42,6 +46,8 @@ mod reading;
 mod recovery;
 #[cfg(test)]
 mod reopening;
+#[cfg(test)]
+mod several_logs;
 #[cfg(test)]
 mod texts;
 #[cfg(test)]

@@ -24,14 +24,14 @@ const OLD_LOG: EndReason = EndReason::Broken(Damage::OldLog(7));
 
 /// The modes that accept an end.
 #[derive(Clone, Copy, PartialEq, Eq)]
-enum Accepting {
+pub(crate) enum Accepting {
     Each,
     PointAndTail,
     PointAlone,
 }
 
-// Whether the mode is one of these.
-fn is_among(mode: Mode, modes: Accepting) -> bool {
+/// Whether the mode is one of these.
+pub(crate) fn is_among(mode: Mode, modes: Accepting) -> bool {
     match mode {
         Mode::Point => true,
         Mode::Tail => modes != Accepting::PointAlone,
@@ -62,7 +62,7 @@ fn wanted_by(mode: Mode, (found, modes): Row) -> Result<Summary, RecoverError> {
     if is_among(mode, modes) {
         Ok(found)
     } else {
-        Err(RecoverError::Damage { at, why })
+        Err(RecoverError::Damage { log: 1, at, why })
     }
 }
 
@@ -220,7 +220,11 @@ const FAULTS: [(Mode, Result<Summary, RecoverError>); 3] = [
     (Mode::Tail, Err(RecoverError::Fault { count: 1 })),
     (
         Mode::Absolute,
-        Err(RecoverError::Damage { at: 24, why: ZEROS }),
+        Err(RecoverError::Damage {
+            log: 1,
+            at: 24,
+            why: ZEROS,
+        }),
     ),
 ];
 

@@ -7,7 +7,7 @@ use crate::checks::check;
 use crate::logs::{Summary, recovered};
 use base_devices::MemDisk;
 use log_batch::Batch;
-use log_writer::{Fault, LogWriter, OpenError};
+use log_writer::{Fault, GroupLog, LogWriter, OpenError};
 use model_base::{Damage, EndReason};
 use std::alloc::Global;
 use std::process::Abort;
@@ -46,6 +46,15 @@ pub(crate) fn three_batches(alloc: Global, zeros: [usize; 3]) -> Result<[Batch; 
     ])
 }
 
+/// The batches `put a 1`, `put b 2` and `put c 3`. Each has a record of 24 bytes.
+pub(crate) fn three_puts(alloc: Global) -> Result<[Batch; 3], Fail> {
+    Ok([
+        put(alloc, b"a", b"1")?,
+        put(alloc, b"b", b"2")?,
+        put(alloc, b"c", b"3")?,
+    ])
+}
+
 /// A log on an empty disk that has room for `capacity` bytes.
 pub(crate) fn opened(
     alloc: Global,
@@ -57,8 +66,8 @@ pub(crate) fn opened(
 }
 
 /// Adds a batch as a group of its own.
-pub(crate) fn add(
-    log: &mut LogWriter<MemDisk>,
+pub(crate) fn add<Log: GroupLog>(
+    log: &mut Log,
     first: u64,
     batch: Batch,
     sync: bool,
@@ -73,8 +82,8 @@ pub(crate) fn add(
 pub(crate) type Answers = ([Result<(), Fault>; 3], u64);
 
 /// Writes each of the batches as a group of its own, and syncs where that is asked.
-pub(crate) fn add_three(
-    log: &mut LogWriter<MemDisk>,
+pub(crate) fn add_three<Log: GroupLog>(
+    log: &mut Log,
     batches: [Batch; 3],
     syncs: [bool; 3],
 ) -> Answers {
@@ -195,13 +204,9 @@ fn a_crash_leaves_a_prefix(rt: HostRuntime) -> Result<(), Fail> {
     Ok(())
 }
 
-// The disk of `put a 1`, `put b 2` and `put c 3`, each in a record of 24 bytes. The second was synced.
+// The disk of `put a 1`, `put b 2` and `put c 3`, each in a record of its own. The second was synced.
 fn two_safe_groups(rt: &impl Abort, alloc: Global) -> Result<MemDisk, Fail> {
-    let batches = [
-        put(alloc, b"a", b"1")?,
-        put(alloc, b"b", b"2")?,
-        put(alloc, b"c", b"3")?,
-    ];
+    let batches = three_puts(alloc)?;
     let mut log = opened(alloc, 72, &[])?;
     let answers = add_three(&mut log, batches, [false, true, false]);
     check(rt, 0, &answers, &([Ok(()); 3], 72));

@@ -9,6 +9,7 @@
 //! - `stalled`: what clients do while a leader waits
 //! - `recovery`: what logs recover
 //! - `resumed`: logs that are resumed
+//! - `several`: several logs, and faults of their disks
 //! - `replay`: schedules of events
 
 mod clients;
@@ -20,6 +21,7 @@ mod recovery;
 mod replay;
 mod resumed;
 mod runs;
+mod several;
 mod stalled;
 
 use base_devices::{MemDisk, MemSink, MemSource, SteppedClock};

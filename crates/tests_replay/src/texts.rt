@@ -22,6 +22,7 @@ fn one_fault(alloc: Global) -> Result<Outcome<ByteMap>, NoMemory> {
         history: History::of_one(BatchList::new(alloc)),
         last: 0,
         state: ByteMap::new(alloc),
+        full_lens: Vec::new(alloc),
         log_len: 0,
         fault: Some(1),
     })

@@ -65,7 +65,7 @@ pub extern "C" fn wz_recover(
             *summary = told;
             DONE
         }
-        Err(RecoverError::Damage { at, why }) => {
+        Err(RecoverError::Damage { log: _, at, why }) => {
             *summary = WzRecovered {
                 groups: 0,
                 pairs: 0,

@@ -12,6 +12,7 @@ use base_maps::ByteMap;
 use engine_calls::{Clients, Closed, OpenGate, Receipt};
 use engine_groups::{ClosingRoom, EngineClient, GroupEngine};
 use engine_memory::open_engine;
+use engine_parts::OpenLog;
 use log_batch::Batch;
 use log_writer::LogWriter;
 use model_base::{MAX_CLIENTS, MAX_SIZE, Options, WriteOptions};
@@ -22,11 +23,13 @@ use std::thread::Threads;
 use std::{rt, thread};
 use table_memory::MemoryTable;
 
-pub(super) type Path = GroupEngine<MemDisk, MemoryTable, SteppedClock, OpenGate>;
+pub(super) type Log = LogWriter<MemDisk>;
 
-pub(super) type Member = EngineClient<MemDisk, MemoryTable, SteppedClock>;
+pub(super) type Path = GroupEngine<Log, MemoryTable, SteppedClock, OpenGate>;
 
-pub(super) type Members = Clients<Member, ClosingRoom<MemDisk, MemoryTable, SteppedClock>>;
+pub(super) type Member = EngineClient<Log, MemoryTable, SteppedClock>;
+
+pub(super) type Members = Clients<Member, ClosingRoom<Log, MemoryTable, SteppedClock>>;
 
 pub(super) type Notes = Mutex<Vec<StepAnswer>>;
 
@@ -55,7 +58,7 @@ pub(super) fn opened(
     };
     match open_engine(
         alloc,
-        log,
+        OpenLog { log },
         SteppedClock::new(1000),
         clients,
         0,
@@ -258,13 +261,12 @@ pub(super) fn play_at_once<R: Threads + Wait + rt::Clock + Abort + Sync>(
 }
 
 // Closes the engine. Answers the log and the last published sequence.
-pub(super) fn closed<R: Wait + rt::Clock>(
-    rt: &R,
-    engine: Path,
-    all: Members,
-) -> (LogWriter<MemDisk>, u64)
+pub(super) fn closed<R: Wait + rt::Clock>(rt: &R, engine: Path, all: Members) -> (Log, u64)
     requires { AreAll engine all }
 {
-    let Closed { log, last } = engine.close(rt, all);
+    let Closed {
+        log: OpenLog { log },
+        last,
+    } = engine.close(rt, all);
     (log, last)
 }

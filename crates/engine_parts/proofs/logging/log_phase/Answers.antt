@@ -1,6 +1,6 @@
 use Rattle.std.proofs.Common.{rules, ◌≡◌, ◌<◌, ◌+◌, ℕ, List, [], ◌∷◌, ◌++◌, map, None, length, vec_capacity, inl, inr, refl, sym, ap, ◌∙◌, subst, arith}
 use Rattle.log_batch.specs.Contents.{Contents}
-use Rattle.log_writer.specs.Words.{fault_of}
+use Rattle.engine_parts.specs.Logs.{fault_of}
 use Rattle.log_writer.specs.Adding.{call_of, count_of_fault}
 use Rattle.log_writer.specs.Groups.{counts_of, body_lens_of}
 use Rattle.table_rule.specs.declared.content.MemberVersions.{MemberVersions}

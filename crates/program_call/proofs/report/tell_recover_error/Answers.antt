@@ -7,4 +7,4 @@ pub returns-in-Fault : goal.returns-in-Fault
 returns-in-Fault g c = rw c.in-Fault.is (refl, c.refuse_fault.ensures)
 
 pub returns-in-Damage : goal.returns-in-Damage
-returns-in-Damage g c = rw c.in-Damage.is (refuses _ _ _ _ _ _ _ _ c.log_damage.ensures c.refuse_with.ensures.made c.refuse_with.ensures.none)
+returns-in-Damage g c = rw c.in-Damage.is (refuses _ _ _ _ _ _ _ _ c.damage_text-text.ensures c.refuse_with.ensures.made c.refuse_with.ensures.none)

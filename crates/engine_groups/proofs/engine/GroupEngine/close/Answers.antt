@@ -1,6 +1,6 @@
 use Rattle.std.proofs.Common.{rules, ℕ, List, map, length, refl, sym, ap, subst, arith}
-use Rattle.log_writer.specs.Words.{fault_of, disk_of}
-use Rattle.log_writer.specs.Written.{Wrote}
+use Rattle.engine_parts.specs.Logs.{fault_of, faults_of}
+use Rattle.engine_parts.specs.Logs.{Wrote}
 use Rattle.table_rule.specs.Histories.{In}
 use Rattle.table_calls.specs.Account.{IsReady, IsClosing as IsTableClosing}
 use Rattle.line_writers.specs.Seats.{bound_of, about_of, piped_of, table_of, clients_of, AllOut, AllThere, Merged}
@@ -13,7 +13,6 @@ use Rattle.engine_groups.specs.Clients.{map_at_opening, account_in, opened_log, 
 use Rattle.engine_parts.specs.Handled.{commit_of}
 use Rattle.engine_groups.proofs.engine.GroupEngine.close.Goals as goal
 use Rattle.engine_groups.proofs.Ending.{accounts_number, all_out, all_passes, all_there, are_calls, is_engine, parts, passes_number, seats_ready, written_by}
-use Rattle.engine_groups.proofs.Faults.{caused_since}
 use Rattle.engine_groups.proofs.Finally.{ends_at, ends_with, one_place}
 use Rattle.engine_parts.proofs.Serves.{stands_by}
 use Rattle.table_rule.specs.declared.content.MemberVersions.{MemberVersions}
@@ -91,7 +90,7 @@ returns g c =
     let seen = subst (λ (ss : List _). IsTableClosing start published (map meaning.account ss)) c.part_all.ensures.seats c.close.ensures in
     let ended = c.end_controller.ensures in let calls = ended.0 in
     let whole = subst (λ (ps : List _). IsHistoryOf ps calls) c.part_all.ensures.passes ended.1 in
-    let rose = (caused_since (opened_log e) stands.calls leadership.held.value.path.log set.no_fault stands.wrote).rose in
+    let rose = (g.met.Device.GroupLog.cause (opened_log e).log leadership.held.value.path.log.log stands.calls set.no_fault stands.wrote).rose in
     let number = accounts_number meaning e cs all in
     let own = parts meaning e cs all calls whole L.0 published merged seen in
     let standing : Standing = record {
@@ -103,8 +102,8 @@ returns g c =
       calls = stands.calls;
     } in
     let theirs : AreAccountsOf settings standing calls accounts = record { all = number; each = own } in
-    let closed = c.closings.ensures.closing settings (g.Device.Disk.faults (disk_of leadership.held.value.path.log)) standing calls accounts stands.consistent theirs whole.legal (are_calls meaning e cs all calls whole) ended.2 rose in
-    let wrote = c.closings.ensures.log settings standing calls accounts stands.consistent theirs in subst (λ (h : Held _ _ _). HasOneTrace settings (g.Device.Disk.faults (disk_of h.path.log)) accounts h.path.last (fault_of h.path.log) (λ made. Wrote (opened_log e) made h.path.log)) (sym c.into_inner-log.ensures) (
+    let closed = c.closings.ensures.closing settings (faults_of (leadership.held.value.path.log)) standing calls accounts stands.consistent theirs whole.legal (are_calls meaning e cs all calls whole) ended.2 rose in
+    let wrote = c.closings.ensures.log settings standing calls accounts stands.consistent theirs in subst (λ (h : Held _ _ _). HasOneTrace settings (faults_of (h.path.log)) accounts h.path.last (fault_of h.path.log) (λ made. Wrote (opened_log e) made h.path.log)) (sym c.into_inner-log.ensures) (
       trace_of start (map_at_opening meaning e.table) commits calls,
       closed.0,
       closed.1,

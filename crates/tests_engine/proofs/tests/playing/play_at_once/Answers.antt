@@ -10,6 +10,9 @@ use Rattle.base_devices.specs.contracts.mem_disk.MemDisk as disk_row
 use Rattle.base_devices.specs.contracts.mem_disk.MemDiskDisk.TheImpl as disk_ghosts
 use Rattle.base_devices.specs.contracts.stepped_clock.SteppedClock as clock_row
 use Rattle.base_devices.proofs.mem_disk.MemDisk.TheSendSync as disk
+use Rattle.log_writer.specs.contracts.writer.LogWriter as log_row
+use Rattle.log_writer.specs.contracts.group_log.LogWriterGroupLog.TheImpl as log_ghosts
+use Rattle.log_writer.proofs.writer.LogWriter.TheSendSync as log
 use Rattle.base_devices.proofs.stepped_clock.SteppedClock.TheSendSync as clock
 use Rattle.engine_calls.specs.contracts.gate.OpenGate as gate_row
 use Rattle.engine_calls.proofs.gate.OpenGate.TheSendSync as gate
@@ -21,11 +24,11 @@ use Rattle.tests_engine.proofs.Crossing.{closure_sync}
 use Rattle.tests_engine.proofs.tests.playing.play_at_once.Goals as goal
 
 pub for_each_mut-requires-send-T : goal.for_each_mut-requires-send-T
-for_each_mut-requires-send-T g c κs within = param_send 1 _ (arg_send _ yes _ (client_send disk_row.the_row clock_row.the_row gate_row.the_row disk_ghosts.ghosts disk.the_send clock.the_send))
+for_each_mut-requires-send-T g c κs within = param_send 1 _ (arg_send _ yes _ (client_send (log_row.the_row disk_row.the_row disk_ghosts.ghosts) clock_row.the_row gate_row.the_row (log_ghosts.ghosts disk_row.the_row disk_ghosts.ghosts log_ghosts.no_dict) (log.the_send disk_row.the_row disk_ghosts.ghosts disk.the_send) clock.the_send))
 
 pub for_each_mut-requires-sync-F : goal.for_each_mut-requires-sync-F
 for_each_mut-requires-sync-F g c κs within =
-    let path_sync = engine_sync disk_row.the_row clock_row.the_row gate_row.the_row disk_ghosts.ghosts disk.the_send clock.the_send gate.the_sync in
+    let path_sync = engine_sync (log_row.the_row disk_row.the_row disk_ghosts.ghosts) clock_row.the_row gate_row.the_row (log_ghosts.ghosts disk_row.the_row disk_ghosts.ghosts log_ghosts.no_dict) (log.the_send disk_row.the_row disk_ghosts.ghosts disk.the_send) clock.the_send gate.the_sync in
     record { shared = λ x b o κ. (closure_sync _ _ _ _ _ (shr_sync erased _ _ c.type_bounds.sync-R) (shr_sync erased [] _ heap.the_sync) (shr_sync erased _ _ path_sync) (shr_slice_sync erased _ _ (Vec-sync _ step.the_sync)) (shr_slice_sync erased _ _ (mutex.the_sync _ (Vec-send _ note.the_send)))).shared x b o κ }
 
 pub for_each_mut-requires-clause-accepts : goal.for_each_mut-requires-clause-accepts

@@ -1,0 +1,65 @@
+-- The counts of several disks of which the first was read, and why logs weren't recovered.
+use Rattle.std.proofs.Common.{◌≡◌, ℕ, ◌+◌, ◌-◌, ◌≤◌, List, ◌∷◌, sum_by, Result, Ok, Err, IfErr, IsErrAnd, OnOk, refl, sym, ◌∙◌, ap, subst, arith}
+use Rattle.std.proofs.lemmas.List.Sums.{sum_by-cons}
+use Rattle.base_devices.specs.Faults.{Rose, count_in_all}
+use Rattle.log_recovery.specs.declared.modes.Mode.{Mode}
+use Rattle.log_recovery.specs.declared.modes.Mode.TheVariants.{Point}
+use Rattle.log_recovery.specs.declared.recovery.RecoverError.{RecoverError}
+use Rattle.log_recovery.specs.declared.recovery.RecoverError.TheVariants.{Fault, NoMemory, Damage}
+use Rattle.log_recovery.specs.Recovering.{IsRecoverError}
+use Rattle.log_recovery.specs.RecoveringLogs.{CountNone, IsErrorFrom, IsErrorOfLogs, with_count}
+use Rattle.log_recovery.proofs.Unread.{joined, all_kept}
+
+-- what holds of an error holds of an answer that hands it on
+pub handed_on : {A E : Type 0} (r : Result A E) (e : E) (P : E → Type 0) → IsErrAnd r (λ f. f ≡ e) → P e → IfErr r P
+handed_on (Ok x) e P same p = tt
+handed_on (Err f) e P same p = subst P (sym same) p
+
+-- an error of recovery that accepts any end isn't damage
+pub not_damage : (P : RecoverError → Type 0) → ((count : ℕ) → P (Fault count)) → P NoMemory → (before now : ℕ) (e : RecoverError) → IsRecoverError Point before now e → P e
+not_damage P fault memory before now (Fault count) is = fault count
+not_damage P fault memory before now NoMemory is = memory
+not_damage P fault memory before now (Damage log at why) is = absurd (is.1 refl)
+
+module _ {D : Type 0} (faults : D → ℕ) (disks : List D) (disk new : D) (rest : List D) (parts : disks ≡ disk ∷ rest) where
+  -- neither the first nor the others have counted a fault
+  none_counted : (news : List D) → faults new ≡ faults disk → CountNone faults rest news → CountNone faults disks (new ∷ news)
+  none_counted news same none = joined (λ old now. faults now ≡ faults old) disks disk new rest news parts same none
+
+  -- the first hasn't, and no other one was called
+  pub first_counts_none : faults new ≡ faults disk → CountNone faults disks (new ∷ rest)
+  first_counts_none same = none_counted rest same (all_kept (λ old now. faults now ≡ faults old) (λ d. refl) rest)
+
+  count_before : sum_by faults disks ≡ faults disk + sum_by faults rest
+  count_before = ap (λ (l : List D). sum_by faults l) parts ∙ sum_by-cons faults disk rest
+
+  -- the count of all rises with that of the first
+  pub first_rose : (count : ℕ) → Rose (faults disk) count → count ≤ faults new → Rose (count_in_all faults disks) (count_in_all faults (new ∷ rest))
+  first_rose count rose within = let before = count_before in let now = sum_by-cons faults new rest in omega (arith, before, now, rose, within)
+
+  -- and with that of the others
+  later_rose : (news : List D) → faults new ≡ faults disk → Rose (count_in_all faults rest) (count_in_all faults news) → Rose (count_in_all faults disks) (count_in_all faults (new ∷ news))
+  later_rose news same rose = let before = count_before in let now = sum_by-cons faults new news in omega (arith, before, now, same, rose)
+
+  -- the first log wasn't read to its end
+  pub error_in_first : (mode : Mode) (e : RecoverError) → IsRecoverError Point (faults disk) (faults new) e → IsErrorFrom mode faults disks (new ∷ rest) e
+  error_in_first mode (Fault count) is = first_rose count is.0 is.1
+  error_in_first mode NoMemory is = first_counts_none is
+  error_in_first mode (Damage log at why) is = absurd (is.1 refl)
+
+  -- it was, and what followed is said of the others
+  pub error_later : {T : Type 0} (mode : Mode) (news : List D) (r : Result T RecoverError) → faults new ≡ faults disk → IfErr r (IsErrorFrom mode faults rest news) → IfErr r (IsErrorFrom mode faults disks (new ∷ news))
+  error_later mode news (Ok found) same is = tt
+  error_later mode news (Err (Fault count)) same is = later_rose news same is
+  error_later mode news (Err NoMemory) same is = none_counted news same is
+  error_later mode news (Err (Damage log at why)) same is = (none_counted news same is.0, is.1)
+
+  pub worked_later : {T E : Type 0} (news : List D) (r : Result T E) → faults new ≡ faults disk → OnOk r (CountNone faults rest news) → OnOk r (CountNone faults disks (new ∷ news))
+  worked_later news (Ok found) same none = none_counted news same none
+  worked_later news (Err e) same none = tt
+
+-- the count of one disk becomes that of all
+pub error_of_all : {D : Type 0} (mode : Mode) (faults : D → ℕ) (olds news : List D) (e : RecoverError) → IsErrorFrom mode faults olds news e → IsErrorOfLogs mode faults olds news (with_count (count_in_all faults news) e)
+error_of_all mode faults olds news (Fault count) is = (is, refl)
+error_of_all mode faults olds news NoMemory is = is
+error_of_all mode faults olds news (Damage log at why) is = is

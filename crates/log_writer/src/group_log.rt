@@ -1,0 +1,120 @@
+//! A log of groups, whatever it is made of.
+
+ghost use Rattle.std.specs.Prelude.{◌≡◌, ◌+◌, ◌-◌, ◌^◌, ◌<◌, ◌≤◌, [], ◌∷◌, ◌++◌, length, None, Some, IfSome};
+ghost use Rattle.model_base.specs.History.{max_sequence};
+ghost use Rattle.log_writer.specs.Groups.{counts_of, body_lens_of};
+ghost use Rattle.log_writer.specs.Adding.{call_of, count_of_fault};
+ghost use Rattle.log_writer.specs.GroupLogs.{CameInCalls};
+
+use crate::{Fault, LogSet, LogWriter};
+use base_devices::Disk;
+use log_batch::Batch;
+
+/// A log to which groups of batches are written, one after another: on one disk ([`LogWriter`]), or on several that are
+/// written one after another ([`LogSet`]). Once a write has failed it takes no more.
+///
+/// [`LogSet`]: crate::LogSet
+pub trait GroupLog {
+    ghost use Rattle.std.specs.Prelude.{ℕ, List, Option};
+    ghost use Rattle.model_base.specs.LogContents.{GroupCall};
+
+    /// These calls of `add_group`, and no others, have turned the first log into the second one.
+    ghost wrote: { Self → List GroupCall → Self → Type 0 };
+
+    /// Its length: the bytes that it kept, and those of the groups that were written whole.
+    ghost len: { Self → ℕ };
+
+    /// The count of the fault that ended the log, if one did.
+    ghost fault: { Self → Option ℕ };
+
+    /// How many calls of its disks have failed.
+    ghost faults: { Self → ℕ };
+
+    /// Writes a group of batches as one record, after what the log has, and syncs it if that is asked. It takes no
+    /// memory. A fault ends the log: each later call is answered with the count that was kept, and does nothing.
+    fn add_group(&mut self, first: u64, members: &[Batch], sync: bool) -> Result<(), Fault>
+        requires some { 0 < length members.now }
+        requires counts { counts_of members.now < 2 ^ 32 }
+        requires run { first + counts_of members.now - 1 ≤ max_sequence }
+        requires lens { body_lens_of members.now < 2 ^ 63 }
+        ensures wrote { (opened : Self) (calls : List GroupCall) → wrote opened calls self.old
+            → wrote opened (calls ++ call_of first members.now sync result ∷ []) self.new }
+        ensures fault { fault self.old ≡ None → fault self.new ≡ count_of_fault result }
+        ensures dead { IfSome (fault self.old)
+            (λ count. (count_of_fault result ≡ Some count) × (self.new ≡ self.old)) };
+
+    /// The length of the log: the bytes that it kept, and those of the groups that were written whole.
+    fn len(&self) -> u64
+        ensures { result ≡ len self.now };
+
+    /// The count of the fault that ended the log, if one did.
+    fn fault(&self) -> Option<u64>
+        ensures { result ≡ fault self.now };
+
+    /// No call leaves a log as it is.
+    ghost no_call: { (log : Self) → wrote log [] log };
+
+    /// A fault came in one of the calls.
+    ghost cause: { (opened log : Self) (calls : List GroupCall) → fault opened ≡ None → wrote opened calls log
+        → CameInCalls (faults opened) (faults log) (fault log) };
+}
+
+impl<D: Disk> GroupLog for LogWriter<D> {
+    ghost use Rattle.log_writer.specs.Words.{disk_of, len_of, fault_of};
+    ghost use Rattle.log_writer.specs.Written.{Wrote, no_call};
+    ghost use Rattle.log_writer.specs.FaultLaws.{caused_in_calls};
+
+    ghost wrote = { λ old calls new. Wrote old calls new };
+
+    ghost len = { λ log. len_of log };
+
+    ghost fault = { λ log. fault_of log };
+
+    ghost faults = { λ log. D.faults (disk_of log) };
+
+    ghost no_call = { λ log. no_call };
+
+    ghost cause = { λ opened log calls alive wrote. caused_in_calls opened calls log alive wrote };
+
+    fn add_group(&mut self, first: u64, members: &[Batch], sync: bool) -> Result<(), Fault> {
+        self.add_group(first, members, sync)
+    }
+
+    fn len(&self) -> u64 {
+        self.len()
+    }
+
+    fn fault(&self) -> Option<u64> {
+        self.fault()
+    }
+}
+
+impl<D: Disk> GroupLog for LogSet<D> {
+    ghost use Rattle.log_writer.specs.Sets.{WroteSet, count_in, fault_in, len_in, logs_of};
+    ghost use Rattle.log_writer.specs.Sets as sets;
+    ghost use Rattle.log_writer.specs.SetFaultLaws.{caused_in_set};
+
+    ghost wrote = { λ old calls new. WroteSet old calls new };
+
+    ghost len = { λ set. len_in set };
+
+    ghost fault = { λ set. fault_in set };
+
+    ghost faults = { λ set. count_in (logs_of set) };
+
+    ghost no_call = { λ set. sets.no_call };
+
+    ghost cause = { λ opened set calls alive wrote. caused_in_set opened calls set alive wrote };
+
+    fn add_group(&mut self, first: u64, members: &[Batch], sync: bool) -> Result<(), Fault> {
+        self.add_group(first, members, sync)
+    }
+
+    fn len(&self) -> u64 {
+        self.len()
+    }
+
+    fn fault(&self) -> Option<u64> {
+        self.fault()
+    }
+}

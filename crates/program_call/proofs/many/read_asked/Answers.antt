@@ -1,0 +1,1 @@
+-- The words are lawful where both their reading and the number of logs are.

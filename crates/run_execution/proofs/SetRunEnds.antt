@@ -1,0 +1,229 @@
+-- How a run over a set of logs ends, from its result over its opened set.
+use Rattle.std.proofs.Common.{◌≡◌, ℕ, ◌+◌, ◌-◌, ◌^◌, ◌≤◌, min, List, [], ◌∷◌, ◌++◌, length, map, sum_by, IfSome, Vec, Global, refl, ap, sym, ◌∙◌, subst, arith, length-append}
+use Rattle.std.proofs.lemmas.List.Sums.{sum_by-cons}
+use Rattle.std.specs.List.{AllByRecursion, AllZip}
+use Rattle.model_base.specs.declared.limits.TheConstants.{MAX_CLIENTS, MAX_SIZE}
+use Rattle.base_devices.specs.declared.disk.Disk.{Ghosts}
+use Rattle.base_devices.specs.Faults.{count_in_all}
+use Rattle.model_base.specs.LogContents.{GroupCall}
+use Rattle.model_base.specs.Trace.{Settings}
+use Rattle.model_base.specs.Calls.{Command}
+use Rattle.model_base.specs.Calls as calls
+use Rattle.model_base.specs.Outcomes.{IsLegalIn, outcome_of}
+use Rattle.model_base.specs.History.{IsHistory}
+use Rattle.model_base.specs.Map.{Pairs}
+use Rattle.model_base.specs.declared.options.Options.{Options}
+use Rattle.model_base.specs.Settings.{settings_of}
+use Rattle.log_batch.specs.Contents.{Contents}
+use Rattle.run_outcome.specs.declared.history_entry.HistoryEntry.{HistoryEntry}
+use Rattle.run_outcome.specs.declared.reply.Reply.{Reply}
+use Rattle.run_outcome.specs.declared.outcome.Outcome.{Outcome}
+use Rattle.run_outcome.specs.Shows.{ShowsOutcome}
+use Rattle.log_writer.specs.declared.errors.OpenError.{OpenError}
+use Rattle.log_writer.specs.declared.errors.OpenError.TheVariants.{Fault, NotEmpty, NoMemory}
+use Rattle.log_writer.specs.declared.writer.LogWriter.{LogWriter}
+use Rattle.log_writer.specs.declared.set.LogSet.{LogSet}
+use Rattle.log_writer.specs.Words.{disk_of}
+use Rattle.log_writer.specs.Opening.{HasOpened, IsLookedAt}
+use Rattle.log_writer.specs.SetOpening.{IsSetCause, IsSetOpenError}
+use Rattle.log_writer.specs.Sets.{begun_in, count_in, fault_in, limit_of, logs_of, WroteSet, no_call, one_more}
+use Rattle.log_writer.specs.SetCrashes.{HasOpenedSet}
+use Rattle.log_writer.specs.SetWritten.{disks_of}
+use Rattle.log_writer.specs.SetFaultLaws.{caused_in_set}
+use Rattle.run_threads.specs.declared.run.ClientsEnd.{ClientsEnd}
+use Rattle.run_threads.specs.declared.run.ClientsEnd.TheVariants.{NotRun, Untold, Told}
+use Rattle.run_threads.specs.Runs.{HaveRun, ComesTo, log_of, outcome_with}
+use Rattle.run_execution.specs.declared.end.RunEnd.{RunEnd}
+use Rattle.run_execution.specs.Ends.{end_of}
+use Rattle.run_execution.specs.SetEnds.{SetExecution, IsEndOfSet, set_execution_on, IsRunOfSet, HasSetOutcome, AreLeftAlone, CountNone, EndsOnSet}
+use Rattle.run_execution.proofs.LegalRuns.{small_entries, refused_for_themselves}
+use Rattle.run_execution.proofs.Openings.{OnlyNow, leaves_looked}
+use Rattle.run_execution.proofs.SafeLogs.{all_suit}
+use Rattle.run_execution.proofs.RunEnds.{comes_to}
+use Rattle.run_execution.proofs.SetShapes.{Further}
+use Rattle.run_execution.proofs.SafeSets.{SetLaws, DisksOf, lens_of, in_logs, lens_are, some_log, few_logs, are_filled, crash_safe, of_history}
+
+sum_map : {A B : Type 0} (f : B → ℕ) (g : A → B) (xs : List A) → sum_by f (map g xs) ≡ sum_by (λ (x : A). f (g x)) xs
+sum_map f g [] = refl
+sum_map f g (x ∷ xs) = sum_by-cons f (g x) (map g xs) ∙ (ap (λ (n : ℕ). f (g x) + n) (sum_map f g xs) ∙ sym (sum_by-cons (λ y. f (g y)) x xs))
+
+-- Disks that were only looked at, or whose set was opened
+module _ {D : Type 0} (ghosts : Ghosts D) where
+  pub opened_further : (disks : List D) (logs : List (LogWriter D ghosts)) → AllZip HasOpened disks logs → AllZip (Further ghosts) disks (DisksOf logs)
+  opened_further [] [] opened = tt
+  opened_further [] (log ∷ logs) opened = absurd opened
+  opened_further (disk ∷ disks) [] opened = absurd opened
+  opened_further (disk ∷ disks) (log ∷ logs) opened =
+      let looked = (opened.0).looked_at in
+      let time = looked.time in
+      ((record { later = time.later; forgets = time.forgets }, looked.later), opened_further disks logs opened.1)
+
+  pub looked_further : (olds news : List D) → AllZip (IsLookedAt ghosts) olds news → AllZip (Further ghosts) olds news
+  looked_further [] [] looked = tt
+  looked_further [] (new ∷ news) looked = absurd looked
+  looked_further (old ∷ olds) [] looked = absurd looked
+  looked_further (old ∷ olds) (new ∷ news) looked =
+      let one = looked.0 in
+      let time = one.time in
+      ((record { later = time.later; forgets = time.forgets }, one.later), looked_further olds news looked.1)
+
+  count_same : (disks : List D) → CountNone ghosts disks disks
+  count_same [] = tt
+  count_same (disk ∷ disks) = (refl, count_same disks)
+
+  module _ (only_now : (disk : D) → OnlyNow ghosts disk) where
+    looked_alone : (olds news : List D) → AllZip (IsLookedAt ghosts) olds news → AreLeftAlone ghosts olds news
+    looked_alone [] [] looked = tt
+    looked_alone [] (new ∷ news) looked = absurd looked
+    looked_alone (old ∷ olds) [] looked = absurd looked
+    looked_alone (old ∷ olds) (new ∷ news) looked = let one = looked.0 in ((one, leaves_looked ghosts old new (only_now old) one.same one.time), looked_alone olds news looked.1)
+
+    opened_alone : (disks : List D) (logs : List (LogWriter D ghosts)) → AllZip HasOpened disks logs → AreLeftAlone ghosts disks (DisksOf logs)
+    opened_alone [] [] opened = tt
+    opened_alone [] (log ∷ logs) opened = absurd opened
+    opened_alone (disk ∷ disks) [] opened = absurd opened
+    opened_alone (disk ∷ disks) (log ∷ logs) opened =
+        let one = (opened.0).looked_at in
+        ((one, leaves_looked ghosts disk (disk_of log) (only_now disk) one.same one.time), opened_alone disks logs opened.1)
+
+    -- no set was opened
+    pub refused_set : (options : Options) (limit : ℕ) (script : List (List Command)) (olds news : List D) (why : OpenError) → IsSetOpenError ghosts olds news why → EndsOnSet ghosts options limit script olds news (end_of why)
+    refused_set options limit script olds news why error = by_cause why error.cause
+      where
+        alone : AreLeftAlone ghosts olds news
+        alone = looked_alone olds news error.looked_at
+
+        by_cause : (why : OpenError) → IsSetCause ghosts olds news why → EndsOnSet ghosts options limit script olds news (end_of why)
+        by_cause (Fault count) cause = let same = cause.1 in (alone, cause.0, omega (arith, same))
+        by_cause (NotEmpty len) cause = (cause.0, alone, cause.1)
+        by_cause NoMemory cause = (alone, subst (CountNone ghosts olds) (sym cause) (count_same olds))
+
+module _ {D : Type 0} {ghosts : Ghosts D} where
+  -- the count of the logs is that of their disks
+  count_is : (logs : List (LogWriter D ghosts)) → count_in logs ≡ count_in_all ghosts.faults (DisksOf logs)
+  count_is logs = ap (λ (n : ℕ). min n (2 ^ 64 - 1)) (sym (sum_map ghosts.faults (λ (log : LogWriter D ghosts). disk_of log) logs))
+
+  -- A set that was opened
+
+  opened_sum : (disks : List D) (logs : List (LogWriter D ghosts)) → AllZip HasOpened disks logs → sum_by ghosts.faults (DisksOf logs) ≡ sum_by ghosts.faults disks
+  opened_sum [] [] opened = refl
+  opened_sum [] (log ∷ logs) opened = absurd opened
+  opened_sum (disk ∷ disks) [] opened = absurd opened
+  opened_sum (disk ∷ disks) (log ∷ logs) opened =
+      sum_by-cons ghosts.faults (disk_of log) (DisksOf logs) ∙ ((λ i. (opened.0).no_fault i + opened_sum disks logs opened.1 i) ∙ sym (sum_by-cons ghosts.faults disk disks))
+
+  opened_count : (disks : List D) (opened : LogSet D ghosts) → HasOpenedSet disks opened → count_in (logs_of opened) ≡ count_in_all ghosts.faults disks
+  opened_count disks opened has = count_is (logs_of opened) ∙ ap (λ (n : ℕ). min n (2 ^ 64 - 1)) (opened_sum disks (logs_of opened) has.opened)
+
+  opened_none : (disks : List D) (logs : List (LogWriter D ghosts)) → AllZip HasOpened disks logs → CountNone ghosts disks (DisksOf logs)
+  opened_none [] [] opened = tt
+  opened_none [] (log ∷ logs) opened = absurd opened
+  opened_none (disk ∷ disks) [] opened = absurd opened
+  opened_none (disk ∷ disks) (log ∷ logs) opened = ((opened.0).no_fault, opened_none disks logs opened.1)
+
+  opened_empty : (disks : List D) (logs : List (LogWriter D ghosts)) → AllZip HasOpened disks logs → AllByRecursion (λ (disk : D). IfSome (ghosts.told disk) (λ d. d.content ≡ [])) disks
+  opened_empty [] logs opened = tt
+  opened_empty (disk ∷ disks) [] opened = absurd opened
+  opened_empty (disk ∷ disks) (log ∷ logs) opened = ((opened.0).empty, opened_empty disks logs opened.1)
+
+  -- a set that no call wrote is as it was opened
+  not_written : (old : LogSet D ghosts) (calls : List GroupCall) (new : LogSet D ghosts) → WroteSet old calls new → calls ≡ [] → new ≡ old
+  not_written old calls new no_call none = refl
+  not_written old calls new (one_more {calls = before} c wrote adds) none = absurd (omega (arith, ap length none, length-append before (c ∷ [])))
+
+  module _ (laws : SetLaws ghosts) (only_now : (disk : D) → OnlyNow ghosts disk) (disks : List D) (opened : LogSet D ghosts) (options : Options) (limit : ℕ) (script : List (List Command)) (has : HasOpenedSet disks opened) (limit_is : limit_of opened ≡ limit)
+      (few : length script ≤ MAX_CLIENTS) (bounded : options.batch_bytes ≤ MAX_SIZE) where
+    abbrev settings : Settings
+    settings = settings_of options [] (length script) (count_in_all ghosts.faults disks)
+
+    abbrev faults : LogSet D ghosts → ℕ
+    faults set = count_in (logs_of set)
+
+    module _ (set : LogSet D ghosts) (last : ℕ) (ran : HaveRun settings script (WroteSet opened) fault_in faults set last) where
+      abbrev execution : SetExecution
+      execution = set_execution_on ghosts options limit script disks (disks_of set)
+
+      abbrev outcome : calls.Outcome
+      outcome = outcome_of ran.trace ran.transcripts last (lens_of (begun_in set)) (fault_in set)
+
+      legal : IsLegalIn settings (count_in_all ghosts.faults (disks_of set)) script ran.trace ran.attempts outcome
+      legal = subst (λ (n : ℕ). IsLegalIn settings n script ran.trace ran.attempts outcome) (count_is (logs_of set)) (ran.legal (lens_of (begun_in set)))
+
+      history : IsHistory (ran.trace).start (ran.trace).entries
+      history = (legal.is_trace).entries
+
+      -- all clients have run: there is an outcome
+      has_outcome : HasSetOutcome ghosts disks (disks_of set) execution outcome
+      has_outcome =
+          let w = ran.writes in
+          let run : IsRunOfSet execution outcome = record {
+            trace = ran.trace;
+            attempts = ran.attempts;
+            legal = legal;
+            writes = record {
+              parts = w.parts;
+              calls = w.calls;
+              lost = w.lost;
+              cut = w.cut;
+              runs = w.runs;
+              each = w.each;
+              none_else = w.none_else;
+              by = (set, record { opened = opened; has_opened = has; limit_is = limit_is; wrote = w.by }, refl, refl);
+            };
+            logs = (in_logs laws limit disks opened has limit_is ran.trace ran.attempts settings.group_bytes (fault_in set) history w.parts w.calls w.lost w.cut w.runs w.each w.none_else set w.by).logs;
+            cut = (in_logs laws limit disks opened has limit_is ran.trace ran.attempts settings.group_bytes (fault_in set) history w.parts w.calls w.lost w.cut w.runs w.each w.none_else set w.by).all;
+            some = some_log laws limit disks opened has limit_is ran.trace ran.attempts settings.group_bytes (fault_in set) history w.parts w.calls w.lost w.cut w.runs w.each w.none_else set w.by;
+            within = few_logs laws limit disks opened has limit_is ran.trace ran.attempts settings.group_bytes (fault_in set) history w.parts w.calls w.lost w.cut w.runs w.each w.none_else set w.by;
+            filled = are_filled laws limit disks opened has limit_is ran.trace ran.attempts settings.group_bytes (fault_in set) history w.parts w.calls w.lost w.cut w.runs w.each w.none_else set w.by;
+            lens_are = lens_are laws limit disks opened has limit_is ran.trace ran.attempts settings.group_bytes (fault_in set) history w.parts w.calls w.lost w.cut w.runs w.each w.none_else set w.by;
+          } in
+          let ended : ℕ = count_in_all ghosts.faults (disks_of set) in
+          let caused = caused_in_set opened (w.calls ++ w.lost) set has.fault w.by in
+          let small = small_entries settings ended script ran.trace ran.attempts outcome legal bounded in
+          let suit = all_suit settings (let many = legal.clients in omega (arith, many, few)) (ran.trace).entries (legal.is_trace).clients small in
+          record {
+            run = run;
+            refusals = refused_for_themselves settings ended script ran.trace ran.attempts outcome legal;
+            counted = λ none. sym (count_is (logs_of set)) ∙ (caused.no_fault none ∙ opened_count disks opened has);
+            logs = record {
+              found_empty = opened_empty disks (logs_of opened) has.opened;
+              safe = λ safe_disks held tells reached reach. record {
+                of_history = of_history laws limit disks opened has limit_is ran.trace ran.attempts settings.group_bytes (fault_in set) history w.parts w.calls w.lost w.cut w.runs w.each w.none_else set w.by outcome legal.history;
+                crash = crash_safe laws limit disks opened has limit_is ran.trace ran.attempts settings.group_bytes (fault_in set) history w.parts w.calls w.lost w.cut w.runs w.each w.none_else set w.by safe_disks suit outcome legal.last refl held tells reached reach;
+              };
+            };
+          }
+
+      -- and the values show it, where they are at hand
+      shown_so : (transcripts : Vec (Vec Reply Global) Global) (history : List (HistoryEntry Contents)) (state : Pairs) (shown : Outcome Pairs)
+          → ((full_lens : Vec ℕ Global) (log_len : ℕ) → ShowsOutcome (outcome_with transcripts history last state full_lens log_len (fault_in set)) (outcome_of ran.trace ran.transcripts last ((full_lens).items ++ log_len ∷ []) (fault_in set)))
+          → (shown.full_lens).items ++ shown.log_len ∷ [] ≡ lens_of (begun_in set) → shown ≡ outcome_with transcripts history last state shown.full_lens shown.log_len (fault_in set) → ShowsOutcome shown outcome
+      shown_so transcripts history state shown shows lens is =
+          let these : ShowsOutcome (outcome_with transcripts history last state shown.full_lens shown.log_len (fault_in set)) outcome =
+          subst (λ (l : List ℕ). ShowsOutcome (outcome_with transcripts history last state shown.full_lens shown.log_len (fault_in set)) (outcome_of ran.trace ran.transcripts last l (fault_in set))) lens (shows shown.full_lens shown.log_len) in
+          subst (λ (s : Outcome Pairs). ShowsOutcome s outcome) (sym is) these
+
+    by_run : (ran : ClientsEnd (LogSet D ghosts)) → ComesTo settings script (WroteSet opened) fault_in faults ran → (told : RunEnd) → IsEndOfSet ran told → EndsOnSet ghosts options limit script disks (disks_of (log_of ran)) told
+    by_run (NotRun set) wrote told e =
+        subst (λ (r : RunEnd). EndsOnSet ghosts options limit script disks (disks_of set) r) (sym e)
+        (subst (λ (s : LogSet D ghosts). AreLeftAlone ghosts disks (disks_of s) × CountNone ghosts disks (disks_of s)) (sym (not_written opened [] set wrote refl)) (opened_alone ghosts only_now disks (logs_of opened) has.opened, opened_none disks (logs_of opened) has.opened))
+    by_run (Untold set last) ran told e =
+        subst (λ (r : RunEnd). EndsOnSet ghosts options limit script disks (disks_of set) r) (sym e) (outcome set last ran, has_outcome set last ran)
+    by_run (Told set last transcripts history state) both told e =
+        let shown : Outcome Pairs = e.0 in
+        subst (λ (r : RunEnd). EndsOnSet ghosts options limit script disks (disks_of set) r) (sym e.1)
+        (outcome set last both.0, has_outcome set last both.0, shown_so set last both.0 transcripts history state shown both.1 e.2 e.3)
+
+    -- how the run ends, from its result
+    pub is_set_end : (ran : ClientsEnd (LogSet D ghosts)) → ComesTo (settings_of options [] (length script) (count_in (logs_of opened))) script (WroteSet opened) fault_in faults ran → (told : RunEnd) → IsEndOfSet ran told
+        → EndsOnSet ghosts options limit script disks (disks_of (log_of ran)) told
+    is_set_end ran comes told e =
+        let same : settings_of options [] (length script) (count_in (logs_of opened)) ≡ settings = ap (settings_of options [] (length script)) (opened_count disks opened has) in
+        by_run ran (comes_to fault_in faults ran (settings_of options [] (length script) (count_in (logs_of opened))) settings script script (WroteSet opened) (WroteSet opened) same refl refl comes) told e
+
+  -- the calls of a run over a set
+  pub calls_of : (set_up : Settings) (commands : List (List Command)) (opened : LogSet D ghosts) (ran : ClientsEnd (LogSet D ghosts)) → ComesTo set_up commands (WroteSet opened) fault_in (λ set. count_in (logs_of set)) ran
+      → (made : List GroupCall) × WroteSet opened made (log_of ran)
+  calls_of set_up commands opened (NotRun set) wrote = ([], wrote)
+  calls_of set_up commands opened (Untold set last) ran = let w = ran.writes in (w.calls ++ w.lost, w.by)
+  calls_of set_up commands opened (Told set last transcripts entries state) both = let ran = both.0 in let w = ran.writes in (w.calls ++ w.lost, w.by)
