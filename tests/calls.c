@@ -1,17 +1,18 @@
-// A library that is preloaded to the program. It notes calls of the system on one file and on its folder, and can make
-// one of them fail, or end the program in it. It can also make a call fail on the standard streams, or one that starts
-// a thread, or one that asks for memory.
+// A library that is preloaded to the program. It notes calls of the system on the files of its logs and on their
+// folder, and can make one of them fail, or end the program in it. It can also make a call fail on the standard
+// streams, or one that starts a thread, or one that asks for memory.
 //
-//     CALLS_FILE   the file's path, as the program is given it
-//     CALLS_NOTES  a file that is there, to which the notes are added, a line for each:
-//                  `open`, `folder`  the file, or its folder, was opened
-//                  `write AT N`      a write of N bytes begins there
-//                  `cut N`           a cut of the file to N bytes begins
-//                  `synced N`        a sync has worked that began when the file had N bytes
-//                  `entry`           a sync of the folder has worked
-//                  `fails CALL`      this call fails, or ends the program
+//     CALLS_FILE   the path of the first log, as the program is given it; the others have it with `.2` to `.16` added
+//     CALLS_NOTES  a file that is there, to which the notes are added, a line for each. LOG is the number of the log:
+//                  `open LOG`         its file was opened
+//                  `folder`           the folder was opened
+//                  `write LOG AT N`   a write of N bytes begins there
+//                  `cut LOG N`        a cut of the file to N bytes begins
+//                  `synced LOG N`     a sync has worked that began when the file had N bytes
+//                  `entry`            a sync of the folder has worked
+//                  `fails CALL`       this call fails, or ends the program
 //     CALLS_FAIL   `KIND NTH HOW`: what happens to the NTH call of a kind, where there is one. The kinds are
-//                  `log`     a call on the file or its folder, also one that looks for it by its path
+//                  `log`     a call on one of the files or the folder, also one that looks for a file by its path
 //                  `in`      a read of standard input
 //                  `out`     a write to standard output
 //                  `threads` a start of a thread
@@ -48,8 +49,8 @@
 #include <sys/syscall.h>
 #include <unistd.h>
 
-// What the number of an open file means.
-enum { OTHER, FILE_ITSELF, FOLDER };
+// What the number of an open file means: nothing, the log with this number, or the folder.
+enum { OTHER, FIRST_LOG, LAST_LOG = 16, FOLDER };
 #define NUMBERS 1024
 static _Atomic char what[NUMBERS];
 
@@ -97,6 +98,23 @@ __attribute__((format(printf, 1, 2))) static void note(const char *form, ...) {
 }
 
 static int kind_of(int number) { return number >= 0 && number < NUMBERS ? what[number] : OTHER; }
+
+static int is_log(int number) { return kind_of(number) >= FIRST_LOG && kind_of(number) <= LAST_LOG; }
+
+// Which log has this path, or which folder it is.
+static int kind_at(const char *name) {
+    if (path == NULL) return OTHER;
+    if (strcmp(name, folder) == 0) return FOLDER;
+    size_t length = strlen(path);
+    if (strncmp(name, path, length) != 0) return OTHER;
+    if (name[length] == 0) return FIRST_LOG;
+    for (int log = FIRST_LOG + 1; log <= LAST_LOG; log++) {
+        char end[8];
+        snprintf(end, sizeof end, ".%d", log);
+        if (strcmp(name + length, end) == 0) return log;
+    }
+    return OTHER;
+}
 
 static int is(const char *word) { return strcmp(how, word) == 0; }
 
@@ -148,7 +166,7 @@ int open(const char *name, int flags, ...) {
     va_start(rest, flags);
     int mode = flags & O_CREAT ? va_arg(rest, int) : 0;
     va_end(rest);
-    int kind = path == NULL ? OTHER : strcmp(name, path) == 0 ? FILE_ITSELF : strcmp(name, folder) == 0 ? FOLDER : OTHER;
+    int kind = kind_at(name);
     if (kind == OTHER) return syscall(SYS_openat, AT_FDCWD, name, flags, mode);
     const char *call = kind == FOLDER ? "folder" : flags & O_CREAT ? "create" : "open";
     long nth;
@@ -156,7 +174,10 @@ int open(const char *name, int flags, ...) {
     int number = syscall(SYS_openat, AT_FDCWD, name, flags, mode);
     if (number >= 0 && number < NUMBERS) {
         what[number] = kind;
-        note(kind == FOLDER ? "folder\n" : "open\n");
+        if (kind == FOLDER)
+            note("folder\n");
+        else
+            note("open %d\n", kind);
     }
     return done(call, nth, number);
 }
@@ -174,9 +195,9 @@ int flock(int number, int operation) {
 }
 
 int statx(int number, const char *restrict name, int flags, unsigned mask, struct statx *restrict to) {
-    int is_path = path != NULL && number == AT_FDCWD;
+    int kind = number == AT_FDCWD ? kind_at(name) : OTHER;
     const char *look = flags & AT_SYMLINK_NOFOLLOW ? "link" : "look";
-    const char *call = kind_of(number) != OTHER ? "length" : is_path && strcmp(name, path) == 0 ? look : NULL;
+    const char *call = kind_of(number) != OTHER ? "length" : kind != OTHER && kind != FOLDER ? look : NULL;
     if (call == NULL) return syscall(SYS_statx, number, name, flags, mask, to);
     long nth;
     if (fails(call, &nth)) return -1;
@@ -185,7 +206,8 @@ int statx(int number, const char *restrict name, int flags, unsigned mask, struc
 
 char *realpath(const char *restrict name, char *restrict to) {
     char *(*next)(const char *, char *) = dlsym(RTLD_NEXT, "realpath");
-    if (path == NULL || strcmp(name, path) != 0) return next(name, to);
+    int kind = kind_at(name);
+    if (kind == OTHER || kind == FOLDER) return next(name, to);
     long nth;
     if (fails("path", &nth)) return NULL;
     char *found = next(name, to);
@@ -194,10 +216,10 @@ char *realpath(const char *restrict name, char *restrict to) {
 }
 
 ssize_t pwrite(int number, const void *bytes, size_t length, off_t at) {
-    if (kind_of(number) != FILE_ITSELF) return syscall(SYS_pwrite64, number, bytes, length, at);
+    if (!is_log(number)) return syscall(SYS_pwrite64, number, bytes, length, at);
     long nth;
     if (fails("write", &nth)) return -1;
-    note("write %ld %zu\n", (long)at, length);
+    note("write %d %ld %zu\n", kind_of(number), (long)at, length);
     ssize_t takes = taken("write", nth, length);
     if (takes <= 0) return takes;
     if (nth == 0 && is("within")) takes /= 2;
@@ -205,17 +227,17 @@ ssize_t pwrite(int number, const void *bytes, size_t length, off_t at) {
 }
 
 ssize_t pread(int number, void *bytes, size_t length, off_t at) {
-    if (kind_of(number) != FILE_ITSELF) return syscall(SYS_pread64, number, bytes, length, at);
+    if (!is_log(number)) return syscall(SYS_pread64, number, bytes, length, at);
     long nth;
     if (fails("load", &nth)) return -1;
     return done("load", nth, syscall(SYS_pread64, number, bytes, length, at));
 }
 
 int ftruncate(int number, off_t length) {
-    if (kind_of(number) != FILE_ITSELF) return syscall(SYS_ftruncate, number, length);
+    if (!is_log(number)) return syscall(SYS_ftruncate, number, length);
     long nth;
     if (fails("cut", &nth)) return -1;
-    note("cut %ld\n", (long)length);
+    note("cut %d %ld\n", kind_of(number), (long)length);
     return done("cut", nth, syscall(SYS_ftruncate, number, length));
 }
 
@@ -226,7 +248,7 @@ int fdatasync(int number) {
     // By `lseek`, which the program's own calls don't notice: they all name their place.
     long length = syscall(SYS_lseek, number, 0, SEEK_END);
     int answer = syscall(SYS_fdatasync, number);
-    if (answer == 0) note("synced %ld\n", length);
+    if (answer == 0) note("synced %d %ld\n", kind_of(number), length);
     return done("sync", nth, answer);
 }
 

@@ -1,4 +1,4 @@
-"""The program in a folder, and the calls of the system that a run of it makes on its log.
+"""The program in a folder, and the calls of the system that a run of it makes on its logs.
 
 `kill` and `faults` in this folder use it. `calls.c`, also in this folder, notes the calls and makes them fail; `cc`
 builds it, and it is preloaded: it works where the program calls the system by the symbols of the C library. `strace`
@@ -13,9 +13,18 @@ from outcomes import BUILT, LIMIT, wanted
 
 SOURCE = os.path.join(os.path.dirname(os.path.realpath(__file__)), "calls.c")
 
+# The most logs of a run, and the notes that name one of them.
+MOST_LOGS = 16
+OF_A_LOG = ("open", "write", "cut", "synced")
+
+
+def path_of(first, log):
+    """The path of the log with this number, counted from 1, by that of the first one."""
+    return first if log == 1 else f"{first}.{log}"
+
 
 class Program:
-    """A copy of the program, with its log. `why` says why its calls aren't seen, if they aren't."""
+    """A copy of the program, with its logs. `why` says why its calls aren't seen, if they aren't."""
 
     def __init__(self, room):
         room = os.path.realpath(room)
@@ -57,25 +66,62 @@ class Program:
         done = subprocess.run(line, input=text, capture_output=True, text=True, env=environment, timeout=LIMIT, **more)
         return done.returncode, done.stdout
 
-    def told(self):
-        """The notes of the last run, each as a list of words."""
+    def told_of_all(self):
+        """The notes of the last run, each as a list of words. Those of a file have the log's number after the first
+        word.
+        """
         with open(self.notes) as file:
             return [line.split(" ") for line in file.read().split("\n")[:-1]]
 
-    def left(self):
-        """What the log has, if there is one. The log is removed."""
-        if not os.path.exists(self.log):
+    def told(self, log=1):
+        """The notes of the last run on one of its logs, from the opening of its file on: without the log's number."""
+        return notes_of(self.told_of_all(), log)
+
+    def left(self, log=1):
+        """What a log has, if its file is there. The file is removed."""
+        path = path_of(self.log, log)
+        if not os.path.exists(path):
             return None
-        with open(self.log, "rb") as file:
+        with open(path, "rb") as file:
             content = file.read()
-        os.remove(self.log)
+        os.remove(path)
         return content
+
+    def left_of_all(self):
+        """What each of the most logs that there may be has, or None. The files are removed."""
+        return [self.left(log) for log in range(1, MOST_LOGS + 1)]
 
     def recovered(self, content, number=None):
         """What the program recovers from these bytes, as a log with this number or without one."""
-        with open(self.image, "wb") as file:
-            file.write(content)
-        line = [self.path, self.image, "recover", *([] if number is None else ["--number", str(number)])]
+        return self.recovered_of_all([content], [] if number is None else ["--number", str(number)])
+
+    def recovered_of_logs(self, contents):
+        """What the program recovers from these bytes as several logs. A file isn't there where None is its content."""
+        return self.recovered_of_all(contents, ["--logs", str(len(contents))])
+
+    def recovered_of_all(self, contents, options):
+        for log, content in enumerate(contents, 1):
+            path = path_of(self.image, log)
+            if content is not None:
+                with open(path, "wb") as file:
+                    file.write(content)
+            elif os.path.exists(path):
+                os.remove(path)
+        line = [self.path, self.image, "recover", *options]
         done = subprocess.run(line, capture_output=True, text=True, timeout=LIMIT)
         wanted(done.returncode == 0, f"status 0 of recover, not {done.returncode}: {done.stdout[:200]}")
         return done.stdout
+
+
+def notes_of(notes, log):
+    """The notes on the log with this number, without that number, and those that are of no log: from the opening of its
+    file on. What is before that says nothing of it, such as a sync of the folder.
+    """
+    own, is_open = [], False
+    for words in notes:
+        is_open = is_open or words == ["open", str(log)]
+        if words[0] not in OF_A_LOG:
+            own += [words] if is_open or words[0] == "fails" else []
+        elif words[1] == str(log):
+            own.append([words[0], *words[2:]])
+    return own

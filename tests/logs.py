@@ -1,7 +1,7 @@
 """What the log of a run may have, however the run has ended: by its script, and by nothing of the program's own.
 
-`kill` and `faults` in this folder use it, with scripts whose batches are named by notes (`scripts.py`). It reads logs
-by `plain_log.py`. Of a log these must hold:
+`kill` and `faults` in this folder use it, with scripts whose batches are named by notes (`scripts.py`), and so does
+`log_sets.py` for several logs. It reads logs by `plain_log.py`. Of a log these must hold:
 
 - each record is whole batches of different clients, one after another, of commits that should not stay out of the log;
 - each client's batches are all of its own up to some commit, each once, in its order;
@@ -127,6 +127,29 @@ def check_records(script, records, last=0):
     return synced
 
 
+def refused_of(script, batches):
+    """The next batch of each client after its accepted ones, by its client and how many these are."""
+    accepted = [0] * len(script)
+    for _, _, line, _ in batches:
+        accepted[int(line.split(" ")[2]) - 1] += 1
+    return list(enumerate(accepted, 1))
+
+
+def check_history(script, batches, kept, behind):
+    """Checks that the records which were kept have just the logged batches of a history, in its order. Behind them
+    there is one record at most, of refused batches, which has the next sequences.
+    """
+    found = [(client, turn + 1) for record in kept for client, turn in members_of(batches_of(script), record)]
+    history = [line.split(" ") for _, _, line, _ in batches]
+    logged = [(int(words[2]), int(words[3])) for words in history if words[4] != "nolog"]
+    wanted(found == logged, f"the logged batches of the history, {logged}, not {found}")
+    for record in behind:
+        last = batches[-1][1] if batches else 0
+        wanted(len(behind) == 1 and record.first == last + 1, f"one record behind them, after the sequence {last}")
+        for member in members_of(batches_of(script), record):
+            wanted(member in refused_of(script, batches), f"a refused batch, not {member}")
+
+
 def check_notes(records, synced, notes):
     """Checks the calls that a run has made on its log, which `calls.c` in this folder has noted, and gives back how
     much of the log was safe.
@@ -158,20 +181,26 @@ def told_of_writes(notes):
     return told
 
 
-def check_images(content, safe, draw, recovered, old=b"", number=None):
-    """Checks what a crash of the machine might leave, where this much of the log is safe: it has all records up to
-    there, and no others than were written. `recovered` answers what the program recovers from some bytes. A log with a
-    number may be written over an old one, whose bytes remain wherever new ones are lost.
+def images_of(content, safe, draw, old=b""):
+    """What a crash of the machine might leave of a log of which this much is safe: that alone, a front that was drawn,
+    and one that has lost pieces of the size of a sector. Bytes of an old log remain wherever new ones are lost.
     """
-    records = read_log(content, number)[0]
     cut = draw.randint(safe, len(content))
-    # What isn't safe may be lost in pieces of the size of a sector.
     torn, before = bytearray(content), old.ljust(len(content), b"\0")
     for at in range(safe // 512, len(torn) // 512 + 1):
         start, end = max(at * 512, safe), min(at * 512 + 512, len(torn))
         if draw.random() < 0.5 and start < end:
             torn[start:end] = before[start:end]
-    for image in (content[:safe] + old[safe:], content[:cut] + old[cut:], bytes(torn)):
+    return content[:safe] + old[safe:], content[:cut] + old[cut:], bytes(torn)
+
+
+def check_images(content, safe, draw, recovered, old=b"", number=None):
+    """Checks what a crash of the machine might leave, where this much of the log is safe: it has all records up to
+    there, and no others than were written. `recovered` answers what the program recovers from some bytes. A log with a
+    number may be written over an old one.
+    """
+    records = read_log(content, number)[0]
+    for image in images_of(content, safe, draw, old):
         check_recovery_of(image, recovered, number)
         found = read_log(image, number)[0]
         wanted(found == records[: len(found)], "a prefix of the records")

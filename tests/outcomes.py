@@ -8,7 +8,7 @@ says what is wrong with it. Of an outcome these must hold:
 - each read is that of a plain map at its sequence, which is the end of a batch; the sequence is not below what the
   client has seen before, its own batches included;
 - the printed state is the map at the published sequence;
-- where the log has failed, each client is refused by that fault from some commit on, and at least one client is;
+- where a log has failed, each client is refused by that fault from some commit on, and at least one client is;
 - a client that finds no memory learns it in its last line, and its call is not in the history;
 - a token's line is answered by the client's own tokens. Where the client holds a stop token, each of its commits is
   refused: as its own stop, or, with `noslow`, by numbers that show a stop. Otherwise a commit is refused because
@@ -112,10 +112,17 @@ def sections_of(text, clients):
     return replies, lines
 
 
+def logs_in(lines):
+    """The lengths of the logs in the one line that is left of an outcome, and the count of faults, if one failed."""
+    wanted(len(lines) == 1 and lines[0].startswith("log "), f"the logs' line: {lines}")
+    lens, _, fault = lines[0].removeprefix("log ").partition(" fault ")
+    wanted(fault != "" or "fault" not in lines[0], f"the count of faults: {lines}")
+    return [int(length) for length in lens.split(" ")], fault or None
+
+
 def fault_of(lines):
-    """The count of faults in the last line, where the log has failed."""
-    words = lines[-1].split(" ")
-    return words[3] if len(words) == 4 and words[0] == "log" and words[2] == "fault" else None
+    """The count of faults in the last line of an outcome, where a log has failed. A schedule has none."""
+    return logs_in(lines[-1:])[1] if lines[-1].startswith("log ") else None
 
 
 def lacks_memory(replies):
@@ -304,7 +311,7 @@ def main():
         script = script_in(file.read())
     try:
         _, rest = check_outcome(script, sys.stdin.read())
-        wanted(len(rest) == 1 and rest[0].startswith("log "), f"the log's line: {rest}")
+        logs_in(rest)
     except (Wrong, ValueError, IndexError) as why:
         print(f"wanted {why}")
         return 1

@@ -12,10 +12,15 @@
 //
 //     peers recycled PATH COPIES
 //
+// Or writes more than one memtable holds, of which no table is made, so that the database has several logs.
+//
+//     peers several PATH
+//
 // Or opens a database for reading alone, in the recovery mode `point`, `tail` or `absolute`, and says `yes` where it
-// opens and `no` where it doesn't.
+// opens and `no` where it doesn't; or the pairs of its map in hexadecimal digits, an empty one as `-`.
 //
 //     peers opens PATH MODE
+//     peers pairs PATH MODE
 
 #include <rocksdb/db.h>
 #include <rocksdb/transaction_log.h>
@@ -104,6 +109,20 @@ static bool write_over(rocksdb::DB& db, const std::filesystem::path& path, const
     return true;
 }
 
+// Batches of many sizes, some of which delete. One takes several blocks.
+static bool write_several(rocksdb::DB& db) {
+    for (int turn = 0; turn < 400; turn++) {
+        rocksdb::WriteBatch batch;
+        for (int key = turn % 3; key >= 0; key--)
+            batch.Put("key" + std::to_string((7 * turn + key) % 90), std::string(turn % 900, 'v') + std::to_string(turn));
+        if (turn % 5 == 2) batch.Delete("key" + std::to_string(turn % 90));
+        if (turn % 7 == 3) batch.PutLogData("turn " + std::to_string(turn));
+        if (turn == 150) batch.Put("large", std::string(100000, 'l'));
+        if (!db.Write(rocksdb::WriteOptions(), &batch).ok()) return false;
+    }
+    return true;
+}
+
 // A recovery mode by the name that the program has for it.
 static rocksdb::WALRecoveryMode mode_of(const std::string& word) {
     if (word == "tail") return rocksdb::WALRecoveryMode::kTolerateCorruptedTailRecords;
@@ -123,8 +142,27 @@ static int tell_whether_opens(const std::string& path, const std::string& mode) 
     return status.ok() || status.IsCorruption() ? 0 : 1;
 }
 
+static void print_hex(const rocksdb::Slice& text) { std::cout << (text.empty() ? "-" : text.ToString(true)); }
+
+static int tell_pairs(const std::string& path, const std::string& mode) {
+    rocksdb::Options options;
+    options.wal_recovery_mode = mode_of(mode);
+    rocksdb::DB* opened = nullptr;
+    if (!rocksdb::DB::OpenForReadOnly(options, path, &opened).ok()) return 1;
+    std::unique_ptr<rocksdb::DB> db(opened);
+    std::unique_ptr<rocksdb::Iterator> pairs(db->NewIterator(rocksdb::ReadOptions()));
+    for (pairs->SeekToFirst(); pairs->Valid(); pairs->Next()) {
+        print_hex(pairs->key());
+        std::cout << " ";
+        print_hex(pairs->value());
+        std::cout << "\n";
+    }
+    return pairs->status().ok() ? 0 : 1;
+}
+
 int main(int count, char** words) {
     if (count == 4 && words[1] == std::string("opens")) return tell_whether_opens(words[2], words[3]);
+    if (count == 4 && words[1] == std::string("pairs")) return tell_pairs(words[2], words[3]);
     rocksdb::Options options;
     options.create_if_missing = true;
     bool recycles = count == 4 && words[1] == std::string("recycled");
@@ -132,6 +170,13 @@ int main(int count, char** words) {
         options.recycle_log_file_num = 2;
         // In another mode RocksDB writes over no old file, and gives its logs no number.
         options.wal_recovery_mode = rocksdb::WALRecoveryMode::kSkipAnyCorruptedRecords;
+    }
+    bool has_several = count == 3 && words[1] == std::string("several");
+    if (has_several) {
+        // Each memtable has a log of its own, and a table is made of a number of memtables that isn't reached.
+        options.write_buffer_size = 64 << 10;
+        options.max_write_buffer_number = 32;
+        options.min_write_buffer_number_to_merge = 31;
     }
     // Otherwise what stays out of the log would be flushed to a table at the end.
     options.avoid_flush_during_shutdown = true;
@@ -141,5 +186,6 @@ int main(int count, char** words) {
     if (words[1] == std::string("script")) run_script(*db);
     if (words[1] == std::string("threads")) run_threads(*db);
     if (recycles && !write_over(*db, words[2], words[3])) return 1;
+    if (has_several && !write_several(*db)) return 1;
     return db->Close().ok() ? 0 : 1;
 }

@@ -1,8 +1,9 @@
 """An independent reader of logs and batches, by docs/FORMATS.md and RocksDB's wiki, and nothing of the program's own.
 
-`damage`, `kill` and `faults` in this folder use it. `recovery_of` says what `recover` should print for a log's bytes.
-There is also a small writer: `laid_out` makes a log of records, as the program should, or with records that are cut at
-other places. Where a function takes a log's number, None means a log whose headers have no number.
+`damage`, `kill`, `faults` and `race` in this folder use it. `recovery_of` says what `recover` should print for a log's
+bytes, and `recovery_of_logs` for those of several logs. There is also a small writer: `laid_out` makes a log of
+records, as the program should, or with records that are cut at other places. Where a function takes a log's number,
+None means a log whose headers have no number.
 """
 
 import functools
@@ -158,9 +159,11 @@ def batch_of(record):
     return number_of(record[:8]), count, changes
 
 
-def recover_into(groups, pairs, log, number):
-    """Reads a log into its groups and its map: the last sequence, and where and why reading ends."""
-    last, at = 0, 0
+def recover_into(groups, pairs, log, number, last=0):
+    """Reads a log, which comes after this sequence, into its groups and its map: the last sequence, and where and why
+    reading ends.
+    """
+    at = 0
     try:
         for at, record in records_of(log, number):
             first, count, changes = batch_of(record)
@@ -182,6 +185,19 @@ def recover_into(groups, pairs, log, number):
     return last, len(log), "clean"
 
 
+def recover_logs_into(groups, pairs, logs):
+    """Reads logs that were written one after another into their groups and their map. A log is read only where the one
+    before it was read to its end; None is a log whose file isn't there, which has no bytes. Gives back the last
+    sequence, and in which log reading ends, counted from 1, where, and why.
+    """
+    last, log, at, why = 0, 0, 0, "clean"
+    for log, content in enumerate(logs, 1):
+        last, at, why = recover_into(groups, pairs, content or b"", None, last)
+        if why != "clean":
+            break
+    return last, log, at, why
+
+
 def kept_of(log, count, number=None):
     """Where the last of a log's first `count` records ends."""
     ends = [0]
@@ -193,13 +209,27 @@ def kept_of(log, count, number=None):
     return ends[count]
 
 
+def text_of_recovery(groups, pairs, last, *end):
+    """What is printed of groups, their map and their last sequence. `end` says where and why reading ends."""
+    rows = [f"{key.hex() or '-'} {pairs[key].hex() or '-'}" for key in sorted(pairs)]
+    lines = [f"groups {len(groups)}", *groups, f"state {last} {len(rows)}", *rows]
+    return "".join(line + "\n" for line in [*lines, " ".join(["end", *map(str, end)])])
+
+
 def recovery_of(log, number=None):
     """What `recover` should print for a log, and the first word of the reason."""
     groups, pairs = [], {}
     last, at, why = recover_into(groups, pairs, log, number)
-    rows = [f"{key.hex() or '-'} {pairs[key].hex() or '-'}" for key in sorted(pairs)]
-    lines = [f"groups {len(groups)}", *groups, f"state {last} {len(rows)}", *rows, f"end {at} {why}"]
-    return "".join(line + "\n" for line in lines), why.split(" ")[0]
+    return text_of_recovery(groups, pairs, last, at, why), why.split(" ")[0]
+
+
+def recovery_of_logs(logs):
+    """What `recover --logs` should print for several logs, in which of them reading ends, and the first word of the
+    reason.
+    """
+    groups, pairs = [], {}
+    last, *end = recover_logs_into(groups, pairs, logs)
+    return text_of_recovery(groups, pairs, last, *end), end[0], end[2].split(" ")[0]
 
 
 def is_cut_off(log, at, why, number=None):
