@@ -37,7 +37,7 @@ extern "C" {
 
 /* The version of this header, and that of the library that the program runs with. They are the same number unless the
    header belongs to another version of the library. */
-#define WZ_VERSION 1u
+#define WZ_VERSION 2u
 uint32_t wz_version(void);
 
 /* What a function answers. */
@@ -69,7 +69,7 @@ enum {
   WZ_BAD_ORDER = 9,    /* a fragment is where none of its type may be */
   WZ_UNFINISHED = 10,  /* the log ends inside a record */
   WZ_SHORT = 11,       /* a batch whose header or record is incomplete */
-  WZ_BAD_VARINT = 12,  /* a length in a batch isn't in its shortest spelling, or is too long */
+  WZ_BAD_VARINT = 12,  /* a length or a family in a batch isn't in its shortest spelling, or is too long */
   WZ_TAG = 13,         /* a record of a batch has a tag that isn't read: first is the tag */
   WZ_COUNT = 14,       /* a batch's header has another count (first) than its records (second) */
   WZ_ORDER = 15,       /* a batch's run of sequences begins (first) at or below the last one before it (second) */
@@ -86,12 +86,16 @@ enum {
    reasons: there only WZ_POINT is sure to accept the end. A log that has a number and is read with another one (not 0)
    ends at 0 with WZ_OLD_LOG, which each mode accepts, so that nothing is recovered. */
 
-/* What a record of a batch does. */
+/* What a record of a batch does. Those with CF name the column family of their key; the others are about the default
+   one, whose number is 0. */
 enum {
-  WZ_DELETION = 0,        /* takes a key out */
-  WZ_VALUE = 1,           /* gives a key a value */
-  WZ_LOG_DATA = 3,        /* is in the log only, and takes no sequence: its bytes are the key of wz_op */
-  WZ_SINGLE_DELETION = 7  /* takes a key out that was set at most once */
+  WZ_DELETION = 0,           /* takes a key out */
+  WZ_VALUE = 1,              /* gives a key a value */
+  WZ_LOG_DATA = 3,           /* is in the log only, and takes no sequence: its bytes are the key of wz_op */
+  WZ_DELETION_CF = 4,        /* takes a key of a family out */
+  WZ_VALUE_CF = 5,           /* gives a key of a family a value */
+  WZ_SINGLE_DELETION = 7,    /* takes a key out that was set at most once */
+  WZ_SINGLE_DELETION_CF = 8  /* takes a key of a family out that was set at most once */
 };
 
 #define WZ_BLOCK_LEN 32768u       /* the bytes of a log's block */
@@ -111,14 +115,22 @@ typedef struct { uint64_t start; uint64_t end; size_t len; } wz_record;
    the offset after the last record kept, each 0 where there is none; and where and why it ended. */
 typedef struct { size_t groups; size_t pairs; uint64_t last; uint64_t kept; wz_end end; } wz_recovered;
 
-/* How many bytes a pair's key and value have. */
-typedef struct { size_t key_len; size_t value_len; } wz_pair_lens;
+/* The column family of a pair's key, and how many bytes its key and its value have. */
+typedef struct { uint32_t family; size_t key_len; size_t value_len; } wz_pair_lens;
 
 /* A batch's sequence, and how many of its records count. */
 typedef struct { uint64_t sequence; uint32_t count; } wz_batch_head;
 
-/* A record of a batch: what it does, and where in the batch's bytes its key and its value are. */
-typedef struct { uint32_t kind; size_t key_at; size_t key_len; size_t value_at; size_t value_len; } wz_op;
+/* A record of a batch: what it does, the column family that it names, or 0, and where in the batch's bytes its key and
+   its value are. */
+typedef struct {
+  uint32_t kind;
+  uint32_t family;
+  size_t key_at;
+  size_t key_len;
+  size_t value_at;
+  size_t value_len;
+} wz_op;
 
 /* Frees what the handle holds. It holds nothing then. */
 void wz_close(wz_handle *handle);
@@ -167,18 +179,19 @@ uint32_t wz_reader_record(wz_handle *handle, uint8_t *buffer, size_t buffer_len)
 uint32_t wz_recover(wz_handle *handle, uint32_t number, uint32_t mode, const uint8_t *log, size_t log_len,
                     wz_recovered *summary);
 
-/* How many bytes the key and the value of a pair have. The pairs are in the byte order of their keys, with
-   indices from 0. WZ_DONE. WZ_END: there is no such pair. WZ_CLOSED: the handle holds no recovery. */
+/* The column family of a pair's key, and how many bytes its key and its value have. The pairs are by family, the
+   default one (0) first, and in a family in the byte order of their keys, with indices from 0. WZ_DONE. WZ_END: there
+   is no such pair. WZ_CLOSED: the handle holds no recovery. */
 uint32_t wz_pair_len(wz_handle *handle, size_t index, wz_pair_lens *lens);
 
 /* Copies the key and the value of the pair with this index to the starts of the two buffers, and touches nothing after
    them. WZ_DONE. WZ_SMALL: one of the buffers is too small, and neither was written to. WZ_END. WZ_CLOSED. */
 uint32_t wz_pair(wz_handle *handle, size_t index, uint8_t *key, size_t key_len, uint8_t *value, size_t value_len);
 
-/* How many pairs have a key before this one: the index of its own pair, if it has one, otherwise the index that it
-   would have. WZ_DONE: the key has a pair, and *index is its index. WZ_END: it has none, and *index is that of the
-   next key's pair, or how many pairs there are. WZ_CLOSED: the handle holds no recovery. */
-uint32_t wz_pair_find(wz_handle *handle, const uint8_t *key, size_t key_len, size_t *index);
+/* How many pairs have a key before this one of this column family: the index of its own pair, if it has one, otherwise
+   the index that it would have. WZ_DONE: the key has a pair, and *index is its index. WZ_END: it has none, and *index
+   is that of the next key's pair, or how many pairs there are. WZ_CLOSED: the handle holds no recovery. */
+uint32_t wz_pair_find(wz_handle *handle, uint32_t family, const uint8_t *key, size_t key_len, size_t *index);
 
 /* ---- building a batch ---- */
 
@@ -191,6 +204,13 @@ uint32_t wz_batch_put(wz_handle *handle, const uint8_t *key, size_t key_len, con
 uint32_t wz_batch_delete(wz_handle *handle, const uint8_t *key, size_t key_len);
 uint32_t wz_batch_single_delete(wz_handle *handle, const uint8_t *key, size_t key_len);
 uint32_t wz_batch_log_data(wz_handle *handle, const uint8_t *blob, size_t blob_len);
+
+/* The same for a key of a column family. The record names the family, as those of RocksDB do, unless it is 0: then it
+   is that of the function above. */
+uint32_t wz_batch_put_cf(wz_handle *handle, uint32_t family, const uint8_t *key, size_t key_len, const uint8_t *value,
+                         size_t value_len);
+uint32_t wz_batch_delete_cf(wz_handle *handle, uint32_t family, const uint8_t *key, size_t key_len);
+uint32_t wz_batch_single_delete_cf(wz_handle *handle, uint32_t family, const uint8_t *key, size_t key_len);
 
 /* Adds the records of another batch's bytes after the others, so that several batches make one record of the log, a
    group. The other batch's sequence is ignored. WZ_NO_BATCH: the bytes are no batch (wz_batch_read says why), whatever

@@ -2,8 +2,9 @@
 
    print_log LOG [NUMBER]
 
-   NUMBER is the log's own, where its fragments have one. Keys and values are printed in hexadecimal, `-` for none. The
-   last line says where reading ended, and for which of the reasons of wolzenn.h, with its two numbers. */
+   NUMBER is the log's own, where its fragments have one. Keys and values are printed in hexadecimal, `-` for none,
+   after the number of the column family that an operation names. The last line says where reading ended, and for which
+   of the reasons of wolzenn.h, with its two numbers. */
 #include "wolzenn.h"
 
 #include <inttypes.h>
@@ -16,9 +17,13 @@ static void print_bytes(const uint8_t *bytes, size_t len) {
 }
 
 static const char *name_of(uint32_t kind) {
-    if (kind == WZ_VALUE) return "put";
-    if (kind == WZ_DELETION) return "del";
+    if (kind == WZ_VALUE || kind == WZ_VALUE_CF) return "put";
+    if (kind == WZ_DELETION || kind == WZ_DELETION_CF) return "del";
     return kind == WZ_LOG_DATA ? "note" : "sdel";
+}
+
+static int names_family(uint32_t kind) {
+    return kind == WZ_VALUE_CF || kind == WZ_DELETION_CF || kind == WZ_SINGLE_DELETION_CF;
 }
 
 /* Prints the operations of the batch that a record holds, up to the first that can't be read. */
@@ -31,8 +36,9 @@ static void print_batch(const uint8_t *bytes, size_t len) {
     size_t at = WZ_BATCH_HEADER_LEN;
     while (code == WZ_DONE && (code = wz_batch_next(bytes, len, &at, &op, &why)) == WZ_DONE) {
         printf("  %s ", name_of(op.kind));
+        if (names_family(op.kind)) printf("%" PRIu32 " ", op.family);
         print_bytes(bytes + op.key_at, op.key_len);
-        if (op.kind == WZ_VALUE) {
+        if (op.kind == WZ_VALUE || op.kind == WZ_VALUE_CF) {
             printf(" ");
             print_bytes(bytes + op.value_at, op.value_len);
         }

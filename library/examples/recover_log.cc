@@ -3,8 +3,9 @@
 //     recover_log LOG [NUMBER [point|tail|absolute]]
 //
 // NUMBER is the log's own, or 0 where it has none. It prints how many records are recovered, the last sequence and how
-// many pairs there are, each pair in hexadecimal, `-` for no bytes, and where recovery ended and why. Where the mode
-// doesn't accept the end, it prints `damage` with the end, and the status is 8.
+// many pairs there are, each pair in hexadecimal, `-` for no bytes, after the number of its column family, unless that
+// is the default one; and where recovery ended and why. Where the mode doesn't accept the end, it prints `damage` with
+// the end, and the status is 8.
 
 #include "wolzenn.h"
 
@@ -88,6 +89,7 @@ int main(int argc, char** argv) {
         if (wz_pair_len(recovery.get(), i, &lens) != WZ_DONE) return 3;
         std::string key(lens.key_len, '\0'), value(lens.value_len, '\0');
         if (wz_pair(recovery.get(), i, bytes(key), key.size(), bytes(value), value.size()) != WZ_DONE) return 3;
+        if (lens.family != 0) std::cout << lens.family << " ";
         std::cout << hex(key) << " " << hex(value) << "\n";
     }
     std::cout << "end " << found.end.at << " " << reason(found.end) << "\n";

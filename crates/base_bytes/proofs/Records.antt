@@ -1,9 +1,11 @@
 -- Bytes of records are those of one list of records only.
-use Rattle.std.proofs.Common.{◌≡◌, ℕ, ◌^◌, ◌<◌, ◌≤◌, List, [], ◌∷◌, ◌++◌, length, get_or, drop, refl, sym, ◌∙◌, ap, arith, append_assoc, length-append, flat_map}
+use Rattle.std.proofs.Common.{◌≡◌, ℕ, ◌^◌, ◌<◌, ◌≤◌, List, [], ◌∷◌, ◌++◌, length, get_or, drop, ◌==◌, refl, sym, ◌∙◌, ap, arith, append_assoc, flat_map, Option}
+use Rattle.std.specs.Prelude.{Some, None, is_some, IfSome, if◌then◌else◌}
+use Rattle.std.proofs.lemmas.Bool.{true≢false, false≢true}
 use Rattle.std.proofs.lemmas.List.{append_cancel_left}
-use Rattle.std.specs.List.{AllByRecursion}
+use Rattle.std.specs.List.{AllByRecursion, list_any}
 use Rattle.model_base.specs.Varint.{varint}
-use Rattle.model_base.specs.Batch.{Record, value, deletion, single_deletion, log_data, tag_of, strings_of, varstring, record_bytes, body, IsReadable}
+use Rattle.model_base.specs.Batch.{Record, value, deletion, single_deletion, log_data, tag_of, names_family, strings_after, named_by, strings_of, family_bytes, varstring, record_bytes, body, IsReadable}
 use Rattle.base_bytes.proofs.Spellings.{varint_spells, one_varint}
 
 -- if two lists that begin the same bytes are equally long, they are equal, and so is what follows them
@@ -41,29 +43,77 @@ one_strings (s ∷ a) (t ∷ b) x y as_many short_a short_b same =
     let rest = one_strings a b x y (omega (arith, as_many)) short_a.1 short_b.1 first.1 in
     (ap (λ (v : List ℕ). v ∷ a) first.0 ∙ ap (λ (l : List (List ℕ)). t ∷ l) rest.0, rest.1)
 
--- the tag says how many strings follow it
-as_many_strings : (r s : Record) → tag_of r ≡ tag_of s → length (strings_of r) ≡ length (strings_of s)
-as_many_strings (value k v) (value l w) same = refl
-as_many_strings (deletion k) (deletion l) same = refl
-as_many_strings (single_deletion k) (single_deletion l) same = refl
-as_many_strings (log_data k) (log_data l) same = refl
-as_many_strings r s same = absurd (omega (arith, same))
+-- the number of a family fits in a varint32, if one is named
+abbrev pub IsSmall : Option ℕ → Type 0
+IsSmall named = IfSome named (λ family. family < 2 ^ 32)
 
--- a record is determined by its tag and its strings
-tag_and_strings : (r s : Record) → tag_of r ≡ tag_of s → strings_of r ≡ strings_of s → r ≡ s
-tag_and_strings (value k v) (value l w) same strings = cc
-tag_and_strings (deletion k) (deletion l) same strings = cc
-tag_and_strings (single_deletion k) (single_deletion l) same strings = cc
-tag_and_strings (log_data k) (log_data l) same strings = cc
-tag_and_strings r s same strings = absurd (omega (arith, same))
+-- Bytes that begin with a family's number, if one is named, determine it and what follows it.
+pub one_family : (a b : Option ℕ) (x y : List ℕ) → is_some a ≡ is_some b → IsSmall a → IsSmall b → family_bytes a ++ x ≡ family_bytes b ++ y → (a ≡ b) × (x ≡ y)
+one_family None None x y both small_a small_b same = (refl, same)
+one_family None (Some g) x y both small_a small_b same = absurd (false≢true both)
+one_family (Some f) None x y both small_a small_b same = absurd (true≢false both)
+one_family (Some f) (Some g) x y both small_a small_b same =
+    let numbers = one_varint (varint f) (varint g) x y f g (varint_spells f small_a) (varint_spells g small_b) same in
+    (ap (λ (n : ℕ). Some n) numbers.1, append_cancel_left (varint g) x y (sym (ap (λ (l : List ℕ). l ++ x) numbers.0) ∙ same))
 
--- Bytes that begin with a record determine the record and what follows it.
-pub one_record : (r s : Record) (x y : List ℕ) → AreShort (strings_of r) → AreShort (strings_of s) → record_bytes r ++ x ≡ record_bytes s ++ y → (r ≡ s) × (x ≡ y)
-one_record r s x y short_r short_s same =
+-- The tag says whether a family is named, and how many strings there are.
+pub named_is : (r : Record) → names_family (tag_of r) ≡ is_some (named_by r)
+named_is (value None k v) = refl
+named_is (value (Some f) k v) = refl
+named_is (deletion None k) = refl
+named_is (deletion (Some f) k) = refl
+named_is (single_deletion None k) = refl
+named_is (single_deletion (Some f) k) = refl
+named_is (log_data k) = refl
+
+pub strings_are : (r : Record) → length (strings_of r) ≡ strings_after (tag_of r)
+strings_are (value None k v) = refl
+strings_are (value (Some f) k v) = refl
+strings_are (deletion None k) = refl
+strings_are (deletion (Some f) k) = refl
+strings_are (single_deletion None k) = refl
+strings_are (single_deletion (Some f) k) = refl
+strings_are (log_data k) = refl
+
+-- the tag says of which kind the record is
+kind_of : Record → ℕ
+kind_of (value f k v) = 0
+kind_of (deletion f k) = 1
+kind_of (single_deletion f k) = 2
+kind_of (log_data k) = 3
+
+kind_at : ℕ → ℕ
+kind_at t = if list_any (λ u. u == t) (1 ∷ 5 ∷ []) then 0 else if list_any (λ u. u == t) (0 ∷ 4 ∷ []) then 1
+    else if list_any (λ u. u == t) (7 ∷ 8 ∷ []) then 2 else 3
+
+kind_is : (r : Record) → kind_at (tag_of r) ≡ kind_of r
+unfolding kind_at kind_of
+kind_is (value None k v) = refl
+kind_is (value (Some f) k v) = refl
+kind_is (deletion None k) = refl
+kind_is (deletion (Some f) k) = refl
+kind_is (single_deletion None k) = refl
+kind_is (single_deletion (Some f) k) = refl
+kind_is (log_data k) = refl
+
+-- a record is determined by its kind, its family and its strings
+kind_and_parts : (r s : Record) → kind_of r ≡ kind_of s → named_by r ≡ named_by s → strings_of r ≡ strings_of s → r ≡ s
+unfolding kind_of
+kind_and_parts (value f k v) (value g l w) same named strings = cc
+kind_and_parts (deletion f k) (deletion g l) same named strings = cc
+kind_and_parts (single_deletion f k) (single_deletion g l) same named strings = cc
+kind_and_parts (log_data k) (log_data l) same named strings = cc
+kind_and_parts r s same named strings = absurd (omega (arith, same))
+
+-- Bytes that begin with a readable record determine the record and what follows it.
+pub one_record : (r s : Record) (x y : List ℕ) → IsReadable r → IsReadable s → record_bytes r ++ x ≡ record_bytes s ++ y → (r ≡ s) × (x ≡ y)
+one_record r s x y read_r read_s same =
     let tags : tag_of r ≡ tag_of s = ap (λ (bytes : List ℕ). get_or bytes 0 0) same in
-    let behind : flat_map varstring (strings_of r) ++ x ≡ flat_map varstring (strings_of s) ++ y = ap (λ (bytes : List ℕ). drop 1 bytes) same in
-    let strings = one_strings (strings_of r) (strings_of s) x y (as_many_strings r s tags) short_r short_s behind in
-    (tag_and_strings r s tags strings.0, strings.1)
+    let behind : family_bytes (named_by r) ++ (flat_map varstring (strings_of r) ++ x) ≡ family_bytes (named_by s) ++ (flat_map varstring (strings_of s) ++ y) =
+    sym (append_assoc (family_bytes (named_by r)) (flat_map varstring (strings_of r)) x) ∙ ap (λ (bytes : List ℕ). drop 1 bytes) same ∙ append_assoc (family_bytes (named_by s)) (flat_map varstring (strings_of s)) y in
+    let families = one_family (named_by r) (named_by s) (flat_map varstring (strings_of r) ++ x) (flat_map varstring (strings_of s) ++ y) (sym (named_is r) ∙ ap names_family tags ∙ named_is s) read_r.family read_s.family behind in
+    let strings = one_strings (strings_of r) (strings_of s) x y (strings_are r ∙ ap strings_after tags ∙ sym (strings_are s)) read_r.lengths read_s.lengths families.1 in
+    (kind_and_parts r s (sym (kind_is r) ∙ ap kind_at tags ∙ kind_is s) families.0 strings.0, strings.1)
 
 -- Readable records are determined by their bytes.
 pub one_read : (a b : List Record) → AllByRecursion IsReadable a → AllByRecursion IsReadable b → body a ≡ body b → a ≡ b
@@ -71,30 +121,6 @@ one_read [] [] read_a read_b same = refl
 one_read [] (s ∷ b) read_a read_b same = absurd (omega (arith, ap length same))
 one_read (r ∷ a) [] read_a read_b same = absurd (omega (arith, ap length same))
 one_read (r ∷ a) (s ∷ b) read_a read_b same =
-    let first = one_record r s (body a) (body b) read_a.0.lengths read_b.0.lengths same in
+    let first = one_record r s (body a) (body b) read_a.0 read_b.0 same in
     let rest = one_read a b read_a.1 read_b.1 first.1 in
     ap (λ (v : Record). v ∷ a) first.0 ∙ ap (λ (l : List Record). s ∷ l) rest
-
--- strings whose bytes, with their lengths, are fewer than 2 ^ 32 are short
-few_bytes : (strings : List (List ℕ)) → length (flat_map varstring strings) < 2 ^ 32 → AreShort strings
-few_bytes [] few = tt
-few_bytes (s ∷ strings) few =
-    let all = length-append (varstring s) (flat_map varstring strings) in
-    (omega (arith, few, all, length-append (varint (length s)) s), few_bytes strings (omega (arith, few, all)))
-
--- Records with fewer than 2 ^ 32 bytes are determined by their bytes.
-pub one_list : (a b : List Record) → length (body a) < 2 ^ 32 → body a ≡ body b → a ≡ b
-one_list [] [] few same = refl
-one_list [] (s ∷ b) few same = absurd (omega (arith, ap length same))
-one_list (r ∷ a) [] few same = absurd (omega (arith, ap length same))
-one_list (r ∷ a) (s ∷ b) few same =
-    let all_r = length-append (record_bytes r) (body a) in
-    let all_s = length-append (record_bytes s) (body b) in
-    let first = one_record r s (body a) (body b) (few_bytes (strings_of r) (omega (arith, few, all_r))) (few_bytes (strings_of s) (omega (arith, few, all_s, ap length same))) same in
-    let rest = one_list a b (omega (arith, few, all_r)) first.1 in
-    ap (λ (v : Record). v ∷ a) first.0 ∙ ap (λ (l : List Record). s ∷ l) rest
-
--- So the bytes after a front are those of one list of records at most.
-pub one_list_behind : (bytes front : List ℕ) (limit : ℕ) (a b : List Record) → limit < 2 ^ 32 → length bytes ≤ limit → bytes ≡ front ++ body a → bytes ≡ front ++ body b → a ≡ b
-one_list_behind bytes front limit a b low few is_a is_b =
-    one_list a b (omega (arith, few, low, ap length is_a, length-append front (body a))) (append_cancel_left front (body a) (body b) (sym is_a ∙ is_b))

@@ -31,11 +31,18 @@ pub struct Reads {
     pub values: FoundList,
 }
 
-/// The keys of a range with their values at a sequence, in the byte order of the keys.
+/// The keys of a range of one family with their values at a sequence, in the byte order of the keys.
 #[derive(Debug, Drop)]
 pub struct Rows {
     pub at: u64,
     pub rows: PairList,
+}
+
+/// A key in a column family.
+#[derive(Debug, Drop)]
+pub struct Place {
+    pub family: u32,
+    pub key: Bytes,
 }
 
 /// A list of look-ups. Contracts see a list of values or none.
@@ -108,9 +115,9 @@ pub struct PairList {
 }
 
 impl Model for PairList {
-    ghost use Rattle.model_base.specs.Map.{Pairs};
+    ghost use Rattle.model_base.specs.Map.{Rows};
 
-    ghost Value = { Pairs };
+    ghost Value = { Rows };
 
     ghost view = { λ l. l.items.items };
 }

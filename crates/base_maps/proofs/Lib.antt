@@ -4,3 +4,4 @@ pub mod Behind
 pub mod MapPairs
 pub mod Merging
 pub mod Parts
+pub mod Families

@@ -4,11 +4,11 @@ use Rattle.std.specs.declared.cmp.Ordering.TheVariants.{Less, Equal, Greater}
 use Rattle.std.specs.Ordering.{match_ordering, is_eq}
 use Rattle.std.specs.Map.{lookup, remove_entry}
 use Rattle.std.specs.BTreeMap.{insert_entry, is_at}
-use Rattle.model_base.specs.Map.{Pairs, byte_order}
+use Rattle.model_base.specs.Map.{Rows, byte_order}
 
 module _ {K : Type 0} (seen : K → List ℕ) where
   -- the pairs of a map, with each key as its bytes
-  abbrev pub pairs : List (K × List ℕ) → Pairs
+  abbrev pub pairs : List (K × List ℕ) → Rows
   pairs es = map (λ (e : K × List ℕ). (seen e.0, e.1)) es
 
   -- inserting into the map is inserting into its pairs
@@ -20,7 +20,7 @@ module _ {K : Type 0} (seen : K → List ℕ) where
       ≡ match_ordering o ((seen k, v) ∷ (seen e.0, e.1) ∷ pairs es) ((seen e.0, v) ∷ pairs es) ((seen e.0, e.1) ∷ insert_entry byte_order (pairs es) (seen k) v)) [
         | Less ↦ refl
         | Equal ↦ refl
-        | Greater ↦ ap (λ (l : Pairs). (seen e.0, e.1) ∷ l) (pairs-insert_entry es k v)
+        | Greater ↦ ap (λ (l : Rows). (seen e.0, e.1) ∷ l) (pairs-insert_entry es k v)
       ]
 
   -- a look-up in the map finds what one in its pairs finds
@@ -35,5 +35,5 @@ module _ {K : Type 0} (seen : K → List ℕ) where
       elim (is_eq (byte_order key (seen e.0))) as (λ b. pairs (cond b es (e ∷ remove_entry (is_at (λ k. byte_order key (seen k))) es))
       ≡ cond b (pairs es) ((seen e.0, e.1) ∷ remove_entry (is_at (byte_order key)) (pairs es))) [
         | true ↦ refl
-        | false ↦ ap (λ (l : Pairs). (seen e.0, e.1) ∷ l) (pairs-remove_entry key es)
+        | false ↦ ap (λ (l : Rows). (seen e.0, e.1) ∷ l) (pairs-remove_entry key es)
       ]

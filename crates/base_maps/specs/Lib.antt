@@ -1,3 +1,4 @@
 pub mod Fronts
 pub mod Merging
 pub mod Parts
+pub mod Families

@@ -5,7 +5,7 @@ ghost use Rattle.std.specs.Option.{option_copied, option_map};
 ghost use Rattle.std.specs.BTreeMap.{insert_entry, is_at};
 ghost use Rattle.std.specs.List.Sorted.{IsStrictlySortedBy};
 ghost use Rattle.std.specs.Map.{keys_of, remove_entry};
-ghost use Rattle.model_base.specs.Map.{byte_order, value_at};
+ghost use Rattle.model_base.specs.Map.{byte_order, row_at};
 ghost use Rattle.base_maps.specs.Parts.{with_next, comes_first};
 
 use crate::key::{ByteKey, FRONT_LEN};
@@ -28,11 +28,11 @@ pub struct ByteMap {
 
 impl Model for ByteMap {
     ghost use Rattle.std.specs.Prelude.{map};
-    ghost use Rattle.model_base.specs.Map.{Pairs, byte_order};
+    ghost use Rattle.model_base.specs.Map.{Rows, byte_order};
     ghost use Rattle.base_maps.specs.Merging.{merge_pairs};
     ghost use Rattle.base_maps.specs.Parts.{AreParts};
 
-    ghost Value = { Pairs };
+    ghost Value = { Rows };
 
     ghost view = { λ m. merge_pairs byte_order m.short.entries (map (λ e. (e.0.items, e.1)) m.long.entries) };
 
@@ -79,7 +79,7 @@ impl ByteMap {
 
     /// The value of a key, if it has one. This takes no memory.
     pub fn get(&self, key: &[u8]) -> Option<&[u8]>
-        ensures { option_copied result ≡ value_at self.now key.now }
+        ensures { option_copied result ≡ row_at self.now key.now }
     {
         if key.len() <= FRONT_LEN {
             return match self.short.get(&ByteKey::short(self.alloc, key)) {
@@ -138,11 +138,11 @@ pub struct BytePairs<'a> {
 impl<'a> Model for BytePairs<'a> {
     ghost use Rattle.std.specs.Prelude.{map};
     ghost use Rattle.std.specs.Option.{option_map};
-    ghost use Rattle.model_base.specs.Map.{Pairs, byte_order};
+    ghost use Rattle.model_base.specs.Map.{Rows, byte_order};
     ghost use Rattle.base_maps.specs.Merging.{merge_pairs};
     ghost use Rattle.base_maps.specs.Parts.{with_next};
 
-    ghost Value = { Pairs };
+    ghost Value = { Rows };
 
     ghost view = { λ i. merge_pairs byte_order
         (with_next (option_map (λ p. (p.0.now, p.1.now)) i.next_short) i.short)

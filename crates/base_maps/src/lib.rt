@@ -1,5 +1,6 @@
-//! The keys of the memtable's tree and the short keys of `ByteMap`, and `ByteMap` itself. Keys are lists of bytes, and
-//! a search compares one key with many others. Most keys differ in their first bytes:
+//! The keys of the memtable's tree and the short keys of `ByteMap`, `ByteMap` itself, and `FamilyMap`, which has one
+//! for each column family. Keys are lists of bytes, and a search compares one key with many others. Most keys differ
+//! in their first bytes:
 //!
 //! - the first 16 bytes of a key, its front, are kept in place, filled up with zeros if the key is shorter; two fronts
 //!   are compared as two numbers each, in which the first byte counts most;
@@ -11,7 +12,11 @@
 #![tactic(auto)]
 
 mod byte_map;
+mod family_map;
+mod family_trees;
 mod key;
 
 pub use byte_map::{ByteMap, BytePairs};
+pub use family_map::FamilyMap;
+pub use family_trees::FamilyPairs;
 pub use key::{ByteKey, Front};

@@ -1,21 +1,23 @@
 //! The calls of a write path.
 
-ghost use Rattle.std.specs.Prelude.{◌≡◌, ◌+◌, true, false, map, IfOk, IfErr, OnOk, OnErr};
+ghost use Rattle.std.specs.Prelude.{◌≡◌, ◌+◌, true, false, [], ◌∷◌, None, map, IfOk, IfErr, OnOk, OnErr};
 ghost use Rattle.model_base.specs.Batch as model;
 ghost use Rattle.model_base.specs.LogContents.{GroupCall};
-ghost use Rattle.model_base.specs.Map.{rows_within, value_at};
+ghost use Rattle.model_base.specs.Map.{key_at, key_in, rows_within, value_at};
 ghost use Rattle.model_base.specs.Controller as controller;
 ghost use Rattle.model_base.specs.Tokens.{holds_stop, holds_slow};
 ghost use Rattle.base_bytes.specs.Answers.{found_value};
+ghost use Rattle.base_bytes.specs.declared.answers.Place as place;
+ghost use Rattle.engine_calls.specs.Reading.{IsOfFamilies};
 ghost use Rattle.model_accounts.specs.Accounts.{Keeps, Wrote, Refuses, Reads as ReadsAt, Asks, GivesBack};
 ghost use Rattle.model_accounts.specs.Closing.{AreOurs, HasOneTrace};
 ghost use Rattle.model_runs.specs.Written.{IsSyncedBy};
 
 use crate::answers::{Closed, Receipt, Refused};
-use base_bytes::{Bytes, Read, Reads, Rows};
+use base_bytes::{Bytes, Place, Read, Reads, Rows};
 use engine_controller::{Held, NotHeld};
 use log_batch::Batch;
-use model_base::{NoMemory, WriteOptions};
+use model_base::{NoMemory, ReadRefused, WriteOptions};
 use std::rt;
 use std::sync::Wait;
 
@@ -89,8 +91,8 @@ pub trait Engine {
         // So the caller may write the same batch again.
         ensures unchanged { IfErr result (λ e. e.batch ≡ batch) };
 
-    /// A key's value at the end of what is published. For this and the other reads the clauses say that it is the end
-    /// of what the client has then seen published; more may be published.
+    /// The value of a key in the default column family at the end of what is published. For this and the other reads
+    /// the clauses say that it is the end of what the client has then seen published; more may be published.
     fn get<R: Wait + rt::Clock>(
         &self,
         rt: &R,
@@ -101,10 +103,10 @@ pub trait Engine {
         ensures belongs { belongs self.now client.new }
         ensures keeps { Keeps (account client.old) (account client.new) }
         // The end is named, and is not below what the client has seen.
-        ensures ok { IfOk result (λ read. ReadsAt read.at (λ m. found_value read.value ≡ value_at m key.now)
-            (account client.new)) };
+        ensures ok { IfOk result (λ read. ReadsAt read.at
+            (λ m. found_value read.value ≡ value_at m (key_in None key.now)) (account client.new)) };
 
-    /// The values of several keys, all at one and the same end of what is published.
+    /// The values of several keys in the default family, all at one and the same end of what is published.
     fn get_many<R: Wait + rt::Clock>(
         &self,
         rt: &R,
@@ -114,11 +116,11 @@ pub trait Engine {
         requires { belongs self.now client.old }
         ensures belongs { belongs self.now client.new }
         ensures keeps { Keeps (account client.old) (account client.new) }
-        ensures ok { IfOk result (λ reads. ReadsAt reads.at (λ m. reads.values ≡ map (value_at m) keys.now)
-            (account client.new)) };
+        ensures ok { IfOk result (λ reads. ReadsAt reads.at
+            (λ m. reads.values ≡ map (λ key. value_at m (key_in None key)) keys.now) (account client.new)) };
 
-    /// The keys from `lo` on and below `hi` with their values, in byte order, all at one and the same end of what is
-    /// published.
+    /// The keys of the default family from `lo` on and below `hi` with their values, in byte order, all at one and the
+    /// same end of what is published.
     fn scan<R: Wait + rt::Clock>(
         &self,
         rt: &R,
@@ -129,8 +131,61 @@ pub trait Engine {
         requires { belongs self.now client.old }
         ensures belongs { belongs self.now client.new }
         ensures keeps { Keeps (account client.old) (account client.new) }
-        ensures ok { IfOk result (λ rows. ReadsAt rows.at (λ m. rows.rows ≡ rows_within lo.now hi.now m)
+        ensures ok { IfOk result (λ rows. ReadsAt rows.at (λ m. rows.rows ≡ rows_within 0 lo.now hi.now m)
             (account client.new)) };
+
+    /// There are the column families with the numbers below this one.
+    fn families(&self) -> u32
+        ensures { result ≡ (settings self.now).families };
+
+    /// The value of a family's key, as `get` reads it. Where there isn't that family, the read is refused.
+    fn get_in<R: Wait + rt::Clock>(
+        &self,
+        rt: &R,
+        client: &mut Self::Client,
+        family: u32,
+        key: &[u8],
+    ) -> Result<Read, ReadRefused>
+        requires { belongs self.now client.old }
+        ensures belongs { belongs self.now client.new }
+        ensures keeps { Keeps (account client.old) (account client.new) }
+        ensures ok { IfOk result (λ read. ReadsAt read.at
+            (λ m. found_value read.value ≡ value_at m (key_at family key.now)) (account client.new)) }
+        ensures family { IsOfFamilies (settings self.now) (family ∷ []) result };
+
+    /// The values of several keys in families, all at one and the same end of what is published: so no read sees a
+    /// batch in one family and not in another. Where there isn't one of the families, the read is refused.
+    fn get_many_in<R: Wait + rt::Clock>(
+        &self,
+        rt: &R,
+        client: &mut Self::Client,
+        places: &[Place],
+    ) -> Result<Reads, ReadRefused>
+        requires { belongs self.now client.old }
+        ensures belongs { belongs self.now client.new }
+        ensures keeps { Keeps (account client.old) (account client.new) }
+        // All are values of one map.
+        ensures ok { IfOk result (λ reads. ReadsAt reads.at
+            (λ m. reads.values ≡ map (λ (p : place.Place). value_at m (key_at p.family p.key)) places.now)
+            (account client.new)) }
+        ensures family { IsOfFamilies (settings self.now) (map (λ (p : place.Place). p.family) places.now) result };
+
+    /// The keys of a family from `lo` on and below `hi`, as `scan` reads them. Where there isn't that family, the read
+    /// is refused.
+    fn scan_in<R: Wait + rt::Clock>(
+        &self,
+        rt: &R,
+        client: &mut Self::Client,
+        family: u32,
+        lo: &[u8],
+        hi: &[u8],
+    ) -> Result<Rows, ReadRefused>
+        requires { belongs self.now client.old }
+        ensures belongs { belongs self.now client.new }
+        ensures keeps { Keeps (account client.old) (account client.new) }
+        ensures ok { IfOk result (λ rows. ReadsAt rows.at (λ m. rows.rows ≡ rows_within family lo.now hi.now m)
+            (account client.new)) }
+        ensures family { IsOfFamilies (settings self.now) (family ∷ []) result };
 
     /// Takes the client's stop token. While any client holds one, all writes wait, except that those that may not
     /// wait, and those of a client that holds one itself, are refused. Where the client already holds one, no call is

@@ -8,11 +8,12 @@ use native.Mathlib.Decide.{ℕ_discrete}
 use Rattle.std.proofs.lemmas.Bool.{ne_eqb, eq-eqb}
 use Rattle.log_writer.specs.declared.group_log.GroupLog.{Ghosts}
 use Rattle.model_base.specs.declared.write.Refusal.{Refusal}
-use Rattle.model_base.specs.declared.write.Refusal.TheVariants.{Empty, TooLarge, SyncWithoutLog, SelfStop, NoMemory, Incomplete, LogFault, SequenceFull}
+use Rattle.model_base.specs.declared.write.Refusal.TheVariants.{Empty, TooLarge, SyncWithoutLog, SelfStop, NoFamily, NoMemory, Incomplete, LogFault, SequenceFull}
 use Rattle.model_base.specs.declared.write.WriteOptions.{WriteOptions}
 use Rattle.model_base.specs.Map.{Pairs}
 use Rattle.model_base.specs.Trace.{Settings}
-use Rattle.model_base.specs.Progress.{early_refusal}
+use Rattle.std.specs.Option.{option_map_or}
+use Rattle.model_base.specs.Progress.{families_in, first_missing, early_refusal}
 use Rattle.model_base.specs.Batch.{Record, count_of, size_of_batch}
 use Rattle.model_base.specs.Controller.{ControllerCall, Look, delay, look}
 use Rattle.model_base.specs.LogContents.{GroupCall}
@@ -88,18 +89,23 @@ logged_by false false true true a b c rest e s = absurd (cc)
 logged_by false false true false a b c rest e s = refl
 logged_by false false false no_log a b c rest e s = absurd (cc)
 
-pub logged_if : (bytes : ℕ) (stopping : Bool) (records : List Record) (how : WriteOptions) → early_refusal bytes stopping records how ≡ None → how.sync ≡ true → how.no_log ≡ false
-logged_if bytes stopping records how e = logged_by (count_of records == 0) (nat_lt bytes (size_of_batch records)) how.sync how.no_log Empty (TooLarge (size_of_batch records)) SyncWithoutLog (if stopping && not how.no_slowdown then Some SelfStop else None) e
+pub logged_if : (families bytes : ℕ) (stopping : Bool) (records : List Record) (how : WriteOptions) → early_refusal families bytes stopping records how ≡ None → how.sync ≡ true → how.no_log ≡ false
+logged_if families bytes stopping records how e =
+    logged_by (count_of records == 0) (nat_lt bytes (size_of_batch records)) how.sync how.no_log Empty (TooLarge (size_of_batch records)) SyncWithoutLog
+    (option_map_or (λ family. Some (NoFamily family)) (first_missing families (families_in records)) (if stopping && not how.no_slowdown then Some SelfStop else None)) e
 
-impatient_by : (empty large unlogged no_slowdown : Bool) (a b c d : Refusal) → (if empty then Some a else if large then Some b else if unlogged then Some c else if true && not no_slowdown then Some d else None) ≡ None → no_slowdown ≡ true
-impatient_by true large unlogged no_slowdown a b c d e = absurd (cc)
-impatient_by false true unlogged no_slowdown a b c d e = absurd (cc)
-impatient_by false false true no_slowdown a b c d e = absurd (cc)
-impatient_by false false false true a b c d e = refl
-impatient_by false false false false a b c d e = absurd (cc)
+impatient_by : (empty large unlogged no_slowdown : Bool) (missing : Option ℕ) (a b c d : Refusal)
+    → (if empty then Some a else if large then Some b else if unlogged then Some c else option_map_or (λ family. Some (NoFamily family)) missing (if true && not no_slowdown then Some d else None)) ≡ None → no_slowdown ≡ true
+impatient_by true large unlogged no_slowdown missing a b c d e = absurd (cc)
+impatient_by false true unlogged no_slowdown missing a b c d e = absurd (cc)
+impatient_by false false true no_slowdown missing a b c d e = absurd (cc)
+impatient_by false false false no_slowdown (Some family) a b c d e = absurd (cc)
+impatient_by false false false true None a b c d e = refl
+impatient_by false false false false None a b c d e = absurd (cc)
 
-pub impatient_if : (bytes : ℕ) (records : List Record) (how : WriteOptions) → early_refusal bytes true records how ≡ None → how.no_slowdown ≡ true
-impatient_if bytes records how e = impatient_by (count_of records == 0) (nat_lt bytes (size_of_batch records)) (how.sync && how.no_log) how.no_slowdown Empty (TooLarge (size_of_batch records)) SyncWithoutLog SelfStop e
+pub impatient_if : (families bytes : ℕ) (records : List Record) (how : WriteOptions) → early_refusal families bytes true records how ≡ None → how.no_slowdown ≡ true
+impatient_if families bytes records how e =
+    impatient_by (count_of records == 0) (nat_lt bytes (size_of_batch records)) (how.sync && how.no_log) how.no_slowdown (first_missing families (families_in records)) Empty (TooLarge (size_of_batch records)) SyncWithoutLog SelfStop e
 
 pub none_is : {A : Type 0} (o : Option A) → ((x : A) → o ≡ Some x → ⊥) → o ≡ None
 none_is None h = refl
@@ -119,12 +125,12 @@ keeps_self v = record {
 }
 
 -- a refusal by the early checks
-pub refuses_early : (settings : Settings) (v : Account) (records : List Record) (how : WriteOptions) (why : Refusal) → early_refusal settings.batch_bytes (holds_stop v.asked) records how ≡ Some why → Refuses settings v records how why v
+pub refuses_early : (settings : Settings) (v : Account) (records : List Record) (how : WriteOptions) (why : Refusal) → early_refusal settings.families settings.batch_bytes (holds_stop v.asked) records how ≡ Some why → Refuses settings v records how why v
 refuses_early settings v records how why early =
     subst (λ (o : Option Refusal). MatchOption o (IsRefusedLate v records how why v) (λ (x : Refusal). (why ≡ x) × Keeps v v)) (sym early) (refl, keeps_self v)
 
 -- a refusal past the early checks
-pub refuses_late : (settings : Settings) (v : Account) (records : List Record) (how : WriteOptions) (why : Refusal) (w : Account) → early_refusal settings.batch_bytes (holds_stop v.asked) records how ≡ None → IsRefusedLate v records how why w → Refuses settings v records how why w
+pub refuses_late : (settings : Settings) (v : Account) (records : List Record) (how : WriteOptions) (why : Refusal) (w : Account) → early_refusal settings.families settings.batch_bytes (holds_stop v.asked) records how ≡ None → IsRefusedLate v records how why w → Refuses settings v records how why w
 refuses_late settings v records how why w passed late =
     subst (λ (o : Option Refusal). MatchOption o (IsRefusedLate v records how why w) (λ (early : Refusal). (why ≡ early) × Keeps v w)) (sym passed) late
 
@@ -138,7 +144,7 @@ pub record Concludes {D : Type 0} {ghosts : Ghosts D} (opened : OpenLog D ghosts
 
 module _ {C D : Type 0} {ghosts : Ghosts D} (controller : Controller C) (opened : OpenLog D ghosts) (start : ℕ) (opening : Pairs) (k : ℕ) (settings : Settings) (q : Request) (p : Answer) (mine : List (Request × Answer)) (handled : List (Handling Request Answer)) (kept : AreHandled controller opened start handled) (own : of k handled ≡ mine ++ (q, p) ∷ []) (seen now : List (List MemberVersions)) (sees : Begins seen now)
     (known after : List ControllerCall) (more : SeesMore k known after) (noted_known : IsPrefix known (noted_in q.note)) (sees_note : IfSome p.note (λ (n : Noted). IsPrefix (seen_by_note n) after))
-    (passed : early_refusal settings.batch_bytes (holds_stop (tokens_of k known)) q.batch.records q.options ≡ None) (free : holds_stop (tokens_of k known) ≡ false) (above : IsAbove (last_of start seen) p.answer) where
+    (passed : early_refusal settings.families settings.batch_bytes (holds_stop (tokens_of k known)) q.batch.records q.options ≡ None) (free : holds_stop (tokens_of k known) ≡ false) (above : IsAbove (last_of start seen) p.answer) where
   is : commits_of k (map commit_of handled) ≡ own_commits k mine ++ commit k q p ∷ []
   is = commits_told k handled ∙ (ap (own_commits k) own ∙ own_more k mine q p)
 
@@ -181,6 +187,7 @@ module _ {C D : Type 0} {ghosts : Ghosts D} (controller : Controller C) (opened 
   refused_by (TooLarge size) e is_why err late = absurd late
   refused_by SyncWithoutLog e is_why err late = absurd late
   refused_by SelfStop e is_why err late = absurd late
+  refused_by (NoFamily family) e is_why err late = absurd late
   refused_by NoMemory e is_why err late = absurd late
 
   back : ComesBack q.batch p.answer
@@ -193,7 +200,7 @@ module _ {C D : Type 0} {ghosts : Ghosts D} (controller : Controller C) (opened 
   pub answered_synced : (r : Receipt) → p.answer ≡ Ok r → q.options.sync ≡ true → (calls : List GroupCall) × (log : OpenLog D ghosts) × LogWrote opened calls log × IsSyncedBy r.run.first q.batch.records calls
   answered_synced r ok sync =
       let w = kept.written in
-      let h = have_synced start k (map commit_of handled) (own_commits k mine) (commit k q p) w.worked r.run.first r.group_last kept.answered w.parts is (ap answer_in ok) sync (logged_if settings.batch_bytes (holds_stop (tokens_of k known)) q.batch.records q.options passed sync) in
+      let h = have_synced start k (map commit_of handled) (own_commits k mine) (commit k q p) w.worked r.run.first r.group_last kept.answered w.parts is (ap answer_in ok) sync (logged_if settings.families settings.batch_bytes (holds_stop (tokens_of k known)) q.batch.records q.options passed sync) in
       (w.calls, w.log, w.wrote, record { front = h.front; call = h.call; rest = h.rest ++ w.lost; there = w.both ∙ (ap (λ (l : List GroupCall). l ++ w.lost) h.there ∙ append_assoc h.front (h.call ∷ h.rest) w.lost); is = h.is })
 
   -- all that the client concludes
@@ -203,7 +210,7 @@ module _ {C D : Type 0} {ghosts : Ghosts D} (controller : Controller C) (opened 
 
 -- what a client concludes whose commit met a stall, and is in no group
 pub concludes_met : {D : Type 0} {ghosts : Ghosts D} (opened : OpenLog D ghosts) (settings : Settings) (start : ℕ) (opening : Pairs) (k : ℕ) (own : List Commit) (batch : Contents) (how : WriteOptions) (before now : List (List MemberVersions)) (known after : List ControllerCall) (numbers : Look) (by place : ℕ)
-    → Begins before now → SeesMore k known after → early_refusal settings.batch_bytes (holds_stop (tokens_of k known)) batch.records how ≡ None → holds_stop (tokens_of k known) ≡ false → how.no_slowdown ≡ true
+    → Begins before now → SeesMore k known after → early_refusal settings.families settings.batch_bytes (holds_stop (tokens_of k known)) batch.records how ≡ None → holds_stop (tokens_of k known) ≡ false → how.no_slowdown ≡ true
     → IsLater after (length known) place (record { client = by; action = look; told = Some numbers }) → MetStall after k by place numbers
     → Concludes opened settings (account_of start opening k own before known) batch how (Err (held_up_with numbers batch)) (account_of start opening k own now after)
 concludes_met opened settings start opening k own batch how before now known after numbers by place sees more passed free impatient later met = record {

@@ -45,7 +45,7 @@ note_is {C} {D} {T} {S} {U} {P} {ghosts} controller opened start q p v w answere
 module _ {D T C G S U P : Type 0} {ghosts : Ghosts D} (meaning : Meaning T S U P) (e : GroupEngine D T C G S U P ghosts) (v : EngineClient D T C S U P ghosts) (seat : S) (envelope : Option (Unit {0})) (w x : EngineClient D T C S U P ghosts) (q : Request) (p : Answer) (starts : v.start ≡ (meaning.opening e.table).start)
     (number : x.number ≡ w.number) (start : x.start ≡ w.start) (writer : x.writer ≡ w.writer) (table : x.table ≡ w.table) (sees : Begins (meaning.account v.seat).seen (meaning.account x.seat).seen) (first : SeesMore v.number (seen_by v.pass) (seen_by w.pass)) (goes : GoesOn w.number (seen_by w.pass) (seen_by x.pass))
     (noted : IfSome p.note (λ (n : Noted). IsPrefix (seen_by_note n) (seen_by x.pass))) (published : IfOk p.answer (λ (r : Receipt). r.group_last ≤ last_of (meaning.opening e.table).start (meaning.account x.seat).seen))
-    (passed : early_refusal e.batch_bytes (holds_stop (tokens_of v.number (seen_by v.pass))) q.batch.records q.options ≡ None) (free : holds_stop (tokens_of v.number (seen_by v.pass)) ≡ false) (above : IsAbove (last_of v.start (meaning.account v.seat).seen) p.answer) where
+    (passed : early_refusal e.families e.batch_bytes (holds_stop (tokens_of v.number (seen_by v.pass))) q.batch.records q.options ≡ None) (free : holds_stop (tokens_of v.number (seen_by v.pass)) ≡ false) (above : IsAbove (last_of v.start (meaning.account v.seat).seen) p.answer) where
   abbrev joining : EngineClient D T C S U P ghosts
   joining = record v { seat = seat; envelope = envelope }
 

@@ -166,6 +166,7 @@ written_by group_bytes wrote calls trace attempts fault by w = record {
   cut = w.cut;
   runs = w.runs;
   each = w.each;
+  logged = w.logged;
   none_else = w.none_else;
   by = subst wrote (sym w.by) by;
 }

@@ -4,7 +4,7 @@ use Rattle.std.specs.List.{AllByRecursion}
 use Rattle.std.proofs.lemmas.Bool.{ne_eqb}
 use Rattle.log_writer.specs.declared.group_log.GroupLog.{Ghosts}
 use Rattle.model_base.specs.declared.write.Refusal.{Refusal}
-use Rattle.model_base.specs.declared.write.Refusal.TheVariants.{Empty, TooLarge, SyncWithoutLog, SelfStop, NoMemory, Incomplete, LogFault, SequenceFull}
+use Rattle.model_base.specs.declared.write.Refusal.TheVariants.{Empty, TooLarge, SyncWithoutLog, SelfStop, NoFamily, NoMemory, Incomplete, LogFault, SequenceFull}
 use Rattle.model_base.specs.Batch.{count_of}
 use Rattle.log_batch.specs.Contents.{Contents}
 use Rattle.table_rule.specs.declared.content.MemberVersions.{MemberVersions}
@@ -40,6 +40,7 @@ refused_has_none c Empty more = refl
 refused_has_none c (TooLarge size) more = refl
 refused_has_none c SyncWithoutLog more = refl
 refused_has_none c SelfStop more = refl
+refused_has_none c (NoFamily family) more = refl
 refused_has_none c NoMemory more = refl
 refused_has_none c (Incomplete s d w) more = refl
 refused_has_none c (LogFault n) more = refl

@@ -33,16 +33,16 @@ ArePassesAtStart controller number [] = ⊤
 ArePassesAtStart controller number (pass ∷ passes) = IsPassAtStart controller number pass
     × ArePassesAtStart controller (number + 1) passes
 
-module _ {Device Versions Time Watch Seat Turn Part : Type 0} {ghosts : Ghosts Device}
-    (meaning : Meaning Versions Seat Turn Part) (e : GroupEngine Device Versions Time Watch Seat Turn Part ghosts)
+module _ {Log Versions Time Watch Seat Turn Part : Type 0} {ghosts : Ghosts Log}
+    (meaning : Meaning Versions Seat Turn Part) (e : GroupEngine Log Versions Time Watch Seat Turn Part ghosts)
   where
     -- it is the client of the engine with this number, and has done and seen nothing
-    pub record IsNewcomer (number : ℕ) (c : EngineClient Device Versions Time Seat Turn Part ghosts) : Type 0 where
+    pub record IsNewcomer (number : ℕ) (c : EngineClient Log Versions Time Seat Turn Part ghosts) : Type 0 where
       pub is_client : IsClientOf meaning e c
       pub new : account_in meaning c
           ≡ newcomer (meaning.opening e.table).start (map_at_opening meaning e.table) number
 
     -- they are newcomers with the numbers from this one on
-    abbrev pub AreNewcomers : ℕ → List (EngineClient Device Versions Time Seat Turn Part ghosts) → Type 0
+    abbrev pub AreNewcomers : ℕ → List (EngineClient Log Versions Time Seat Turn Part ghosts) → Type 0
     AreNewcomers number [] = ⊤
     AreNewcomers number (c ∷ clients) = IsNewcomer number c × AreNewcomers (number + 1) clients

@@ -44,23 +44,23 @@ own_commits client (t ∷ ts) = commit_of (record { by = client; asked = t.0; re
 abbrev pub map_at_opening : {Versions Seat Turn Part : Type 0} → Meaning Versions Seat Turn Part → Versions → Pairs
 map_at_opening meaning table = map_of (meaning.opening table).base
 
-module _ {Device Versions Time Seat Turn Part : Type 0} {ghosts : Ghosts Device} where
-  abbrev pub told_of : EngineClient Device Versions Time Seat Turn Part ghosts → List (Request × Answer)
+module _ {Log Versions Time Seat Turn Part : Type 0} {ghosts : Ghosts Log} where
+  abbrev pub told_of : EngineClient Log Versions Time Seat Turn Part ghosts → List (Request × Answer)
   told_of c = answers_told c.writer
 
   -- the engine's log as it was opened
-  abbrev pub opened_log : {Watch : Type 0} → GroupEngine Device Versions Time Watch Seat Turn Part ghosts
-      → OpenLog Device ghosts
+  abbrev pub opened_log : {Watch : Type 0} → GroupEngine Log Versions Time Watch Seat Turn Part ghosts
+      → OpenLog Log ghosts
   opened_log e = (about_of e.list).opened.value
 
   -- the client's lists are empty, and have room for all clients
-  pub record CanLead (clients : ℕ) (c : EngineClient Device Versions Time Seat Turn Part ghosts) : Type 0 where
+  pub record CanLead (clients : ℕ) (c : EngineClient Log Versions Time Seat Turn Part ghosts) : Type 0 where
     pub lists : AreReady clients c.lists
     pub layout : IsRoomy clients c.layout
 
   module _ (meaning : Meaning Versions Seat Turn Part) where
     -- the list, the table and the numbers of an engine belong together
-    pub record IsEngine {Watch : Type 0} (e : GroupEngine Device Versions Time Watch Seat Turn Part ghosts) : Type 0
+    pub record IsEngine {Watch : Type 0} (e : GroupEngine Log Versions Time Watch Seat Turn Part ghosts) : Type 0
       where
         pub clients : (meaning.opening e.table).clients ≡ clients_of e.list
         pub table : (about_of e.list).table.value ≡ e.table
@@ -77,8 +77,8 @@ module _ {Device Versions Time Seat Turn Part : Type 0} {ghosts : Ghosts Device}
         pub no_fault : fault_of (opened_log e) ≡ None
 
     -- it is a client of the engine; whether its writer is in the list, and what its pass has seen, is left open
-    pub record IsSeated {Watch : Type 0} (e : GroupEngine Device Versions Time Watch Seat Turn Part ghosts)
-        (c : EngineClient Device Versions Time Seat Turn Part ghosts) : Type 0
+    pub record IsSeated {Watch : Type 0} (e : GroupEngine Log Versions Time Watch Seat Turn Part ghosts)
+        (c : EngineClient Log Versions Time Seat Turn Part ghosts) : Type 0
       where
         pub is_engine : IsEngine e
         pub writer : Belongs e.list c.writer
@@ -93,29 +93,32 @@ module _ {Device Versions Time Seat Turn Part : Type 0} {ghosts : Ghosts Device}
         pub can_lead : CanLead (clients_of e.list) c
 
     -- it is a client of the engine that is in no list, wherever its envelope is
-    pub record IsIdle {Watch : Type 0} (e : GroupEngine Device Versions Time Watch Seat Turn Part ghosts)
-        (c : EngineClient Device Versions Time Seat Turn Part ghosts) : Type 0
+    pub record IsIdle {Watch : Type 0} (e : GroupEngine Log Versions Time Watch Seat Turn Part ghosts)
+        (c : EngineClient Log Versions Time Seat Turn Part ghosts) : Type 0
       where
         pub seated : IsSeated e c
         pub out : IsOut c.writer
         pub has_asked : HasAsked c.number (own_commits c.number (told_of c)) (seen_by c.pass)
 
     -- it is a client of the engine, between two of its calls
-    pub record IsClientOf {Watch : Type 0} (e : GroupEngine Device Versions Time Watch Seat Turn Part ghosts)
-        (c : EngineClient Device Versions Time Seat Turn Part ghosts) : Type 0
+    pub record IsClientOf {Watch : Type 0} (e : GroupEngine Log Versions Time Watch Seat Turn Part ghosts)
+        (c : EngineClient Log Versions Time Seat Turn Part ghosts) : Type 0
       where
         pub idle : IsIdle e c
         pub envelope : c.envelope ≡ Some tt
 
-    abbrev pub account_in : EngineClient Device Versions Time Seat Turn Part ghosts → Account
+    abbrev pub account_in : EngineClient Log Versions Time Seat Turn Part ghosts → Account
     account_in c = account_of c.start (map_at_opening meaning c.table.value) c.number (own_commits c.number (told_of c))
         (meaning.account c.seat).seen (seen_by c.pass)
 
-    abbrev pub settings_of : {Watch : Type 0} → GroupEngine Device Versions Time Watch Seat Turn Part ghosts → Settings
+    -- what the log had kept isn't known here
+    abbrev pub settings_of : {Watch : Type 0} → GroupEngine Log Versions Time Watch Seat Turn Part ghosts → Settings
     settings_of e = record {
       start = (meaning.opening e.table).start;
       opening = map_at_opening meaning e.table;
+      kept = [];
       clients = clients_of e.list;
+      families = e.families;
       group_bytes = bound_of e.list;
       batch_bytes = e.batch_bytes;
       opened = faults_of (opened_log e);
@@ -123,7 +126,7 @@ module _ {Device Versions Time Seat Turn Part : Type 0} {ghosts : Ghosts Device}
 
   -- the room for closing is empty and large enough for all clients, and its `others` is the controller's
   pub record HasRoomToClose (controller : Controller Time) (clients : ℕ)
-      (room : ClosingRoom Device Versions Time Seat Turn Part ghosts) : Type 0 where
+      (room : ClosingRoom Log Versions Time Seat Turn Part ghosts) : Type 0 where
     pub no_writers : room.writers.items ≡ []
     pub no_seats : room.seats.items ≡ []
     pub no_passes : room.passes.items ≡ []
@@ -134,9 +137,9 @@ module _ {Device Versions Time Seat Turn Part : Type 0} {ghosts : Ghosts Device}
 
   -- A request was answered, and there is a list of all that was handled by then, in which the client's own requests are
   -- exactly those that it has answers to, with this one.
-  pub record IsAnswered (controller : Controller Time) (opened : OpenLog Device ghosts) (start : ℕ) (q : Request)
+  pub record IsAnswered (controller : Controller Time) (opened : OpenLog Log ghosts) (start : ℕ) (q : Request)
       (p : Answer)
-      (v w : EngineClient Device Versions Time Seat Turn Part ghosts) : Type 0 where
+      (v w : EngineClient Log Versions Time Seat Turn Part ghosts) : Type 0 where
     pub told_now : told_of w ≡ told_of v ++ (q, p) ∷ []
     pub handled : List (Handling Request Answer)
     pub are_handled : AreHandled controller opened start handled
@@ -146,9 +149,9 @@ module _ {Device Versions Time Seat Turn Part : Type 0} {ghosts : Ghosts Device}
     pub table_same : w.table ≡ v.table
 
   -- The request was linked with a note of what the client had seen by then, and was answered in a group.
-  pub record IsAnsweredInGroup (controller : Controller Time) (opened : OpenLog Device ghosts) (start : ℕ)
+  pub record IsAnsweredInGroup (controller : Controller Time) (opened : OpenLog Log ghosts) (start : ℕ)
       (q : Request) (p : Answer)
-      (v w : EngineClient Device Versions Time Seat Turn Part ghosts) : Type 0 where
+      (v w : EngineClient Log Versions Time Seat Turn Part ghosts) : Type 0 where
     pub note : Noted
     pub shows : IsPrefix (seen_by v.pass) (seen_by_note note)
     pub answered : IsAnswered controller opened start (record q { note = Some note }) p v w
@@ -156,26 +159,26 @@ module _ {Device Versions Time Seat Turn Part : Type 0} {ghosts : Ghosts Device}
   -- The request was linked with such a note, and left the queue at a stall. Since then the client has seen nothing
   -- more.
   pub record HasLeftQueue (controller : Controller Time) (q : Request) (p : Answer)
-      (w : EngineClient Device Versions Time Seat Turn Part ghosts) : Type 0 where
+      (w : EngineClient Log Versions Time Seat Turn Part ghosts) : Type 0 where
     pub note : Noted
     pub shows : seen_by_note note ≡ seen_by w.pass
     pub dropped : IsDropped controller (record q { note = Some note }) p
 
   -- The request met a stall, and is in no group. Nothing more was handled for the client.
   pub record IsLeftOut (controller : Controller Time) (q : Request) (p : Answer)
-      (v w : EngineClient Device Versions Time Seat Turn Part ghosts) : Type 0 where
+      (v w : EngineClient Log Versions Time Seat Turn Part ghosts) : Type 0 where
     pub told_same : told_of w ≡ told_of v
     pub number : w.number ≡ v.number
     pub start_same : w.start ≡ v.start
     pub table_same : w.table ≡ v.table
     pub why : HasLeftQueue controller q p w ⊎ IsTurnedAway v.number (seen_by v.pass) (seen_by w.pass) q p
 
-  abbrev pub writer_in : EngineClient Device Versions Time Seat Turn Part ghosts
-      → Writer Request Answer (Leadership Device Versions Time Seat Turn Part ghosts) (Right Versions Seat Turn Part)
+  abbrev pub writer_in : EngineClient Log Versions Time Seat Turn Part ghosts
+      → Writer Request Answer (Leadership Log Versions Time Seat Turn Part ghosts) (Right Versions Seat Turn Part)
   writer_in c = c.writer
 
-  abbrev pub seat_in : EngineClient Device Versions Time Seat Turn Part ghosts → Seat
+  abbrev pub seat_in : EngineClient Log Versions Time Seat Turn Part ghosts → Seat
   seat_in c = c.seat
 
-  abbrev pub pass_in : EngineClient Device Versions Time Seat Turn Part ghosts → Pass
+  abbrev pub pass_in : EngineClient Log Versions Time Seat Turn Part ghosts → Pass
   pass_in c = c.pass

@@ -39,9 +39,9 @@ ServesIs {Versions} {Seat} {Turn} meaning table true served turn = (u : Turn) ×
 
 -- The log represents all that was handled (`LogCovers`), where the groups in `published` are published or will be.
 -- The note is the controller's, and shows what the last leader had seen.
-pub record LeadershipCovers {Device Versions Time Seat Turn Part : Type 0} {ghosts : Ghosts Device}
-    (meaning : Meaning Versions Seat Turn Part) (about : EngineAtOpening Device Versions Time ghosts)
-    (leadership : Leadership Device Versions Time Seat Turn Part ghosts)
+pub record LeadershipCovers {Log Versions Time Seat Turn Part : Type 0} {ghosts : Ghosts Log}
+    (meaning : Meaning Versions Seat Turn Part) (about : EngineAtOpening Log Versions Time ghosts)
+    (leadership : Leadership Log Versions Time Seat Turn Part ghosts)
     (handled : List (Handling Request Answer)) : Type 0 where
   pub note : IsNoteOf about.controller.value leadership.asked
   pub published : List (List MemberVersions)
@@ -49,16 +49,16 @@ pub record LeadershipCovers {Device Versions Time Seat Turn Part : Type 0} {ghos
       leadership.held.value.path.log published leadership.held.value.path.last handled
   pub turn : TurnIs meaning about.table.value about.pipelined published leadership.turn
 
-abbrev pub RightStandsFor : {Device Versions Time Seat Turn Part : Type 0} {ghosts : Ghosts Device}
-    → Meaning Versions Seat Turn Part → EngineAtOpening Device Versions Time ghosts → Right Versions Seat Turn Part
+abbrev pub RightStandsFor : {Log Versions Time Seat Turn Part : Type 0} {ghosts : Ghosts Log}
+    → Meaning Versions Seat Turn Part → EngineAtOpening Log Versions Time ghosts → Right Versions Seat Turn Part
     → List (Handling Request Answer) → Type 0
 RightStandsFor meaning about right served =
     ServesIs meaning about.table.value about.pipelined served right.turn
 
 -- As `LeadershipCovers`, where the parts of the leader's group, if there are any, must still be published.
-pub record LeadershipIsStaged {Device Versions Time Seat Turn Part : Type 0} {ghosts : Ghosts Device}
-    (meaning : Meaning Versions Seat Turn Part) (about : EngineAtOpening Device Versions Time ghosts)
-    (leadership : Leadership Device Versions Time Seat Turn Part ghosts)
+pub record LeadershipIsStaged {Log Versions Time Seat Turn Part : Type 0} {ghosts : Ghosts Log}
+    (meaning : Meaning Versions Seat Turn Part) (about : EngineAtOpening Log Versions Time ghosts)
+    (leadership : Leadership Log Versions Time Seat Turn Part ghosts)
     (end : Option ℕ) (parts : List MemberNodes) (published : List (List MemberVersions))
     (handled : List (Handling Request Answer)) : Type 0 where
   pub note : IsNoteOf about.controller.value leadership.asked
@@ -69,24 +69,24 @@ pub record LeadershipIsStaged {Device Versions Time Seat Turn Part : Type 0} {gh
 -- What every answered group keeps true (`kept_in`), with which answer a request leaves the queue at a stall
 -- (`dropped_in`), what a list asks of each request and its code (`wanted_in`), and the law of a list's leaders
 -- (`law_in`).
-module _ {Device Versions Time Seat Turn Part : Type 0} {ghosts : Ghosts Device} where
-  abbrev pub kept_in : WriterList Request Answer (Leadership Device Versions Time Seat Turn Part ghosts)
-      (Right Versions Seat Turn Part) (EngineAtOpening Device Versions Time ghosts)
+module _ {Log Versions Time Seat Turn Part : Type 0} {ghosts : Ghosts Log} where
+  abbrev pub kept_in : WriterList Request Answer (Leadership Log Versions Time Seat Turn Part ghosts)
+      (Right Versions Seat Turn Part) (EngineAtOpening Log Versions Time ghosts)
       → List (Handling Request Answer) → Type 0
   kept_in list = AreHandled (about_of list).controller.value (about_of list).opened.value (about_of list).start
 
-  abbrev pub dropped_in : WriterList Request Answer (Leadership Device Versions Time Seat Turn Part ghosts)
-      (Right Versions Seat Turn Part) (EngineAtOpening Device Versions Time ghosts) → Request → Answer → Type 0
+  abbrev pub dropped_in : WriterList Request Answer (Leadership Log Versions Time Seat Turn Part ghosts)
+      (Right Versions Seat Turn Part) (EngineAtOpening Log Versions Time ghosts) → Request → Answer → Type 0
   dropped_in list = IsDropped (about_of list).controller.value
 
-  abbrev pub wanted_in : WriterList Request Answer (Leadership Device Versions Time Seat Turn Part ghosts)
-      (Right Versions Seat Turn Part) (EngineAtOpening Device Versions Time ghosts) → Request → ℕ → Type 0
+  abbrev pub wanted_in : WriterList Request Answer (Leadership Log Versions Time Seat Turn Part ghosts)
+      (Right Versions Seat Turn Part) (EngineAtOpening Log Versions Time ghosts) → Request → ℕ → Type 0
   wanted_in list = asks_for (λ (q : Request). item_with q.batch.records q.options)
-      (λ (a : EngineAtOpening Device Versions Time ghosts) (q : Request). IsNoted a.controller.value q) (about_of list)
+      (λ (a : EngineAtOpening Log Versions Time ghosts) (q : Request). IsNoted a.controller.value q) (about_of list)
 
   abbrev pub law_in : Meaning Versions Seat Turn Part
-      → WriterList Request Answer (Leadership Device Versions Time Seat Turn Part ghosts)
-      (Right Versions Seat Turn Part) (EngineAtOpening Device Versions Time ghosts)
-      → Leadership Device Versions Time Seat Turn Part ghosts → List (Handling Request Answer) → Type 0
+      → WriterList Request Answer (Leadership Log Versions Time Seat Turn Part ghosts)
+      (Right Versions Seat Turn Part) (EngineAtOpening Log Versions Time ghosts)
+      → Leadership Log Versions Time Seat Turn Part ghosts → List (Handling Request Answer) → Type 0
   law_in meaning list = logs_from (λ l hs. LeadershipCovers meaning (about_of list) l hs) (kept_in list)
       (λ l. l.held.value.path.last) run_of (start_of list)

@@ -34,14 +34,14 @@ use Rattle.engine_parts.specs.Layout.{IsLaid}
 use Rattle.engine_groups.specs.Serving.{HasSeats}
 use Rattle.engine_parts.specs.Staged.{MayLaunch}
 
-module _ {Device Versions Time Watch Seat Turn Part : Type 0} {ghosts : Ghosts Device}
+module _ {Log Versions Time Watch Seat Turn Part : Type 0} {ghosts : Ghosts Log}
     (meaning : Meaning Versions Seat Turn Part)
-    (e : GroupEngine Device Versions Time Watch Seat Turn Part ghosts) where
+    (e : GroupEngine Log Versions Time Watch Seat Turn Part ghosts) where
   -- The client has answered the group that it leads as `own`; the requests in `seen` were handled before that group,
   -- and `last` is the last sequence that is given now. When it began to lead it had this number and this start, and
   -- `mine` were its own requests and answers.
   pub record HasAnsweredGroup (number start : ℕ) (mine : List (Request × Answer)) (own : QueuedWriter Request)
-      (seen : List (Handling Request Answer)) (w : EngineClient Device Versions Time Seat Turn Part ghosts)
+      (seen : List (Handling Request Answer)) (w : EngineClient Log Versions Time Seat Turn Part ghosts)
       (last : ℕ) : Type 0
     where
       pub seats : HasSeats meaning e w
@@ -57,7 +57,7 @@ module _ {Device Versions Time Watch Seat Turn Part : Type 0} {ghosts : Ghosts D
       pub gs : List (QueuedWriter Request × Answer)
       pub p : Answer
       pub has : HasGroup (asks_for (λ (q : Request). item_with q.batch.records q.options)
-          (λ (a : EngineAtOpening Device Versions Time ghosts) (q : Request). IsNoted a.controller.value q)
+          (λ (a : EngineAtOpening Log Versions Time ghosts) (q : Request). IsNoted a.controller.value q)
           (about_of e.list))
           (clients_of e.list) (bound_of e.list) own group left seen (answers_told w.writer) w.writer
       pub told_is : answers_told w.writer ≡ mine
@@ -77,16 +77,16 @@ module _ {Device Versions Time Watch Seat Turn Part : Type 0} {ghosts : Ghosts D
 
   -- and the leadership represents all that was handled, also that group
   pub record IsToLeave (number start : ℕ) (mine : List (Request × Answer)) (own : QueuedWriter Request)
-      (seen : List (Handling Request Answer)) (w : EngineClient Device Versions Time Seat Turn Part ghosts)
-      (leadership : Leadership Device Versions Time Seat Turn Part ghosts) : Type 0
+      (seen : List (Handling Request Answer)) (w : EngineClient Log Versions Time Seat Turn Part ghosts)
+      (leadership : Leadership Log Versions Time Seat Turn Part ghosts) : Type 0
     where
       pub led : HasAnsweredGroup number start mine own seen w leadership.held.value.path.last
       pub covers : LeadershipCovers meaning (about_of e.list) leadership (seen ++ all_answers own led.p led.gs)
 
   -- the group's members got no runs, or the list has one stage
   abbrev pub IsFlat : (number start : ℕ) (mine : List (Request × Answer)) (own : QueuedWriter Request)
-      (seen : List (Handling Request Answer)) (w : EngineClient Device Versions Time Seat Turn Part ghosts)
-      (leadership : Leadership Device Versions Time Seat Turn Part ghosts)
+      (seen : List (Handling Request Answer)) (w : EngineClient Log Versions Time Seat Turn Part ghosts)
+      (leadership : Leadership Log Versions Time Seat Turn Part ghosts)
       → IsToLeave number start mine own seen w leadership → Type 0
   IsFlat number start mine own seen w leadership l =
       flat_of run_of e.list seen (seen ++ all_answers own l.led.p l.led.gs)
@@ -95,7 +95,7 @@ module _ {Device Versions Time Watch Seat Turn Part : Type 0} {ghosts : Ghosts D
   -- all that got runs before. Those who insert in parallel with it are other members of the group.
   pub record HasLaidOut (own : QueuedWriter Request) (seen : List (Handling Request Answer)) (p : Answer)
       (gs : List (QueuedWriter Request × Answer))
-      (w : EngineClient Device Versions Time Seat Turn Part ghosts) (end : ℕ) : Type 0 where
+      (w : EngineClient Log Versions Time Seat Turn Part ghosts) (end : ℕ) : Type 0 where
     pub may : MayLaunch (meaning.account w.seat).number (meaning.opening e.table).clients
         (last_after_all (meaning.opening e.table).start (map commit_of seen)) end w.layout.members.items
         (group_of w.layout.parts.parts)
@@ -104,8 +104,8 @@ module _ {Device Versions Time Watch Seat Turn Part : Type 0} {ghosts : Ghosts D
         ≡ made_by versions_made (map commit_of (all_answers own p gs))
 
   pub record IsToHandOn (number start : ℕ) (mine : List (Request × Answer)) (own : QueuedWriter Request)
-      (seen : List (Handling Request Answer)) (w : EngineClient Device Versions Time Seat Turn Part ghosts)
-      (leadership : Leadership Device Versions Time Seat Turn Part ghosts)
+      (seen : List (Handling Request Answer)) (w : EngineClient Log Versions Time Seat Turn Part ghosts)
+      (leadership : Leadership Log Versions Time Seat Turn Part ghosts)
       (end : ℕ) : Type 0 where
     pub leaves : IsToLeave number start mine own seen w leadership
     pub parts : HasLaidOut own seen leaves.led.p leaves.led.gs w end
@@ -113,8 +113,8 @@ module _ {Device Versions Time Watch Seat Turn Part : Type 0} {ghosts : Ghosts D
   -- Its parts must still be published, after the groups in `published`. Where the right to launch is with the
   -- leadership, nobody inserts in parallel with it.
   pub record IsToPublish (number start : ℕ) (mine : List (Request × Answer)) (own : QueuedWriter Request)
-      (seen : List (Handling Request Answer)) (w : EngineClient Device Versions Time Seat Turn Part ghosts)
-      (leadership : Leadership Device Versions Time Seat Turn Part ghosts)
+      (seen : List (Handling Request Answer)) (w : EngineClient Log Versions Time Seat Turn Part ghosts)
+      (leadership : Leadership Log Versions Time Seat Turn Part ghosts)
       (end : ℕ) : Type 0 where
     pub led : HasAnsweredGroup number start mine own seen w leadership.held.value.path.last
     pub published : List (List MemberVersions)
@@ -128,8 +128,8 @@ module _ {Device Versions Time Watch Seat Turn Part : Type 0} {ghosts : Ghosts D
   -- What is left to do once a group is answered: its leader leaves, since no member got a run, or its parts must be
   -- published.
   abbrev pub IsToEnd : (number start : ℕ) (mine : List (Request × Answer)) (own : QueuedWriter Request)
-      (seen : List (Handling Request Answer)) (w : EngineClient Device Versions Time Seat Turn Part ghosts)
-      (leadership : Leadership Device Versions Time Seat Turn Part ghosts) → Option ℕ → Type 0
+      (seen : List (Handling Request Answer)) (w : EngineClient Log Versions Time Seat Turn Part ghosts)
+      (leadership : Leadership Log Versions Time Seat Turn Part ghosts) → Option ℕ → Type 0
   IsToEnd number start mine own seen w leadership None =
       (l : IsToLeave number start mine own seen w leadership) × IsFlat number start mine own seen w leadership l
       × (w.layout.parts.parts ≡ [])
@@ -138,8 +138,8 @@ module _ {Device Versions Time Watch Seat Turn Part : Type 0} {ghosts : Ghosts D
 
 -- the request was answered, and there is a list of all that was handled by then, in which the client's own requests are
 -- exactly those that it has answers to, with this one
-pub record HasAnswered {Time Device : Type 0} {ghosts : Ghosts Device} (controller : Controller Time)
-    (opened : OpenLog Device ghosts)
+pub record HasAnswered {Time Log : Type 0} {ghosts : Ghosts Log} (controller : Controller Time)
+    (opened : OpenLog Log ghosts)
     (from number : ℕ) (mine : List (Request × Answer)) (q : Request) (p : Answer)
     (now : List (Request × Answer)) : Type 0
   where

@@ -24,11 +24,11 @@ use Rattle.engine_parts.specs.Led.{IsLedGroup, LeadsBy}
 use Rattle.engine_groups.specs.Clients.{IsEngine}
 use Rattle.engine_groups.specs.Stalling.{LeadsGroup, KeepsGroup}
 
-module _ {Device Versions Time Watch Seat Turn Part : Type 0} {ghosts : Ghosts Device}
-    (meaning : Meaning Versions Seat Turn Part) (e : GroupEngine Device Versions Time Watch Seat Turn Part ghosts)
+module _ {Log Versions Time Watch Seat Turn Part : Type 0} {ghosts : Ghosts Log}
+    (meaning : Meaning Versions Seat Turn Part) (e : GroupEngine Log Versions Time Watch Seat Turn Part ghosts)
   where
     -- the client's seat and pass are the engine's
-    pub record HasSeats (c : EngineClient Device Versions Time Seat Turn Part ghosts) : Type 0 where
+    pub record HasSeats (c : EngineClient Log Versions Time Seat Turn Part ghosts) : Type 0 where
       pub is_engine : IsEngine meaning e
       pub seat : meaning.ours e.table c.seat
       pub ready : IsReady (meaning.account c.seat)
@@ -38,7 +38,7 @@ module _ {Device Versions Time Watch Seat Turn Part : Type 0} {ghosts : Ghosts D
       pub number : (1 ≤ c.number) × (c.number ≤ clients_of e.list)
 
     -- it has the requests of a group that it leads, and room for their replies
-    pub record IsToServe (c : EngineClient Device Versions Time Seat Turn Part ghosts) : Type 0 where
+    pub record IsToServe (c : EngineClient Log Versions Time Seat Turn Part ghosts) : Type 0 where
       pub seats : HasSeats c
       pub layout : IsRoomy (clients_of e.list) c.layout
       pub led : IsLedGroup (bound_of e.list) (clients_of e.list) c.lists.requests.list.items
@@ -59,7 +59,7 @@ module _ {Device Versions Time Watch Seat Turn Part : Type 0} {ghosts : Ghosts D
       pub alike : is_hasty own.code ≡ led.first.1.options.no_slowdown
 
     -- it has answered them, and asked the controller for them once
-    pub record IsServed (v w : EngineClient Device Versions Time Seat Turn Part ghosts) : Type 0 where
+    pub record IsServed (v w : EngineClient Log Versions Time Seat Turn Part ghosts) : Type 0 where
       pub seats : HasSeats w
       pub layout : IsLaid (clients_of e.list) w.layout
       pub seat : w.seat ≡ v.seat

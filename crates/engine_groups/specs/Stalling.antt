@@ -19,11 +19,11 @@ use Rattle.engine_groups.specs.declared.leader.Leadership.{Leadership}
 use Rattle.engine_groups.specs.declared.leader.Right.{Right}
 use Rattle.engine_groups.specs.Law.{wanted_in}
 
-module _ {Device Versions Time Seat Turn Part : Type 0} {ghosts : Ghosts Device}
-    (list : WriterList Request Answer (Leadership Device Versions Time Seat Turn Part ghosts)
-    (Right Versions Seat Turn Part) (EngineAtOpening Device Versions Time ghosts)) where
+module _ {Log Versions Time Seat Turn Part : Type 0} {ghosts : Ghosts Log}
+    (list : WriterList Request Answer (Leadership Log Versions Time Seat Turn Part ghosts)
+    (Right Versions Seat Turn Part) (EngineAtOpening Log Versions Time ghosts)) where
   abbrev pub AWriter : Type 0
-  AWriter = Writer Request Answer (Leadership Device Versions Time Seat Turn Part ghosts)
+  AWriter = Writer Request Answer (Leadership Log Versions Time Seat Turn Part ghosts)
       (Right Versions Seat Turn Part)
 
   -- the writer leads this group, and has its requests

@@ -3,25 +3,25 @@
 ghost use Rattle.std.specs.Prelude.{List, map};
 
 use crate::engine::{ClosingRoom, EngineClient, GroupEngine};
-use base_bytes::{Bytes, Read, Reads, Rows};
+use base_bytes::{Bytes, Place, Read, Reads, Rows};
 use base_devices::Clock;
 use engine_calls::{Clients, Closed, Engine, Gate, Held, NotHeld, Receipt, Refused};
 use engine_parts::OpenLog;
 use log_batch::Batch;
 use log_writer::GroupLog;
-use model_base::{NoMemory, WriteOptions};
+use model_base::{NoMemory, ReadRefused, WriteOptions};
 use std::rt;
 use std::sync::Wait;
 use table_calls::Table;
 use table_tree::{Nodes, Parts};
 
-impl<Device: GroupLog, Versions: Table<Nodes, Parts>, Time: Clock + Drop, Watch: Gate + Drop> Engine
-    for GroupEngine<Device, Versions, Time, Watch> {
-    type Client = EngineClient<Device, Versions, Time>;
+impl<Log: GroupLog, Versions: Table<Nodes, Parts>, Time: Clock + Drop, Watch: Gate + Drop> Engine
+    for GroupEngine<Log, Versions, Time, Watch> {
+    type Client = EngineClient<Log, Versions, Time>;
 
-    type Room = ClosingRoom<Device, Versions, Time>;
+    type Room = ClosingRoom<Log, Versions, Time>;
 
-    type Log = OpenLog<Device>;
+    type Log = OpenLog<Log>;
 
     ghost use Rattle.model_accounts.specs.Closing.{AreOurs, HasOneTrace};
     ghost use Rattle.engine_parts.specs.Logs.{fault_of, faults_of};
@@ -46,7 +46,7 @@ impl<Device: GroupLog, Versions: Table<Nodes, Parts>, Time: Clock + Drop, Watch:
     fn write<R: Wait + rt::Clock>(
         &self,
         rt: &R,
-        client: &mut EngineClient<Device, Versions, Time>,
+        client: &mut EngineClient<Log, Versions, Time>,
         batch: Batch,
         options: WriteOptions,
     ) -> Result<Receipt, Refused> {
@@ -56,7 +56,7 @@ impl<Device: GroupLog, Versions: Table<Nodes, Parts>, Time: Clock + Drop, Watch:
     fn get<R: Wait + rt::Clock>(
         &self,
         rt: &R,
-        client: &mut EngineClient<Device, Versions, Time>,
+        client: &mut EngineClient<Log, Versions, Time>,
         key: &[u8],
     ) -> Result<Read, NoMemory> {
         self.get(rt, client, key)
@@ -65,7 +65,7 @@ impl<Device: GroupLog, Versions: Table<Nodes, Parts>, Time: Clock + Drop, Watch:
     fn get_many<R: Wait + rt::Clock>(
         &self,
         rt: &R,
-        client: &mut EngineClient<Device, Versions, Time>,
+        client: &mut EngineClient<Log, Versions, Time>,
         keys: &[Bytes],
     ) -> Result<Reads, NoMemory> {
         self.get_many(rt, client, keys)
@@ -74,17 +74,51 @@ impl<Device: GroupLog, Versions: Table<Nodes, Parts>, Time: Clock + Drop, Watch:
     fn scan<R: Wait + rt::Clock>(
         &self,
         rt: &R,
-        client: &mut EngineClient<Device, Versions, Time>,
+        client: &mut EngineClient<Log, Versions, Time>,
         lo: &[u8],
         hi: &[u8],
     ) -> Result<Rows, NoMemory> {
         self.scan(rt, client, lo, hi)
     }
 
+    fn families(&self) -> u32 {
+        self.families()
+    }
+
+    fn get_in<R: Wait + rt::Clock>(
+        &self,
+        rt: &R,
+        client: &mut EngineClient<Log, Versions, Time>,
+        family: u32,
+        key: &[u8],
+    ) -> Result<Read, ReadRefused> {
+        self.get_in(rt, client, family, key)
+    }
+
+    fn get_many_in<R: Wait + rt::Clock>(
+        &self,
+        rt: &R,
+        client: &mut EngineClient<Log, Versions, Time>,
+        places: &[Place],
+    ) -> Result<Reads, ReadRefused> {
+        self.get_many_in(rt, client, places)
+    }
+
+    fn scan_in<R: Wait + rt::Clock>(
+        &self,
+        rt: &R,
+        client: &mut EngineClient<Log, Versions, Time>,
+        family: u32,
+        lo: &[u8],
+        hi: &[u8],
+    ) -> Result<Rows, ReadRefused> {
+        self.scan_in(rt, client, family, lo, hi)
+    }
+
     fn stop<R: Wait + rt::Clock>(
         &self,
         rt: &R,
-        client: &mut EngineClient<Device, Versions, Time>,
+        client: &mut EngineClient<Log, Versions, Time>,
     ) -> Result<(), Held> {
         self.stop(rt, client)
     }
@@ -92,7 +126,7 @@ impl<Device: GroupLog, Versions: Table<Nodes, Parts>, Time: Clock + Drop, Watch:
     fn unstop<R: Wait + rt::Clock>(
         &self,
         rt: &R,
-        client: &mut EngineClient<Device, Versions, Time>,
+        client: &mut EngineClient<Log, Versions, Time>,
     ) -> Result<(), NotHeld> {
         self.unstop(rt, client)
     }
@@ -100,7 +134,7 @@ impl<Device: GroupLog, Versions: Table<Nodes, Parts>, Time: Clock + Drop, Watch:
     fn slow<R: Wait + rt::Clock>(
         &self,
         rt: &R,
-        client: &mut EngineClient<Device, Versions, Time>,
+        client: &mut EngineClient<Log, Versions, Time>,
         rate: u64,
     ) -> Result<(), Held> {
         self.slow(rt, client, rate)
@@ -109,20 +143,20 @@ impl<Device: GroupLog, Versions: Table<Nodes, Parts>, Time: Clock + Drop, Watch:
     fn unslow<R: Wait + rt::Clock>(
         &self,
         rt: &R,
-        client: &mut EngineClient<Device, Versions, Time>,
+        client: &mut EngineClient<Log, Versions, Time>,
     ) -> Result<(), NotHeld> {
         self.unslow(rt, client)
     }
 
-    fn end<R: Wait + rt::Clock>(&self, rt: &R, client: &mut EngineClient<Device, Versions, Time>) {
+    fn end<R: Wait + rt::Clock>(&self, rt: &R, client: &mut EngineClient<Log, Versions, Time>) {
         self.end(rt, client);
     }
 
     fn close<R: Wait + rt::Clock>(
         self,
         rt: &R,
-        clients: Clients<EngineClient<Device, Versions, Time>, ClosingRoom<Device, Versions, Time>>,
-    ) -> Closed<OpenLog<Device>>
+        clients: Clients<EngineClient<Log, Versions, Time>, ClosingRoom<Log, Versions, Time>>,
+    ) -> Closed<OpenLog<Log>>
         requires all { AreOurs (IsClientOf Versions.Table self) (account_in Versions.Table)
             (clients_of self.list) clients.clients.items }
         requires room { HasRoomToClose self.controller (clients_of self.list) clients.room }

@@ -21,10 +21,10 @@ use table_calls::{Seats, Table};
 use table_tree::{Nodes, Parts};
 
 /// Takes the clients apart into their writers, seats and passes.
-pub(crate) fn part_all<Device: GroupLog, Versions: Table<Nodes, Parts>, Time>(
-    clients: &mut Vec<EngineClient<Device, Versions, Time>>,
+pub(crate) fn part_all<Log: GroupLog, Versions: Table<Nodes, Parts>, Time>(
+    clients: &mut Vec<EngineClient<Log, Versions, Time>>,
     writers: &mut Vec<
-        Writer<SealedRequest, SealedAnswer, Leadership<Device, Versions, Time>, Right<Versions>>,
+        Writer<SealedRequest, SealedAnswer, Leadership<Log, Versions, Time>, Right<Versions>>,
     >,
     seats: &mut Vec<Versions::Seat>,
     passes: &mut Vec<Pass>,
@@ -83,11 +83,11 @@ fn end_controller<Time: Clock, R: Wait + rt::Clock>(
 }
 
 impl<
-    Device: GroupLog,
+    Log: GroupLog,
     Versions: Table<Nodes, Parts>,
     Time: Clock + Drop,
     Watch: Gate + Drop,
-> GroupEngine<Device, Versions, Time, Watch> {
+> GroupEngine<Log, Versions, Time, Watch> {
     ghost use Rattle.engine_parts.specs.Logs.{fault_of, faults_of};
     ghost use Rattle.engine_parts.specs.Logs.{Wrote};
     ghost use Rattle.model_accounts.specs.Closing.{AreOurs, HasOneTrace};
@@ -99,8 +99,8 @@ impl<
     pub fn close<R: Wait + rt::Clock>(
         self,
         rt: &R,
-        clients: Clients<EngineClient<Device, Versions, Time>, ClosingRoom<Device, Versions, Time>>,
-    ) -> Closed<OpenLog<Device>>
+        clients: Clients<EngineClient<Log, Versions, Time>, ClosingRoom<Log, Versions, Time>>,
+    ) -> Closed<OpenLog<Log>>
         requires all { AreOurs (IsClientOf Versions.Table self) (account_in Versions.Table)
             (clients_of self.list) clients.clients.items }
         requires room { HasRoomToClose self.controller (clients_of self.list) clients.room }
@@ -114,6 +114,7 @@ impl<
             controller,
             gate: _,
             alloc: _,
+            families: _,
             batch_bytes: _,
             yields: _,
         } = self;

@@ -12,24 +12,26 @@ use table_calls::Table;
 use table_tree::{Nodes, Parts};
 
 /// A write path whose clients write in groups.
-pub struct GroupEngine<Device: GroupLog, Versions: Table<Nodes, Parts>, Time, Watch> {
+pub struct GroupEngine<Log: GroupLog, Versions: Table<Nodes, Parts>, Time, Watch> {
     pub(crate) list: WriterList<
         SealedRequest,
         SealedAnswer,
-        Leadership<Device, Versions, Time>,
+        Leadership<Log, Versions, Time>,
         Right<Versions>,
     >,
     pub(crate) table: Versions,
     pub(crate) controller: Controller<Time>,
     pub(crate) gate: Watch,
     pub(crate) alloc: Global,
+    /// There are the column families with the numbers below this one.
+    pub(crate) families: u32,
     pub(crate) batch_bytes: u64,
     /// It learns whether yields are slow that a leader makes before its group is synced. Nobody sleeps on it.
     pub(crate) yields: Bell,
 }
 
 /// A client of the engine.
-pub struct EngineClient<Device: GroupLog, Versions: Table<Nodes, Parts>, Time> {
+pub struct EngineClient<Log: GroupLog, Versions: Table<Nodes, Parts>, Time> {
     pub(crate) number: u32,
     pub(crate) start: u64,
     /// The table as it was when the client was made. The table's opening says over which map the client reads.
@@ -37,7 +39,7 @@ pub struct EngineClient<Device: GroupLog, Versions: Table<Nodes, Parts>, Time> {
     pub(crate) writer: Writer<
         SealedRequest,
         SealedAnswer,
-        Leadership<Device, Versions, Time>,
+        Leadership<Log, Versions, Time>,
         Right<Versions>,
     >,
     pub(crate) seat: Versions::Seat,
@@ -50,9 +52,9 @@ pub struct EngineClient<Device: GroupLog, Versions: Table<Nodes, Parts>, Time> {
 
 /// The room that closing needs, and `others`, which shows there that only the clients called the controller. Seats
 /// can't be shared by threads, so the room isn't a part of the engine.
-pub struct ClosingRoom<Device: GroupLog, Versions: Table<Nodes, Parts>, Time> {
+pub struct ClosingRoom<Log: GroupLog, Versions: Table<Nodes, Parts>, Time> {
     pub(crate) writers: Vec<
-        Writer<SealedRequest, SealedAnswer, Leadership<Device, Versions, Time>, Right<Versions>>,
+        Writer<SealedRequest, SealedAnswer, Leadership<Log, Versions, Time>, Right<Versions>>,
     >,
     pub(crate) seats: Vec<Versions::Seat>,
     pub(crate) passes: Vec<Pass>,

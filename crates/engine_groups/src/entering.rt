@@ -25,17 +25,17 @@ use table_calls::Table;
 use table_tree::{Nodes, Parts};
 
 impl<
-    Device: GroupLog,
+    Log: GroupLog,
     Versions: Table<Nodes, Parts>,
     Time: Clock + Drop,
     Watch: Gate + Drop,
-> GroupEngine<Device, Versions, Time, Watch> {
+> GroupEngine<Log, Versions, Time, Watch> {
     /// Links a client's request, with a note of what the client has seen. Where writes are stalled, one that may wait
     /// waits, and one that may not is refused, as soon as a look shows why; until then it tries again.
     pub(crate) fn enter<R: Wait + rt::Clock>(
         &self,
         rt: &R,
-        client: &mut EngineClient<Device, Versions, Time>,
+        client: &mut EngineClient<Log, Versions, Time>,
         item: Item,
         request: SealedRequest,
     ) -> Result<(), SealedAnswer>

@@ -15,10 +15,10 @@ use table_tree::{Nodes, Parts};
 /// The engine that a list of writers is for: its table, its controller, its log as it was opened, its numbers, and
 /// whether its groups go into the table in a second stage.
 #[derive(Drop)]
-pub struct EngineAtOpening<Device: GroupLog, Versions, Time> {
+pub struct EngineAtOpening<Log: GroupLog, Versions, Time> {
     pub table: Snapshot<Versions>,
     pub controller: Snapshot<Controller<Time>>,
-    pub opened: Snapshot<OpenLog<Device>>,
+    pub opened: Snapshot<OpenLog<Log>>,
     pub start: u64,
     pub clients: u64,
     pub group_bytes: u64,
@@ -29,15 +29,15 @@ pub struct EngineAtOpening<Device: GroupLog, Versions, Time> {
 /// right to launch its group where there is one stage, and what the leader before it had seen of the write controller.
 /// Path and clock are in a box: a slot of the line is as large as the largest value that it may hold, and each
 /// client's request and answer go through a slot.
-pub struct Leadership<Device: GroupLog, Versions: Table<Nodes, Parts>, Time> {
-    pub held: Box<Held<Device, Time>>,
+pub struct Leadership<Log: GroupLog, Versions: Table<Nodes, Parts>, Time> {
+    pub held: Box<Held<Log, Time>>,
     pub turn: Option<Versions::Turn>,
     pub asked: Note,
 }
 
 /// What goes from leader to leader in one box.
-pub struct Held<Device: GroupLog, Time> {
-    pub path: LogPath<Device>,
+pub struct Held<Log: GroupLog, Time> {
+    pub path: LogPath<Log>,
     pub clock: Time,
 }
 
@@ -47,8 +47,8 @@ pub struct Right<Versions: Table<Nodes, Parts>> {
 }
 
 /// The right to launch that a leader of the second list was given.
-pub(crate) fn turn_in<Device: GroupLog, Versions: Table<Nodes, Parts>, Time>(
-    role: PipelinedRole<Leadership<Device, Versions, Time>, Right<Versions>, SealedAnswer>,
+pub(crate) fn turn_in<Log: GroupLog, Versions: Table<Nodes, Parts>, Time>(
+    role: PipelinedRole<Leadership<Log, Versions, Time>, Right<Versions>, SealedAnswer>,
 ) -> Versions::Turn
     requires { (u : Versions.Turn) × (turn_of role ≡ Some u) }
     ensures { turn_of role ≡ Some result }
@@ -72,12 +72,12 @@ pub(crate) fn one_turn<Turn>(with_log: Option<Turn>, apart: Option<Turn>) -> Tur
     }
 }
 
-impl<Device: GroupLog, Versions: Table<Nodes, Parts>, Time> LogOfGroups<
+impl<Log: GroupLog, Versions: Table<Nodes, Parts>, Time> LogOfGroups<
     SealedRequest,
     SealedAnswer,
     Right<Versions>,
-> for Leadership<Device, Versions, Time> {
-    type About = EngineAtOpening<Device, Versions, Time>;
+> for Leadership<Log, Versions, Time> {
+    type About = EngineAtOpening<Log, Versions, Time>;
 
     ghost use Rattle.engine_parts.specs.Handled.{AreHandled, IsDropped, IsNoted};
     ghost use Rattle.engine_groups.specs.Law.{LeadershipCovers, RightStandsFor};

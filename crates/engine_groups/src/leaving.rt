@@ -23,16 +23,16 @@ use table_calls::Table;
 use table_tree::{Nodes, Parts};
 
 impl<
-    Device: GroupLog,
+    Log: GroupLog,
     Versions: Table<Nodes, Parts>,
     Time: Clock + Drop,
     Watch: Gate + Drop,
-> GroupEngine<Device, Versions, Time, Watch> {
+> GroupEngine<Log, Versions, Time, Watch> {
     /// Gives the log on to the next leader, or back to the list, and gives the members of the group their replies.
     pub(crate) fn leave(
         &self,
-        client: &mut EngineClient<Device, Versions, Time>,
-        leadership: Leadership<Device, Versions, Time>,
+        client: &mut EngineClient<Log, Versions, Time>,
+        leadership: Leadership<Log, Versions, Time>,
     ) -> SealedAnswer
         requires leaves { (number start : ℕ) × (mine : List (Asked × Told)) × (own : QueuedWriter Asked)
             × (seen : List (Handling Asked Told))
@@ -64,8 +64,8 @@ impl<
     pub(crate) fn hand_on<R: Wait + rt::Clock>(
         &self,
         rt: &R,
-        client: &mut EngineClient<Device, Versions, Time>,
-        leadership: Leadership<Device, Versions, Time>,
+        client: &mut EngineClient<Log, Versions, Time>,
+        leadership: Leadership<Log, Versions, Time>,
         end: u64,
     ) -> SealedAnswer
         requires piped { piped_of self.now.list ≡ true }

@@ -1,10 +1,10 @@
-//! A write path whose clients write in groups, over any table (`table_calls`) and any disk. A write goes into a
+//! A write path whose clients write in groups, over any table (`table_calls`) and any log. A write goes into a
 //! lock-free list of writers. The oldest writer leads: it takes from the list the group that the grouping rule gives,
 //! asks the write controller how long the group has to wait, and waits, or refuses a group that may not wait. While it
-//! waits, writes are stalled: nobody links, and those that may not wait are refused where a look shows why
-//! (`stalling`, `entering`). Then it gives its members runs of sequences, writes their batches to the log as one record,
-//! and puts their versions into the table, which publishes them as one group. Then it answers each member, and gives
-//! the log on to the next leader.
+//! waits, writes are stalled: nobody links, and those that may not wait are refused where a look shows why (`stalling`,
+//! `entering`). Then it gives its members runs of sequences, writes their batches to the log as one record, and puts
+//! their versions into the table, which publishes them as one group. Then it answers each member, and gives the log on
+//! to the next leader.
 //!
 //! With two stages the leader gives the log on first, and its group waits in a second list for its turn at the table,
 //! in the order of the log (`leaving`, `engine_memtable`). Where the right to launch is shows whether there are two:

@@ -33,27 +33,27 @@ use table_calls::{Seats, Table};
 use table_tree::{Nodes, Parts};
 
 /// What an engine should have been opened with, handed back as it was.
-pub struct OpenRefused<Device: GroupLog, Versions: Table<Nodes, Parts>, Time, Watch> {
-    pub log: OpenLog<Device>,
+pub struct OpenRefused<Log: GroupLog, Versions: Table<Nodes, Parts>, Time, Watch> {
+    pub log: OpenLog<Log>,
     pub clock: Time,
     pub table: Versions,
     pub seats: Seats<Versions::Seat, Versions::Turn>,
     pub gate: Watch,
 }
 
-impl<Device: GroupLog, Versions: Table<Nodes, Parts>, Time, Watch> OpenRefused<
-    Device,
+impl<Log: GroupLog, Versions: Table<Nodes, Parts>, Time, Watch> OpenRefused<
+    Log,
     Versions,
     Time,
     Watch,
 > {
     fn of(
-        log: OpenLog<Device>,
+        log: OpenLog<Log>,
         clock: Time,
         table: Versions,
         seats: Seats<Versions::Seat, Versions::Turn>,
         gate: Watch,
-    ) -> OpenRefused<Device, Versions, Time, Watch>
+    ) -> OpenRefused<Log, Versions, Time, Watch>
         ensures { result ≡ record { log = log; clock = clock; table = table; seats = seats; gate = gate } }
     {
         OpenRefused {
@@ -89,14 +89,14 @@ fn part_turn<Turn>(pipelined: bool, turn: Turn) -> (Option<Turn>, Option<Turn>)
 }
 
 /// What the list of writers is made for: this engine, as it is opened.
-fn start_with<Device: GroupLog, Versions, Time>(
+fn start_with<Log: GroupLog, Versions, Time>(
     table: &Versions,
     controller: &Controller<Time>,
-    log: &OpenLog<Device>,
+    log: &OpenLog<Log>,
     options: Options,
     clients: u32,
     pipelined: bool,
-) -> Start<EngineAtOpening<Device, Versions, Time>>
+) -> Start<EngineAtOpening<Log, Versions, Time>>
     ensures list { (result.clients ≡ clients) × (result.log ≡ options.last) × (result.pipelined ≡ pipelined)
         × (result.group_bytes ≡ options.group_bytes) }
     ensures engine { (result.about.table.value ≡ table.now) × (result.about.controller.value ≡ controller.now)
@@ -123,13 +123,13 @@ fn start_with<Device: GroupLog, Versions, Time>(
 
 /// What the engine should have been opened with, taken back out of the leadership and the right that the list should
 /// have begun with.
-fn given_back<Device: GroupLog, Versions: Table<Nodes, Parts>, Time: Drop, Watch>(
-    leadership: Leadership<Device, Versions, Time>,
+fn given_back<Log: GroupLog, Versions: Table<Nodes, Parts>, Time: Drop, Watch>(
+    leadership: Leadership<Log, Versions, Time>,
     right: Right<Versions>,
     table: Versions,
     seats: Vec<Versions::Seat>,
     gate: Watch,
-) -> OpenRefused<Device, Versions, Time, Watch>
+) -> OpenRefused<Log, Versions, Time, Watch>
     requires turn { ((u : Versions.Turn) × (leadership.turn ≡ Some u) × (right.turn ≡ None))
         ⊎ ((u : Versions.Turn) × (leadership.turn ≡ None) × (right.turn ≡ Some u)) }
     ensures same { (result.log ≡ leadership.held.value.path.log) × (result.clock ≡ leadership.held.value.clock)
@@ -161,17 +161,17 @@ fn given_back<Device: GroupLog, Versions: Table<Nodes, Parts>, Time: Drop, Watch
 }
 
 impl<
-    Device: GroupLog,
+    Log: GroupLog,
     Versions: Table<Nodes, Parts>,
     Time: Clock + Drop,
     Watch: Gate + Drop,
-> GroupEngine<Device, Versions, Time, Watch> {
+> GroupEngine<Log, Versions, Time, Watch> {
     /// Opens an engine over a log that has no fault and a table in which nothing is published, with a client for each
     /// of the table's seats. Where memory is short, all is handed back. Where the engine is pipelined, a group goes
     /// into the table while later ones are logged, and its members may put in their own parts.
     pub fn open(
         alloc: Global,
-        log: OpenLog<Device>,
+        log: OpenLog<Log>,
         clock: Time,
         table: Versions,
         seats: Seats<Versions::Seat, Versions::Turn>,
@@ -180,10 +180,10 @@ impl<
         pipelined: bool,
     ) -> Result<
         (
-            GroupEngine<Device, Versions, Time, Watch>,
-            Clients<EngineClient<Device, Versions, Time>, ClosingRoom<Device, Versions, Time>>,
+            GroupEngine<Log, Versions, Time, Watch>,
+            Clients<EngineClient<Log, Versions, Time>, ClosingRoom<Log, Versions, Time>>,
         ),
-        OpenRefused<Device, Versions, Time, Watch>,
+        OpenRefused<Log, Versions, Time, Watch>,
     >
         requires options { (options.last ≡ (Versions.opening table).start) × (options.last ≤ max_sequence)
             × (options.batch_bytes ≤ MAX_SIZE) }
@@ -241,7 +241,7 @@ impl<
     /// Opens an engine and its clients, where all that it needs is there except the list of writers.
     fn open_with(
         alloc: Global,
-        held: Box<Held<Device, Time>>,
+        held: Box<Held<Log, Time>>,
         table: Versions,
         seats: Seats<Versions::Seat, Versions::Turn>,
         gate: Watch,
@@ -251,13 +251,13 @@ impl<
         mut passes: Passes,
         layouts: Vec<Layout>,
         envelopes: Vec<Envelope>,
-        clients: Vec<EngineClient<Device, Versions, Time>>,
+        clients: Vec<EngineClient<Log, Versions, Time>>,
     ) -> Result<
         (
-            GroupEngine<Device, Versions, Time, Watch>,
-            Clients<EngineClient<Device, Versions, Time>, ClosingRoom<Device, Versions, Time>>,
+            GroupEngine<Log, Versions, Time, Watch>,
+            Clients<EngineClient<Log, Versions, Time>, ClosingRoom<Log, Versions, Time>>,
         ),
-        OpenRefused<Device, Versions, Time, Watch>,
+        OpenRefused<Log, Versions, Time, Watch>,
     >
         requires options { (options.last ≡ (Versions.opening table).start) × (options.last ≤ max_sequence)
             × (options.batch_bytes ≤ MAX_SIZE) }
@@ -314,6 +314,7 @@ impl<
                     controller,
                     gate,
                     alloc,
+                    families: options.families,
                     batch_bytes: options.batch_bytes,
                     yields: Bell::new(),
                 };
@@ -336,20 +337,15 @@ impl<
         &self,
         start: u64,
         mut writers: Vec<
-            Writer<
-                SealedRequest,
-                SealedAnswer,
-                Leadership<Device, Versions, Time>,
-                Right<Versions>,
-            >,
+            Writer<SealedRequest, SealedAnswer, Leadership<Log, Versions, Time>, Right<Versions>>,
         >,
         mut seats: Vec<Versions::Seat>,
         passes: Passes,
         mut lists: Vec<Lists<SealedRequest, SealedAnswer>>,
         mut layouts: Vec<Layout>,
         mut envelopes: Vec<Envelope>,
-        mut clients: Vec<EngineClient<Device, Versions, Time>>,
-    ) -> Clients<EngineClient<Device, Versions, Time>, ClosingRoom<Device, Versions, Time>>
+        mut clients: Vec<EngineClient<Log, Versions, Time>>,
+    ) -> Clients<EngineClient<Log, Versions, Time>, ClosingRoom<Log, Versions, Time>>
         requires engine { IsEngine Versions.Table self.now × (start ≡ (Versions.opening self.now.table).start) }
         requires writers { AreNew (table_of self.now.list) (clients_of self.now.list) writers.items
             × (length writers.items ≡ clients_of self.now.list) }
@@ -411,7 +407,7 @@ impl<
         writer: Writer<
             SealedRequest,
             SealedAnswer,
-            Leadership<Device, Versions, Time>,
+            Leadership<Log, Versions, Time>,
             Right<Versions>,
         >,
         seat: Versions::Seat,
@@ -419,7 +415,7 @@ impl<
         lists: Lists<SealedRequest, SealedAnswer>,
         layout: Layout,
         envelope: Envelope,
-    ) -> EngineClient<Device, Versions, Time>
+    ) -> EngineClient<Log, Versions, Time>
         requires engine { IsEngine Versions.Table self.now × (start ≡ (Versions.opening self.now.table).start) }
         requires number { (0 < number) × (number ≤ clients_of self.now.list) }
         requires writer { IsNew (table_of self.now.list) number writer }

@@ -42,11 +42,11 @@ fn spin_and_yield<R: Wait + rt::Clock>(rt: &R, yields: &Bell) {
 }
 
 impl<
-    Device: GroupLog,
+    Log: GroupLog,
     Versions: Table<Nodes, Parts>,
     Time: Clock + Drop,
     Watch: Gate + Drop,
-> GroupEngine<Device, Versions, Time, Watch> {
+> GroupEngine<Log, Versions, Time, Watch> {
     /// Lets other writers link before the leader closes its group. Where the leader's batch must be synced, clients
     /// that got their replies a moment ago may come: a sync takes no longer for more batches. Where there are two
     /// stages, the leader also pauses while groups before its own are on their way into the table, since its group
@@ -57,7 +57,7 @@ impl<
         writer: &mut Writer<
             SealedRequest,
             SealedAnswer,
-            Leadership<Device, Versions, Time>,
+            Leadership<Log, Versions, Time>,
             Right<Versions>,
         >,
         sync: bool,
@@ -81,7 +81,7 @@ impl<
         writer: &mut Writer<
             SealedRequest,
             SealedAnswer,
-            Leadership<Device, Versions, Time>,
+            Leadership<Log, Versions, Time>,
             Right<Versions>,
         >,
     )

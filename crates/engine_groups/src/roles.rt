@@ -21,11 +21,11 @@ use table_calls::Table;
 use table_tree::{Nodes, Parts};
 
 impl<
-    Device: GroupLog,
+    Log: GroupLog,
     Versions: Table<Nodes, Parts>,
     Time: Clock + Drop,
     Watch: Gate + Drop,
-> GroupEngine<Device, Versions, Time, Watch> {
+> GroupEngine<Log, Versions, Time, Watch> {
     /// Waits until the client leads a group, or has its reply, in a group or without one. Until then it puts its own
     /// part into the table, in parallel with its leader, where it is asked to.
     pub(crate) fn await_own_role<R: Wait + rt::Clock>(
@@ -34,11 +34,11 @@ impl<
         writer: &mut Writer<
             SealedRequest,
             SealedAnswer,
-            Leadership<Device, Versions, Time>,
+            Leadership<Log, Versions, Time>,
             Right<Versions>,
         >,
         seat: &mut Versions::Seat,
-    ) -> Role<Leadership<Device, Versions, Time>, SealedAnswer>
+    ) -> Role<Leadership<Log, Versions, Time>, SealedAnswer>
         requires list { Belongs self.now.list writer.old
             × ((q : Asked) × IsIn (law_in Versions.Table self.now.list) q (answers_told writer.old) writer.old) }
         requires seat { Versions.ours self.now.table seat.old × IsReady (Versions.account seat.old) }

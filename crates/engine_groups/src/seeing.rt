@@ -59,17 +59,17 @@ fn is_above(shown: u64, answer: &Result<Receipt, Refused>) -> bool
 }
 
 impl<
-    Device: GroupLog,
+    Log: GroupLog,
     Versions: Table<Nodes, Parts>,
     Time: Clock + Drop,
     Watch: Gate + Drop,
-> GroupEngine<Device, Versions, Time, Watch> {
+> GroupEngine<Log, Versions, Time, Watch> {
     /// Lets the client see what its answer speaks of: its published group, or the delay or the leader's look because of
     /// which it was refused.
     pub(crate) fn see<R: Wait + rt::Clock>(
         &self,
         rt: &R,
-        client: &mut EngineClient<Device, Versions, Time>,
+        client: &mut EngineClient<Log, Versions, Time>,
         answer: &Result<Receipt, Refused>,
         note: Option<Note>,
     )
@@ -94,7 +94,7 @@ impl<
     fn await_answer<R: Wait + rt::Clock>(
         &self,
         rt: &R,
-        client: &mut EngineClient<Device, Versions, Time>,
+        client: &mut EngineClient<Log, Versions, Time>,
         answer: &Result<Receipt, Refused>,
     )
         requires { IsClientOf Versions.Table self.now client.old }
@@ -115,7 +115,7 @@ impl<
     fn await_seen<R: Wait + rt::Clock>(
         &self,
         rt: &R,
-        client: &mut EngineClient<Device, Versions, Time>,
+        client: &mut EngineClient<Log, Versions, Time>,
         last: u64,
     )
         requires { IsClientOf Versions.Table self.now client.old }

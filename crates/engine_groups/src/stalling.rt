@@ -34,11 +34,11 @@ use table_calls::Table;
 use table_tree::{Nodes, Parts};
 
 impl<
-    Device: GroupLog,
+    Log: GroupLog,
     Versions: Table<Nodes, Parts>,
     Time: Clock + Drop,
     Watch: Gate + Drop,
-> GroupEngine<Device, Versions, Time, Watch> {
+> GroupEngine<Log, Versions, Time, Watch> {
     /// Whether a group goes on. A group that may not wait goes on only where writes aren't held up. Any other goes on,
     /// but waits here first, and stalls writes meanwhile. It has its group again when this returns, so the stall has
     /// ended.
@@ -48,7 +48,7 @@ impl<
         writer: &mut Writer<
             SealedRequest,
             SealedAnswer,
-            Leadership<Device, Versions, Time>,
+            Leadership<Log, Versions, Time>,
             Right<Versions>,
         >,
         requests: &Requests<SealedRequest>,
@@ -83,15 +83,15 @@ impl<
     }
 
     /// Lets each writer of the queue that may not wait go with a refusal, from the newest one on, where a look shows
-    /// that some client stops or slows writes. It ends at the first for which the look shows neither: that writer stays,
-    /// and so do all that are older.
+    /// that some client stops or slows writes. It ends at the first for which the look shows neither: that writer
+    /// stays, and so do all that are older.
     fn let_queued_go<R: Wait + rt::Clock>(
         &self,
         rt: &R,
         writer: &mut Writer<
             SealedRequest,
             SealedAnswer,
-            Leadership<Device, Versions, Time>,
+            Leadership<Log, Versions, Time>,
             Right<Versions>,
         >,
         room: &mut Room,

@@ -16,17 +16,17 @@ use table_calls::Table;
 use table_tree::{Nodes, Parts};
 
 impl<
-    Device: GroupLog,
+    Log: GroupLog,
     Versions: Table<Nodes, Parts>,
     Time: Clock + Drop,
     Watch: Gate + Drop,
-> GroupEngine<Device, Versions, Time, Watch> {
+> GroupEngine<Log, Versions, Time, Watch> {
     /// Takes the client's stop token. While anybody holds one, all writes wait, except that those that may not wait,
     /// and those of a client that holds one itself, are refused.
     pub fn stop<R: Wait + rt::Clock>(
         &self,
         rt: &R,
-        client: &mut EngineClient<Device, Versions, Time>,
+        client: &mut EngineClient<Log, Versions, Time>,
     ) -> Result<(), Held>
         requires { IsClientOf Versions.Table self.now client.old }
         ensures belongs { IsClientOf Versions.Table self.now client.new }
@@ -42,7 +42,7 @@ impl<
     pub fn unstop<R: Wait + rt::Clock>(
         &self,
         rt: &R,
-        client: &mut EngineClient<Device, Versions, Time>,
+        client: &mut EngineClient<Log, Versions, Time>,
     ) -> Result<(), NotHeld>
         requires { IsClientOf Versions.Table self.now client.old }
         ensures belongs { IsClientOf Versions.Table self.now client.new }
@@ -58,7 +58,7 @@ impl<
     pub fn slow<R: Wait + rt::Clock>(
         &self,
         rt: &R,
-        client: &mut EngineClient<Device, Versions, Time>,
+        client: &mut EngineClient<Log, Versions, Time>,
         rate: u64,
     ) -> Result<(), Held>
         requires { IsClientOf Versions.Table self.now client.old }
@@ -76,7 +76,7 @@ impl<
     pub fn unslow<R: Wait + rt::Clock>(
         &self,
         rt: &R,
-        client: &mut EngineClient<Device, Versions, Time>,
+        client: &mut EngineClient<Log, Versions, Time>,
     ) -> Result<(), NotHeld>
         requires { IsClientOf Versions.Table self.now client.old }
         ensures belongs { IsClientOf Versions.Table self.now client.new }
@@ -89,11 +89,7 @@ impl<
     }
 
     /// Gives back the tokens that the client holds.
-    pub fn end<R: Wait + rt::Clock>(
-        &self,
-        rt: &R,
-        client: &mut EngineClient<Device, Versions, Time>,
-    )
+    pub fn end<R: Wait + rt::Clock>(&self, rt: &R, client: &mut EngineClient<Log, Versions, Time>)
         requires { IsClientOf Versions.Table self.now client.old }
         ensures belongs { IsClientOf Versions.Table self.now client.new }
         ensures back { GivesBack (account_in Versions.Table client.old) (account_in Versions.Table client.new) }

@@ -45,15 +45,15 @@ use table_calls::Table;
 use table_tree::{Nodes, Parts};
 
 impl<
-    Device: GroupLog,
+    Log: GroupLog,
     Versions: Table<Nodes, Parts>,
     Time: Clock + Drop,
     Watch: Gate + Drop,
-> GroupEngine<Device, Versions, Time, Watch> {
+> GroupEngine<Log, Versions, Time, Watch> {
     ghost use Rattle.model_base.specs.Batch as model;
     ghost use Rattle.model_accounts.specs.Accounts.{Wrote, Refuses};
     ghost use Rattle.model_runs.specs.Written.{IsSyncedBy};
-    ghost use Rattle.engine_parts.specs.declared.log.OpenLog.{OpenLog as Log};
+    ghost use Rattle.engine_parts.specs.declared.log.OpenLog.{OpenLog as Opened};
     ghost use Rattle.engine_parts.specs.Logs.{Wrote as WroteLog};
     ghost use Rattle.model_base.specs.LogContents.{GroupCall};
     ghost use Rattle.engine_groups.specs.Clients.{account_in, settings_of};
@@ -62,7 +62,7 @@ impl<
     pub fn write<R: Wait + rt::Clock>(
         &self,
         rt: &R,
-        client: &mut EngineClient<Device, Versions, Time>,
+        client: &mut EngineClient<Log, Versions, Time>,
         batch: Batch,
         options: WriteOptions,
     ) -> Result<Receipt, Refused>
@@ -75,14 +75,14 @@ impl<
             × (r.run.last + 1 ≡ r.run.first + model.count_of batch.records)) }
         // a batch that had to be synced was written by a call of the log writer that synced
         ensures synced { IfOk result (λ r. options.sync ≡ true → (calls : List GroupCall)
-            × (log : Log Device ⟦<Device as GroupLog>⟧)
+            × (log : Opened Log ⟦<Log as GroupLog>⟧)
             × WroteLog (opened_log self.now) calls log × IsSyncedBy r.run.first batch.records calls) }
         ensures err { IfErr result (λ e. Refuses (settings_of Versions.Table self.now)
             (account_in Versions.Table client.old) batch.records options e.why
             (account_in Versions.Table client.new)) }
         ensures unchanged { IfErr result (λ e. e.batch ≡ batch) }
     {
-        let measure = Measure::of(&batch);
+        let measure = Measure::of(&batch, self.families);
         let stopping = self.controller.is_stopping(&client.pass);
         // The refusals that need no memory, no device and no other client come first.
         if let Some(why) = refusal_at_once(measure, options, self.batch_bytes, stopping) {
@@ -133,7 +133,7 @@ impl<
     fn submit<R: Wait + rt::Clock>(
         &self,
         rt: &R,
-        client: &mut EngineClient<Device, Versions, Time>,
+        client: &mut EngineClient<Log, Versions, Time>,
         request: SealedRequest,
     ) -> SealedAnswer
         requires client { IsIdle Versions.Table self.now client.old }
@@ -171,8 +171,8 @@ impl<
     fn lead<R: Wait + rt::Clock>(
         &self,
         rt: &R,
-        client: &mut EngineClient<Device, Versions, Time>,
-        leadership: Leadership<Device, Versions, Time>,
+        client: &mut EngineClient<Log, Versions, Time>,
+        leadership: Leadership<Log, Versions, Time>,
     ) -> SealedAnswer
         requires seated { IsSeated Versions.Table self.now client.old }
         requires has_asked { HasAsked client.old.number (own_commits client.old.number (told_of client.old))
@@ -225,9 +225,9 @@ impl<
     fn answer_group<R: Wait + rt::Clock>(
         &self,
         rt: &R,
-        client: &mut EngineClient<Device, Versions, Time>,
-        leadership: Leadership<Device, Versions, Time>,
-    ) -> (Leadership<Device, Versions, Time>, Option<u64>)
+        client: &mut EngineClient<Log, Versions, Time>,
+        leadership: Leadership<Log, Versions, Time>,
+    ) -> (Leadership<Log, Versions, Time>, Option<u64>)
         requires seated { IsSeated Versions.Table self.now client.old }
         requires has_asked { HasAsked client.old.number (own_commits client.old.number (told_of client.old))
             (seen_by client.old.pass) }
@@ -259,9 +259,9 @@ impl<
     fn serve<R: Wait + rt::Clock>(
         &self,
         rt: &R,
-        client: &mut EngineClient<Device, Versions, Time>,
-        mut leadership: Leadership<Device, Versions, Time>,
-    ) -> (Leadership<Device, Versions, Time>, Option<u64>)
+        client: &mut EngineClient<Log, Versions, Time>,
+        mut leadership: Leadership<Log, Versions, Time>,
+    ) -> (Leadership<Log, Versions, Time>, Option<u64>)
         requires served { IsToServe Versions.Table self.now client.old }
         requires leadership { (handled : List (Handling Asked Told))
             × LeadershipCovers Versions.Table (about_of self.now.list) leadership handled }

@@ -1,4 +1,4 @@
--- Threads may share a write path over a disk that may be moved to a thread, and its clients may be moved to threads.
+-- Threads may share a write path over a log that may be moved to a thread, and its clients may be moved to threads.
 -- For a struct with few fields the check finds this by itself; here it gives up.
 use denote.RattleType.{RattleType}
 use denote.Struct.Declared.{shape, fields}
@@ -89,12 +89,12 @@ S = seat_row.the_row tree.the_row nodes.the_row
 abbrev U : RattleType
 U = turn_row.the_row tree.the_row nodes.the_row
 
-module _ (D C G : RattleType) (ghosts : Ghosts (RattleType.Denot D)) (disk_send : IsSend D) (clock_send : IsSend C) where
+module _ (D C G : RattleType) (ghosts : Ghosts (RattleType.Denot D)) (log_send : IsSend D) (clock_send : IsSend C) where
   abbrev H : RattleType
   H = leader_row.the_row D table.the_row C S U nodes.the_row ghosts
 
   leader_send : IsSend H
-  leader_send = leader.the_send D table.the_row C S U nodes.the_row ghosts disk_send clock_send turn_send
+  leader_send = leader.the_send D table.the_row C S U nodes.the_row ghosts log_send clock_send turn_send
 
   abbrev M : RattleType
   M = right_row.the_row table.the_row S U nodes.the_row
@@ -111,5 +111,5 @@ module _ (D C G : RattleType) (ghosts : Ghosts (RattleType.Denot D)) (disk_send 
   pub engine_sync : IsSync G → IsSync (engine.the_row D table.the_row C G S U nodes.the_row ghosts table_ghosts.ghosts)
   engine_sync gate_sync =
       let K = engine.the_type D table.the_row C G S U nodes.the_row ghosts table_ghosts.ghosts in
-      let all : AllSync (fields K) = (list.the_field_sync sealed_request.the_row sealed_answer.the_row H M (about_row.the_row D table.the_row C ghosts) itemized.ghosts given.ghosts (ledger.ghosts D table.the_row C S U nodes.the_row ghosts ledger.no_dict table_ghosts.ghosts ledger.no_dict) sealed_request_send sealed_answer_send leader_send right_send, (table_sync, (controller.the_field_sync C, (gate_sync, (heap.the_field_sync, (search sendable, (bell.the_field_sync, tt))))))) in
+      let all : AllSync (fields K) = (list.the_field_sync sealed_request.the_row sealed_answer.the_row H M (about_row.the_row D table.the_row C ghosts) itemized.ghosts given.ghosts (ledger.ghosts D table.the_row C S U nodes.the_row ghosts ledger.no_dict table_ghosts.ghosts ledger.no_dict) sealed_request_send sealed_answer_send leader_send right_send, (table_sync, (controller.the_field_sync C, (gate_sync, (heap.the_field_sync, (search sendable, (search sendable, (bell.the_field_sync, tt)))))))) in
       recorded_sync (engine.the_field D table.the_row C G S U nodes.the_row ghosts table_ghosts.ghosts).row K.D K.to K.to_one (struct_sync (shape K) all)

@@ -1,4 +1,4 @@
-//! The write path of many clients with its table in memory, of one shard or of several, over any disk.
+//! The write path of many clients with its table in memory, of one shard or of several, over any log.
 #![tactic(auto)]
 
 mod opening;

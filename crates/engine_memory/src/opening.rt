@@ -11,7 +11,7 @@ ghost use Rattle.engine_groups.specs.Clients.{IsClientOf, HasRoomToClose, accoun
 ghost use Rattle.table_memory.specs.Meaning.{memory_table, opening_of};
 
 use base_devices::Clock;
-use base_maps::ByteMap;
+use base_maps::FamilyMap;
 use engine_calls::Gate;
 use engine_groups::{Clients, ClosingRoom, EngineClient, GroupEngine, OpenRefused};
 use engine_parts::OpenLog;
@@ -25,23 +25,23 @@ use table_rule::maps_as_bases;
 /// the map's last sequence, and with `clients` clients, none of which has done anything. Where memory is short, log,
 /// clock and gate are handed back. Where the engine is pipelined, its groups go into the table in a stage of their
 /// own.
-pub fn open_engine<Device: GroupLog, Time: Clock + Drop, Watch: Gate + Drop>(
+pub fn open_engine<Log: GroupLog, Time: Clock + Drop, Watch: Gate + Drop>(
     alloc: Global,
-    log: OpenLog<Device>,
+    log: OpenLog<Log>,
     clock: Time,
     clients: u32,
     base_last: u64,
-    map: &ByteMap,
+    map: &FamilyMap,
     gate: Watch,
     options: Options,
     shards: u32,
     pipelined: bool,
 ) -> Result<
     (
-        GroupEngine<Device, MemoryTable, Time, Watch>,
-        Clients<EngineClient<Device, MemoryTable, Time>, ClosingRoom<Device, MemoryTable, Time>>,
+        GroupEngine<Log, MemoryTable, Time, Watch>,
+        Clients<EngineClient<Log, MemoryTable, Time>, ClosingRoom<Log, MemoryTable, Time>>,
     ),
-    (OpenLog<Device>, Time, Watch),
+    (OpenLog<Log>, Time, Watch),
 >
     requires options { (options.last ≤ max_sequence) × (options.batch_bytes ≤ MAX_SIZE) }
     requires clients { (0 < clients) × (clients ≤ MAX_CLIENTS) }

@@ -3,7 +3,7 @@ use Rattle.std.proofs.Common.{◌≡◌, ℕ, suc, ◌+◌, ◌-◌, ◌≤◌, 
 use Rattle.std.specs.List.{AllByRecursion}
 use Rattle.std.proofs.lemmas.Bool.{ne_eqb}
 use Rattle.model_base.specs.declared.write.Refusal.{Refusal}
-use Rattle.model_base.specs.declared.write.Refusal.TheVariants.{Empty, TooLarge, SyncWithoutLog, SelfStop, NoMemory, Incomplete, LogFault, SequenceFull}
+use Rattle.model_base.specs.declared.write.Refusal.TheVariants.{Empty, TooLarge, SyncWithoutLog, SelfStop, NoFamily, NoMemory, Incomplete, LogFault, SequenceFull}
 use Rattle.model_base.specs.Batch.{count_of}
 use Rattle.log_batch.specs.Contents.{Contents}
 use Rattle.line_rule.specs.declared.view.QueuedWriter.{QueuedWriter}
@@ -66,6 +66,7 @@ late_same last count Empty = refl
 late_same last count (TooLarge size) = refl
 late_same last count SyncWithoutLog = refl
 late_same last count SelfStop = refl
+late_same last count (NoFamily family) = refl
 late_same last count NoMemory = refl
 late_same last count (Incomplete s d w) = refl
 late_same last count (LogFault n) = refl

@@ -16,9 +16,9 @@ abbrev counts : Record → ℕ
 counts r = cond (is_counted r) 1 0
 
 one_byte : (r : Record) → counts r ≤ length (record_bytes r)
-one_byte (value key v) = omega arith
-one_byte (deletion key) = omega arith
-one_byte (single_deletion key) = omega arith
+one_byte (value family key v) = omega arith
+one_byte (deletion family key) = omega arith
+one_byte (single_deletion family key) = omega arith
 one_byte (log_data blob) = omega arith
 
 pub count_small : (records : List Record) → count_of records ≤ length (body records)

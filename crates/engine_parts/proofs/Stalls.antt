@@ -1,5 +1,5 @@
 -- What a look at a stall shows.
-use Rattle.std.proofs.Common.{◌≡◌, ◌≢◌, inl, ℕ, ◌-◌, ◌≤◌, List, Some, length, refl, subst, arith}
+use Rattle.std.proofs.Common.{◌≡◌, ◌≢◌, inl, ℕ, ◌-◌, List, Some, length, refl, subst, arith}
 use mathlib.Core.List.{IsPrefix}
 use Rattle.model_base.specs.Controller.{ControllerCall, Look, ShowTokens, look}
 use Rattle.model_base.specs.Replies.{IsLater, WasHeldUp, MetStall}

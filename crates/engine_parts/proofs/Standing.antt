@@ -1,5 +1,5 @@
 -- Each way in which a leader's work may end keeps the law of log and table.
-use Rattle.std.proofs.Common.{◌≡◌, ◌⊎◌, inl, inr, ℕ, ◌+◌, ◌≤◌, map, List, [], ◌∷◌, ◌++◌, Option, Some, None, MatchOption, length, refl, ap, sym, ◌∙◌, subst, ⊎_elim}
+use Rattle.std.proofs.Common.{◌≡◌, ◌⊎◌, inl, inr, ℕ, ◌+◌, ◌≤◌, map, List, [], ◌∷◌, ◌++◌, Option, Some, None, length, refl, ap, sym, ◌∙◌, subst, ⊎_elim}
 use Rattle.log_writer.specs.declared.group_log.GroupLog.{Ghosts}
 use Rattle.model_base.specs.History.{max_sequence}
 use Rattle.model_base.specs.Controller.{ControllerCall, Look}

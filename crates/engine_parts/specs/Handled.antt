@@ -2,7 +2,7 @@
 use Rattle.std.specs.Prelude.{◌≡◌, ℕ, ◌+◌, ◌-◌, true, length, IfSome, List, [], ◌∷◌, ◌++◌, map, nat_le, if◌then◌else◌, Option, Some, None, Result, Ok, Err, ⊤}
 use Rattle.std.specs.List.{AllByRecursion}
 use Rattle.model_base.specs.declared.write.Refusal.{Refusal}
-use Rattle.model_base.specs.declared.write.Refusal.TheVariants.{Empty, TooLarge, SyncWithoutLog, SelfStop, NoMemory, Incomplete, LogFault, SequenceFull}
+use Rattle.model_base.specs.declared.write.Refusal.TheVariants.{Empty, TooLarge, SyncWithoutLog, SelfStop, NoFamily, NoMemory, Incomplete, LogFault, SequenceFull}
 use Rattle.model_base.specs.Batch.{Record, count_of}
 use Rattle.model_base.specs.History.{max_sequence}
 use Rattle.model_base.specs.LogContents.{GroupCall}
@@ -38,6 +38,7 @@ answer_of_refusal Empty = no_room 0
 answer_of_refusal (TooLarge size) = no_room 0
 answer_of_refusal SyncWithoutLog = no_room 0
 answer_of_refusal SelfStop = no_room 0
+answer_of_refusal (NoFamily family) = no_room 0
 answer_of_refusal NoMemory = no_room 0
 
 abbrev pub answer_in : Result Receipt Refused → CommitAnswer
@@ -78,6 +79,7 @@ IsLate Empty = ⊥
 IsLate (TooLarge size) = ⊥
 IsLate SyncWithoutLog = ⊥
 IsLate SelfStop = ⊥
+IsLate (NoFamily family) = ⊥
 IsLate NoMemory = ⊥
 
 -- an accepted batch comes back with its sequence set, and a refused one as it was
@@ -107,11 +109,11 @@ pub record ShowsDelay {Time : Type 0} (controller : Controller Time) (h : Handli
       × IsDelayed (noted_in h.asked.note) (seen_for h.reply) numbers
 
 -- Calls have written a log from the opened one, and the first of them (`worked`) wrote the history of these commits.
-pub record HasWritten {Device : Type 0} {ghosts : Ghosts Device} (opened : OpenLog Device ghosts)
+pub record HasWritten {Log : Type 0} {ghosts : Ghosts Log} (opened : OpenLog Log ghosts)
     (commits : List Commit) : Type 0
   where
     pub calls : List GroupCall
-    pub log : OpenLog Device ghosts
+    pub log : OpenLog Log ghosts
     pub wrote : Wrote opened calls log
     pub worked : List GroupCall
     pub lost : List GroupCall
@@ -120,8 +122,8 @@ pub record HasWritten {Device : Type 0} {ghosts : Ghosts Device} (opened : OpenL
 
 -- What holds of all that was handled, wherever the log is: the answers are right, hand the batches back, and show the
 -- delay where writes are held up; and the log has what was accepted and should be logged.
-pub record AreHandled {Time Device : Type 0} {ghosts : Ghosts Device} (controller : Controller Time)
-    (opened : OpenLog Device ghosts)
+pub record AreHandled {Time Log : Type 0} {ghosts : Ghosts Log} (controller : Controller Time)
+    (opened : OpenLog Log ghosts)
     (start : ℕ) (handled : List (Handling Request Answer)) : Type 0 where
   pub answered : AreAnswered start None (map commit_of handled)
   pub handed_back : AllByRecursion HandsBack handled

@@ -18,10 +18,10 @@ use Rattle.engine_parts.specs.Staged.{published_with}
 -- The right to launch is the table's. Calls have written the log since it was opened. Log, table and the last sequence
 -- given are what the handled requests have made. `asked` is the controller's history as the last leader had seen it
 -- when its group went on or was refused.
-pub record Covers {Device : Type 0} {ghosts : Ghosts Device} {Versions Turn : Type 0}
+pub record Covers {Log : Type 0} {ghosts : Ghosts Log} {Versions Turn : Type 0}
     (our_turn : Versions → Turn → Type 0) (history : Turn → List (List MemberVersions)) (table : Versions)
-    (opened : OpenLog Device ghosts)
-    (start clients group_bytes : ℕ) (asked : List ControllerCall) (log : OpenLog Device ghosts) (turn : Turn)
+    (opened : OpenLog Log ghosts)
+    (start clients group_bytes : ℕ) (asked : List ControllerCall) (log : OpenLog Log ghosts) (turn : Turn)
     (last : ℕ)
     (handled : List (Handling Request Answer)) : Type 0 where
   pub our : our_turn table turn
@@ -31,9 +31,9 @@ pub record Covers {Device : Type 0} {ghosts : Ghosts Device} {Versions Turn : Ty
       (history turn) calls
 
 -- What `Covers` says, for the log alone, where these groups are published or will be.
-abbrev pub LogCovers : {Device : Type 0} {ghosts : Ghosts Device} → OpenLog Device ghosts → ℕ → ℕ → ℕ
+abbrev pub LogCovers : {Log : Type 0} {ghosts : Ghosts Log} → OpenLog Log ghosts → ℕ → ℕ → ℕ
     → List ControllerCall
-    → OpenLog Device ghosts → List (List MemberVersions) → ℕ → List (Handling Request Answer) → Type 0
+    → OpenLog Log ghosts → List (List MemberVersions) → ℕ → List (Handling Request Answer) → Type 0
 LogCovers opened start clients group_bytes asked log published last handled =
     Covers (λ (t : ⊤) (u : List (List MemberVersions)). ⊤) (λ u. u) tt opened start clients group_bytes asked log
     published last handled
@@ -49,8 +49,8 @@ pub record Past (Log : Type 0) : Type 0 where
   pub handled : List (Handling Request Answer)
 
 -- the log and the last sequence given are what this past has made, in a write path with this number of clients
-abbrev pub StandsForPast : {Device : Type 0} {ghosts : Ghosts Device} → ℕ → Past (OpenLog Device ghosts)
-    → OpenLog Device ghosts → ℕ → Type 0
+abbrev pub StandsForPast : {Log : Type 0} {ghosts : Ghosts Log} → ℕ → Past (OpenLog Log ghosts)
+    → OpenLog Log ghosts → ℕ → Type 0
 StandsForPast clients p log last =
     LogCovers p.opened p.start clients p.group_bytes p.asked log p.published last p.handled
 

@@ -4,7 +4,7 @@ ghost use Rattle.std.specs.Prelude.{◌≡◌, ◌≤◌, ◌<◌, ◌+◌, ◌-
 ghost use Rattle.std.specs.List.{AllByRecursion};
 ghost use Rattle.model_base.specs.History.{max_sequence};
 ghost use Rattle.model_base.specs.Controller.{ControllerCall};
-ghost use Rattle.engine_parts.specs.declared.log.OpenLog.{OpenLog as Log};
+ghost use Rattle.engine_parts.specs.declared.log.OpenLog.{OpenLog as Opened};
 ghost use Rattle.log_writer.specs.Groups.{counts_of, body_lens_of};
 ghost use Rattle.log_writer.specs.Adding.{call_of};
 ghost use Rattle.engine_parts.specs.Logs.{Adds};
@@ -26,14 +26,14 @@ use log_writer::{Fault, GroupLog};
 use model_base::WriteOptions;
 
 /// The log, and the last sequence given.
-pub struct LogPath<Device: GroupLog> {
-    pub log: OpenLog<Device>,
+pub struct LogPath<Log: GroupLog> {
+    pub log: OpenLog<Log>,
     pub last: u64,
 }
 
 /// Writes the batches that got runs after `last` to the log, unless they must stay out of it.
-fn log_group<Device: GroupLog>(
-    log: &mut OpenLog<Device>,
+fn log_group<Log: GroupLog>(
+    log: &mut OpenLog<Log>,
     last: u64,
     batches: &[Batch],
     options: WriteOptions,
@@ -54,8 +54,8 @@ fn log_group<Device: GroupLog>(
 /// Writes a group to the log, and answers each member. Where members have runs, it returns the group's last sequence.
 /// Then the layout has what must go into the table (one part for all members; or, if the parts may be apart, perhaps
 /// one for each member with a run), and the members that should work in parallel with the leader.
-pub fn log_phase<Device: GroupLog>(
-    path: &mut LogPath<Device>,
+pub fn log_phase<Log: GroupLog>(
+    path: &mut LogPath<Log>,
     leader: u32,
     apart: bool,
     delay: &Delay,
@@ -72,7 +72,7 @@ pub fn log_phase<Device: GroupLog>(
         × (length requests.old.items ≤ vec_capacity layout.old.batches)
         × (length requests.old.items ≤ vec_capacity layout.old.members) }
     requires replies { (replies.old.items ≡ []) × (length requests.old.items ≤ vec_capacity replies.old) }
-    ensures path { (past : Past (Log Device ⟦<Device as GroupLog>⟧)) (went : List ControllerCall)
+    ensures path { (past : Past (Opened Log ⟦<Log as GroupLog>⟧)) (went : List ControllerCall)
         → GoesOnWith past.group_bytes layout.old.parts.clients past.asked requests.old.items (seen_at delay.now) went
         → StandsForPast layout.old.parts.clients past path.old.log path.old.last
         → StandsForPast layout.old.parts.clients (with_group past went result layout.new.parts.parts

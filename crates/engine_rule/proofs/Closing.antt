@@ -35,6 +35,7 @@ use Rattle.engine_rule.proofs.Chains.{entries_clients, entries_history, entries_
 use Rattle.engine_rule.proofs.GroupParts.{ends_are, parts_after, parts_cut, parts_named}
 use Rattle.engine_rule.proofs.Leaders.{are_led, led_of}
 use Rattle.model_accounts.proofs.Leading.{groups_from_led, slowed_holds}
+use Rattle.model_accounts.proofs.Logs.{parts_are_groups}
 use Rattle.model_accounts.proofs.Parts.{parts_made}
 use Rattle.model_accounts.proofs.Seeing.{saw_published}
 use Rattle.engine_controller.specs.Delays.{delays_of}
@@ -215,7 +216,7 @@ module _ (settings : Settings) (cs : List Commit) (last : ℕ) (fault : Option �
     (k : AreConsistent settings.start settings.clients settings.group_bytes asked cs last fault published calls)
     (accounts : List Account) (all : length accounts ≡ settings.clients) (are : (i : ℕ) (a : Account) → slice_get accounts i ≡ Some a → HasPart settings.start settings.opening cs published history i a) where
   abbrev trace : Trace
-  trace = trace_of settings.start settings.opening cs history
+  trace = trace_of settings.start settings.opening cs k.written.parts.parts history
 
   is_history : IsHistory settings.start (entries_of cs) × (last_sequence settings.start (entries_of cs) ≡ last_after_all settings.start cs)
   is_history = entries_history settings.start None [] cs k.answered
@@ -296,7 +297,7 @@ module _ (settings : Settings) (cs : List Commit) (last : ℕ) (fault : Option �
     closing ended rose = (
       groups_of led,
       record {
-        is_trace = record { start = refl; opening = refl; entries = is_history.0; controller_calls = legal; clients = entries_clients settings.clients [] cs k.of_clients; tokens = of_tokens settings.clients history calls_of };
+        is_trace = record { start = refl; opening = refl; entries = is_history.0; logged = parts_are_groups (entries_of cs) k.written.parts.parts k.written.worked k.written.parts.cut k.written.parts.runs k.written.parts.each; controller_calls = legal; clients = entries_clients settings.clients [] cs k.of_clients; tokens = of_tokens settings.clients history calls_of };
         are_groups = groups_from_led settings.group_bytes history led (all_attempts accounts) is_led;
         parts = parts;
         are_parts = are_parts;
@@ -340,6 +341,7 @@ module _ (settings : Settings) (cs : List Commit) (last : ℕ) (fault : Option �
         cut = w.parts.cut;
         runs = w.parts.runs;
         each = w.parts.each;
+        logged = refl;
         none_else = are_lost w.lost fault w.are_lost;
         by = subst wrote w.both by;
       }

@@ -228,7 +228,7 @@ module _ (start : ℕ) (opening : Pairs) (k : ℕ) (old : List Commit) (c : Comm
   }
 
   module _ (cs : List Commit) (right : AreAnswered start None cs) (is : commits_of k cs ≡ old ++ c ∷ []) where
-    pub wrote : (settings : Settings) (first end : ℕ) → c.answer ≡ accepted first end → early_refusal settings.batch_bytes (holds_stop (tokens_of k known)) c.records c.options ≡ None → last_of_groups start before < first → end ≤ last_of_groups start after
+    pub wrote : (settings : Settings) (first end : ℕ) → c.answer ≡ accepted first end → early_refusal settings.families settings.batch_bytes (holds_stop (tokens_of k known)) c.records c.options ≡ None → last_of_groups start before < first → end ≤ last_of_groups start after
         → Wrote settings was c.records c.options first end becomes
     wrote settings first end given_is passed above reached =
         let v = subst (IsAnswer (last_after_all start (at start k cs old c right is).front) (fault_after_all None (at start k cs old c right is).front) (count_of c.records)) given_is (answer start k cs old c right is).1 in

@@ -97,9 +97,9 @@ counts r = cond (is_counted r) 1 0
 
 pub made_length : (records : List Record) → length (new_versions records) ≡ count_of records
 made_length [] = refl
-made_length (value key v ∷ records) = let e : count_of (value key v ∷ records) ≡ 1 + count_of records = sum_by-cons counts (value key v) records in let h = made_length records in omega (arith, e, h)
-made_length (deletion key ∷ records) = let e : count_of (deletion key ∷ records) ≡ 1 + count_of records = sum_by-cons counts (deletion key) records in let h = made_length records in omega (arith, e, h)
-made_length (single_deletion key ∷ records) = let e : count_of (single_deletion key ∷ records) ≡ 1 + count_of records = sum_by-cons counts (single_deletion key) records in let h = made_length records in omega (arith, e, h)
+made_length (value family key v ∷ records) = let e : count_of (value family key v ∷ records) ≡ 1 + count_of records = sum_by-cons counts (value family key v) records in let h = made_length records in omega (arith, e, h)
+made_length (deletion family key ∷ records) = let e : count_of (deletion family key ∷ records) ≡ 1 + count_of records = sum_by-cons counts (deletion family key) records in let h = made_length records in omega (arith, e, h)
+made_length (single_deletion family key ∷ records) = let e : count_of (single_deletion family key ∷ records) ≡ 1 + count_of records = sum_by-cons counts (single_deletion family key) records in let h = made_length records in omega (arith, e, h)
 made_length (log_data blob ∷ records) = let e : count_of (log_data blob ∷ records) ≡ 0 + count_of records = sum_by-cons counts (log_data blob) records in let h = made_length records in omega (arith, e, h)
 
 pub numbered_length : (first : ℕ) (vs : List Version) → length (number_from first vs) ≡ length vs

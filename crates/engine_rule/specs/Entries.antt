@@ -43,12 +43,13 @@ entries_after before (c ∷ commits) = entry_after before c ++ entries_after (be
 abbrev pub entries_of : List Commit → List Entry
 entries_of commits = entries_after [] commits
 
--- the trace of the commits, with this history of the controller
-abbrev pub trace_of : ℕ → Pairs → List Commit → List ControllerCall → Trace
-trace_of start opening commits history = record {
+-- the trace of the commits, with these parts of the log and this history of the controller
+abbrev pub trace_of : ℕ → Pairs → List Commit → List (List Entry) → List ControllerCall → Trace
+trace_of start opening commits logged history = record {
   start = start;
   opening = opening;
   entries = entries_of commits;
+  logged = logged;
   controller_calls = history;
 }
 

@@ -40,7 +40,8 @@ pub fn numbers_of_commits()
 pub fn accounts_of_the_commits()
     ensures wrote { (settings : Settings) (k : ClientCall) (commits : List Commit) (c : Commit) (first group_last : ℕ)
         → IsNewest k commits c → HasSeenMore k → IsFree k → c.answer ≡ accepted first group_last
-        → early_refusal settings.batch_bytes (holds_stop (tokens_of k.client k.known)) c.records c.options ≡ None
+        → early_refusal settings.families settings.batch_bytes (holds_stop (tokens_of k.client k.known)) c.records
+        c.options ≡ None
         → last_of k.start k.before < first → group_last ≤ last_of k.start k.after
         → Wrote settings (account_before k) c.records c.options first group_last (account_with k c) }
     // where writes are held up, or the log failed, nothing needs to be known of the other answers
@@ -79,14 +80,16 @@ pub fn synced_commits()
 /// history. And the log was written by exactly the calls that wrote its history.
 pub fn closings()
     ensures closing { (settings : Settings) (ended : ℕ) (s : Standing) (history : List ControllerCall)
-        (accounts : List Account) → IsConsistent settings s → AreAccountsOf settings s history accounts
+        (accounts : List Account) → (is : IsConsistent settings s) → AreAccountsOf settings s history accounts
         → IsLegal history → AreCallsOf settings.clients history → IsPrefix s.asked history
         → RoseInRun settings ended s.fault → (groups : List Group)
-        × IsClosing settings ended (trace_of settings.start settings.opening s.commits history) groups accounts s.last
+        × IsClosing settings ended
+        (trace_of settings.start settings.opening s.commits is.written.parts.parts history) groups accounts s.last
         s.fault }
     // The calls that wrote the history and no others: so no batch is written twice, or apart from its group.
     ensures log { (settings : Settings) (s : Standing) (history : List ControllerCall) (accounts : List Account)
-        → IsConsistent settings s → AreAccountsOf settings s history accounts
+        → (is : IsConsistent settings s) → AreAccountsOf settings s history accounts
         → WritesLog settings.group_bytes (λ (made : List GroupCall). made ≡ s.calls)
-        (trace_of settings.start settings.opening s.commits history) (all_attempts accounts) s.fault }
+        (trace_of settings.start settings.opening s.commits is.written.parts.parts history) (all_attempts accounts)
+        s.fault }
 {}

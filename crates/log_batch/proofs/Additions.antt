@@ -1,17 +1,21 @@
 -- What an addition changes in a batch.
-use Rattle.std.proofs.Common.{◌≡◌, ℕ, ◌+◌, ◌≤◌, List, [], ◌∷◌, ◌++◌, length, take, drop, refl, sym, ◌∙◌, ap, arith, length-append, append_assoc, append-nil}
+use Rattle.std.proofs.Common.{◌≡◌, ℕ, ◌+◌, ◌≤◌, ◌<◌, ◌^◌, IsTrue, flat_map, List, [], ◌∷◌, ◌++◌, length, take, drop, refl, sym, ◌∙◌, ap, arith, length-append, append_assoc, append-nil}
 use Rattle.std.proofs.lemmas.Grind.{flat_map-append, common_steps}
 use Rattle.std.proofs.lemmas.List.Sums.{count_by-le-length}
 use Rattle.std.specs.Int.{w32, w64, to_le_bytes}
 use Rattle.model_base.specs.declared.limits.TheConstants.{MAX_SIZE}
-use Rattle.model_base.specs.Batch.{Record, value, deletion, single_deletion, log_data, is_counted, count_of, header, record_bytes, body, size_of_batch}
+use Rattle.model_base.specs.Batch.{Record, value, deletion, single_deletion, log_data, is_counted, is_tag, tag_of, named_by, strings_of, varstring, count_of, header, record_bytes, family_bytes, body, IsReadable, size_of_batch}
+use Rattle.model_base.specs.Varint.{varint}
+use Rattle.std.specs.List.{AllByRecursion}
+use Rattle.std.specs.Prelude.{Some, None}
+use Rattle.base_bytes.proofs.Records.{AreShort, IsSmall}
 use Rattle.log_batch.specs.Contents.{IsBatch}
 use Rattle.log_batch.specs.OneBatch.{same_records}
 
 -- If a batch's bytes are those of some additions, these are the batch's additions.
-pub records_are : (bytes : List ℕ) (sequence count : ℕ) (h : IsBatch bytes sequence count) (records : List Record) → count ≡ count_of records → bytes ≡ header sequence count ++ body records → h.records ≡ records
-records_are bytes sequence count h records count_is bytes_are =
-    same_records bytes sequence count h (record { records = records; count_is = count_is; bytes_are = bytes_are; fits = h.fits })
+pub records_are : (bytes : List ℕ) (sequence count : ℕ) (h : IsBatch bytes sequence count) (records : List Record) → AllByRecursion IsReadable records → count ≡ count_of records → bytes ≡ header sequence count ++ body records → h.records ≡ records
+records_are bytes sequence count h records readable count_is bytes_are =
+    same_records bytes sequence count h (record { records = records; count_is = count_is; readable = readable; bytes_are = bytes_are; fits = h.fits })
 
 -- The body with one more record.
 pub body-added : (records : List Record) (r : Record) → body (records ++ r ∷ []) ≡ body records ++ record_bytes r
@@ -23,10 +27,39 @@ count_of-added records r = grind (arith, common_steps)
 
 -- A record counts once at most.
 pub counts_once : (r : Record) → count_of (r ∷ []) ≤ 1
-counts_once (value k v) = omega arith
-counts_once (deletion k) = omega arith
-counts_once (single_deletion k) = omega arith
+counts_once (value f k v) = omega arith
+counts_once (deletion f k) = omega arith
+counts_once (single_deletion f k) = omega arith
 counts_once (log_data k) = omega arith
+
+-- strings whose bytes, with their lengths, are fewer than 2 ^ 32 are short
+few_strings : (strings : List (List ℕ)) → length (flat_map varstring strings) < 2 ^ 32 → AreShort strings
+few_strings [] few = tt
+few_strings (s ∷ strings) few =
+    let all = length-append (varstring s) (flat_map varstring strings) in
+    (omega (arith, few, all, length-append (varint (length s)) s), few_strings strings (omega (arith, few, all)))
+
+each_tag : (r : Record) → IsTrue (is_tag (tag_of r))
+each_tag (value None k v) = refl
+each_tag (value (Some f) k v) = refl
+each_tag (deletion None k) = refl
+each_tag (deletion (Some f) k) = refl
+each_tag (single_deletion None k) = refl
+each_tag (single_deletion (Some f) k) = refl
+each_tag (log_data b) = refl
+
+-- A record of few bytes whose family is small is readable.
+pub few_readable : (r : Record) → IsSmall (named_by r) → length (record_bytes r) < 2 ^ 32 → IsReadable r
+few_readable r small few = record {
+  tag = each_tag r;
+  family = small;
+  lengths = few_strings (strings_of r) (omega (arith, few, length-append (family_bytes (named_by r)) (flat_map varstring (strings_of r))));
+}
+
+-- What holds of each of a list and of others holds of all.
+pub all_both : {X : Type 0} (P : X → Type 0) (xs ys : List X) → AllByRecursion P xs → AllByRecursion P ys → AllByRecursion P (xs ++ ys)
+all_both P [] ys all more = more
+all_both P (x ∷ xs) ys all more = (all.0, all_both P xs ys all.1 more)
 
 -- Each record has at least one byte, so there are no more records than bytes.
 pub few_records : (records : List Record) → length records ≤ length (body records)

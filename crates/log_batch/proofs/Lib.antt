@@ -1,4 +1,5 @@
 pub mod Additions
+pub mod Greatest
 pub mod OneRecord
 pub mod OneReading
 pub mod OneAnswer

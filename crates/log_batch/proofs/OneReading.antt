@@ -30,7 +30,7 @@ one_walk [] [] x y read_a read_b none_x none_y same = (refl, same)
 one_walk [] (s ∷ b) x y read_a read_b none_x none_y same = absurd (none_x s (body b ++ y) read_b.0 (same ∙ in_front s b y))
 one_walk (r ∷ a) [] x y read_a read_b none_x none_y same = absurd (none_y r (body a ++ x) read_a.0 (sym same ∙ in_front r a x))
 one_walk (r ∷ a) (s ∷ b) x y read_a read_b none_x none_y same =
-    let first = one_record r s (body a ++ x) (body b ++ y) read_a.0.lengths read_b.0.lengths (sym (in_front r a x) ∙ same ∙ in_front s b y) in
+    let first = one_record r s (body a ++ x) (body b ++ y) read_a.0 read_b.0 (sym (in_front r a x) ∙ same ∙ in_front s b y) in
     let rest = one_walk a b x y read_a.1 read_b.1 none_x none_y first.1 in
     (ap (λ (v : Record). v ∷ a) first.0 ∙ ap (λ (l : List Record). s ∷ l) rest.0, rest.1)
 
@@ -46,7 +46,7 @@ behind_first_of : (bytes : List ℕ) (records : List Record) (r : Record) (rest 
     → (later : IsBody rest) × (records ≡ r ∷ later.records)
 behind_first_of bytes [] r rest read is readable first = absurd (none_in_nothing r rest readable (sym is ∙ first))
 behind_first_of bytes (s ∷ records) r rest read is readable first =
-    let same = one_record s r (body records) rest read.0.lengths readable.lengths (sym is ∙ first) in
+    let same = one_record s r (body records) rest read.0 readable (sym is ∙ first) in
     (record { records = records; readable = read.1; spelled = sym same.1 }, ap (λ (v : Record). v ∷ records) same.0)
 
 -- After the first record come the bytes of the others.

@@ -1,15 +1,16 @@
 //! A batch of additions.
 
-ghost use Rattle.std.specs.Prelude.{◌≡◌, ◌<◌, ◌≤◌, ◌^◌, ◌-◌, length, min, IfOk, OnOk, OnErr, IsOkUnless};
+ghost use Rattle.std.specs.Prelude.{◌≡◌, ◌<◌, ◌≤◌, ◌^◌, ◌-◌, length, min, IfOk, OnOk, OnErr, IsOkUnless, None};
+ghost use Rattle.std.specs.List.{AllByRecursion};
 ghost use Rattle.model_base.specs.Batch as model;
-ghost use Rattle.log_batch.specs.Contents.{IsBatch, empty, with_addition, size_with, with_additions, size_with_all};
-ghost use Rattle.log_batch.specs.OneBatch.{IsBatch-prop};
+ghost use Rattle.model_base.specs.Map.{named};
+ghost use Rattle.log_batch.specs.Contents.{empty, greatest_named, with_addition, size_with, with_additions, size_with_all};
 ghost use Rattle.log_batch.specs.View.{record_of};
 
-use crate::record_bytes::{append_record, size_with_record};
-use crate::record_view::sequences_of;
+use crate::batch_bytes::BatchBytes;
+use crate::record_view::{greatest_of, named};
+use crate::records::greatest_in;
 use crate::{AddError, BatchView, RecordView, Records};
-use base_bytes::Bytes;
 use model_base::{MAX_SIZE, NoMemory};
 use std::alloc::Global;
 use std::marker::Model;
@@ -17,30 +18,26 @@ use std::marker::Model;
 /// The greatest sequence, `kMaxSequenceNumber` of RocksDB's db/dbformat.h.
 pub const MAX_SEQUENCE: u64 = (1 << 56) - 1;
 
-/// How many bytes the header of a batch has: its sequence and its count.
-pub const HEADER_LEN: usize = 12;
-
-/// The place of the count in the header.
-pub const COUNT_AT: usize = 8;
-
 /// A batch of additions. Contracts see its sequence and the additions in order.
 ///
 /// Its bytes are a header of 12 bytes, and then the records of the additions. The header is the sequence in eight
 /// bytes and the count in four, the lowest byte first.
 #[derive(Debug, Drop)]
 pub struct Batch {
-    bytes: Bytes,
-    sequence: u64,
-    count: u32,
-    ghost holds: { IsBatch bytes sequence count } by { IsBatch-prop bytes sequence count },
+    parts: BatchBytes,
+    /// The greatest family that a record is about. So the records needn't be looked at where it is there.
+    greatest: u32,
 }
 
 impl Model for Batch {
-    ghost use Rattle.log_batch.specs.Contents.{Contents};
+    ghost use Rattle.std.specs.Prelude.{◌≡◌};
+    ghost use Rattle.log_batch.specs.Contents.{Contents, greatest_named};
 
     ghost Value = { Contents };
 
-    ghost view = { λ b. record { sequence = b.sequence; records = b.holds.records } };
+    ghost view = { λ b. b.parts };
+
+    ghost invariant = { λ b. b.greatest ≡ greatest_named b.parts.records };
 }
 
 impl Batch {
@@ -49,9 +46,8 @@ impl Batch {
         ensures { IfOk result (λ batch. batch ≡ empty) }
     {
         Ok(Batch {
-            bytes: Bytes::copy(alloc, &[0; HEADER_LEN])?,
-            sequence: 0,
-            count: 0,
+            parts: BatchBytes::new(alloc)?,
+            greatest: 0,
         })
     }
 
@@ -61,40 +57,87 @@ impl Batch {
     /// `TooLarge` with the size that the batch would have; for this a length of 2^32 or more counts as a varint of
     /// five bytes. A refused addition leaves the batch as it was.
     pub fn put(&mut self, key: &[u8], value: &[u8]) -> Result<(), AddError>
-        ensures ok { OnOk result (self.new ≡ with_addition self.old (model.value key.now value.now)) }
+        ensures ok { OnOk result (self.new ≡ with_addition self.old (model.value None key.now value.now)) }
         ensures err { OnErr result (self.new ≡ self.old) }
         // The bound is on the whole batch, with its header. The size is the one that the batch would have, or the
         // greatest `u64`.
-        ensures too_large { let size = size_with self.old (model.value key.now value.now) in
+        ensures too_large { let size = size_with self.old (model.value None key.now value.now) in
             MAX_SIZE < size → result ≡ Err (AddError.TooLarge (min size (2 ^ 64 - 1))) }
         // Where there is room for it, want of memory is the only refusal.
-        ensures fits { size_with self.old (model.value key.now value.now) ≤ MAX_SIZE
+        ensures fits { size_with self.old (model.value None key.now value.now) ≤ MAX_SIZE
             → IsOkUnless result AddError.NoMemory }
     {
-        self.add(RecordView::Value { key, value })
+        self.add(RecordView::Value {
+            family: None,
+            key,
+            value,
+        })
     }
 
     /// Adds a deletion of a key. It is refused as by [`Batch::put`].
     pub fn delete(&mut self, key: &[u8]) -> Result<(), AddError>
-        ensures ok { OnOk result (self.new ≡ with_addition self.old (model.deletion key.now)) }
+        ensures ok { OnOk result (self.new ≡ with_addition self.old (model.deletion None key.now)) }
         ensures err { OnErr result (self.new ≡ self.old) }
-        ensures too_large { let size = size_with self.old (model.deletion key.now) in
+        ensures too_large { let size = size_with self.old (model.deletion None key.now) in
             MAX_SIZE < size → result ≡ Err (AddError.TooLarge (min size (2 ^ 64 - 1))) }
-        ensures fits { size_with self.old (model.deletion key.now) ≤ MAX_SIZE → IsOkUnless result AddError.NoMemory }
+        ensures fits { size_with self.old (model.deletion None key.now) ≤ MAX_SIZE
+            → IsOkUnless result AddError.NoMemory }
     {
-        self.add(RecordView::Deletion { key })
+        self.add(RecordView::Deletion { family: None, key })
     }
 
     /// Adds a single deletion of a key. It is refused as by [`Batch::put`].
     pub fn single_delete(&mut self, key: &[u8]) -> Result<(), AddError>
-        ensures ok { OnOk result (self.new ≡ with_addition self.old (model.single_deletion key.now)) }
+        ensures ok { OnOk result (self.new ≡ with_addition self.old (model.single_deletion None key.now)) }
         ensures err { OnErr result (self.new ≡ self.old) }
-        ensures too_large { let size = size_with self.old (model.single_deletion key.now) in
+        ensures too_large { let size = size_with self.old (model.single_deletion None key.now) in
             MAX_SIZE < size → result ≡ Err (AddError.TooLarge (min size (2 ^ 64 - 1))) }
-        ensures fits { size_with self.old (model.single_deletion key.now) ≤ MAX_SIZE
+        ensures fits { size_with self.old (model.single_deletion None key.now) ≤ MAX_SIZE
             → IsOkUnless result AddError.NoMemory }
     {
-        self.add(RecordView::SingleDeletion { key })
+        self.add(RecordView::SingleDeletion { family: None, key })
+    }
+
+    /// Adds a key of a column family with its value. Where the family is 0, the record names none. It is refused as by
+    /// [`Batch::put`].
+    pub fn put_in(&mut self, family: u32, key: &[u8], value: &[u8]) -> Result<(), AddError>
+        ensures ok { OnOk result (self.new ≡ with_addition self.old (model.value (named family) key.now value.now)) }
+        ensures err { OnErr result (self.new ≡ self.old) }
+        ensures too_large { let size = size_with self.old (model.value (named family) key.now value.now) in
+            MAX_SIZE < size → result ≡ Err (AddError.TooLarge (min size (2 ^ 64 - 1))) }
+        ensures fits { size_with self.old (model.value (named family) key.now value.now) ≤ MAX_SIZE
+            → IsOkUnless result AddError.NoMemory }
+    {
+        let family = named(family);
+        self.add(RecordView::Value { family, key, value })
+    }
+
+    /// Adds a deletion of a key of a column family. Where the family is 0, the record names none. It is refused as by
+    /// [`Batch::put`].
+    pub fn delete_in(&mut self, family: u32, key: &[u8]) -> Result<(), AddError>
+        ensures ok { OnOk result (self.new ≡ with_addition self.old (model.deletion (named family) key.now)) }
+        ensures err { OnErr result (self.new ≡ self.old) }
+        ensures too_large { let size = size_with self.old (model.deletion (named family) key.now) in
+            MAX_SIZE < size → result ≡ Err (AddError.TooLarge (min size (2 ^ 64 - 1))) }
+        ensures fits { size_with self.old (model.deletion (named family) key.now) ≤ MAX_SIZE
+            → IsOkUnless result AddError.NoMemory }
+    {
+        let family = named(family);
+        self.add(RecordView::Deletion { family, key })
+    }
+
+    /// Adds a single deletion of a key of a column family. Where the family is 0, the record names none. It is refused
+    /// as by [`Batch::put`].
+    pub fn single_delete_in(&mut self, family: u32, key: &[u8]) -> Result<(), AddError>
+        ensures ok { OnOk result (self.new ≡ with_addition self.old (model.single_deletion (named family) key.now)) }
+        ensures err { OnErr result (self.new ≡ self.old) }
+        ensures too_large { let size = size_with self.old (model.single_deletion (named family) key.now) in
+            MAX_SIZE < size → result ≡ Err (AddError.TooLarge (min size (2 ^ 64 - 1))) }
+        ensures fits { size_with self.old (model.single_deletion (named family) key.now) ≤ MAX_SIZE
+            → IsOkUnless result AddError.NoMemory }
+    {
+        let family = named(family);
+        self.add(RecordView::SingleDeletion { family, key })
     }
 
     /// Adds log data, which isn't counted and takes no sequence. It is refused as by [`Batch::put`].
@@ -108,26 +151,22 @@ impl Batch {
         self.add(RecordView::LogData { blob })
     }
 
-    /// Appends a record.
-    fn add(&mut self, view: RecordView<'_>) -> Result<(), AddError>
+    /// Adds a record of any kind. It is refused as by [`Batch::put`].
+    pub fn add(&mut self, view: RecordView<'_>) -> Result<(), AddError>
         ensures ok { OnOk result (self.new ≡ with_addition self.old (record_of view.entry)) }
         ensures err { OnErr result (self.new ≡ self.old) }
         ensures too_large { let size = size_with self.old (record_of view.entry) in
             MAX_SIZE < size → result ≡ Err (AddError.TooLarge (min size (2 ^ 64 - 1))) }
         ensures fits { size_with self.old (record_of view.entry) ≤ MAX_SIZE → IsOkUnless result AddError.NoMemory }
     {
-        let size = size_with_record(self.size(), view);
-        if size > MAX_SIZE {
-            return Err(AddError::TooLarge { size });
+        let greatest = self.greatest.max(greatest_of(view));
+        match self.parts.add(view) {
+            Ok(()) => {
+                self.greatest = greatest;
+                Ok(())
+            }
+            Err(why) => Err(why),
         }
-        let len = self.bytes.len();
-        if append_record(&mut self.bytes, view).is_err() {
-            self.bytes.truncate(len);
-            return Err(AddError::NoMemory);
-        }
-        self.count += sequences_of(view);
-        self.bytes.overwrite(COUNT_AT, &self.count.to_le_bytes());
-        Ok(())
     }
 
     /// Appends the records of a batch that was read, in their order (`WriteBatchInternal::Append` of RocksDB's
@@ -141,50 +180,43 @@ impl Batch {
         // As of `put`: want of memory is the only refusal.
         ensures fits { size_with_all self.old other.now.records ≤ MAX_SIZE → IsOkUnless result AddError.NoMemory }
     {
-        let records = other.records();
-        let body = records.bytes();
-        let size = self.size().saturating_add(body.len() as u64);
-        if size > MAX_SIZE {
-            return Err(AddError::TooLarge { size });
+        let greatest = self.greatest.max(greatest_in(other.records()));
+        match self.parts.append(other) {
+            Ok(()) => {
+                self.greatest = greatest;
+                Ok(())
+            }
+            Err(why) => Err(why),
         }
-        if self.bytes.append(body).is_err() {
-            return Err(AddError::NoMemory);
-        }
-        self.count += other.count();
-        self.bytes.overwrite(COUNT_AT, &self.count.to_le_bytes());
-        Ok(())
     }
 
     /// Removes all additions, and sets the sequence to 0.
     pub fn clear(&mut self)
         ensures { self.new ≡ empty }
     {
-        self.bytes.truncate(HEADER_LEN);
-        self.bytes.overwrite(0, &[0; HEADER_LEN]);
-        self.sequence = 0;
-        self.count = 0;
+        self.parts.clear();
+        self.greatest = 0;
     }
 
     /// The sequence of the first addition that counts.
     pub fn sequence(&self) -> u64
         ensures { result ≡ self.now.sequence }
     {
-        self.sequence
+        self.parts.sequence()
     }
 
     /// Gives the batch another sequence, and changes nothing else.
     pub fn set_sequence(&mut self, sequence: u64)
         ensures { self.new ≡ record self.old { sequence = sequence } }
     {
-        self.sequence = sequence;
-        self.bytes.overwrite(0, &sequence.to_le_bytes());
+        self.parts.set_sequence(sequence);
     }
 
     /// How many additions count. Each of these takes a sequence.
     pub fn count(&self) -> u32
         ensures { result ≡ model.count_of self.now.records }
     {
-        self.count
+        self.parts.count()
     }
 
     /// How many bytes the batch has.
@@ -192,7 +224,14 @@ impl Batch {
         ensures value { result ≡ model.size_of_batch self.now.records }
         ensures limit { result ≤ MAX_SIZE }
     {
-        self.bytes.len() as u64
+        self.parts.size()
+    }
+
+    /// The greatest family that a record of the batch is about, or 0 if they are about none.
+    pub fn greatest_family(&self) -> u32
+        ensures { result ≡ greatest_named self.now.records }
+    {
+        self.greatest
     }
 
     /// The bytes of the batch.
@@ -200,14 +239,16 @@ impl Batch {
         // These are the bytes that RocksDB's db/write_batch.cc gives for these records and this sequence.
         ensures { result.now ≡ model.batch self.now.sequence self.now.records }
     {
-        self.bytes.as_slice()
+        self.parts.bytes()
     }
 
     /// The additions in order, as parts of the batch's bytes.
     pub fn records(&self) -> Records<'_>
         ensures value { result ≡ self.now.records }
         ensures bound { length result < 2 ^ 64 }
+        // Each can be read back: the family that it names fits into 32 bits, and so do the lengths of its strings.
+        ensures readable { AllByRecursion model.IsReadable self.now.records }
     {
-        Records::of_body(&self.bytes.as_slice()[HEADER_LEN..])
+        self.parts.records()
     }
 }

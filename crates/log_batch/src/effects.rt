@@ -6,11 +6,11 @@ ghost use Rattle.log_batch.specs.View.{record_of};
 
 use crate::record_view::RecordView;
 use crate::records::Records;
-use base_maps::ByteMap;
+use base_maps::FamilyMap;
 use model_base::NoMemory;
 
 /// Changes a map as records say, in their order. If memory runs out, it stops after some of them, perhaps none.
-pub fn write_records(map: &mut ByteMap, records: Records<'_>) -> Result<(), NoMemory>
+pub fn write_records(map: &mut FamilyMap, records: Records<'_>) -> Result<(), NoMemory>
     ensures ok { OnOk result (map.new ≡ after_records map.old records.entry) }
     // Some of the records were written, from the first on, and never all: so the map is of no use to who needs all of
     // them.
@@ -27,14 +27,18 @@ pub fn write_records(map: &mut ByteMap, records: Records<'_>) -> Result<(), NoMe
 
 /// Changes a map as a record says: a value is set at its key, a deletion removes its key, and log data changes
 /// nothing. If memory runs out, the map stays as it was.
-pub fn write_record(map: &mut ByteMap, view: RecordView<'_>) -> Result<(), NoMemory>
+pub fn write_record(map: &mut FamilyMap, view: RecordView<'_>) -> Result<(), NoMemory>
     ensures ok { OnOk result (map.new ≡ after_record map.old (record_of view.entry)) }
     ensures err { OnErr result (map.new ≡ map.old) }
 {
     match view {
-        RecordView::Value { key, value } => map.insert(key, value),
-        RecordView::Deletion { key } | RecordView::SingleDeletion { key } => {
-            map.remove(key);
+        RecordView::Value { family, key, value } => map.insert(family.unwrap_or(0), key, value),
+        RecordView::Deletion { family, key } => {
+            map.remove(family.unwrap_or(0), key);
+            Ok(())
+        }
+        RecordView::SingleDeletion { family, key } => {
+            map.remove(family.unwrap_or(0), key);
             Ok(())
         }
         RecordView::LogData { .. } => Ok(()),

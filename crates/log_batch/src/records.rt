@@ -4,10 +4,11 @@ ghost use Rattle.std.specs.Prelude.{◌≡◌, ◌<◌, ◌^◌, ℕ, List, ◌+
 ghost use Rattle.std.specs.List.{AllByRecursion};
 ghost use Rattle.model_base.specs.Batch as model;
 ghost use Rattle.log_batch.specs.Body.{IsBody};
+ghost use Rattle.log_batch.specs.Contents.{greatest_named};
 ghost use Rattle.log_batch.specs.OneBody.{IsBody-prop};
 
 use crate::RecordView;
-use crate::record_view::sequences_of;
+use crate::record_view::{greatest_of, sequences_of};
 use crate::split::split_record;
 use model_base::BatchError;
 use std::marker::Model;
@@ -67,7 +68,8 @@ impl<'a> Records<'a> {
 
     /// The bytes of the records that are left.
     pub(crate) fn bytes(&self) -> &'a [u8]
-        ensures { result.now ≡ model.body self.now }
+        ensures spelled { result.now ≡ model.body self.now }
+        ensures readable { AllByRecursion model.IsReadable self.now }
     {
         self.rest
     }
@@ -108,4 +110,16 @@ fn count_records(bytes: &[u8]) -> Result<u64, BatchError>
         rest = behind;
     }
     Ok(found)
+}
+
+/// The greatest family that records are about, or 0 if they are about none.
+pub(crate) fn greatest_in(records: Records<'_>) -> u32
+    ensures { result ≡ greatest_named records.entry }
+{
+    let mut greatest: u32 = 0;
+    // It is that of the records before those that are left.
+    for view in records {
+        greatest = greatest.max(greatest_of(view));
+    }
+    greatest
 }

@@ -4,7 +4,7 @@ ghost use Rattle.std.specs.Prelude.{◌≡◌, ◌<◌, ◌^◌, ℕ, List, leng
 ghost use Rattle.model_base.specs.Batch as model;
 
 use crate::Records;
-use crate::batch::{COUNT_AT, HEADER_LEN};
+use crate::batch_bytes::{COUNT_AT, HEADER_LEN};
 use crate::records::records_of;
 use base_bytes::{get_fixed32, get_fixed64};
 use model_base::BatchError;

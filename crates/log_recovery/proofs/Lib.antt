@@ -6,6 +6,8 @@ pub mod Keeping
 pub mod Recovers
 pub mod Telling
 pub mod Numbered
+pub mod Picking
+pub mod UpdateSteps
 pub mod Zeros
 pub mod CutOff
 pub mod Accepting

@@ -15,9 +15,9 @@ one_more r records = sum_by-append (λ x. cond (is_counted x) 1 0) (r ∷ []) re
 -- records of which none counts change no key
 none_counted : (m : Pairs) (records : List Record) → count_of records ≡ 0 → after_records m records ≡ m
 none_counted m [] none = refl
-none_counted m (value key v ∷ records) none = let more : count_of (value key v ∷ records) ≡ 1 + count_of records = one_more (value key v) records in absurd (omega (arith, more, none))
-none_counted m (deletion key ∷ records) none = let more : count_of (deletion key ∷ records) ≡ 1 + count_of records = one_more (deletion key) records in absurd (omega (arith, more, none))
-none_counted m (single_deletion key ∷ records) none = let more : count_of (single_deletion key ∷ records) ≡ 1 + count_of records = one_more (single_deletion key) records in absurd (omega (arith, more, none))
+none_counted m (value f key v ∷ records) none = let more : count_of (value f key v ∷ records) ≡ 1 + count_of records = one_more (value f key v) records in absurd (omega (arith, more, none))
+none_counted m (deletion f key ∷ records) none = let more : count_of (deletion f key ∷ records) ≡ 1 + count_of records = one_more (deletion f key) records in absurd (omega (arith, more, none))
+none_counted m (single_deletion f key ∷ records) none = let more : count_of (single_deletion f key ∷ records) ≡ 1 + count_of records = one_more (single_deletion f key) records in absurd (omega (arith, more, none))
 none_counted m (log_data blob ∷ records) none = let same : count_of (log_data blob ∷ records) ≡ 0 + count_of records = one_more (log_data blob) records in none_counted m records (omega (arith, same, none))
 
 after_batch : (m : Pairs) (last : ℕ) (b : Logged) → MayFollow last b → IsNumbered m last → IsNumbered (after_records m b.records) (last_after last b)

@@ -81,7 +81,7 @@ refuses_read number file before kept place start end in_hand bytes why there byt
     refuses_record number file before kept r.fragments bytes (record { at = start; why = why }) front r.one (subst (λ n. HasFragments number file n r.fragments) (sym there) r.stand) (bytes_are ∙ r.bytes_are) (r.starts ∙ ap (next_place number) (sym there)) refuses
 
 -- What is kept of a log before which nothing was kept is what is recovered from it.
-is_recovered : (number : Option ℕ) (file : List ℕ) (r : Recovered) → IsRecoveredAfter 0 number file r → IsRecovered number file r
+pub is_recovered : (number : Option ℕ) (file : List ℕ) (r : Recovered) → IsRecoveredAfter 0 number file r → IsRecovered number file r
 is_recovered number file r is = record {
   keeps = record { within = is.keeps.within; spelled = is.keeps.spelled; are_batches = is.keeps.are_batches; in_order = is.keeps.in_order };
   most = λ kept bs k. is.most kept bs (record { within = k.within; spelled = k.spelled; are_batches = k.are_batches; in_order = k.in_order });

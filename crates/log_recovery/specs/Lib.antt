@@ -2,3 +2,4 @@ pub mod Keeping
 pub mod Modes
 pub mod Recovering
 pub mod RecoveringLogs
+pub mod Updating

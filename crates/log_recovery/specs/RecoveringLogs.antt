@@ -108,8 +108,8 @@ abbrev pub CountNone : {D : Type 0} → (D → ℕ) → List D → List D → Ty
 CountNone faults olds news = AllZip (λ old new. faults new ≡ faults old) olds news
 
 -- Why several logs were not recovered: a disk failed, so that the count of all disks rose, and that count is told; or
--- there was no memory, and no disk failed; or the end is damage, no disk failed, and the mode isn't the one that accepts
--- any end (`TellDamage` says more).
+-- there was no memory, and no disk failed; or the end is damage, no disk failed, and the mode isn't the one that
+-- accepts any end (`TellDamage` says more).
 abbrev pub IsErrorOfLogs : {D : Type 0} → Mode → (D → ℕ) → List D → List D → RecoverError → Type 0
 IsErrorOfLogs mode faults olds news (Fault count) =
     Rose (count_in_all faults olds) count × (count ≡ count_in_all faults news)

@@ -6,7 +6,7 @@ ghost use Rattle.model_base.specs.Recovery.{RecordEnds};
 ghost use Rattle.model_base.specs.Map.{after_records};
 ghost use Rattle.log_recovery.specs.Keeping.{Adds, Refuses, MayRun, IsRunEnd};
 
-use base_maps::ByteMap;
+use base_maps::FamilyMap;
 use log_batch::{MAX_SEQUENCE, read_batch, write_records};
 use model_base::{BatchError, EndReason, NoMemory};
 use std::alloc::Global;
@@ -24,7 +24,7 @@ pub struct GroupNote {
 #[derive(Drop)]
 pub struct Kept {
     pub groups: Vec<GroupNote>,
-    pub map: ByteMap,
+    pub map: FamilyMap,
     /// The last sequence, 0 before the first.
     pub last: u64,
     /// The offset after these records.
@@ -41,7 +41,7 @@ impl Kept {
     {
         Kept {
             groups: Vec::new(alloc),
-            map: ByteMap::new(alloc),
+            map: FamilyMap::new(alloc),
             last: 0,
             end: 0,
         }
@@ -75,7 +75,7 @@ impl Kept {
 }
 
 /// Why a record that is no batch ends recovery.
-fn end_of(error: BatchError) -> EndReason
+pub fn end_of(error: BatchError) -> EndReason
     ensures { (last : ℕ) (bytes : List ℕ) → IsBatchError bytes error → RecordEnds last bytes result }
 {
     match error {
@@ -87,7 +87,7 @@ fn end_of(error: BatchError) -> EndReason
 }
 
 /// Why a run of `count` sequences can't follow the last one, if it can't.
-fn run_end(last: u64, first: u64, count: u32) -> Option<EndReason>
+pub fn run_end(last: u64, first: u64, count: u32) -> Option<EndReason>
     ensures { MatchOption result (MayRun last first count) (IsRunEnd last first count) }
 {
     if count == 0 {
@@ -102,7 +102,7 @@ fn run_end(last: u64, first: u64, count: u32) -> Option<EndReason>
 }
 
 /// The last sequence after a run of `count` sequences, which may follow.
-fn last_after(last: u64, first: u64, count: u32) -> u64
+pub fn last_after(last: u64, first: u64, count: u32) -> u64
     requires { MayRun last first count }
     ensures { result ≡ (if count == 0 then last else first + count - 1) }
 {

@@ -13,9 +13,13 @@
 mod kept;
 mod many;
 mod modes;
+mod picked;
 mod recovery;
+mod since;
 
 pub use kept::GroupNote;
 pub use many::{RecoveredMany, recover_many};
 pub use modes::Mode;
+pub use picked::Updates;
 pub use recovery::{End, RecoverError, Recovered, recover, recover_mode};
+pub use since::updates;

@@ -14,16 +14,17 @@ use crate::kept::{GroupNote, Kept};
 use crate::modes::{Mode, accepts};
 use crate::recovery::{End, RecoverError, keep_log};
 use base_devices::{Disk, count_faults};
-use base_maps::ByteMap;
+use base_maps::FamilyMap;
 use model_base::EndReason;
 use std::alloc::Global;
 
 /// What is recovered from several logs: the groups that are kept, the map and the last sequence of all their records.
-/// Then in which log recovery ended, counted from 1, the offset in that log after what is kept, and the end of recovery.
+/// Then in which log recovery ended, counted from 1, the offset in that log after what is kept, and the end of
+/// recovery.
 #[derive(Drop)]
 pub struct RecoveredMany {
     pub groups: Vec<GroupNote>,
-    pub map: ByteMap,
+    pub map: FamilyMap,
     pub last: u64,
     pub log: u64,
     pub kept: u64,
@@ -34,8 +35,8 @@ pub struct RecoveredMany {
 /// before it ended clean, and the sequences and the map go on from log to log. The mode is asked about the end of the
 /// log in which reading ended.
 ///
-/// A log after the first is asked for its length, and isn't read if that is 0: a file that isn't there has no bytes, and
-/// can't be read. The count of a `Fault` is that of all disks.
+/// A log after the first is asked for its length, and isn't read if that is 0: a file that isn't there has no bytes,
+/// and can't be read. The count of a `Fault` is that of all disks.
 pub fn recover_many<D: Disk>(
     alloc: Global,
     disks: &mut [D],

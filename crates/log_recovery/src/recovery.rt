@@ -9,7 +9,7 @@ ghost use Rattle.log_recovery.specs.Recovering.{HasKept, HasRecovered, IsNumbere
 use crate::kept::{GroupNote, Kept};
 use crate::modes::{Mode, accepts};
 use base_devices::Disk;
-use base_maps::ByteMap;
+use base_maps::FamilyMap;
 use log_reader::{LogReader, Next};
 use model_base::{EndReason, NoMemory};
 use std::alloc::Global;
@@ -26,7 +26,7 @@ pub struct End {
 #[derive(Drop)]
 pub struct Recovered {
     pub groups: Vec<GroupNote>,
-    pub map: ByteMap,
+    pub map: FamilyMap,
     pub last: u64,
     pub kept: u64,
     pub end: End,
@@ -38,8 +38,8 @@ pub enum RecoverError {
     /// The disk failed, and this is its count of faults.
     Fault { count: u64 },
     NoMemory,
-    /// Recovery ends in this log, counted from 1 where there are several, at this offset for this reason, which the mode
-    /// doesn't accept.
+    /// Recovery ends in this log, counted from 1 where there are several, at this offset for this reason, which the
+    /// mode doesn't accept.
     Damage { log: u64, at: u64, why: EndReason },
 }
 

@@ -8,7 +8,7 @@ use Rattle.model_base.specs.Tokens.{tokens_of}
 use Rattle.model_base.specs.Trace.{Trace, Settings}
 use Rattle.model_base.specs.Groups.{Group, AreStatuses}
 use Rattle.model_base.specs.Calls.{Command, Call}
-use Rattle.model_base.specs.Outcomes.{entries_of_client, outcome_of, IsLegalTranscript, IsLegalIn}
+use Rattle.model_base.specs.Outcomes.{entries_of_client, outcome_of, IsLegalTranscript, IsLegalIn, AreOwnFaults, read_faults_in}
 use Rattle.model_accounts.specs.Accounts.{Account}
 use Rattle.model_accounts.specs.Closing.{all_attempts, IsAccountOf, IsClosing}
 use Rattle.model_accounts.specs.ClientRuns.{HasRun, HaveRun}
@@ -27,9 +27,9 @@ transcript_closes settings trace groups parts fault client commands calls a is_h
 }
 
 pub closing : (settings : Settings) (ended : ℕ) (script : List (List Command)) (transcripts : List (List Call)) (accounts : List Account) (trace : Trace) (groups : List Group) (last : ℕ) (log_lens : List ℕ)
-    (fault : Option ℕ) → settings.clients ≡ length script → HaveRun settings script transcripts accounts → IsClosing settings ended trace groups accounts last fault
+    (fault : Option ℕ) → settings.clients ≡ length script → HaveRun settings script transcripts accounts → AreOwnFaults ended fault (read_faults_in transcripts) → IsClosing settings ended trace groups accounts last fault
     → IsLegalIn settings ended script trace (all_attempts accounts) (outcome_of trace transcripts last log_lens fault)
-closing settings ended script transcripts accounts trace groups last log_lens fault clients runs close = record {
+closing settings ended script transcripts accounts trace groups last log_lens fault clients runs own close = record {
   is_trace = close.is_trace;
   history = refl;
   clients = clients;
@@ -49,6 +49,7 @@ closing settings ended script transcripts accounts trace groups last log_lens fa
   last = close.last_is;
   state = refl;
   fault = close.fault_is;
+  read_faults = own;
 }
   where
     none_left : (i : ℕ) (commands : List Command) → slice_get script i ≡ Some commands → (length accounts ≤ i) × (slice_get accounts i ≡ None) → ⊥

@@ -4,17 +4,19 @@ use Rattle.std.proofs.Common.{◌≡◌, ◌⊎◌, inl, inr, ℕ, ◌+◌, ◌�
 use Rattle.std.proofs.lemmas.Option.{slice_get_cases}
 use Rattle.model_base.specs.declared.write.WriteOptions.{WriteOptions}
 use Rattle.model_base.specs.declared.write.Refusal.{Refusal}
-use Rattle.model_base.specs.declared.write.Refusal.TheVariants.{Empty, TooLarge, SyncWithoutLog, SelfStop, NoMemory}
+use Rattle.model_base.specs.declared.write.Refusal.TheVariants.{Empty, TooLarge, SyncWithoutLog, SelfStop, NoMemory, NoFamily}
 use Rattle.model_base.specs.Batch.{Record, count_of, size_of_batch}
-use Rattle.model_base.specs.Map.{Pairs, value_at, rows_within}
+use Rattle.model_base.specs.declared.key.Key.{Key}
+use Rattle.model_base.specs.Map.{Pairs, Rows, value_at, rows_within}
 use Rattle.model_base.specs.History.{Entry}
 use Rattle.model_base.specs.Controller as controller
 use Rattle.model_base.specs.Controller.{ControllerCall, Action}
 use Rattle.model_base.specs.Tokens.{holds_stop, holds_slow}
 use Rattle.model_base.specs.Trace.{Trace, Settings}
 use Rattle.model_base.specs.Attempts.{Attempt}
-use Rattle.model_base.specs.Progress.{Progress, early_refusal}
-use Rattle.model_base.specs.Replies.{IsAttempted, ReadsAt, Replies, Stays, IsDone}
+use Rattle.std.specs.Option.{option_map_or}
+use Rattle.model_base.specs.Progress.{Progress, families_in, first_missing, early_refusal}
+use Rattle.model_base.specs.Replies.{IsAttempted, ReadsAt, Gets, GetsMany, Scans, IfThere, Replies, Stays, IsDone}
 use Rattle.model_base.specs.Calls.{Command, add, clear, commit, get, many, scan, stop, unstop, slow, unslow, Reply, quiet, accepted, refused, found, found_each, rows, done, held, not_held}
 use Rattle.model_base.proofs.Prefixes.{prefix_length}
 use Rattle.model_base.proofs.Runs.{later_in, refuse_in}
@@ -81,9 +83,9 @@ module _ (settings : Settings) (v : Account) (pending : List Record) where
       ))
 
   pub goes_refused : (how : WriteOptions) (why : Refusal) (w : Account) → (why ≡ NoMemory → ⊥) → Refuses settings v pending how why w → Goes settings v pending (commit how) (refused why) w pending
-  goes_refused how why w other refuses = by_check (early_refusal settings.batch_bytes (holds_stop v.asked) pending how) refl refuses
+  goes_refused how why w other refuses = by_check (early_refusal settings.families settings.batch_bytes (holds_stop v.asked) pending how) refl refuses
     where
-      by_check : (o : Option Refusal) → early_refusal settings.batch_bytes (holds_stop v.asked) pending how ≡ o
+      by_check : (o : Option Refusal) → early_refusal settings.families settings.batch_bytes (holds_stop v.asked) pending how ≡ o
           → MatchOption o (((why ≡ NoMemory) × Keeps v w) ⊎ IsRefused v pending how why w) (λ (early : Refusal). (why ≡ early) × Keeps v w) → Goes settings v pending (commit how) (refused why) w pending
       by_check None e (inl short) = absurd (other short.0)
       by_check None e (inr r) =
@@ -127,14 +129,44 @@ module _ (settings : Settings) (v : Account) (pending : List Record) where
     λ trace is_history saw. right trace shown (reads_end w at answers k r shown low trace is_history saw),
   ))
 
-  pub goes_get : (key : List ℕ) (at : ℕ) (value : Option (List ℕ)) (w : Account) → Keeps v w → Reads at (λ m. value ≡ value_at m key) w → Goes settings v pending (get key) (found at value) w pending
-  goes_get key at value w k r = read_on (get key) (found at value) w at (λ m. value ≡ value_at m key) k r (λ trace shown h. h)
+  -- a read of families that are all there, and of one that isn't
+  all_there : (named : List ℕ) (p : Progress) (reply : Reply) (q : Progress) (answered : Type 0) → first_missing settings.families named ≡ None → answered → IfThere settings named p reply q answered
+  all_there named p reply q answered there is = subst (λ missing. MatchOption missing answered (λ family. (reply ≡ refused (NoFamily family)) × Stays p q)) (sym there) is
 
-  pub goes_many : (keys : List (List ℕ)) (at : ℕ) (values : List (Option (List ℕ))) (w : Account) → Keeps v w → Reads at (λ m. values ≡ map (value_at m) keys) w → Goes settings v pending (many keys) (found_each at values) w pending
-  goes_many keys at values w k r = read_on (many keys) (found_each at values) w at (λ m. values ≡ map (value_at m) keys) k r (λ trace shown h. h)
+  one_missing : (named : List ℕ) (family : ℕ) (p q : Progress) (answered : Type 0) → first_missing settings.families named ≡ Some family → Stays p q → IfThere settings named p (refused (NoFamily family)) q answered
+  one_missing named family p q answered missing same = subst (λ m. MatchOption m answered (λ other. (refused (NoFamily family) ≡ refused (NoFamily other)) × Stays p q)) (sym missing) (refl, same)
 
-  pub goes_scan : (lo hi : List ℕ) (at : ℕ) (pairs : Pairs) (w : Account) → Keeps v w → Reads at (λ m. pairs ≡ rows_within lo hi m) w → Goes settings v pending (scan lo hi) (rows at pairs) w pending
-  goes_scan lo hi at pairs w k r = read_on (scan lo hi) (rows at pairs) w at (λ m. pairs ≡ rows_within lo hi m) k r (λ trace shown h. h)
+  pub goes_get : (key : Key) (at : ℕ) (value : Option (List ℕ)) (w : Account) → first_missing settings.families (key.family ∷ []) ≡ None → Keeps v w → Reads at (λ m. value ≡ value_at m key) w → Goes settings v pending (get key) (found at value) w pending
+  goes_get key at value w there k r = read_on (get key) (found at value) w at (λ m. value ≡ value_at m key) k r
+      (λ trace shown h. all_there (key.family ∷ []) (progress_at v pending shown) (found at value) (progress_at w pending at) (Gets trace (progress_at v pending shown) key (found at value) (progress_at w pending at)) there h)
+
+  pub goes_many : (keys : List Key) (at : ℕ) (values : List (Option (List ℕ))) (w : Account) → first_missing settings.families (map (λ (x : Key). x.family) keys) ≡ None → Keeps v w → Reads at (λ m. values ≡ map (value_at m) keys) w → Goes settings v pending (many keys) (found_each at values) w pending
+  goes_many keys at values w there k r = read_on (many keys) (found_each at values) w at (λ m. values ≡ map (value_at m) keys) k r
+      (λ trace shown h. all_there (map (λ (x : Key). x.family) keys) (progress_at v pending shown) (found_each at values) (progress_at w pending at) (GetsMany trace (progress_at v pending shown) keys (found_each at values) (progress_at w pending at)) there h)
+
+  pub goes_scan : (family : ℕ) (lo hi : List ℕ) (at : ℕ) (pairs : Rows) (w : Account) → first_missing settings.families (family ∷ []) ≡ None → Keeps v w → Reads at (λ m. pairs ≡ rows_within family lo hi m) w → Goes settings v pending (scan family lo hi) (rows at pairs) w pending
+  goes_scan family lo hi at pairs w there k r = read_on (scan family lo hi) (rows at pairs) w at (λ m. pairs ≡ rows_within family lo hi m) k r
+      (λ trace shown h. all_there (family ∷ []) (progress_at v pending shown) (rows at pairs) (progress_at w pending at) (Scans trace (progress_at v pending shown) family lo hi (rows at pairs) (progress_at w pending at)) there h)
+
+  -- a read that is refused changes nothing, and shows nothing more
+  read_refused : (c : Command) (named : List ℕ) (family : ℕ) (w : Account) (answered : Trace → Progress → Progress → Type 0) → first_missing settings.families named ≡ Some family → Keeps v w
+      → ((trace : Trace) (p q : Progress) → IfThere settings named p (refused (NoFamily family)) q (answered trace p q) → Replies settings trace v.number p c (refused (NoFamily family)) q)
+      → Goes settings v pending c (refused (NoFamily family)) w pending
+  read_refused c named family w answered missing k right = goes_by settings v pending c (refused (NoFamily family)) w pending k.number k.seen (λ shown low. (
+    shown,
+    (let rises = last_rises v.seen w.seen k.seen in omega (arith, rises, low)),
+    λ trace is_history saw. right trace (progress_at v pending shown) (progress_at w pending shown)
+        (one_missing named family (progress_at v pending shown) (progress_at w pending shown) (answered trace (progress_at v pending shown) (progress_at w pending shown)) missing (stays v w k pending shown)),
+  ))
+
+  pub goes_get_refused : (key : Key) (family : ℕ) (w : Account) → first_missing settings.families (key.family ∷ []) ≡ Some family → Keeps v w → Goes settings v pending (get key) (refused (NoFamily family)) w pending
+  goes_get_refused key family w missing k = read_refused (get key) (key.family ∷ []) family w (λ trace p q. Gets trace p key (refused (NoFamily family)) q) missing k (λ trace p q s. s)
+
+  pub goes_many_refused : (keys : List Key) (family : ℕ) (w : Account) → first_missing settings.families (map (λ (x : Key). x.family) keys) ≡ Some family → Keeps v w → Goes settings v pending (many keys) (refused (NoFamily family)) w pending
+  goes_many_refused keys family w missing k = read_refused (many keys) (map (λ (x : Key). x.family) keys) family w (λ trace p q. GetsMany trace p keys (refused (NoFamily family)) q) missing k (λ trace p q s. s)
+
+  pub goes_scan_refused : (named : ℕ) (lo hi : List ℕ) (family : ℕ) (w : Account) → first_missing settings.families (named ∷ []) ≡ Some family → Keeps v w → Goes settings v pending (scan named lo hi) (refused (NoFamily family)) w pending
+  goes_scan_refused named lo hi family w missing k = read_refused (scan named lo hi) (named ∷ []) family w (λ trace p q. Scans trace p named lo hi (refused (NoFamily family)) q) missing k (λ trace p q s. s)
 
   -- a call of the controller that was answered `done`
   asks_done : (a : Action) (w : Account) → Asks v a w → (shown : ℕ) → InEachTrace w.seen (λ trace. IsDone trace v.number (progress_at v pending shown) a (progress_at w pending shown))
@@ -183,26 +215,31 @@ none_is_memory : (b : Bool) (x y : Option Refusal) → (x ≡ Some NoMemory → 
 none_is_memory true x y p q e = p e
 none_is_memory false x y p q e = q e
 
-early_is_other : (batch_bytes : ℕ) (stopping : Bool) (records : List Record) (how : WriteOptions) → early_refusal batch_bytes stopping records how ≡ Some NoMemory → ⊥
-early_is_other batch_bytes stopping records how =
+family_is_other : (missing : Option ℕ) (x : Option Refusal) → (x ≡ Some NoMemory → ⊥) → option_map_or (λ family. Some (NoFamily family)) missing x ≡ Some NoMemory → ⊥
+family_is_other None x p e = p e
+family_is_other (Some family) x p e = absurd (cc e)
+
+early_is_other : (families batch_bytes : ℕ) (stopping : Bool) (records : List Record) (how : WriteOptions) → early_refusal families batch_bytes stopping records how ≡ Some NoMemory → ⊥
+early_is_other families batch_bytes stopping records how =
     let empty : Some Empty ≡ Some NoMemory → ⊥ = λ e. absurd (cc e) in
     let large : Some (TooLarge (size_of_batch records)) ≡ Some NoMemory → ⊥ = λ e. absurd (cc e) in
     let both : Some SyncWithoutLog ≡ Some NoMemory → ⊥ = λ e. absurd (cc e) in
     let self : Some SelfStop ≡ Some NoMemory → ⊥ = λ e. absurd (cc e) in
     let nothing : Option Refusal = None in
     let none : nothing ≡ Some NoMemory → ⊥ = λ e. absurd (cc e) in
-    none_is_memory _ _ _ empty (none_is_memory _ _ _ large (none_is_memory _ _ _ both (none_is_memory _ _ _ self none)))
+    none_is_memory _ _ _ empty (none_is_memory _ _ _ large (none_is_memory _ _ _ both
+    (family_is_other (first_missing families (families_in records)) _ (none_is_memory _ _ _ self none))))
 
 lacked : (settings : Settings) (v : Account) (pending : List Record) (how : WriteOptions) (w : Account) → Refuses settings v pending how NoMemory w
-    → (early_refusal settings.batch_bytes (holds_stop v.asked) pending how ≡ None) × Keeps v w
-lacked settings v pending how w refuses = by_check (early_refusal settings.batch_bytes (holds_stop v.asked) pending how) refl refuses
+    → (early_refusal settings.families settings.batch_bytes (holds_stop v.asked) pending how ≡ None) × Keeps v w
+lacked settings v pending how w refuses = by_check (early_refusal settings.families settings.batch_bytes (holds_stop v.asked) pending how) refl refuses
   where
-    by_check : (o : Option Refusal) → early_refusal settings.batch_bytes (holds_stop v.asked) pending how ≡ o
+    by_check : (o : Option Refusal) → early_refusal settings.families settings.batch_bytes (holds_stop v.asked) pending how ≡ o
         → MatchOption o (((NoMemory ≡ NoMemory) × Keeps v w) ⊎ IsRefused v pending how NoMemory w) (λ (early : Refusal). (NoMemory ≡ early) × Keeps v w)
-        → (early_refusal settings.batch_bytes (holds_stop v.asked) pending how ≡ None) × Keeps v w
+        → (early_refusal settings.families settings.batch_bytes (holds_stop v.asked) pending how ≡ None) × Keeps v w
     by_check None e (inl short) = (e, short.1)
     by_check None e (inr r) = absurd r.may
-    by_check (Some early) e s = absurd (early_is_other settings.batch_bytes (holds_stop v.asked) pending how (e ∙ ap Some (sym s.0)))
+    by_check (Some early) e s = absurd (early_is_other settings.families settings.batch_bytes (holds_stop v.asked) pending how (e ∙ ap Some (sym s.0)))
 
 pub lacks_commit : (settings : Settings) (v : Account) (pending : List Record) (how : WriteOptions) (w : Account) → Refuses settings v pending how NoMemory w → Lacks settings v pending (commit how) w
 lacks_commit settings v pending how w refuses = let l = lacked settings v pending how w refuses in record { keeps = l.1; may = λ shown. l.0 }

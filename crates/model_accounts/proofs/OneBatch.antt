@@ -65,8 +65,8 @@ gives_back = record { number = refl; mine = refl; ends = refl; asked = refl; att
 
 has_run_once : HasRun settings 1 commands calls after
 has_run_once =
-    let first = went_more settings [] before [] (add (value (codes "a") (codes "1"))) quiet before _ (went_none settings 0 [] 1) (goes_add settings before [] (value (codes "a") (codes "1"))) in
-    let second = went_more settings _ before _ (add (value (codes "b") (codes "2"))) quiet before two_records first (goes_add settings before _ (value (codes "b") (codes "2"))) in
+    let first = went_more settings [] before [] (add (value None (codes "a") (codes "1"))) quiet before _ (went_none settings 0 [] 1) (goes_add settings before [] (value None (codes "a") (codes "1"))) in
+    let second = went_more settings _ before _ (add (value None (codes "b") (codes "2"))) quiet before two_records first (goes_add settings before _ (value None (codes "b") (codes "2"))) in
     let third = went_more settings _ before two_records (commit plain) (accepted 1 2 two_records) after [] second (goes_accepted settings before two_records plain 1 2 2 after refl wrote) in
     has_run settings calls after [] after third gives_back
 
@@ -124,6 +124,7 @@ closing = record {
     start = refl;
     opening = refl;
     entries = (record { counted = refl; some = lit≤ tt; first = refl; fits = lit≤ tt }, tt);
+    logged = record { cut = refl; none_empty = (lit≤ tt, tt); runs = (tt, tt) };
     controller_calls = (refl, tt);
     clients = ((lit≤ tt, lit≤ tt), tt);
     tokens = ((λ token. absurd (cc token)), tt);

@@ -84,6 +84,7 @@ closing = record {
     start = refl;
     opening = refl;
     entries = (record { counted = refl; some = lit≤ tt; first = refl; fits = lit≤ tt }, (record { counted = refl; some = lit≤ tt; first = refl; fits = lit≤ tt }, tt));
+    logged = record { cut = refl; none_empty = (lit≤ tt, tt); runs = ((record { counted = refl; some = lit≤ tt; first = refl; fits = lit≤ tt }, tt), tt) };
     controller_calls = (refl, tt);
     clients = ((lit≤ tt, lit≤ tt), ((lit≤ tt, lit≤ tt), tt));
     tokens = ((λ token. absurd (cc token)), tt);

@@ -16,10 +16,10 @@ counts r = if is_counted r then 1 else 0
 
 made_length : (records : List Record) → length (new_versions records) ≡ count_of records
 made_length [] = refl
-made_length (value key v ∷ records) = let e : count_of (value key v ∷ records) ≡ 1 + count_of records = sum_by-cons counts (value key v) records in let h = made_length records in omega (arith, e, h)
-made_length (deletion key ∷ records) = let e : count_of (deletion key ∷ records) ≡ 1 + count_of records = sum_by-cons counts (deletion key) records in let h = made_length records in omega (arith, e, h)
-made_length (single_deletion key ∷ records) =
-    let e : count_of (single_deletion key ∷ records) ≡ 1 + count_of records = sum_by-cons counts (single_deletion key) records in let h = made_length records in omega (arith, e, h)
+made_length (value f key v ∷ records) = let e : count_of (value f key v ∷ records) ≡ 1 + count_of records = sum_by-cons counts (value f key v) records in let h = made_length records in omega (arith, e, h)
+made_length (deletion f key ∷ records) = let e : count_of (deletion f key ∷ records) ≡ 1 + count_of records = sum_by-cons counts (deletion f key) records in let h = made_length records in omega (arith, e, h)
+made_length (single_deletion f key ∷ records) =
+    let e : count_of (single_deletion f key ∷ records) ≡ 1 + count_of records = sum_by-cons counts (single_deletion f key) records in let h = made_length records in omega (arith, e, h)
 made_length (log_data blob ∷ records) = let e : count_of (log_data blob ∷ records) ≡ 0 + count_of records = sum_by-cons counts (log_data blob) records in let h = made_length records in omega (arith, e, h)
 
 numbered_length : (first : ℕ) (versions : List Version) → length (number_from first versions) ≡ length versions
@@ -45,9 +45,9 @@ after_append m (v ∷ some) more = after_append (after_record m (record_of v)) s
 
 after_made : (m : Pairs) (first : ℕ) (records : List Record) → after_records m (map record_of (number_from first (new_versions records))) ≡ after_records m records
 after_made m first [] = refl
-after_made m first (value key v ∷ records) = after_made (after_record m (value key v)) (first + 1) records
-after_made m first (deletion key ∷ records) = after_made (after_record m (deletion key)) (first + 1) records
-after_made m first (single_deletion key ∷ records) = after_made (after_record m (single_deletion key)) (first + 1) records
+after_made m first (value f key v ∷ records) = after_made (after_record m (value f key v)) (first + 1) records
+after_made m first (deletion f key ∷ records) = after_made (after_record m (deletion f key)) (first + 1) records
+after_made m first (single_deletion f key ∷ records) = after_made (after_record m (single_deletion f key)) (first + 1) records
 after_made m first (log_data blob ∷ records) = after_made m first records
 
 pub after_entries : (m : Pairs) (entries : List Entry) → after_records m (map record_of (versions_of_entries entries)) ≡ map_over m entries

@@ -1,6 +1,6 @@
 -- A client's commits that leaders took into their groups are commits of its transcript, and their replies are those of
 -- their statuses.
-use Rattle.std.proofs.Common.{◌≡◌, ◌⊎◌, inl, inr, ℕ, ◌≤◌, Option, Some, None, List, [], ◌∷◌, ◌++◌, length, slice_get, MatchOption, refl, ap, sym, ◌∙◌, subst, arith, length-append}
+use Rattle.std.proofs.Common.{◌≡◌, ◌⊎◌, inl, inr, ℕ, ◌≤◌, Option, Some, None, List, [], ◌∷◌, ◌++◌, length, map, slice_get, MatchOption, refl, ap, sym, ◌∙◌, subst, arith, length-append}
 use Rattle.std.proofs.lemmas.Option.{slice_get_cases}
 use Rattle.std.proofs.lemmas.Bool.{cases_lt}
 use Rattle.model_base.proofs.Prefixes.{prefix_at}
@@ -12,11 +12,12 @@ use Rattle.model_base.specs.Controller.{ControllerCall}
 use Rattle.model_base.specs.Tokens.{holds_stop}
 use Rattle.model_base.specs.Trace.{Trace, Settings}
 use Rattle.model_base.specs.Attempts.{Attempt, WriteStatus, succeeded, slowed, faulted, full, with_attempt}
-use Rattle.model_base.specs.Progress.{Progress, fresh, early_refusal, added_by}
-use Rattle.model_base.specs.Replies.{MayRefuse, IsAttempted, Stays, Replies, Stops, Unstops, Slows, Unslows, Gets, GetsMany, Scans, Adds, Clears}
+use Rattle.model_base.specs.declared.key.Key.{Key}
+use Rattle.model_base.specs.Progress.{Progress, fresh, first_missing, early_refusal, added_by}
+use Rattle.model_base.specs.Replies.{MayRefuse, IsAttempted, Stays, Replies, Stops, Unstops, Slows, Unslows, Gets, GetsMany, Scans, IfThere, Updates, Adds, Clears}
 use Rattle.model_base.specs.Runs.{Run}
 use Rattle.model_accounts.specs.Answered.{Tells, IsAmong}
-use Rattle.model_base.specs.Calls.{Command, add, clear, commit, get, many, scan, stop, unstop, slow, unslow, Reply, quiet, accepted, refused, found, found_each, rows, done, held, not_held, Call}
+use Rattle.model_base.specs.Calls.{Command, add, clear, commit, get, many, scan, updates, stop, unstop, slow, unslow, Reply, quiet, accepted, refused, found, found_each, rows, updates_found, read_failed, done, held, not_held, Call}
 
 abbrev attempt : Progress → WriteOptions → WriteStatus → Attempt
 attempt p how status = record { records = p.pending; options = how; status = status }
@@ -46,6 +47,7 @@ refusal_tells controller_calls client p knows how no.Empty status s = absurd s
 refusal_tells controller_calls client p knows how (no.TooLarge n) status s = absurd s
 refusal_tells controller_calls client p knows how no.SyncWithoutLog status s = absurd s
 refusal_tells controller_calls client p knows how no.SelfStop status s = absurd s
+refusal_tells controller_calls client p knows how (no.NoFamily f) status s = absurd s
 refusal_tells controller_calls client p knows how no.NoMemory status s = absurd s
 
 commit_moves : (trace : Trace) (client : ℕ) (p : Progress) (how : WriteOptions) (r : Reply) (q : Progress) (o : Option Refusal)
@@ -77,17 +79,31 @@ module _ (p : Progress) (q : Progress) where
   clears quiet s = record { pending = ap (λ (x : Progress). x.pending) s; hands = inl (ap (λ (x : Progress). x.attempts) s) }
   clears _ s = absurd s
 
-  gets : (trace : Trace) (key : List ℕ) (r : Reply) → Gets trace p key r q → Moves p (get key) r q
+  gets : (trace : Trace) (key : Key) (r : Reply) → Gets trace p key r q → Moves p (get key) r q
   gets trace key (found at v) s = same_both p _ _ q refl (ap (λ (x : Progress). x.pending) s.after) (ap (λ (x : Progress). x.attempts) s.after)
   gets trace key _ s = absurd s
 
-  gets_many : (trace : Trace) (keys : List (List ℕ)) (r : Reply) → GetsMany trace p keys r q → Moves p (many keys) r q
+  gets_many : (trace : Trace) (keys : List Key) (r : Reply) → GetsMany trace p keys r q → Moves p (many keys) r q
   gets_many trace keys (found_each at v) s = same_both p _ _ q refl (ap (λ (x : Progress). x.pending) s.after) (ap (λ (x : Progress). x.attempts) s.after)
   gets_many trace keys _ s = absurd s
 
-  scans : (trace : Trace) (lo hi : List ℕ) (r : Reply) → Scans trace p lo hi r q → Moves p (scan lo hi) r q
-  scans trace lo hi (rows at v) s = same_both p _ _ q refl (ap (λ (x : Progress). x.pending) s.after) (ap (λ (x : Progress). x.attempts) s.after)
-  scans trace lo hi _ s = absurd s
+  scans : (trace : Trace) (family : ℕ) (lo hi : List ℕ) (r : Reply) → Scans trace p family lo hi r q → Moves p (scan family lo hi) r q
+  scans trace family lo hi (rows at v) s = same_both p _ _ q refl (ap (λ (x : Progress). x.pending) s.after) (ap (λ (x : Progress). x.attempts) s.after)
+  scans trace family lo hi _ s = absurd s
+
+  -- a read that is refused
+  if_there : (settings : Settings) (named : List ℕ) (c : Command) (r : Reply) (answered : Type 0) → added_by p.pending c r ≡ p.pending → (answered → Moves p c r q) → IfThere settings named p r q answered → Moves p c r q
+  if_there settings named c r answered none on s = by (first_missing settings.families named) s
+    where
+      by : (missing : Option ℕ) → MatchOption missing answered (λ family. (r ≡ refused (no.NoFamily family)) × Stays p q) → Moves p c r q
+      by None s = on s
+      by (Some family) s = same_both p c r q none (ap (λ (x : Progress). x.pending) s.1) (ap (λ (x : Progress). x.attempts) s.1)
+
+  sees_updates : (settings : Settings) (trace : Trace) (n : ℕ) (r : Reply) → Updates settings trace p n r q → Moves p (updates n) r q
+  sees_updates settings trace n (updates_found at records) s = same_both p _ _ q refl (ap (λ (x : Progress). x.pending) s.1.reads.after) (ap (λ (x : Progress). x.attempts) s.1.reads.after)
+  sees_updates settings trace n (refused why) s = same_both p _ _ q refl (ap (λ (x : Progress). x.pending) s.2) (ap (λ (x : Progress). x.attempts) s.2)
+  sees_updates settings trace n (read_failed count) s = same_both p _ _ q refl (ap (λ (x : Progress). x.pending) s.2) (ap (λ (x : Progress). x.attempts) s.2)
+  sees_updates settings trace n _ s = absurd s
 
   stops : (trace : Trace) (client : ℕ) (r : Reply) → Stops trace client p r q → Moves p stop r q
   stops trace client done s = same_both p _ _ q refl (ap (λ (x : Progress). x.pending) s.1.after) (ap (λ (x : Progress). x.attempts) s.1.after)
@@ -112,10 +128,11 @@ module _ (p : Progress) (q : Progress) where
 moves : (settings : Settings) (trace : Trace) (client : ℕ) (p : Progress) (c : Command) (r : Reply) (q : Progress) → Replies settings trace client p c r q → Moves p c r q
 moves settings trace client p (add x) r q s = adds p q x r s
 moves settings trace client p clear r q s = clears p q r s
-moves settings trace client p (commit how) r q s = commit_moves trace client p how r q (early_refusal settings.batch_bytes (holds_stop p.asked) p.pending how) s
-moves settings trace client p (get key) r q s = gets p q trace key r s
-moves settings trace client p (many keys) r q s = gets_many p q trace keys r s
-moves settings trace client p (scan lo hi) r q s = scans p q trace lo hi r s
+moves settings trace client p (commit how) r q s = commit_moves trace client p how r q (early_refusal settings.families settings.batch_bytes (holds_stop p.asked) p.pending how) s
+moves settings trace client p (get key) r q s = if_there p q settings (key.family ∷ []) (get key) r _ refl (gets p q trace key r) s
+moves settings trace client p (many keys) r q s = if_there p q settings (map (λ (k : Key). k.family) keys) (many keys) r _ refl (gets_many p q trace keys r) s
+moves settings trace client p (scan family lo hi) r q s = if_there p q settings (family ∷ []) (scan family lo hi) r _ refl (scans p q trace family lo hi r) s
+moves settings trace client p (updates n) r q s = sees_updates p q settings trace n r s
 moves settings trace client p stop r q s = stops p q trace client r s
 moves settings trace client p unstop r q s = unstops p q trace client r s
 moves settings trace client p (slow rate) r q s = slows p q trace client rate r s

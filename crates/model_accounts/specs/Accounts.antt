@@ -68,7 +68,7 @@ pub record Wrote (settings : Settings) (v : Account) (records : List Record) (ho
   pub attempts : w.attempts ≡ with_attempt v.attempts records how (Some succeeded)
   pub seen : Sees v.seen w.seen
   pub some : 1 ≤ count_of records
-  pub passed : early_refusal settings.batch_bytes (holds_stop v.asked) records how ≡ None
+  pub passed : early_refusal settings.families settings.batch_bytes (holds_stop v.asked) records how ≡ None
   pub free : holds_stop v.asked ≡ false
   pub above : last_seen v.seen < first
   pub behind : AreFullBelow first v.attempts
@@ -98,7 +98,7 @@ IsRefusedLate v records how why w = ((why ≡ NoMemory) × Keeps v w) ⊎ IsRefu
 
 abbrev pub Refuses : Settings → Account → List Record → WriteOptions → Refusal → Account → Type 0
 Refuses settings v records how why w =
-    MatchOption (early_refusal settings.batch_bytes (holds_stop v.asked) records how)
+    MatchOption (early_refusal settings.families settings.batch_bytes (holds_stop v.asked) records how)
     (IsRefusedLate v records how why w) (λ (early : Refusal). (why ≡ early) × Keeps v w)
 
 -- a read is at the last sequence that the client has now seen published, and its answer is that of the map there

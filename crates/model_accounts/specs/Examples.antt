@@ -1,9 +1,10 @@
 -- A client that commits one batch, and what can be seen of it; and two clients whose batches go as one group.
-use Rattle.std.specs.Prelude.{ℕ, ◌+◌, false, List, [], ◌∷◌, codes, Some}
+use Rattle.std.specs.Prelude.{ℕ, ◌+◌, false, List, [], ◌∷◌, codes, Some, None}
 use Rattle.model_base.specs.declared.limits.TheConstants.{MAX_SIZE}
 use Rattle.model_base.specs.declared.history.Flag.TheVariants.{Log}
 use Rattle.model_base.specs.declared.write.WriteOptions.{WriteOptions}
 use Rattle.model_base.specs.Batch.{Record, value, size_of_batch}
+use Rattle.model_base.specs.Map.{key_in}
 use Rattle.model_base.specs.History.{Entry}
 use Rattle.model_base.specs.Controller.{ControllerCall, delay}
 use Rattle.model_base.specs.Trace.{Trace, Settings}
@@ -16,11 +17,20 @@ use Rattle.model_accounts.specs.Sights.{Sight}
 use Rattle.model_accounts.specs.Accounts.{Account, newcomer}
 
 abbrev pub settings : Settings
-settings = record { start = 0; opening = []; clients = 1; group_bytes = 1048576; batch_bytes = MAX_SIZE; opened = 0 }
+settings = record {
+  start = 0;
+  opening = [];
+  kept = [];
+  clients = 1;
+  families = 1;
+  group_bytes = 1048576;
+  batch_bytes = MAX_SIZE;
+  opened = 0;
+}
 
 -- `put a 1` and `put b 2`, in one batch
 abbrev pub two_records : List Record
-two_records = value (codes "a") (codes "1") ∷ value (codes "b") (codes "2") ∷ []
+two_records = value None (codes "a") (codes "1") ∷ value None (codes "b") (codes "2") ∷ []
 
 abbrev pub plain : WriteOptions
 plain = record { sync = false; no_log = false; no_slowdown = false }
@@ -37,7 +47,13 @@ one_delay = record {
 }
 
 abbrev pub one_batch : Trace
-one_batch = record { start = 0; opening = []; entries = one_entry ∷ []; controller_calls = one_delay ∷ [] }
+one_batch = record {
+  start = 0;
+  opening = [];
+  entries = one_entry ∷ [];
+  logged = (one_entry ∷ []) ∷ [];
+  controller_calls = one_delay ∷ [];
+}
 
 -- the commit, and its group
 abbrev pub one_attempt : Attempt
@@ -48,10 +64,10 @@ one_group = record { place = 0; members = record { client = 1; call = 0; item = 
 
 -- the versions that this batch makes
 abbrev pub first_version : Version
-first_version = record { key = codes "a"; value = Some (codes "1"); sequence = 1 }
+first_version = record { key = key_in None (codes "a"); value = Some (codes "1"); sequence = 1 }
 
 abbrev pub second_version : Version
-second_version = record { key = codes "b"; value = Some (codes "2"); sequence = 2 }
+second_version = record { key = key_in None (codes "b"); value = Some (codes "2"); sequence = 2 }
 
 -- what is seen where these versions were published as one group, once the controller was asked
 abbrev pub sight_of : List Version → Sight
@@ -76,12 +92,12 @@ after = record before {
 
 -- its script and its transcript
 abbrev pub commands : List Command
-commands = add (value (codes "a") (codes "1")) ∷ add (value (codes "b") (codes "2")) ∷ commit plain ∷ []
+commands = add (value None (codes "a") (codes "1")) ∷ add (value None (codes "b") (codes "2")) ∷ commit plain ∷ []
 
 abbrev pub calls : List Call
 calls =
-    record { command = add (value (codes "a") (codes "1")); reply = quiet }
-    ∷ record { command = add (value (codes "b") (codes "2")); reply = quiet }
+    record { command = add (value None (codes "a") (codes "1")); reply = quiet }
+    ∷ record { command = add (value None (codes "b") (codes "2")); reply = quiet }
     ∷ record { command = commit plain; reply = accepted 1 2 two_records } ∷ []
 
 -- Two clients: `put a 1` and `put b 2`, as one group
@@ -90,10 +106,10 @@ abbrev pub pair_settings : Settings
 pair_settings = record settings { clients = 2 }
 
 abbrev pub first_records : List Record
-first_records = value (codes "a") (codes "1") ∷ []
+first_records = value None (codes "a") (codes "1") ∷ []
 
 abbrev pub second_records : List Record
-second_records = value (codes "b") (codes "2") ∷ []
+second_records = value None (codes "b") (codes "2") ∷ []
 
 -- a client's only entry, with one record
 abbrev pub entry_with : ℕ → ℕ → List Record → Entry
@@ -115,6 +131,7 @@ pair_trace = record {
   start = 0;
   opening = [];
   entries = entry_with 1 1 first_records ∷ entry_with 2 2 second_records ∷ [];
+  logged = (entry_with 1 1 first_records ∷ entry_with 2 2 second_records ∷ []) ∷ [];
   controller_calls = pair_delay ∷ [];
 }
 

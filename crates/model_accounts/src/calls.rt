@@ -1,11 +1,13 @@
 //! Each kind of call, by what it says of its client, is a step of the client.
 
-ghost use Rattle.std.specs.Prelude.{◌≡◌, ◌+◌, ◌++◌, ℕ, true, false, List, [], ◌∷◌, Option, map};
+ghost use Rattle.std.specs.Prelude.{◌≡◌, ◌+◌, ◌++◌, ℕ, true, false, List, [], ◌∷◌, Option, Some, None, map};
 ghost use Rattle.model_base.specs.declared.write.WriteOptions.{WriteOptions};
 ghost use Rattle.model_base.specs.declared.write.Refusal.{Refusal};
-ghost use Rattle.model_base.specs.declared.write.Refusal.TheVariants.{NoMemory};
+ghost use Rattle.model_base.specs.declared.write.Refusal.TheVariants.{NoMemory, NoFamily};
 ghost use Rattle.model_base.specs.Batch.{Record, count_of};
-ghost use Rattle.model_base.specs.Map.{Pairs, value_at, rows_within};
+ghost use Rattle.model_base.specs.declared.key.Key.{Key};
+ghost use Rattle.model_base.specs.Map.{Rows, value_at, rows_within};
+ghost use Rattle.model_base.specs.Progress.{first_missing};
 ghost use Rattle.model_base.specs.Controller as controller;
 ghost use Rattle.model_base.specs.Tokens.{holds_stop, holds_slow};
 ghost use Rattle.model_base.specs.Trace.{Settings};
@@ -33,20 +35,39 @@ pub fn commits_are_steps()
         → Refuses settings v pending how NoMemory w → Lacks settings v pending (commit how) w }
 {}
 
-/// A read with its answer, at the last sequence that the client has then seen published.
+/// A read with its answer, at the last sequence that the client has then seen published. The families that it names are
+/// there.
 pub fn reads_are_steps()
     ensures get { (settings : Settings) (v : Account) (pending : List Record)
-        (key : List ℕ) (at : ℕ) (value : Option (List ℕ)) (w : Account)
+        (key : Key) (at : ℕ) (value : Option (List ℕ)) (w : Account)
+        → first_missing settings.families (key.family ∷ []) ≡ None
         → Keeps v w → Reads at (λ m. value ≡ value_at m key) w
         → Goes settings v pending (get key) (found at value) w pending }
     ensures many { (settings : Settings) (v : Account) (pending : List Record)
-        (keys : List (List ℕ)) (at : ℕ) (values : List (Option (List ℕ))) (w : Account)
+        (keys : List Key) (at : ℕ) (values : List (Option (List ℕ))) (w : Account)
+        → first_missing settings.families (map (λ (k : Key). k.family) keys) ≡ None
         → Keeps v w → Reads at (λ m. values ≡ map (value_at m) keys) w
         → Goes settings v pending (many keys) (found_each at values) w pending }
     ensures scan { (settings : Settings) (v : Account) (pending : List Record)
-        (lo hi : List ℕ) (at : ℕ) (pairs : Pairs) (w : Account)
-        → Keeps v w → Reads at (λ m. pairs ≡ rows_within lo hi m) w
-        → Goes settings v pending (scan lo hi) (rows at pairs) w pending }
+        (family : ℕ) (lo hi : List ℕ) (at : ℕ) (pairs : Rows) (w : Account)
+        → first_missing settings.families (family ∷ []) ≡ None
+        → Keeps v w → Reads at (λ m. pairs ≡ rows_within family lo hi m) w
+        → Goes settings v pending (scan family lo hi) (rows at pairs) w pending }
+{}
+
+/// A read that is refused, since there isn't one of the families that it names: `family` is the first such one.
+pub fn refused_reads_are_steps()
+    ensures get { (settings : Settings) (v : Account) (pending : List Record) (key : Key) (family : ℕ) (w : Account)
+        → first_missing settings.families (key.family ∷ []) ≡ Some family → Keeps v w
+        → Goes settings v pending (get key) (refused (NoFamily family)) w pending }
+    ensures many { (settings : Settings) (v : Account) (pending : List Record) (keys : List Key) (family : ℕ)
+        (w : Account)
+        → first_missing settings.families (map (λ (k : Key). k.family) keys) ≡ Some family → Keeps v w
+        → Goes settings v pending (many keys) (refused (NoFamily family)) w pending }
+    ensures scan { (settings : Settings) (v : Account) (pending : List Record) (named : ℕ) (lo hi : List ℕ)
+        (family : ℕ) (w : Account)
+        → first_missing settings.families (named ∷ []) ≡ Some family → Keeps v w
+        → Goes settings v pending (scan named lo hi) (refused (NoFamily family)) w pending }
 {}
 
 /// A stop token is taken or given back, or is already held, or isn't held.

@@ -14,7 +14,7 @@ ghost use Rattle.model_base.specs.Progress.{Progress};
 ghost use Rattle.model_base.specs.Runs.{IsTranscript};
 ghost use Rattle.model_base.specs.Script.{Script};
 ghost use Rattle.model_base.specs.Calls.{Command, Call, Outcome};
-ghost use Rattle.model_base.specs.Outcomes.{outcome_of, IsLegalIn};
+ghost use Rattle.model_base.specs.Outcomes.{outcome_of, IsLegalIn, AreOwnFaults, read_faults_in};
 ghost use Rattle.model_base.specs.LogContents.{GroupCall, AreGroupsOf, records_of, record_of_call};
 ghost use Rattle.model_runs.specs.Lost.{IsLost, IsLostGroup, IsFaultedBatch};
 ghost use Rattle.model_runs.specs.Crashes.{HasSync};
@@ -25,13 +25,14 @@ ghost use Rattle.model_accounts.specs.Led.{Led, groups_of, AreLed};
 ghost use Rattle.model_runs.specs.Written.{WroteEntries, AreLost};
 ghost use Rattle.model_accounts.specs.Answered.{IsAmong};
 
-/// If each client has run its part of the script, and the closing says that their accounts are parts of one trace, the
-/// outcome is legal.
+/// If each client has run its part of the script, the closing says that their accounts are parts of one trace, and reads
+/// of the log failed only with faults of their own, the outcome is legal.
 pub fn closed_runs_are_legal()
     ensures legal { (settings : Settings) (ended : ℕ) (script : Script) (calls : List (List Call))
         (accounts : List Account) (trace : Trace) (groups : List Group) (last : ℕ) (log_lens : List ℕ)
         (fault : Option ℕ)
         → settings.clients ≡ length script → HaveRun settings script calls accounts
+        → AreOwnFaults ended fault (read_faults_in calls)
         → IsClosing settings ended trace groups accounts last fault
         → IsLegalIn settings ended script trace (all_attempts accounts) (outcome_of trace calls last log_lens fault) }
 {}

@@ -1,20 +1,20 @@
 -- Runs of calls: what holds in a trace holds in a longer one; and one more call.
-use Rattle.std.proofs.Common.{◌≡◌, ℕ, ◌≤◌, Bool, true, false, Option, Some, None, List, [], ◌∷◌, ◌++◌, MatchOption, refl, ap, sym, ◌∙◌, subst, arith, append_assoc}
+use Rattle.std.proofs.Common.{◌≡◌, ℕ, ◌≤◌, Bool, true, false, Option, Some, None, List, [], ◌∷◌, ◌++◌, map, MatchOption, refl, ap, sym, ◌∙◌, subst, arith, append_assoc}
 use mathlib.Core.List.{IsPrefix}
 use Rattle.model_base.specs.declared.write.WriteOptions.{WriteOptions}
 use Rattle.model_base.specs.declared.write.Refusal.{Refusal}
 use Rattle.model_base.specs.declared.write.Refusal.TheVariants as no
-use Rattle.model_base.specs.Map.{Pairs}
+use Rattle.model_base.specs.Map.{Key, Pairs}
 use Rattle.model_base.specs.History.{last_sequence, map_over}
 use Rattle.model_base.specs.Controller.{ControllerCall, Action, Look}
 use Rattle.model_base.specs.Trace.{Trace, Begins, Settings}
 use Rattle.model_base.specs.Attempts.{WriteStatus, succeeded, slowed, faulted, full}
 use Rattle.model_base.specs.Tokens.{holds_stop}
-use Rattle.model_base.specs.Progress.{Progress, fresh, early_refusal}
-use Rattle.model_base.specs.Replies.{IsLater, WasHeldUp, LooksAway, IsTold, MayRefuse, IsKeptOut, IsAttempted, ReadsAt, IsDone, Gets, GetsMany, Scans, Stops, Unstops, Slows, Unslows, Replies, Stays}
+use Rattle.model_base.specs.Progress.{Progress, fresh, first_missing, early_refusal}
+use Rattle.model_base.specs.Replies.{IsLater, WasHeldUp, LooksAway, IsTold, MayRefuse, IsKeptOut, IsAttempted, ReadsAt, IsDone, Gets, GetsMany, Scans, IfThere, ReadsLog, Updates, Stops, Unstops, Slows, Unslows, Replies, Stays}
 use Rattle.model_base.specs.Runs.{Step, Run, IsTranscript, whole, cut_off}
-use Rattle.model_base.specs.Calls.{Command, add, clear, commit, get, many, scan, stop, unstop, slow, unslow, Reply, accepted, refused, found, found_each, rows, done, held, not_held, Call}
-use Rattle.model_base.proofs.Prefixes.{prefix_at, prefix_length}
+use Rattle.model_base.specs.Calls.{Command, add, clear, commit, get, many, scan, updates, stop, unstop, slow, unslow, Reply, accepted, refused, found, found_each, rows, updates_found, read_failed, done, held, not_held, Call}
+use Rattle.model_base.proofs.Prefixes.{prefix_at, prefix_length, prefix_trans}
 
 -- A longer trace
 
@@ -54,6 +54,7 @@ refuse_in xs ys pre client p shown knows low how no.Empty status s = s
 refuse_in xs ys pre client p shown knows low how (no.TooLarge n) status s = s
 refuse_in xs ys pre client p shown knows low how no.SyncWithoutLog status s = s
 refuse_in xs ys pre client p shown knows low how no.SelfStop status s = s
+refuse_in xs ys pre client p shown knows low how (no.NoFamily f) status s = s
 refuse_in xs ys pre client p shown knows low how no.NoMemory status s = s
 
 -- a commit of a client that holds no stop token may be in a group
@@ -86,17 +87,36 @@ module _ (v w : Trace) (b : Begins v w) where
     after = s.after;
   }
 
-  gets_in : (p : Progress) (key : List ℕ) (r : Reply) (q : Progress) → Gets v p key r q → Gets w p key r q
+  gets_in : (p : Progress) (key : Key) (r : Reply) (q : Progress) → Gets v p key r q → Gets w p key r q
   gets_in p key (found at x) q s = reads_in p at _ q s
   gets_in p key _ q s = absurd s
 
-  many_in : (p : Progress) (keys : List (List ℕ)) (r : Reply) (q : Progress) → GetsMany v p keys r q → GetsMany w p keys r q
+  many_in : (p : Progress) (keys : List Key) (r : Reply) (q : Progress) → GetsMany v p keys r q → GetsMany w p keys r q
   many_in p keys (found_each at xs) q s = reads_in p at _ q s
   many_in p keys _ q s = absurd s
 
-  scans_in : (p : Progress) (lo hi : List ℕ) (r : Reply) (q : Progress) → Scans v p lo hi r q → Scans w p lo hi r q
-  scans_in p lo hi (rows at xs) q s = reads_in p at _ q s
-  scans_in p lo hi _ q s = absurd s
+  scans_in : (p : Progress) (family : ℕ) (lo hi : List ℕ) (r : Reply) (q : Progress) → Scans v p family lo hi r q → Scans w p family lo hi r q
+  scans_in p family lo hi (rows at xs) q s = reads_in p at _ q s
+  scans_in p family lo hi _ q s = absurd s
+
+  there_in : (settings : Settings) (named : List ℕ) (p : Progress) (r : Reply) (q : Progress) (X Y : Type 0) → (X → Y) → IfThere settings named p r q X → IfThere settings named p r q Y
+  there_in settings named p r q X Y f s = in_none {A = ℕ} X Y (λ family. (r ≡ refused (no.NoFamily family)) × Stays p q) (first_missing settings.families named) f s
+
+  reads_log_in : (settings : Settings) (p : Progress) (n at : ℕ) (records : List (List ℕ)) (q : Progress) → ReadsLog settings v p n at records q → ReadsLog settings w p n at records q
+  unfolding reads_in
+  reads_log_in settings p n at records q s = record {
+    reads = reads_in p at _ q s.reads;
+    groups = s.groups;
+    in_log = prefix_trans s.groups v.logged w.logged s.in_log b.logged;
+    up_to = s.up_to;
+    answer = s.answer;
+  }
+
+  updates_in : (settings : Settings) (p : Progress) (n : ℕ) (r : Reply) (q : Progress) → Updates settings v p n r q → Updates settings w p n r q
+  updates_in settings p n (updates_found at records) q s = (s.0, reads_log_in settings p n at records q s.1)
+  updates_in settings p n (read_failed count) q s = s
+  updates_in settings p n (refused why) q s = s
+  updates_in settings p n _ q s = absurd s
 
   done_in : (client : ℕ) (p : Progress) (a : Action) (q : Progress) → IsDone v client p a q → IsDone w client p a q
   done_in client p a q s = record { place = s.place; is_later = later_in v.controller_calls w.controller_calls b.controller_calls p.known s.place _ s.is_later; known = s.known; after = s.after }
@@ -124,10 +144,11 @@ module _ (v w : Trace) (b : Begins v w) where
   pub replies_in : (settings : Settings) (client : ℕ) (p : Progress) (c : Command) (r : Reply) (q : Progress) → Replies settings v client p c r q → Replies settings w client p c r q
   replies_in settings client p (add x) r q s = s
   replies_in settings client p clear r q s = s
-  replies_in settings client p (commit how) r q s = in_none {A = Refusal} _ _ (λ why. (r ≡ refused why) × Stays p q) (early_refusal settings.batch_bytes (holds_stop p.asked) p.pending how) (attempted_in client p how r q) s
-  replies_in settings client p (get key) r q s = gets_in p key r q s
-  replies_in settings client p (many keys) r q s = many_in p keys r q s
-  replies_in settings client p (scan lo hi) r q s = scans_in p lo hi r q s
+  replies_in settings client p (commit how) r q s = in_none {A = Refusal} _ _ (λ why. (r ≡ refused why) × Stays p q) (early_refusal settings.families settings.batch_bytes (holds_stop p.asked) p.pending how) (attempted_in client p how r q) s
+  replies_in settings client p (get key) r q s = there_in settings (key.family ∷ []) p r q _ _ (gets_in p key r q) s
+  replies_in settings client p (many keys) r q s = there_in settings (map (λ (k : Key). k.family) keys) p r q _ _ (many_in p keys r q) s
+  replies_in settings client p (scan family lo hi) r q s = there_in settings (family ∷ []) p r q _ _ (scans_in p family lo hi r q) s
+  replies_in settings client p (updates n) r q s = updates_in settings p n r q s
   replies_in settings client p stop r q s = stops_in client p r q s
   replies_in settings client p unstop r q s = unstops_in client p r q s
   replies_in settings client p (slow rate) r q s = slows_in client p rate r q s

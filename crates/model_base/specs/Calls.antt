@@ -3,7 +3,7 @@ use Rattle.std.specs.Prelude.{ℕ, List, Option}
 use Rattle.model_base.specs.declared.write.WriteOptions.{WriteOptions}
 use Rattle.model_base.specs.declared.write.Refusal.{Refusal}
 use Rattle.model_base.specs.Batch.{Record}
-use Rattle.model_base.specs.Map.{Pairs}
+use Rattle.model_base.specs.Map.{Key, Pairs, Rows}
 use Rattle.model_base.specs.History.{Entry}
 
 -- a line of a client's script
@@ -12,9 +12,12 @@ pub data Command : Type 0 where
   add : Record → Command
   clear : Command
   commit : WriteOptions → Command
-  get : List ℕ → Command
-  many : List (List ℕ) → Command
-  scan : List ℕ → List ℕ → Command
+  get : Key → Command
+  many : List Key → Command
+  -- a family, and between which keys
+  scan : ℕ → List ℕ → List ℕ → Command
+  -- the log's records from this sequence on
+  updates : ℕ → Command
   -- take the two tokens of the write controller, and give them back
   stop : Command
   unstop : Command
@@ -30,7 +33,11 @@ pub data Reply : Type 0 where
   -- the sequence of the read, and what it found there
   found : ℕ → Option (List ℕ) → Reply
   found_each : ℕ → List (Option (List ℕ)) → Reply
-  rows : ℕ → Pairs → Reply
+  rows : ℕ → Rows → Reply
+  -- the sequence of the read, and the log's records up to it
+  updates_found : ℕ → List (List ℕ) → Reply
+  -- the log's disk failed in the read, and this is its count of faults
+  read_failed : ℕ → Reply
   done : Reply
   held : Reply
   not_held : Reply

@@ -1,5 +1,5 @@
 -- The script that a seed makes, drawn by a linear congruential generator, and the summary of its outcome.
-use Rattle.std.specs.Prelude.{ℕ, zero, suc, ◌+◌, ◌*◌, ◌/◌, ◌%◌, ◌^◌, false, List, [], ◌∷◌, ◌++◌, length, map, sum_by, codes, decimal, ◌==◌, if◌then◌else◌}
+use Rattle.std.specs.Prelude.{ℕ, zero, suc, ◌+◌, ◌*◌, ◌/◌, ◌%◌, ◌^◌, false, List, [], ◌∷◌, ◌++◌, length, map, sum_by, codes, decimal, ◌==◌, if◌then◌else◌, None}
 use Rattle.std.specs.List.{range_with_len}
 use Rattle.model_base.specs.declared.write.WriteOptions.{WriteOptions}
 use Rattle.model_base.specs.Batch.{Record, value, deletion}
@@ -38,8 +38,8 @@ abbrev pub record_drawn : ℕ → ℕ → Draw Record
 record_drawn client state =
     let at_key = next_state state in let key = key_of client (number_at at_key % 100) in
     let at_kind = next_state at_key in let at_value = next_state at_kind in
-    if number_at at_kind % 4 == 0 then record { made = deletion key; state = at_kind }
-    else record { made = value key (decimal (number_at at_value % 1000)); state = at_value }
+    if number_at at_kind % 4 == 0 then record { made = deletion None key; state = at_kind }
+    else record { made = value None key (decimal (number_at at_value % 1000)); state = at_value }
 
 abbrev pub with_rest : Draw Record → Draw (List Command) → Draw (List Command)
 with_rest r rest = record { made = add r.made ∷ rest.made; state = rest.state }

@@ -23,6 +23,7 @@ pub mod Replies
 pub mod Runs
 pub mod Outcomes
 pub mod LogContents
+pub mod Since
 pub mod Script
 pub mod Generator
 pub mod Halves

@@ -1,5 +1,5 @@
 -- The outcome of a run is legal: its replies are those of a plain map, at points of one history.
-use Rattle.std.specs.Prelude.{◌≡◌, ℕ, ◌+◌, ◌≤◌, IsTrue, List, ◌++◌, length, filter, Option, Some, slice_get, ◌==◌, IfSome}
+use Rattle.std.specs.Prelude.{◌≡◌, ℕ, ◌+◌, ◌≤◌, IsTrue, List, ◌++◌, length, filter, flat_map, [], ◌∷◌, ◌≢◌, ◌<◌, ◌-◌, ◌^◌, ⊤, Option, Some, slice_get, ◌==◌, IfSome}
 use Rattle.std.specs.List.{AllByRecursion}
 use Rattle.model_base.specs.History.{Entry, IsHistory, last_sequence, map_over}
 use Rattle.model_base.specs.Counts.{Rose}
@@ -11,7 +11,8 @@ use Rattle.model_base.specs.Attempts.{Attempt}
 use Rattle.model_base.specs.Groups.{Group, AreGroups, AreStatuses}
 use Rattle.model_base.specs.Progress.{Progress}
 use Rattle.model_base.specs.Runs.{IsTranscript}
-use Rattle.model_base.specs.Calls.{Command, Call, Outcome}
+use Rattle.model_base.specs.Calls.{Command, Reply, read_failed, Call, Outcome}
+use Rattle.model_base.specs.LogContents.{AreGroupsOf}
 
 -- the entries of a client
 abbrev pub entries_of_client : ℕ → List Entry → List Entry
@@ -20,12 +21,29 @@ entries_of_client client entries = filter (λ (e : Entry). e.client == client) e
 abbrev pub IsClient : Settings → ℕ → Type 0
 IsClient settings client = (1 ≤ client) × (client ≤ settings.clients)
 
+-- the counts of faults with which reads of the log were answered
+abbrev pub read_fault_of : Reply → List ℕ
+read_fault_of (read_failed count) = count ∷ []
+read_fault_of other = []
+
+abbrev pub read_faults_in : List (List Call) → List ℕ
+read_faults_in transcripts = flat_map (λ calls. flat_map (λ (c : Call). read_fault_of c.reply) calls) transcripts
+
+-- The disk had reached each of these counts, and none of them is the log's fault or comes twice. That they differ isn't
+-- said of the greatest u64, at which the count stays.
+abbrev pub AreOwnFaults : ℕ → Option ℕ → List ℕ → Type 0
+AreOwnFaults ended fault [] = ⊤
+AreOwnFaults ended fault (count ∷ counts) = (count ≤ ended)
+    × (count < 2 ^ 64 - 1 → (fault ≢ Some count) × AllByRecursion (λ other. other ≢ count) counts)
+    × AreOwnFaults ended fault counts
+
 -- One history of whole batches and one of the controller. Each batch is of a client of the run, and so is each call
 -- that takes or gives back a token.
 pub record IsTrace (settings : Settings) (trace : Trace) : Type 0 where
   pub start : trace.start ≡ settings.start
   pub opening : trace.opening ≡ settings.opening
   pub entries : IsHistory trace.start trace.entries
+  pub logged : AreGroupsOf trace.entries trace.logged
   pub controller_calls : IsControllerHistory trace.controller_calls
   pub clients : AllByRecursion (λ (e : Entry). IsClient settings e.client) trace.entries
   pub tokens : AllByRecursion
@@ -60,6 +78,7 @@ pub record IsLegalIn (settings : Settings) (ended : ℕ) (script : List (List Co
   pub last : o.last ≡ last_sequence trace.start trace.entries
   pub state : o.state ≡ map_over trace.opening trace.entries
   pub fault : IfSome o.fault (λ count. Rose settings.opened count × (count ≤ ended))
+  pub read_faults : AreOwnFaults ended o.fault (read_faults_in o.transcripts)
 
 -- the outcome of a trace, with the clients' calls, the last sequence, the lengths of the logs and their fault
 abbrev pub outcome_of : Trace → List (List Call) → ℕ → List ℕ → Option ℕ → Outcome

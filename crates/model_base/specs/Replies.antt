@@ -1,19 +1,23 @@
 -- Which replies a client may get, and what its progress is after them.
 use Rattle.std.specs.Prelude.{◌≡◌, ◌≢◌, ◌⊎◌, Bool, ℕ, ◌+◌, ◌<◌, ◌≤◌, true, false, List, [], ◌∷◌, ◌++◌, map, max, Option, Some, None, slice_get, MatchOption, ⊤}
 use Rattle.std.specs.List.{AllByRecursion}
+use mathlib.Core.List.{IsPrefix}
 use Rattle.model_base.specs.declared.write.WriteOptions.{WriteOptions}
 use Rattle.model_base.specs.declared.write.Refusal.{Refusal}
 use Rattle.model_base.specs.declared.write.Refusal.TheVariants as no
 use Rattle.model_base.specs.Batch.{Record, count_of}
-use Rattle.model_base.specs.Map.{Pairs, value_at, rows_within}
+use Rattle.model_base.specs.Map.{Key, Pairs, value_at, rows_within}
 use Rattle.model_base.specs.History.{Entry, IsUpTo, map_over, max_sequence, last_of}
 use Rattle.model_base.specs.Controller as controller
 use Rattle.model_base.specs.Controller.{ControllerCall, Action, Look, HoldUp, ShowTokens}
 use Rattle.model_base.specs.Tokens.{holds_stop, holds_slow}
 use Rattle.model_base.specs.Trace.{Trace, Settings}
 use Rattle.model_base.specs.Attempts.{Attempt, WriteStatus, succeeded, slowed, faulted, full, with_attempt, knows_log_failed}
-use Rattle.model_base.specs.Progress.{Progress, next_entry, early_refusal}
-use Rattle.model_base.specs.Calls.{Command, add, clear, commit, get, many, scan, stop, unstop, slow, unslow, Reply, quiet, accepted, refused, found, found_each, rows, done, held, not_held}
+use Rattle.model_base.specs.Progress.{Progress, next_entry, first_missing, early_refusal}
+use Rattle.model_base.specs.Counts.{Rose}
+use Rattle.model_base.specs.LogContents.{AreGroupsOf}
+use Rattle.model_base.specs.Since.{records_in, since}
+use Rattle.model_base.specs.Calls.{Command, add, clear, commit, get, many, scan, updates, stop, unstop, slow, unslow, Reply, quiet, accepted, refused, found, found_each, rows, updates_found, read_failed, done, held, not_held}
 
 -- Refusals
 
@@ -94,6 +98,7 @@ MayRefuse controller_calls client p knows how no.Empty status = ⊥
 MayRefuse controller_calls client p knows how (no.TooLarge size) status = ⊥
 MayRefuse controller_calls client p knows how no.SyncWithoutLog status = ⊥
 MayRefuse controller_calls client p knows how no.SelfStop status = ⊥
+MayRefuse controller_calls client p knows how (no.NoFamily family) status = ⊥
 MayRefuse controller_calls client p knows how no.NoMemory status = ⊥
 
 -- A commit of a client that holds a stop token is in no group. Another one is in no group only if it met a stall, and
@@ -145,7 +150,7 @@ IsAttempted trace client p how other q = ⊥
 
 abbrev pub Commits : Settings → Trace → ℕ → Progress → WriteOptions → Reply → Progress → Type 0
 Commits settings trace client p how reply q =
-    MatchOption (early_refusal settings.batch_bytes (holds_stop p.asked) p.pending how)
+    MatchOption (early_refusal settings.families settings.batch_bytes (holds_stop p.asked) p.pending how)
     (IsAttempted trace client p how reply q) (λ why. (reply ≡ refused why) × Stays p q)
 
 -- a read at a boundary of the history that isn't below any sequence that the client was shown
@@ -156,17 +161,41 @@ pub record ReadsAt (trace : Trace) (p : Progress) (at : ℕ) (answers : Pairs �
   pub answer : answers (map_over trace.opening front)
   pub after : q ≡ record p { seen_up_to = at; known = q.known }
 
-abbrev pub Gets : Trace → Progress → List ℕ → Reply → Progress → Type 0
+-- a read of keys in these families: refused by the first one that there isn't, if there is such a one
+abbrev pub IfThere : Settings → List ℕ → Progress → Reply → Progress → Type 0 → Type 0
+IfThere settings named p reply q answered = MatchOption (first_missing settings.families named) answered
+    (λ family. (reply ≡ refused (no.NoFamily family)) × Stays p q)
+
+abbrev pub Gets : Trace → Progress → Key → Reply → Progress → Type 0
 Gets trace p key (found at v) q = ReadsAt trace p at (λ m. v ≡ value_at m key) q
 Gets trace p key other q = ⊥
 
-abbrev pub GetsMany : Trace → Progress → List (List ℕ) → Reply → Progress → Type 0
+abbrev pub GetsMany : Trace → Progress → List Key → Reply → Progress → Type 0
 GetsMany trace p keys (found_each at vs) q = ReadsAt trace p at (λ m. vs ≡ map (value_at m) keys) q
 GetsMany trace p keys other q = ⊥
 
-abbrev pub Scans : Trace → Progress → List ℕ → List ℕ → Reply → Progress → Type 0
-Scans trace p lo hi (rows at pairs) q = ReadsAt trace p at (λ m. pairs ≡ rows_within lo hi m) q
-Scans trace p lo hi other q = ⊥
+abbrev pub Scans : Trace → Progress → ℕ → List ℕ → List ℕ → Reply → Progress → Type 0
+Scans trace p family lo hi (rows at pairs) q = ReadsAt trace p at (λ m. pairs ≡ rows_within family lo hi m) q
+Scans trace p family lo hi other q = ⊥
+
+-- A read of the log at a boundary. Its records up to there have all logged entries up to there, and those are answered
+-- that begin or go on at the sequence s or a later one.
+pub record ReadsLog (settings : Settings) (trace : Trace) (p : Progress) (s at : ℕ) (records : List (List ℕ))
+    (q : Progress) : Type 0 where
+  pub reads : ReadsAt trace p at (λ _. ⊤) q
+  pub groups : List (List Entry)
+  pub in_log : IsPrefix groups trace.logged
+  pub up_to : AreGroupsOf reads.front groups
+  pub answer : records ≡ since s at (records_in settings.kept groups)
+
+-- The log's records from a sequence on. Or the client holds a stop token; or the log's disk failed, so that its count
+-- of faults rose (`IsLegalIn` says more of it).
+abbrev pub Updates : Settings → Trace → Progress → ℕ → Reply → Progress → Type 0
+Updates settings trace p s (updates_found at records) q = (holds_stop p.asked ≡ false)
+    × ReadsLog settings trace p s at records q
+Updates settings trace p s (refused why) q = (why ≡ no.SelfStop) × (holds_stop p.asked ≡ true) × Stays p q
+Updates settings trace p s (read_failed count) q = (holds_stop p.asked ≡ false) × Rose settings.opened count × Stays p q
+Updates settings trace p s other q = ⊥
 
 -- A token is taken or given back: the controller's history has that call, after all that was known, and now the client
 -- knows of it.
@@ -201,9 +230,13 @@ abbrev pub Replies : Settings → Trace → ℕ → Progress → Command → Rep
 Replies settings trace client p (add r) reply q = Adds p r reply q
 Replies settings trace client p clear reply q = Clears p reply q
 Replies settings trace client p (commit how) reply q = Commits settings trace client p how reply q
-Replies settings trace client p (get key) reply q = Gets trace p key reply q
-Replies settings trace client p (many keys) reply q = GetsMany trace p keys reply q
-Replies settings trace client p (scan lo hi) reply q = Scans trace p lo hi reply q
+Replies settings trace client p (get key) reply q =
+    IfThere settings (key.family ∷ []) p reply q (Gets trace p key reply q)
+Replies settings trace client p (many keys) reply q =
+    IfThere settings (map (λ (k : Key). k.family) keys) p reply q (GetsMany trace p keys reply q)
+Replies settings trace client p (scan family lo hi) reply q =
+    IfThere settings (family ∷ []) p reply q (Scans trace p family lo hi reply q)
+Replies settings trace client p (updates s) reply q = Updates settings trace p s reply q
 Replies settings trace client p stop reply q = Stops trace client p reply q
 Replies settings trace client p unstop reply q = Unstops trace client p reply q
 Replies settings trace client p (slow rate) reply q = Slows trace client p rate reply q
@@ -213,10 +246,12 @@ Replies settings trace client p unslow reply q = Unslows trace client p reply q
 abbrev pub MayFindNoMemory : Settings → Progress → Command → Type 0
 MayFindNoMemory settings p (add r) = Unit {0}
 MayFindNoMemory settings p clear = ⊥
-MayFindNoMemory settings p (commit how) = early_refusal settings.batch_bytes (holds_stop p.asked) p.pending how ≡ None
-MayFindNoMemory settings p (get key) = Unit {0}
-MayFindNoMemory settings p (many keys) = Unit {0}
-MayFindNoMemory settings p (scan lo hi) = Unit {0}
+MayFindNoMemory settings p (commit how) =
+    early_refusal settings.families settings.batch_bytes (holds_stop p.asked) p.pending how ≡ None
+MayFindNoMemory settings p (get key) = first_missing settings.families (key.family ∷ []) ≡ None
+MayFindNoMemory settings p (many keys) = first_missing settings.families (map (λ (k : Key). k.family) keys) ≡ None
+MayFindNoMemory settings p (scan family lo hi) = first_missing settings.families (family ∷ []) ≡ None
+MayFindNoMemory settings p (updates s) = holds_stop p.asked ≡ false
 MayFindNoMemory settings p stop = ⊥
 MayFindNoMemory settings p unstop = ⊥
 MayFindNoMemory settings p (slow rate) = ⊥

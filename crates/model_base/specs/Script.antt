@@ -1,11 +1,12 @@
 -- The text of a script: lines of words, and what each line says.
-use Rattle.std.specs.Prelude.{ℕ, ◌+◌, ◌-◌, ◌*◌, ◌^◌, Bool, true, false, not, ◌&&◌, List, [], ◌∷◌, ◌++◌, length, fold, Option, Some, None, Result, Ok, Err, codes, decimal, bytes_eq, nat_lt, nat_le, ◌==◌, if◌then◌else◌, option_map}
+use Rattle.std.specs.Prelude.{ℕ, ◌+◌, ◌-◌, ◌*◌, ◌^◌, Bool, true, false, not, ◌&&◌, List, [], ◌∷◌, ◌++◌, length, map, fold, Option, Some, None, Result, Ok, Err, codes, decimal, bytes_eq, nat_lt, nat_le, ◌==◌, if◌then◌else◌, option_map, option_and_then}
 use Rattle.std.specs.List.{list_all, slice_split, enumerate_from}
 use Rattle.model_base.specs.declared.limits.TheConstants.{MAX_CLIENTS, TEXT_LIMIT}
 use Rattle.model_base.specs.declared.script.ScriptFault.{ScriptFault}
 use Rattle.model_base.specs.declared.script.ScriptFault.TheVariants.{Long, Byte, Word, Form, Client, Clients, NoClient, NoSchedule}
 use Rattle.model_base.specs.Batch.{value, deletion, single_deletion, log_data}
-use Rattle.model_base.specs.Calls.{Command, add, clear, commit, get, many, scan, stop, unstop, slow, unslow}
+use Rattle.model_base.specs.Map.{Key, named, key_at}
+use Rattle.model_base.specs.Calls.{Command, add, clear, commit, get, many, scan, updates, stop, unstop, slow, unslow}
 
 -- Lines and words
 
@@ -78,6 +79,30 @@ two_words line [] = Err Form
 two_words line (w ∷ []) = Err Form
 two_words line (w ∷ v ∷ u ∷ ws) = Err Form
 
+-- a family's number is below 2 ^ 32
+abbrev pub family_number : List ℕ → Option ℕ
+family_number w = option_and_then (λ n. if nat_lt n (2 ^ 32) then Some n else None) (number_of w)
+
+-- a family's number, and words that are read by that number
+abbrev pub in_family : (ℕ → List (List ℕ) → Read Line) → List (List ℕ) → Read Line
+in_family rest [] = Err Form
+in_family rest (w ∷ ws) = or_form (family_number w) >>= λ family. rest family ws
+
+-- a key and others
+abbrev pub with_keys : Option ℕ → List ℕ → Option (List Key) → Option (List Key)
+with_keys None w keys = None
+with_keys (Some family) w keys = option_map (λ ks. key_at family w ∷ ks) keys
+
+-- keys, each after its family's number
+abbrev pub keys_in_families : List (List ℕ) → Option (List Key)
+keys_in_families [] = Some []
+keys_in_families (f ∷ []) = None
+keys_in_families (f ∷ w ∷ ws) = with_keys (family_number f) w (keys_in_families ws)
+
+abbrev pub some_keys : (List Key → Line) → List (List ℕ) → Read Line
+some_keys line [] = Err Form
+some_keys line (w ∷ ws) = or_form (option_map line (keys_in_families (w ∷ ws)))
+
 abbrev pub some_words : (List (List ℕ) → Line) → List (List ℕ) → Read Line
 some_words line [] = Err Form
 some_words line (w ∷ ws) = Ok (line (w ∷ ws))
@@ -106,9 +131,27 @@ pub record CommandForm : Type 0 where
 -- reads: of several keys at once, and of all keys in a range
 abbrev pub read_forms : List CommandForm
 read_forms =
-    record { word = codes "many"; rest = some_words (λ ks. command (many ks)) }
-    ∷ record { word = codes "scan"; rest = two_words (λ lo hi. command (scan lo hi)) }
+    record { word = codes "many"; rest = some_words (λ ks. command (many (map (key_at 0) ks))) }
+    ∷ record { word = codes "scan"; rest = two_words (λ lo hi. command (scan 0 lo hi)) }
     ∷ []
+
+-- records of keys in families, and reads of them
+abbrev pub family_forms : List CommandForm
+family_forms =
+    record { word = codes "fput"; rest = in_family (λ f. two_words (λ k v. command (add (value (named f) k v)))) }
+    ∷ record { word = codes "fdel"; rest = in_family (λ f. one_word (λ k. command (add (deletion (named f) k)))) }
+    ∷ record {
+      word = codes "fsdel";
+      rest = in_family (λ f. one_word (λ k. command (add (single_deletion (named f) k))));
+    }
+    ∷ record { word = codes "fget"; rest = in_family (λ f. one_word (λ k. command (get (key_at f k)))) }
+    ∷ record { word = codes "fmany"; rest = some_keys (λ ks. command (many ks)) }
+    ∷ record { word = codes "fscan"; rest = in_family (λ f. two_words (λ lo hi. command (scan f lo hi))) }
+    ∷ []
+
+-- the log's records from a sequence on (no client's section has this line yet)
+abbrev pub update_forms : List CommandForm
+update_forms = record { word = codes "updates"; rest = one_number (λ s. command (updates s)) } ∷ []
 
 -- the tokens of the write controller
 abbrev pub token_forms : List CommandForm
@@ -123,14 +166,14 @@ token_forms =
 abbrev pub client_forms : List CommandForm
 client_forms =
     record { word = codes "client"; rest = one_number section }
-    ∷ record { word = codes "put"; rest = two_words (λ k v. command (add (value k v))) }
-    ∷ record { word = codes "del"; rest = one_word (λ k. command (add (deletion k))) }
-    ∷ record { word = codes "sdel"; rest = one_word (λ k. command (add (single_deletion k))) }
+    ∷ record { word = codes "put"; rest = two_words (λ k v. command (add (value None k v))) }
+    ∷ record { word = codes "del"; rest = one_word (λ k. command (add (deletion None k))) }
+    ∷ record { word = codes "sdel"; rest = one_word (λ k. command (add (single_deletion None k))) }
     ∷ record { word = codes "note"; rest = one_word (λ t. command (add (log_data t))) }
     ∷ record { word = codes "clear"; rest = no_word (command clear) }
     ∷ record { word = codes "commit"; rest = commit_flags }
-    ∷ record { word = codes "get"; rest = one_word (λ k. command (get k)) }
-    ∷ read_forms
+    ∷ record { word = codes "get"; rest = one_word (λ k. command (get (key_at 0 k))) }
+    ∷ read_forms ++ family_forms
 
 -- every line that a client's section may have
 abbrev pub whole_forms : List CommandForm

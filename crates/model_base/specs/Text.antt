@@ -1,5 +1,5 @@
 -- What the program prints.
-use Rattle.std.specs.Prelude.{ℕ, ◌/◌, ◌%◌, List, [], ◌∷◌, ◌++◌, length, map, flat_map, codes, decimal, Option, Some, None}
+use Rattle.std.specs.Prelude.{ℕ, ◌/◌, ◌%◌, List, [], ◌∷◌, ◌++◌, length, map, flat_map, codes, decimal, ◌==◌, if◌then◌else◌, Option, Some, None}
 use Rattle.std.specs.List.{join_with_byte, enumerate_from}
 use Rattle.std.specs.Fmt.{digit_glyph}
 use Rattle.std.specs.Prelude.{false}
@@ -12,9 +12,9 @@ use Rattle.model_base.specs.declared.log.Damage.TheVariants.{ShortHeader, Zeros,
 use Rattle.model_base.specs.declared.log.EndReason.{EndReason}
 use Rattle.model_base.specs.declared.log.EndReason.TheVariants as ends
 use Rattle.model_base.specs.Batch.{count_of, batch}
-use Rattle.model_base.specs.Map.{Pairs}
+use Rattle.model_base.specs.Map.{Key, Pairs}
 use Rattle.model_base.specs.History.{Entry, last_of}
-use Rattle.model_base.specs.Calls.{Reply, quiet, accepted, refused, found, found_each, rows, done, held, not_held, no_memory, Call, Outcome}
+use Rattle.model_base.specs.Calls.{Reply, quiet, accepted, refused, found, found_each, rows, updates_found, read_failed, done, held, not_held, no_memory, Call, Outcome}
 use Rattle.model_base.specs.Recovery.{Logged, logged_bytes, Recovered, recovered_last, recovered_map}
 use Rattle.model_base.specs.RecoveredLogs.{RecoveredLogs, map_of_logs, last_of_logs}
 
@@ -36,6 +36,7 @@ refusal_words (no.Incomplete stops delays wait) =
     codes "incomplete" ∷ decimal stops ∷ decimal delays ∷ decimal wait ∷ []
 refusal_words (no.LogFault count) = codes "logfault" ∷ decimal count ∷ []
 refusal_words (no.SequenceFull last) = codes "full" ∷ decimal last ∷ []
+refusal_words (no.NoFamily family) = codes "family" ∷ decimal family ∷ []
 
 -- `=V` for a value, and `-` for none
 abbrev pub found_word : Option (List ℕ) → List ℕ
@@ -51,6 +52,9 @@ reply_text (found at None) = line (codes "nil" ∷ decimal at ∷ [])
 reply_text (found_each at values) = line (codes "many" ∷ decimal at ∷ decimal (length values) ∷ map found_word values)
 reply_text (rows at pairs) =
     line (codes "scan" ∷ decimal at ∷ decimal (length pairs) ∷ flat_map (λ p. p.0 ∷ p.1 ∷ []) pairs)
+reply_text (updates_found at records) =
+    line (codes "updates" ∷ decimal at ∷ decimal (length records) ∷ map hex records)
+reply_text (read_failed count) = line (codes "no" ∷ codes "readfault" ∷ decimal count ∷ [])
 reply_text done = line (codes "done" ∷ [])
 reply_text held = line (codes "held" ∷ [])
 reply_text not_held = line (codes "notheld" ∷ [])
@@ -76,10 +80,14 @@ entry_text e =
 abbrev pub history_text : List Entry → List ℕ
 history_text entries = line (codes "history" ∷ decimal (length entries) ∷ []) ++ flat_map entry_text entries
 
+-- a key, after its family's number unless that is 0, where `word` says how it is printed
+abbrev pub key_words : (List ℕ → List ℕ) → Key → List (List ℕ)
+key_words word key = (if key.family == 0 then [] else decimal key.family ∷ []) ++ word key.bytes ∷ []
+
 -- the sequence, the number of keys, and the pairs, where `word` says how a key or a value is printed
 abbrev pub state_text : (List ℕ → List ℕ) → ℕ → Pairs → List ℕ
 state_text word last pairs = line (codes "state" ∷ decimal last ∷ decimal (length pairs) ∷ [])
-    ++ flat_map (λ p. line (word p.0 ∷ word p.1 ∷ [])) pairs
+    ++ flat_map (λ p. line (key_words word p.0 ++ word p.1 ∷ [])) pairs
 
 -- the lengths of the logs that were begun, and the count of the fault
 abbrev pub log_text : List ℕ → Option ℕ → List ℕ

@@ -3,6 +3,7 @@ use Rattle.std.specs.Prelude.{◌≡◌, ℕ, List, []}
 use mathlib.Core.List.{IsPrefix}
 use Rattle.model_base.specs.Map.{Pairs}
 use Rattle.model_base.specs.History.{Entry}
+use Rattle.model_base.specs.Recovery.{Logged}
 use Rattle.model_base.specs.Controller.{ControllerCall}
 
 pub record Trace : Type 0 where
@@ -11,24 +12,36 @@ pub record Trace : Type 0 where
   -- the map before it
   pub opening : Pairs
   pub entries : List Entry
+  -- the entries that are logged, by the records of the log
+  pub logged : List (List Entry)
   pub controller_calls : List ControllerCall
 
 abbrev pub empty_trace : ℕ → Pairs → Trace
-empty_trace start opening = record { start = start; opening = opening; entries = []; controller_calls = [] }
+empty_trace start opening = record {
+  start = start;
+  opening = opening;
+  entries = [];
+  logged = [];
+  controller_calls = [];
+}
 
 -- the trace v is a beginning of the trace w
 pub record Begins (v w : Trace) : Type 0 where
   pub start : v.start ≡ w.start
   pub opening : v.opening ≡ w.opening
   pub entries : IsPrefix v.entries w.entries
+  pub logged : IsPrefix v.logged w.logged
   pub controller_calls : IsPrefix v.controller_calls w.controller_calls
 
--- How a run was set up: the sequence before the first batch and the map before it, the number of clients, the limits on
--- a group's bytes and on a batch's, and the count of faults of the log's disk at opening
+-- How a run was set up: the sequence before the first batch, the map before it and the batches that the log kept, the
+-- number of clients and that of column families, the limits on a group's bytes and on a batch's, and the count of
+-- faults of the log's disk at opening
 pub record Settings : Type 0 where
   pub start : ℕ
   pub opening : Pairs
+  pub kept : List Logged
   pub clients : ℕ
+  pub families : ℕ
   pub group_bytes : ℕ
   pub batch_bytes : ℕ
   pub opened : ℕ

@@ -9,4 +9,6 @@ pub struct Options {
     pub group_bytes: u64,
     /// The most bytes of a batch. A larger one is refused.
     pub batch_bytes: u64,
+    /// How many column families there are, at least one. They have the numbers below this one.
+    pub families: u32,
 }

@@ -9,11 +9,14 @@ use Rattle.model_base.specs.declared.write.Refusal.TheVariants as no
 use Rattle.model_base.specs.Batch.{Record, count_of, size_of_batch}
 use Rattle.model_base.specs.Map.{Pairs, value_at, rows_within}
 use Rattle.model_base.specs.History.{Entry, max_sequence, last_of, map_of, flag_of}
-use Rattle.model_base.specs.Progress.{early_refusal}
+use Rattle.std.specs.Option.{option_map_or}
+use Rattle.model_base.specs.declared.key.Key.{Key}
+use Rattle.model_base.specs.Progress.{first_missing, early_refusal}
 use Rattle.model_base.specs.Calls.{Command, add, clear, get, many, scan, Reply, quiet, accepted, refused, found, found_each, rows, Call}
 
 pub record Options : Type 0 where
   pub pipelined : Bool
+  pub families : ℕ
   pub group_bytes : ℕ
   pub batch_bytes : ℕ
   pub start : ℕ
@@ -128,7 +131,7 @@ item_of w = record { size = size_of_batch w.records; options = w.options; alone 
 
 -- the checks before a batch is linked; the core knows no write controller, so nobody holds a token
 abbrev pub refusal_of : Options → WriteOptions → List Record → Option Refusal
-refusal_of o how records = early_refusal o.batch_bytes false records how
+refusal_of o how records = early_refusal o.families o.batch_bytes false records how
 
 -- what a schedule's writers are answered that may not wait, where a leader stalls writes
 abbrev pub stall_refusal : ℕ → ℕ → Refusal
@@ -221,8 +224,16 @@ runners ws = map (λ w. w.client) (filter has_run ws)
 abbrev pub published_map : State → Pairs
 published_map s = map_of (take_while (λ x. nat_le (last_of x) s.last) s.entries)
 
-abbrev pub read_reply : State → Command → Option Reply
-read_reply s (get key) = Some (found s.last (value_at (published_map s) key))
-read_reply s (many keys) = Some (found_each s.last (map (value_at (published_map s)) keys))
-read_reply s (scan lo hi) = Some (rows s.last (rows_within lo hi (published_map s)))
-read_reply s c = None
+-- a read of keys in these families is refused where there isn't one of them
+abbrev pub if_there : Options → List ℕ → Reply → Reply
+if_there o named reply =
+    option_map_or (λ family. refused (no.NoFamily family)) (first_missing o.families named) reply
+
+abbrev pub read_reply : Options → State → Command → Option Reply
+read_reply o s (get key) =
+    Some (if_there o (key.family ∷ []) (found s.last (value_at (published_map s) key)))
+read_reply o s (many keys) =
+    Some (if_there o (map (λ (k : Key). k.family) keys) (found_each s.last (map (value_at (published_map s)) keys)))
+read_reply o s (scan family lo hi) =
+    Some (if_there o (family ∷ []) (rows s.last (rows_within family lo hi (published_map s))))
+read_reply o s c = None

@@ -8,10 +8,11 @@ use Rattle.model_base.specs.declared.write.Refusal.TheVariants as no
 use Rattle.model_base.specs.Batch.{Record, count_of}
 use Rattle.model_base.specs.Map.{Pairs, value_at, rows_within}
 use Rattle.model_base.specs.History.{Entry, IsHistory, IsUpTo, IsBoundary, map_of, max_sequence}
-use Rattle.model_base.specs.Progress.{early_refusal, next_entry, batch_after}
+use Rattle.model_base.specs.declared.key.Key.{Key}
+use Rattle.model_base.specs.Progress.{first_missing, early_refusal, next_entry, batch_after}
 use Rattle.model_base.specs.Runs.{commands_of}
 use Rattle.model_base.specs.Outcomes.{entries_of_client}
-use Rattle.model_base.specs.Calls.{Command, add, clear, commit, get, many, scan, stop, unstop, slow, unslow, Reply, quiet, accepted, refused, found, found_each, rows, Call}
+use Rattle.model_base.specs.Calls.{Command, add, clear, commit, get, many, scan, updates, stop, unstop, slow, unslow, Reply, quiet, accepted, refused, found, found_each, rows, Call}
 use Rattle.model_core.specs.Core.{Options, Client, State, client_at}
 
 -- The greatest sequence that a client has seen published, by its reads and by its accepted commits
@@ -51,17 +52,17 @@ pub record ReadsAt (o : Options) (s : State) (before : List Call) (at : ℕ) (an
   pub not_below : seen_up_to before ≤ at
   pub answer : answers (map_of front)
 
-abbrev pub Gets : Options → State → List Call → List ℕ → Reply → Type 0
+abbrev pub Gets : Options → State → List Call → Key → Reply → Type 0
 Gets o s before key (found at v) = ReadsAt o s before at (λ m. v ≡ value_at m key)
 Gets o s before key other = ⊥
 
-abbrev pub GetsMany : Options → State → List Call → List (List ℕ) → Reply → Type 0
+abbrev pub GetsMany : Options → State → List Call → List Key → Reply → Type 0
 GetsMany o s before keys (found_each at vs) = ReadsAt o s before at (λ m. vs ≡ map (value_at m) keys)
 GetsMany o s before keys other = ⊥
 
-abbrev pub Scans : Options → State → List Call → List ℕ → List ℕ → Reply → Type 0
-Scans o s before lo hi (rows at pairs) = ReadsAt o s before at (λ m. pairs ≡ rows_within lo hi m)
-Scans o s before lo hi other = ⊥
+abbrev pub Scans : Options → State → List Call → ℕ → List ℕ → List ℕ → Reply → Type 0
+Scans o s before family lo hi (rows at pairs) = ReadsAt o s before at (λ m. pairs ≡ rows_within family lo hi m)
+Scans o s before family lo hi other = ⊥
 
 -- Why a commit that passed the early checks may be refused: the log has failed; or there was no room for its run after
 -- a boundary, not below what its client has seen, and the client didn't know that the log has failed; or the commit may
@@ -76,6 +77,7 @@ MayRefuse o s before how no.Empty = ⊥
 MayRefuse o s before how (no.TooLarge size) = ⊥
 MayRefuse o s before how no.SyncWithoutLog = ⊥
 MayRefuse o s before how no.SelfStop = ⊥
+MayRefuse o s before how (no.NoFamily family) = ⊥
 MayRefuse o s before how no.NoMemory = ⊥
 
 -- An accepted batch is what was added since the last `ok` or `clear`, and its run has as many sequences as the batch
@@ -93,17 +95,25 @@ IsHandled o s before how other = ⊥
 
 abbrev pub Commits : Options → State → List Call → WriteOptions → Reply → Type 0
 Commits o s before how reply =
-    MatchOption (early_refusal o.batch_bytes false (batch_after before) how)
+    MatchOption (early_refusal o.families o.batch_bytes false (batch_after before) how)
     (IsHandled o s before how reply)
     (λ why. reply ≡ refused why)
+
+-- a read of keys in these families: refused by the first one that there isn't, if there is such a one
+abbrev pub IfThere : Options → List ℕ → Reply → Type 0 → Type 0
+IfThere o named reply answered =
+    MatchOption (first_missing o.families named) answered (λ family. reply ≡ refused (no.NoFamily family))
 
 abbrev pub MayReply : Options → State → List Call → Command → Reply → Type 0
 MayReply o s before (add r) reply = reply ≡ quiet
 MayReply o s before clear reply = reply ≡ quiet
 MayReply o s before (commit how) reply = Commits o s before how reply
-MayReply o s before (get key) reply = Gets o s before key reply
-MayReply o s before (many keys) reply = GetsMany o s before keys reply
-MayReply o s before (scan lo hi) reply = Scans o s before lo hi reply
+MayReply o s before (get key) reply = IfThere o (key.family ∷ []) reply (Gets o s before key reply)
+MayReply o s before (many keys) reply =
+    IfThere o (map (λ (k : Key). k.family) keys) reply (GetsMany o s before keys reply)
+MayReply o s before (scan family lo hi) reply =
+    IfThere o (family ∷ []) reply (Scans o s before family lo hi reply)
+MayReply o s before (updates s0) reply = ⊥
 MayReply o s before stop reply = ⊥
 MayReply o s before unstop reply = ⊥
 MayReply o s before (slow rate) reply = ⊥

@@ -200,19 +200,19 @@ abbrev pub complete : State → ℕ → Option Writer → Option State
 complete s m None = None
 complete s m (Some w) = complete_with s m (client_at s m) w w.answer
 
--- read c: c is idle, and its next call is a read. It is answered at the published sequence
+-- read c: c is idle, and its next call is a read. It is answered at the published sequence, or refused
 abbrev pub read_with : State → ℕ → Client → Command → Option Reply → Option State
 read_with s c client command None = None
 read_with s c client command (Some reply) = Some (with_client s c (after_reply client command reply))
 
-abbrev pub read_call : State → ℕ → Client → Option Command → Option State
-read_call s c client None = None
-read_call s c client (Some command) = read_with s c client command (read_reply s command)
+abbrev pub read_call : Options → State → ℕ → Client → Option Command → Option State
+read_call o s c client None = None
+read_call o s c client (Some command) = read_with s c client command (read_reply o s command)
 
-abbrev pub read : State → ℕ → Option Client → Option State
-read s c None = None
-read s c (Some client) =
-    if client.idle then read_call s c (next_call client).client (next_call client).call else None
+abbrev pub read : Options → State → ℕ → Option Client → Option State
+read o s c None = None
+read o s c (Some client) =
+    if client.idle then read_call o s c (next_call client).client (next_call client).call else None
 
 -- The state after an event, if the event may come.
 abbrev pub step : Options → State → Event → Option State
@@ -234,7 +234,7 @@ step o s (e.Finish m) = finish s m s.table
 step o s (e.Publish m) = publish o s m s.table
 step o s (e.Exit c) = exit o s c s.table
 step o s (e.Complete m) = complete s m (find (λ (w : Writer). w.client == m) s.leaving)
-step o s (e.Read c) = read s c (client_at s c)
+step o s (e.Read c) = read o s c (client_at s c)
 
 -- the state after a list of events, where those that may not come are skipped; how many were taken, and how many were
 -- skipped

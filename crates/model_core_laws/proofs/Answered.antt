@@ -8,7 +8,7 @@ use Rattle.model_core.specs.declared.event.Event.TheVariants as e
 use Rattle.model_base.specs.Outcomes.{entries_of_client}
 use Rattle.model_base.specs.Runs.{commands_of}
 use Rattle.model_base.specs.Progress.{next_entry, batch_after}
-use Rattle.model_base.specs.Calls.{Command, commit, Reply, quiet, accepted, refused, found, found_each, rows, done, held, not_held, no_memory, Call}
+use Rattle.model_base.specs.Calls.{Command, commit, Reply, quiet, accepted, refused, found, found_each, rows, updates_found, read_failed, done, held, not_held, no_memory, Call}
 use Rattle.model_core.specs.Core.{Options, Writer, Client, State, opening_state, idle_client, client_at}
 use Rattle.model_core.specs.Step.{step, replay}
 use Rattle.model_core.specs.CoreLaw.{IsCore, hand, writers_in, waiting_clients}
@@ -123,6 +123,8 @@ by_answer o s c client w waits same batch (Some quiet) is = absurd is
 by_answer o s c client w waits same batch (Some (found at v)) is = absurd is
 by_answer o s c client w waits same batch (Some (found_each at vs)) is = absurd is
 by_answer o s c client w waits same batch (Some (rows at pairs)) is = absurd is
+by_answer o s c client w waits same batch (Some (updates_found at records)) is = absurd is
+by_answer o s c client w waits same batch (Some (read_failed count)) is = absurd is
 by_answer o s c client w waits same batch (Some done) is = absurd is
 by_answer o s c client w waits same batch (Some held) is = absurd is
 by_answer o s c client w waits same batch (Some not_held) is = absurd is

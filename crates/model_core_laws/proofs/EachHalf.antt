@@ -31,22 +31,22 @@ by_link P o s t c holds came = by_client (client_at s c) came
     by_client None came = absurd (cc)
     by_client (Some client) came = by_idle client client.idle came
 
-by_read : (P : State → Type 0) (s t : State) (c : ℕ) → ((client : Client) → P (with_client s c client)) → read s c (client_at s c) ≡ Some t → P t
-by_read P s t c holds came = by_client (client_at s c) came
+by_read : (P : State → Type 0) (o : Options) (s t : State) (c : ℕ) → ((client : Client) → P (with_client s c client)) → read o s c (client_at s c) ≡ Some t → P t
+by_read P o s t c holds came = by_client (client_at s c) came
   where
     by_reply : (client : Client) (command : Command) (reply : Option Reply) → read_with s c client command reply ≡ Some t → P t
     by_reply client command (Some reply) came = let after : with_client s c (after_reply client command reply) ≡ t = cc in subst P after (holds (after_reply client command reply))
     by_reply client command None came = absurd (cc)
 
-    by_call : (client : Client) (call : Option Command) → read_call s c client call ≡ Some t → P t
-    by_call client (Some command) came = by_reply client command (read_reply s command) came
+    by_call : (client : Client) (call : Option Command) → read_call o s c client call ≡ Some t → P t
+    by_call client (Some command) came = by_reply client command (read_reply o s command) came
     by_call client None came = absurd (cc)
 
-    by_idle : (client : Client) (b : Bool) → (if b then read_call s c (next_call client).client (next_call client).call else None) ≡ Some t → P t
+    by_idle : (client : Client) (b : Bool) → (if b then read_call o s c (next_call client).client (next_call client).call else None) ≡ Some t → P t
     by_idle client true came = by_call (next_call client).client (next_call client).call came
     by_idle client false came = absurd (cc)
 
-    by_client : (client : Option Client) → read s c client ≡ Some t → P t
+    by_client : (client : Option Client) → read o s c client ≡ Some t → P t
     by_client None came = absurd (cc)
     by_client (Some client) came = by_idle client client.idle came
 
@@ -271,7 +271,7 @@ moves o s t (e.Finish m) came = by_finish o s t m s.table refl came
 moves o s t (e.Publish m) came = by_publish o s t m s.table refl came
 moves o s t (e.Exit c) came = by_exit o s t c s.table refl came
 moves o s t (e.Complete m) came = by_complete (Moves o (e.Complete m) s) s t m (λ client. (refl, refl)) came
-moves o s t (e.Read c) came = by_read (Moves o (e.Read c) s) s t c (λ client. (refl, refl)) came
+moves o s t (e.Read c) came = by_read (Moves o (e.Read c) s) o s t c (λ client. (refl, refl)) came
 
 pub table_step : (o : Options) (s t : State) (event : Event) → step o s event ≡ Some t → TableStep o event s (table_half_of t)
 table_step o s t event came = (moves o s t event came).0

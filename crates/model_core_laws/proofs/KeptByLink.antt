@@ -19,11 +19,11 @@ use Rattle.model_core_laws.proofs.Lists.{all_weaker, all_append}
 use Rattle.model_core_laws.proofs.Tables.{all_fewer, times, times_cons, times_here, there_append, times_among, waiting_parts, when_some}
 
 -- a batch that isn't refused has something to write
-something : (batch_bytes : ℕ) (records : List Record) (how : WriteOptions) → early_refusal batch_bytes false records how ≡ None → 0 < count_of records
-something batch_bytes records how none = by (count_of records == 0) refl none
+something : (families batch_bytes : ℕ) (records : List Record) (how : WriteOptions) → early_refusal families batch_bytes false records how ≡ None → 0 < count_of records
+something families batch_bytes records how none = by (count_of records == 0) refl none
   where
-    by : (b : Bool) → (count_of records == 0) ≡ b → early_refusal batch_bytes false records how ≡ None → 0 < count_of records
-    by true is e = absurd (let f : early_refusal batch_bytes false records how ≡ Some no.Empty = cond-true (count_of records == 0) (Some no.Empty) _ is in cc)
+    by : (b : Bool) → (count_of records == 0) ≡ b → early_refusal families batch_bytes false records how ≡ None → 0 < count_of records
+    by true is e = absurd (let f : early_refusal families batch_bytes false records how ≡ Some no.Empty = cond-true (count_of records == 0) (Some no.Empty) _ is in cc)
     by false is e = let f = eqb-false (count_of records) 0 is in omega (arith, f)
 
 -- the client that leads the log stays first
@@ -114,7 +114,7 @@ kept_by_link o s t c core e = by_client (client_at s c) refl e
     by_refusal old client is was now how (Some why) refusal e = subst (λ (x : State). IsCore o x × Keeps (Link c) s x) e
         ((kept_idle o s c old (after_reply client (commit how) (refused why)) is was refl core).0, record { order = inl refl; log_failed = λ failed. (refl, failed) })
     by_refusal old client is was now how None refusal e =
-        let some = something o.batch_bytes client.added how (none_early s.log how (refusal_of o how client.added) refusal) in
+        let some = something o.families o.batch_bytes client.added how (none_early s.log how (refusal_of o how client.added) refusal) in
         subst (λ (x : State). IsCore o x × Keeps (Link c) s x) e (linking o s c old client how is was some core, keeps_linking o s c old client how is was some core)
 
     by_call : (old client : Client) → client_at s c ≡ Some old → old.idle ≡ true → client.idle ≡ true → (call : Option Command) → link_call o s c client call ≡ Some t → IsCore o t × Keeps (Link c) s t

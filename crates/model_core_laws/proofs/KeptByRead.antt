@@ -18,7 +18,7 @@ kept_idle o s c old new is was now core = (
   keeps s (with_client s c new) (subsequence_self (in_order s)) refl refl,
 )
 
-pub kept_by_read : (o : Options) (s t : State) (c : ℕ) → IsCore o s → read s c (client_at s c) ≡ Some t → IsCore o t × AddsNobody s t
+pub kept_by_read : (o : Options) (s t : State) (c : ℕ) → IsCore o s → read o s c (client_at s c) ≡ Some t → IsCore o t × AddsNobody s t
 kept_by_read o s t c core e = by_client (client_at s c) refl e
   where
     by_reply : (client : Client) → client_at s c ≡ Some client → client.idle ≡ true → (command : Command) (reply : Option Reply) → read_with s c (next_call client).client command reply ≡ Some t → IsCore o t × AddsNobody s t
@@ -27,14 +27,14 @@ kept_by_read o s t c core e = by_client (client_at s c) refl e
         let after : with_client s c (after_reply (next_call client).client command reply) ≡ t = cc in
         subst (λ (x : State). IsCore o x × AddsNobody s x) after (kept_idle o s c client (after_reply (next_call client).client command reply) is idle refl core)
 
-    by_call : (client : Client) → client_at s c ≡ Some client → client.idle ≡ true → (call : Option Command) → read_call s c (next_call client).client call ≡ Some t → IsCore o t × AddsNobody s t
+    by_call : (client : Client) → client_at s c ≡ Some client → client.idle ≡ true → (call : Option Command) → read_call o s c (next_call client).client call ≡ Some t → IsCore o t × AddsNobody s t
     by_call client is idle None e = absurd (cc)
-    by_call client is idle (Some command) e = by_reply client is idle command (read_reply s command) e
+    by_call client is idle (Some command) e = by_reply client is idle command (read_reply o s command) e
 
-    by_idle : (client : Client) → client_at s c ≡ Some client → (b : Bool) → client.idle ≡ b → (if b then read_call s c (next_call client).client (next_call client).call else None) ≡ Some t → IsCore o t × AddsNobody s t
+    by_idle : (client : Client) → client_at s c ≡ Some client → (b : Bool) → client.idle ≡ b → (if b then read_call o s c (next_call client).client (next_call client).call else None) ≡ Some t → IsCore o t × AddsNobody s t
     by_idle client is true idle e = by_call client is idle (next_call client).call e
     by_idle client is false idle e = absurd (cc)
 
-    by_client : (client : Option Client) → client_at s c ≡ client → read s c client ≡ Some t → IsCore o t × AddsNobody s t
+    by_client : (client : Option Client) → client_at s c ≡ client → read o s c client ≡ Some t → IsCore o t × AddsNobody s t
     by_client None is e = absurd (cc)
     by_client (Some client) is e = by_idle client is client.idle refl e

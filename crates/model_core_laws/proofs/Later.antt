@@ -1,7 +1,8 @@
 -- A reply that was given stays as it is, and later reads aren't older than what was published before.
-use Rattle.std.proofs.Common.{◌≡◌, ℕ, ◌≤◌, ◌==◌, ◌&&◌, not, Bool, true, false, if◌then◌else◌, ◌⊎◌, inl, inr, List, [], ◌∷◌, ◌++◌, fold, filter, take, drop, find, Option, Some, None, refl, ap, sym, ◌∙◌, subst, append_assoc, append-nil, arith}
+use Rattle.std.proofs.Common.{◌≡◌, ℕ, ◌≤◌, ◌==◌, ◌&&◌, not, Bool, true, false, if◌then◌else◌, ◌⊎◌, inl, inr, List, [], ◌∷◌, ◌++◌, fold, map, filter, take, drop, find, Option, Some, None, refl, ap, sym, ◌∙◌, subst, append_assoc, append-nil, arith}
 use mathlib.Core.List.{IsPrefix}
 use Rattle.std.specs.List.{AllByRecursion, list_any, list_all}
+use Rattle.std.specs.Option.{option_map_or}
 use Rattle.std.proofs.lemmas.Bool.{cases_eq}
 use Rattle.model_core.specs.declared.event.Event.{Event}
 use Rattle.model_core.specs.declared.event.Event.TheVariants as e
@@ -9,8 +10,11 @@ use Rattle.model_base.specs.declared.write.Refusal.{Refusal}
 use Rattle.model_base.specs.declared.write.Refusal.TheVariants as no
 use Rattle.model_base.specs.declared.write.WriteOptions.{WriteOptions}
 use Rattle.model_base.specs.Batch.{Record}
-use Rattle.model_base.specs.Calls.{Command, add, clear, commit, get, many, scan, stop, unstop, slow, unslow, Reply, quiet, accepted, refused, found, found_each, rows, done, held, not_held, no_memory, Call}
-use Rattle.model_core.specs.Core.{Options, Writer, Client, LogPhase, free, led, built, stalled, in_log, marked, handed, TablePhase, still, launched, published, State, opening_state, client_at, with_client, next_call, ahead, after_reply, refusal_of, refusal_in, may_link, stall_refusal, read_reply, leads, has_run, with_runs, entries_of, table_group, runners, among, all_answered}
+use Rattle.model_base.specs.declared.key.Key.{Key}
+use Rattle.model_base.specs.Map.{value_at, rows_within}
+use Rattle.model_base.specs.Progress.{first_missing}
+use Rattle.model_base.specs.Calls.{Command, add, clear, commit, get, many, scan, updates, stop, unstop, slow, unslow, Reply, quiet, accepted, refused, found, found_each, rows, updates_found, read_failed, done, held, not_held, no_memory, Call}
+use Rattle.model_core.specs.Core.{Options, Writer, Client, LogPhase, free, led, built, stalled, in_log, marked, handed, TablePhase, still, launched, published, State, opening_state, client_at, with_client, next_call, ahead, after_reply, refusal_of, refusal_in, may_link, stall_refusal, published_map, if_there, read_reply, leads, has_run, with_runs, entries_of, table_group, runners, among, all_answered}
 use Rattle.model_core.specs.Step.{step, replay, after_event, Replayed, link, link_call, link_with, elect, build, group_size, log_group, logged_group, fault, refuse, is_no_slowdown, stall, unstall, leave_queue, leave_with, left_queue, boundary, to_second, next, launch, insert, entry_ahead, finish, publish, is_last, group_last, exit, leave, without_table_group, complete, complete_with, after_completion, read, read_call, read_with, when}
 use Rattle.model_core.specs.CoreLaw.{IsCore, hand, writers_in}
 use Rattle.model_core.specs.Replies.{IsFrom, IsLater}
@@ -34,6 +38,8 @@ from_less m n less (rows at pairs) is = omega arith
 from_less m n less quiet is = tt
 from_less m n less (accepted a b records) is = tt
 from_less m n less (refused why) is = tt
+from_less m n less (updates_found at records) is = tt
+from_less m n less (read_failed count) is = tt
 from_less m n less done is = tt
 from_less m n less held is = tt
 from_less m n less not_held is = tt
@@ -220,7 +226,8 @@ told_ahead last first calls added (clear ∷ left) client since = told_ahead las
 told_ahead last first calls added (commit how ∷ left) client since = since
 told_ahead last first calls added (get key ∷ left) client since = since
 told_ahead last first calls added (many keys ∷ left) client since = since
-told_ahead last first calls added (scan lo hi ∷ left) client since = since
+told_ahead last first calls added (scan family lo hi ∷ left) client since = since
+told_ahead last first calls added (updates n ∷ left) client since = since
 told_ahead last first calls added (stop ∷ left) client since = since
 told_ahead last first calls added (unstop ∷ left) client since = since
 told_ahead last first calls added (slow rate ∷ left) client since = since
@@ -268,46 +275,50 @@ by_link o s t c e = by_client (client_at s c) refl e
     by_client (Some client) is e = by_idle client is client.idle e
 
 -- a read is answered at the published sequence
-read_from : (s : State) (command : Command) (reply : Reply) → read_reply s command ≡ Some reply → IsFrom s.last reply
-read_from s (get key) reply e = subst (IsFrom s.last) (answer e) (omega arith)
-  where
-    answer : {a b : Reply} → Some a ≡ Some b → a ≡ b
-    answer e = cc
-read_from s (many keys) reply e = subst (IsFrom s.last) (answer e) (omega arith)
-  where
-    answer : {a b : Reply} → Some a ≡ Some b → a ≡ b
-    answer e = cc
-read_from s (scan lo hi) reply e = subst (IsFrom s.last) (answer e) (omega arith)
-  where
-    answer : {a b : Reply} → Some a ≡ Some b → a ≡ b
-    answer e = cc
-read_from s (add r) reply e = absurd (cc)
-read_from s clear reply e = absurd (cc)
-read_from s (commit how) reply e = absurd (cc)
-read_from s stop reply e = absurd (cc)
-read_from s unstop reply e = absurd (cc)
-read_from s (slow rate) reply e = absurd (cc)
-read_from s unslow reply e = absurd (cc)
+same_reply : {a b : Reply} → Some a ≡ Some b → a ≡ b
+same_reply e = cc
 
-by_read : (s t : State) (c : ℕ) → read s c (client_at s c) ≡ Some t → IsLater s t
-by_read s t c e = by_client (client_at s c) refl e
+-- so is one that is refused: a refusal is from every sequence on
+from_if_there : (o : Options) (named : List ℕ) (last : ℕ) (answer : Reply) → IsFrom last answer → IsFrom last (if_there o named answer)
+from_if_there o named last answer from = by (first_missing o.families named)
   where
-    by_reply : (old : Client) → client_at s c ≡ Some old → (command : Command) (reply : Option Reply) → read_reply s command ≡ reply → read_with s c (next_call old).client command reply ≡ Some t → IsLater s t
+    by : (missing : Option ℕ) → IsFrom last (option_map_or (λ family. refused (no.NoFamily family)) missing answer)
+    by None = from
+    by (Some family) = tt
+
+read_from : (o : Options) (s : State) (command : Command) (reply : Reply) → read_reply o s command ≡ Some reply → IsFrom s.last reply
+read_from o s (get key) reply e = subst (IsFrom s.last) (same_reply e) (from_if_there o (key.family ∷ []) s.last (found s.last (value_at (published_map s) key)) (omega arith))
+read_from o s (many keys) reply e = subst (IsFrom s.last) (same_reply e)
+    (from_if_there o (map (λ (k : Key). k.family) keys) s.last (found_each s.last (map (value_at (published_map s)) keys)) (omega arith))
+read_from o s (scan family lo hi) reply e = subst (IsFrom s.last) (same_reply e) (from_if_there o (family ∷ []) s.last (rows s.last (rows_within family lo hi (published_map s))) (omega arith))
+read_from o s (add r) reply e = absurd (cc)
+read_from o s clear reply e = absurd (cc)
+read_from o s (commit how) reply e = absurd (cc)
+read_from o s (updates n) reply e = absurd (cc)
+read_from o s stop reply e = absurd (cc)
+read_from o s unstop reply e = absurd (cc)
+read_from o s (slow rate) reply e = absurd (cc)
+read_from o s unslow reply e = absurd (cc)
+
+by_read : (o : Options) (s t : State) (c : ℕ) → read o s c (client_at s c) ≡ Some t → IsLater s t
+by_read o s t c e = by_client (client_at s c) refl e
+  where
+    by_reply : (old : Client) → client_at s c ≡ Some old → (command : Command) (reply : Option Reply) → read_reply o s command ≡ reply → read_with s c (next_call old).client command reply ≡ Some t → IsLater s t
     by_reply old is command None none e = absurd (cc)
     by_reply old is command (Some reply) some e =
         let new = after_reply (next_call old).client command reply in let after : with_client s c new ≡ t = cc in
         subst (IsLater s) after (later_client s (with_client s c new) c old new is refl refl refl
-        (told_one_more s.last old.calls (next_call old).client.calls (record { command = command; reply = reply }) (read_from s command reply some) (next_told s.last old)))
+        (told_one_more s.last old.calls (next_call old).client.calls (record { command = command; reply = reply }) (read_from o s command reply some) (next_told s.last old)))
 
-    by_call : (old : Client) → client_at s c ≡ Some old → (call : Option Command) → read_call s c (next_call old).client call ≡ Some t → IsLater s t
+    by_call : (old : Client) → client_at s c ≡ Some old → (call : Option Command) → read_call o s c (next_call old).client call ≡ Some t → IsLater s t
     by_call old is None e = absurd (cc)
-    by_call old is (Some command) e = by_reply old is command (read_reply s command) refl e
+    by_call old is (Some command) e = by_reply old is command (read_reply o s command) refl e
 
-    by_idle : (client : Client) → client_at s c ≡ Some client → (b : Bool) → (if b then read_call s c (next_call client).client (next_call client).call else None) ≡ Some t → IsLater s t
+    by_idle : (client : Client) → client_at s c ≡ Some client → (b : Bool) → (if b then read_call o s c (next_call client).client (next_call client).call else None) ≡ Some t → IsLater s t
     by_idle client is true e = by_call client is (next_call client).call e
     by_idle client is false e = absurd (cc)
 
-    by_client : (client : Option Client) → client_at s c ≡ client → read s c client ≡ Some t → IsLater s t
+    by_client : (client : Option Client) → client_at s c ≡ client → read o s c client ≡ Some t → IsLater s t
     by_client None is e = absurd (cc)
     by_client (Some client) is e = by_idle client is client.idle e
 
@@ -320,6 +331,8 @@ answer_from o s client w (Some quiet) reply e is = absurd is
 answer_from o s client w (Some (found at v)) reply e is = absurd is
 answer_from o s client w (Some (found_each at vs)) reply e is = absurd is
 answer_from o s client w (Some (rows at pairs)) reply e is = absurd is
+answer_from o s client w (Some (updates_found at records)) reply e is = absurd is
+answer_from o s client w (Some (read_failed count)) reply e is = absurd is
 answer_from o s client w (Some done) reply e is = absurd is
 answer_from o s client w (Some held) reply e is = absurd is
 answer_from o s client w (Some not_held) reply e is = absurd is
@@ -361,7 +374,7 @@ later_each o plans s t (e.Finish m) so_far is = by_finish s t m s.table is
 later_each o plans s t (e.Publish m) so_far is = by_publish o s t m s.table refl so_far.core is
 later_each o plans s t (e.Exit c) so_far is = by_exit o s t c s.table is
 later_each o plans s t (e.Complete m) so_far is = by_complete o plans s t m so_far is
-later_each o plans s t (e.Read c) so_far is = by_read s t c is
+later_each o plans s t (e.Read c) so_far is = by_read o s t c is
 
 fold_append : {A B : Type 0} (f : B → A → B) (b : B) (xs ys : List A) → fold f b (xs ++ ys) ≡ fold f (fold f b xs) ys
 fold_append f b [] ys = refl

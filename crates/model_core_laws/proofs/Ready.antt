@@ -1,5 +1,6 @@
 -- A client between two of its calls, and its calls one by one.
 use Rattle.std.proofs.Common.{◌||◌, ◌&&◌, ◌==◌, nat_lt, if◌then◌else◌, ◌≡◌, ℕ, ◌≤◌, false, ◌⊎◌, inl, inr, List, [], ◌∷◌, ◌++◌, fold, Option, Some, None, MatchOption, refl, ap, sym, ◌∙◌, subst, append_assoc, true, Bool}
+use Rattle.std.specs.Option.{option_map_or}
 use Rattle.std.proofs.lemmas.Bool.{or_cases}
 use Rattle.std.proofs.lemmas.List.{map-append}
 use Rattle.std.proofs.lemmas.List.Folds.{list_any-append}
@@ -7,10 +8,10 @@ use Rattle.model_base.specs.declared.write.Refusal.{Refusal}
 use Rattle.model_base.specs.declared.write.Refusal.TheVariants as no
 use Rattle.model_base.specs.declared.write.WriteOptions.{WriteOptions}
 use Rattle.model_base.specs.Batch.{Record, count_of, size_of_batch}
-use Rattle.model_base.specs.Progress.{added_by, batch_after, early_refusal}
+use Rattle.model_base.specs.Progress.{added_by, batch_after, families_in, first_missing, early_refusal}
 use Rattle.model_base.specs.Runs.{commands_of}
 use Rattle.model_base.specs.Outcomes.{entries_of_client}
-use Rattle.model_base.specs.Calls.{Command, add, clear, commit, get, many, scan, stop, unstop, slow, unslow, Reply, quiet, refused, Call}
+use Rattle.model_base.specs.Calls.{Command, add, clear, commit, get, many, scan, updates, stop, unstop, slow, unslow, Reply, quiet, refused, Call}
 use Rattle.model_core.specs.Core.{Options, Client, State, Ahead, ahead}
 use Rattle.model_core.specs.Replies.{is_log_fault, knows_log_failed, seen_up_to, seen_with, entries_told, entries_by, MayReply, IsHandled, AreRight}
 
@@ -88,34 +89,38 @@ goes_ahead o s c lines calls added (clear ∷ left) client ready asked = goes_ah
 goes_ahead o s c lines calls added (commit how ∷ left) client ready asked = stops_at o s c lines calls added (commit how) left client ready asked
 goes_ahead o s c lines calls added (get key ∷ left) client ready asked = stops_at o s c lines calls added (get key) left client ready asked
 goes_ahead o s c lines calls added (many keys ∷ left) client ready asked = stops_at o s c lines calls added (many keys) left client ready asked
-goes_ahead o s c lines calls added (scan lo hi ∷ left) client ready asked = stops_at o s c lines calls added (scan lo hi) left client ready asked
+goes_ahead o s c lines calls added (scan family lo hi ∷ left) client ready asked = stops_at o s c lines calls added (scan family lo hi) left client ready asked
+goes_ahead o s c lines calls added (updates n ∷ left) client ready asked = stops_at o s c lines calls added (updates n) left client ready asked
 goes_ahead o s c lines calls added (stop ∷ left) client ready asked = stops_at o s c lines calls added stop left client ready asked
 goes_ahead o s c lines calls added (unstop ∷ left) client ready asked = stops_at o s c lines calls added unstop left client ready asked
 goes_ahead o s c lines calls added (slow rate ∷ left) client ready asked = stops_at o s c lines calls added (slow rate) left client ready asked
 goes_ahead o s c lines calls added (unslow ∷ left) client ready asked = stops_at o s c lines calls added unslow left client ready asked
 
 -- an early refusal isn't for the log's fault
-pub early_other : (max : ℕ) (records : List Record) (how : WriteOptions) (why : Refusal) → early_refusal max false records how ≡ Some why → is_log_fault (refused why) ≡ false
-early_other max records how why e = by (count_of records == 0) (nat_lt max (size_of_batch records)) (how.sync && how.no_log) (size_of_batch records) e
+pub early_other : (families max : ℕ) (records : List Record) (how : WriteOptions) (why : Refusal) → early_refusal families max false records how ≡ Some why → is_log_fault (refused why) ≡ false
+early_other families max records how why e = by (count_of records == 0) (nat_lt max (size_of_batch records)) (how.sync && how.no_log) (size_of_batch records) (first_missing families (families_in records)) e
   where
-    by : (a b c : Bool) (size : ℕ) → (if a then Some no.Empty else (if b then Some (no.TooLarge size) else (if c then Some no.SyncWithoutLog else None))) ≡ Some why → is_log_fault (refused why) ≡ false
-    by true b c size e = let f : no.Empty ≡ why = cc in subst (λ why. is_log_fault (refused why) ≡ false) f refl
-    by false true c size e = let f : no.TooLarge size ≡ why = cc in subst (λ why. is_log_fault (refused why) ≡ false) f refl
-    by false false true size e = let f : no.SyncWithoutLog ≡ why = cc in subst (λ why. is_log_fault (refused why) ≡ false) f refl
-    by false false false size e = absurd (cc)
+    by : (a b c : Bool) (size : ℕ) (missing : Option ℕ)
+        → (if a then Some no.Empty else (if b then Some (no.TooLarge size) else (if c then Some no.SyncWithoutLog else option_map_or (λ family. Some (no.NoFamily family)) missing None))) ≡ Some why
+        → is_log_fault (refused why) ≡ false
+    by true b c size missing e = let f : no.Empty ≡ why = cc in subst (λ why. is_log_fault (refused why) ≡ false) f refl
+    by false true c size missing e = let f : no.TooLarge size ≡ why = cc in subst (λ why. is_log_fault (refused why) ≡ false) f refl
+    by false false true size missing e = let f : no.SyncWithoutLog ≡ why = cc in subst (λ why. is_log_fault (refused why) ≡ false) f refl
+    by false false false size (Some family) e = let f : no.NoFamily family ≡ why = cc in subst (λ why. is_log_fault (refused why) ≡ false) f refl
+    by false false false size None e = absurd (cc)
 
 -- the reply of a commit, by what the early checks say of the batch
-pub commit_refused : (o : Options) (s : State) (calls : List Call) (added : List Record) (how : WriteOptions) (why : Refusal) → added ≡ batch_after calls → early_refusal o.batch_bytes false added how ≡ Some why
+pub commit_refused : (o : Options) (s : State) (calls : List Call) (added : List Record) (how : WriteOptions) (why : Refusal) → added ≡ batch_after calls → early_refusal o.families o.batch_bytes false added how ≡ Some why
     → MayReply o s calls (commit how) (refused why)
-commit_refused o s calls added how why e early = by (early_refusal o.batch_bytes false (batch_after calls) how) (subst (λ records. early_refusal o.batch_bytes false records how ≡ Some why) e early)
+commit_refused o s calls added how why e early = by (early_refusal o.families o.batch_bytes false (batch_after calls) how) (subst (λ records. early_refusal o.families o.batch_bytes false records how ≡ Some why) e early)
   where
     by : (found : Option Refusal) → found ≡ Some why → MatchOption found (IsHandled o s calls how (refused why)) (λ why'. refused why ≡ refused why')
     by None f = absurd (cc)
     by (Some other) f = let g : other ≡ why = cc in ap refused (sym g)
 
-pub commit_handled : (o : Options) (s : State) (calls : List Call) (added : List Record) (how : WriteOptions) (reply : Reply) → added ≡ batch_after calls → early_refusal o.batch_bytes false added how ≡ None
+pub commit_handled : (o : Options) (s : State) (calls : List Call) (added : List Record) (how : WriteOptions) (reply : Reply) → added ≡ batch_after calls → early_refusal o.families o.batch_bytes false added how ≡ None
     → IsHandled o s calls how reply → MayReply o s calls (commit how) reply
-commit_handled o s calls added how reply e early handled = by (early_refusal o.batch_bytes false (batch_after calls) how) (subst (λ records. early_refusal o.batch_bytes false records how ≡ None) e early)
+commit_handled o s calls added how reply e early handled = by (early_refusal o.families o.batch_bytes false (batch_after calls) how) (subst (λ records. early_refusal o.families o.batch_bytes false records how ≡ None) e early)
   where
     by : (found : Option Refusal) → found ≡ None → MatchOption found (IsHandled o s calls how reply) (λ why. reply ≡ refused why)
     by None f = handled

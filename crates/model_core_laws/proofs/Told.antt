@@ -3,19 +3,20 @@ use Rattle.std.proofs.Common.{◌≡◌, ℕ, zero, suc, ◌+◌, ◌≤◌, tru
 use Rattle.std.specs.List.{AllByRecursion}
 use Rattle.std.proofs.lemmas.List.{append-nil}
 use Rattle.std.proofs.lemmas.List.Elements.{filter-append}
+use Rattle.model_base.specs.declared.key.Key.{Key}
 use Rattle.model_base.specs.Map.{Pairs, value_at, rows_within}
 use Rattle.model_base.specs.declared.write.WriteOptions.{WriteOptions}
 use Rattle.model_base.specs.declared.write.Refusal.{Refusal}
 use Rattle.model_base.specs.declared.write.Refusal.TheVariants as no
 use Rattle.model_base.specs.Batch.{count_of}
 use Rattle.model_base.specs.History.{Entry, IsUpTo}
-use Rattle.model_base.specs.Progress.{early_refusal, next_entry, batch_after}
+use Rattle.model_base.specs.Progress.{first_missing, early_refusal, next_entry, batch_after}
 use Rattle.model_base.specs.Runs.{commands_of}
 use Rattle.model_base.specs.Outcomes.{entries_of_client}
-use Rattle.model_base.specs.Calls.{Command, add, clear, commit, get, many, scan, stop, unstop, slow, unslow, Reply, quiet, accepted, refused, found, found_each, rows, done, held, not_held, no_memory, Call}
+use Rattle.model_base.specs.Calls.{Command, add, clear, commit, get, many, scan, updates, stop, unstop, slow, unslow, Reply, quiet, accepted, refused, found, found_each, rows, updates_found, read_failed, done, held, not_held, no_memory, Call}
 use Rattle.model_core.specs.Core.{Options, Writer, Client, LogPhase, free, led, built, stalled, in_log, marked, handed, State, client_at}
 use Rattle.model_core.specs.CoreLaw.{IsCore, hand, writers_in}
-use Rattle.model_core.specs.Replies.{seen_up_to, knows_log_failed, entries_told, ReadsAt, Gets, GetsMany, Scans, IsHandled, MayRefuse, MayReply, AreRight, lines_at}
+use Rattle.model_core.specs.Replies.{seen_up_to, knows_log_failed, entries_told, ReadsAt, Gets, GetsMany, Scans, IfThere, IsHandled, MayRefuse, MayReply, AreRight, lines_at}
 use Rattle.model_core_laws.proofs.Groups.{SameSlowdown}
 use Rattle.model_core_laws.proofs.Lists.{all_append, all_weaker}
 
@@ -54,6 +55,8 @@ IsAnswer o s client w (Some quiet) = ⊥
 IsAnswer o s client w (Some (found at v)) = ⊥
 IsAnswer o s client w (Some (found_each at vs)) = ⊥
 IsAnswer o s client w (Some (rows at pairs)) = ⊥
+IsAnswer o s client w (Some (updates_found at records)) = ⊥
+IsAnswer o s client w (Some (read_failed count)) = ⊥
 IsAnswer o s client w (Some done) = ⊥
 IsAnswer o s client w (Some held) = ⊥
 IsAnswer o s client w (Some not_held) = ⊥
@@ -63,7 +66,7 @@ pub record Waits (o : Options) (plans : List (List Command)) (s : State) (w : Wr
   pub client : Client
   pub there : client_at s w.client ≡ Some client
   pub batch : w.records ≡ batch_after client.calls
-  pub passed : early_refusal o.batch_bytes false w.records w.options ≡ None
+  pub passed : early_refusal o.families o.batch_bytes false w.records w.options ≡ None
   pub asked : (lines : List Command) → lines_at plans w.client ≡ Some lines → lines ≡ commands_of client.calls ++ commit w.options ∷ client.left
   pub answer : IsAnswer o s client w w.answer
 
@@ -106,6 +109,7 @@ refusal_more o s t grows before how no.Empty m = m
 refusal_more o s t grows before how (no.TooLarge size) m = m
 refusal_more o s t grows before how no.SyncWithoutLog m = m
 refusal_more o s t grows before how no.SelfStop m = m
+refusal_more o s t grows before how (no.NoFamily family) m = m
 refusal_more o s t grows before how no.NoMemory m = m
 
 reads_more : (o : Options) (s t : State) → Grows s t → (before : List Call) (at : ℕ) (answers : Pairs → Type 0) → ReadsAt o s before at answers → ReadsAt o t before at answers
@@ -118,6 +122,8 @@ handled_more o s t grows before how quiet m = m
 handled_more o s t grows before how (found at v) m = m
 handled_more o s t grows before how (found_each at vs) m = m
 handled_more o s t grows before how (rows at pairs) m = m
+handled_more o s t grows before how (updates_found at records) m = m
+handled_more o s t grows before how (read_failed count) m = m
 handled_more o s t grows before how done m = m
 handled_more o s t grows before how held m = m
 handled_more o s t grows before how not_held m = m
@@ -128,49 +134,63 @@ commits_more : (o : Options) (s t : State) → Grows s t → (before : List Call
 commits_more o s t grows before how reply None m = handled_more o s t grows before how reply m
 commits_more o s t grows before how reply (Some why) m = m
 
-gets_more : (o : Options) (s t : State) → Grows s t → (before : List Call) (key : List ℕ) (reply : Reply) → Gets o s before key reply → Gets o t before key reply
+gets_more : (o : Options) (s t : State) → Grows s t → (before : List Call) (key : Key) (reply : Reply) → Gets o s before key reply → Gets o t before key reply
 gets_more o s t grows before key (found at v) m = reads_more o s t grows before at (λ m. v ≡ value_at m key) m
 gets_more o s t grows before key (accepted first last records) m = m
 gets_more o s t grows before key (refused why) m = m
 gets_more o s t grows before key quiet m = m
 gets_more o s t grows before key (found_each at vs) m = m
 gets_more o s t grows before key (rows at pairs) m = m
+gets_more o s t grows before key (updates_found at records) m = m
+gets_more o s t grows before key (read_failed count) m = m
 gets_more o s t grows before key done m = m
 gets_more o s t grows before key held m = m
 gets_more o s t grows before key not_held m = m
 gets_more o s t grows before key no_memory m = m
 
-many_more : (o : Options) (s t : State) → Grows s t → (before : List Call) (keys : List (List ℕ)) (reply : Reply) → GetsMany o s before keys reply → GetsMany o t before keys reply
+many_more : (o : Options) (s t : State) → Grows s t → (before : List Call) (keys : List Key) (reply : Reply) → GetsMany o s before keys reply → GetsMany o t before keys reply
 many_more o s t grows before keys (found_each at vs) m = reads_more o s t grows before at (λ m. vs ≡ map (value_at m) keys) m
 many_more o s t grows before keys (accepted first last records) m = m
 many_more o s t grows before keys (refused why) m = m
 many_more o s t grows before keys quiet m = m
 many_more o s t grows before keys (found at v) m = m
 many_more o s t grows before keys (rows at pairs) m = m
+many_more o s t grows before keys (updates_found at records) m = m
+many_more o s t grows before keys (read_failed count) m = m
 many_more o s t grows before keys done m = m
 many_more o s t grows before keys held m = m
 many_more o s t grows before keys not_held m = m
 many_more o s t grows before keys no_memory m = m
 
-scans_more : (o : Options) (s t : State) → Grows s t → (before : List Call) (lo hi : List ℕ) (reply : Reply) → Scans o s before lo hi reply → Scans o t before lo hi reply
-scans_more o s t grows before lo hi (rows at pairs) m = reads_more o s t grows before at (λ m. pairs ≡ rows_within lo hi m) m
-scans_more o s t grows before lo hi (accepted first last records) m = m
-scans_more o s t grows before lo hi (refused why) m = m
-scans_more o s t grows before lo hi quiet m = m
-scans_more o s t grows before lo hi (found at v) m = m
-scans_more o s t grows before lo hi (found_each at vs) m = m
-scans_more o s t grows before lo hi done m = m
-scans_more o s t grows before lo hi held m = m
-scans_more o s t grows before lo hi not_held m = m
-scans_more o s t grows before lo hi no_memory m = m
+scans_more : (o : Options) (s t : State) → Grows s t → (before : List Call) (family : ℕ) (lo hi : List ℕ) (reply : Reply) → Scans o s before family lo hi reply → Scans o t before family lo hi reply
+scans_more o s t grows before family lo hi (rows at pairs) m = reads_more o s t grows before at (λ m. pairs ≡ rows_within family lo hi m) m
+scans_more o s t grows before family lo hi (accepted first last records) m = m
+scans_more o s t grows before family lo hi (refused why) m = m
+scans_more o s t grows before family lo hi quiet m = m
+scans_more o s t grows before family lo hi (found at v) m = m
+scans_more o s t grows before family lo hi (found_each at vs) m = m
+scans_more o s t grows before family lo hi (updates_found at records) m = m
+scans_more o s t grows before family lo hi (read_failed count) m = m
+scans_more o s t grows before family lo hi done m = m
+scans_more o s t grows before family lo hi held m = m
+scans_more o s t grows before family lo hi not_held m = m
+scans_more o s t grows before family lo hi no_memory m = m
+
+there_more : (o : Options) (named : List ℕ) (reply : Reply) (X Y : Type 0) → (X → Y) → IfThere o named reply X → IfThere o named reply Y
+there_more o named reply X Y more m = by (first_missing o.families named) m
+  where
+    by : (missing : Option ℕ) → MatchOption missing X (λ family. reply ≡ refused (no.NoFamily family)) → MatchOption missing Y (λ family. reply ≡ refused (no.NoFamily family))
+    by None m = more m
+    by (Some family) m = m
 
 reply_more : (o : Options) (s t : State) → Grows s t → (before : List Call) (command : Command) (reply : Reply) → MayReply o s before command reply → MayReply o t before command reply
 reply_more o s t grows before (add r) reply m = m
 reply_more o s t grows before clear reply m = m
-reply_more o s t grows before (commit how) reply m = commits_more o s t grows before how reply (early_refusal o.batch_bytes false (batch_after before) how) m
-reply_more o s t grows before (get key) reply m = gets_more o s t grows before key reply m
-reply_more o s t grows before (many keys) reply m = many_more o s t grows before keys reply m
-reply_more o s t grows before (scan lo hi) reply m = scans_more o s t grows before lo hi reply m
+reply_more o s t grows before (commit how) reply m = commits_more o s t grows before how reply (early_refusal o.families o.batch_bytes false (batch_after before) how) m
+reply_more o s t grows before (get key) reply m = there_more o (key.family ∷ []) reply _ _ (gets_more o s t grows before key reply) m
+reply_more o s t grows before (many keys) reply m = there_more o (map (λ (k : Key). k.family) keys) reply _ _ (many_more o s t grows before keys reply) m
+reply_more o s t grows before (scan family lo hi) reply m = there_more o (family ∷ []) reply _ _ (scans_more o s t grows before family lo hi reply) m
+reply_more o s t grows before (updates n) reply m = m
 reply_more o s t grows before stop reply m = m
 reply_more o s t grows before unstop reply m = m
 reply_more o s t grows before (slow rate) reply m = m
@@ -191,6 +211,8 @@ answer_same o s t client w (Some quiet) grows none is = is
 answer_same o s t client w (Some (found at v)) grows none is = is
 answer_same o s t client w (Some (found_each at vs)) grows none is = is
 answer_same o s t client w (Some (rows at pairs)) grows none is = is
+answer_same o s t client w (Some (updates_found at records)) grows none is = is
+answer_same o s t client w (Some (read_failed count)) grows none is = is
 answer_same o s t client w (Some done) grows none is = is
 answer_same o s t client w (Some held) grows none is = is
 answer_same o s t client w (Some not_held) grows none is = is

@@ -11,7 +11,7 @@ use Rattle.model_base.specs.History.{Entry, IsHistory, last_of}
 use Rattle.model_base.specs.Progress.{early_refusal, next_entry, batch_after}
 use Rattle.model_base.specs.Runs.{commands_of}
 use Rattle.model_base.specs.Outcomes.{entries_of_client}
-use Rattle.model_base.specs.Calls.{Command, commit, Reply, quiet, accepted, refused, found, found_each, rows, done, held, not_held, no_memory, Call}
+use Rattle.model_base.specs.Calls.{Command, commit, Reply, quiet, accepted, refused, found, found_each, rows, updates_found, read_failed, done, held, not_held, no_memory, Call}
 use Rattle.model_core.specs.Core.{Options, Writer, Client, State, TablePhase, still, launched, published, client_at, with_client, has_run}
 use Rattle.model_core.specs.Step.{complete, complete_with, after_completion, added_after}
 use Rattle.model_core.specs.CoreLaw.{IsCore, IsEntryOf, hand, hand_with_runs, writers_in, unpublished_writers}
@@ -82,11 +82,12 @@ fault_is o s before how no.Empty m e = absurd m
 fault_is o s before how (no.TooLarge size) m e = absurd m
 fault_is o s before how no.SyncWithoutLog m e = absurd m
 fault_is o s before how no.SelfStop m e = absurd m
+fault_is o s before how (no.NoFamily family) m e = absurd m
 fault_is o s before how no.NoMemory m e = absurd m
 
 -- The writer's answer becomes the client's reply
 completes : (o : Options) (plans : List (List Command)) (s : State) (m : ℕ) (w : Writer) (client : Client) (answer : Option Reply) (reply : Reply) → answer ≡ Some reply → find (λ (x : Writer). x.client == m) s.leaving ≡ Some w → w.client ≡ m
-    → w.records ≡ batch_after client.calls → early_refusal o.batch_bytes false w.records w.options ≡ None → IsToldSoFar o plans s m client → IsAnswer o s client w answer → IsCore o s
+    → w.records ≡ batch_after client.calls → early_refusal o.families o.batch_bytes false w.records w.options ≡ None → IsToldSoFar o plans s m client → IsAnswer o s client w answer → IsCore o s
     → IsReady o s m (client.calls ++ record { command = commit w.options; reply = reply } ∷ []) (added_after reply client.added)
 completes o plans s m w client None reply e left same batch passed so_far answer core = absurd (cc)
 completes o plans s m w client (Some (accepted first last records)) reply e left same batch passed so_far answer core =
@@ -111,6 +112,8 @@ completes o plans s m w client (Some quiet) reply e left same batch passed so_fa
 completes o plans s m w client (Some (found at v)) reply e left same batch passed so_far answer core = absurd answer
 completes o plans s m w client (Some (found_each at vs)) reply e left same batch passed so_far answer core = absurd answer
 completes o plans s m w client (Some (rows at pairs)) reply e left same batch passed so_far answer core = absurd answer
+completes o plans s m w client (Some (updates_found at records)) reply e left same batch passed so_far answer core = absurd answer
+completes o plans s m w client (Some (read_failed count)) reply e left same batch passed so_far answer core = absurd answer
 completes o plans s m w client (Some done) reply e left same batch passed so_far answer core = absurd answer
 completes o plans s m w client (Some held) reply e left same batch passed so_far answer core = absurd answer
 completes o plans s m w client (Some not_held) reply e left same batch passed so_far answer core = absurd answer

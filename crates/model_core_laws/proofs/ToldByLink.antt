@@ -67,12 +67,12 @@ refused_now : (o : Options) (s : State) (calls : List Call) (added : List Record
 refused_now o s calls added how why batch log (Some first) is e = let f : first ≡ why = cc in commit_refused o s calls added how why batch (is ∙ ap (λ w. Some w) f)
 refused_now o s calls added how why batch log None is e =
     let h = late_refusal how why log e in
-    let passed : early_refusal o.batch_bytes false (batch_after calls) how ≡ None = subst (λ rs. early_refusal o.batch_bytes false rs how ≡ None) batch is in
+    let passed : early_refusal o.families o.batch_bytes false (batch_after calls) how ≡ None = subst (λ rs. early_refusal o.families o.batch_bytes false rs how ≡ None) batch is in
     subst (λ (early : Option Refusal). MatchOption early (IsHandled o s calls how (refused why)) (λ w. refused why ≡ refused w)) (sym passed)
     (subst (λ w. IsHandled o s calls how (refused w)) h.1 h.0)
 
 no_fault : (o : Options) (added : List Record) (how : WriteOptions) (why : Refusal) (log : LogPhase) (early : Option Refusal) → refusal_of o how added ≡ early → refusal_in log how early ≡ Some why → is_log_fault (refused why) ≡ false
-no_fault o added how why log (Some first) is e = let f : first ≡ why = cc in early_other o.batch_bytes added how why (is ∙ ap (λ w. Some w) f)
+no_fault o added how why log (Some first) is e = let f : first ≡ why = cc in early_other o.families o.batch_bytes added how why (is ∙ ap (λ w. Some w) f)
 no_fault o added how why log None is e = subst (λ w. is_log_fault (refused w) ≡ false) (late_refusal how why log e).1 refl
 
 pub told_by_link : (o : Options) (plans : List (List Command)) (s t : State) (c : ℕ) → Told o plans s → link o s c (client_at s c) ≡ Some t → IsCore o t → Told o plans t

@@ -8,7 +8,7 @@ use Rattle.model_base.specs.Runs.{commands_of}
 use Rattle.model_base.specs.Calls.{add, commit, get, quiet, accepted, found, Call, refused}
 use Rattle.model_core.specs.Core.{Client}
 use Rattle.model_core.specs.Replies.{ReadsAt, IsAnswered, IsOnItsWay}
-use Rattle.model_core_laws.specs.Examples.{refused_for, single_stage, plain, put_a1, put_a2, first_entry, wrote, reading, told_in, AreRightIn}
+use Rattle.model_core_laws.specs.Examples.{refused_for, single_stage, plain, key_a, put_a1, put_a2, first_entry, wrote, reading, told_in, AreRightIn}
 
 pub no_entry : (front rest : List Entry) → [] ≡ front ++ rest → front ≡ []
 no_entry [] rest e = refl
@@ -27,18 +27,18 @@ part entries last calls is = is.each 1 (commands_of calls) (the_client calls) re
 
 pub never_written : AreRightIn [] 0 (reading (found 0 (Some (codes "1")))) → ⊥
 never_written is =
-    let read : ReadsAt single_stage (told_in [] 0 (reading (found 0 (Some (codes "1"))))) [] 0 (λ m. Some (codes "1") ≡ value_at m (codes "a")) =
-    (part [] 0 (reading (found 0 (Some (codes "1")))) is).right [] (record { command = get (codes "a"); reply = found 0 (Some (codes "1")) }) [] refl in
+    let read : ReadsAt single_stage (told_in [] 0 (reading (found 0 (Some (codes "1"))))) [] 0 (λ m. Some (codes "1") ≡ value_at m key_a) =
+    (part [] 0 (reading (found 0 (Some (codes "1")))) is).right [] (record { command = get key_a; reply = found 0 (Some (codes "1")) }) [] refl in
     let none = no_entry read.front read.is_front.rest read.is_front.split in
-    let answer : Some (codes "1") ≡ None = subst (λ front. Some (codes "1") ≡ value_at (map_of front) (codes "a")) none read.answer in cc
+    let answer : Some (codes "1") ≡ None = subst (λ front. Some (codes "1") ≡ value_at (map_of front) key_a) none read.answer in cc
 
 not_five : (n : ℕ) → n ≤ 1 → 5 ≡ n → ⊥
 not_five n small e = omega arith
 
 pub between : AreRightIn (first_entry put_a1 ∷ []) 1 (reading (found 5 None)) → ⊥
 between is =
-    let read : ReadsAt single_stage (told_in (first_entry put_a1 ∷ []) 1 (reading (found 5 None))) [] 5 (λ m. None ≡ value_at m (codes "a")) =
-    (part (first_entry put_a1 ∷ []) 1 (reading (found 5 None)) is).right [] (record { command = get (codes "a"); reply = found 5 None }) [] refl in
+    let read : ReadsAt single_stage (told_in (first_entry put_a1 ∷ []) 1 (reading (found 5 None))) [] 5 (λ m. None ≡ value_at m key_a) =
+    (part (first_entry put_a1 ∷ []) 1 (reading (found 5 None)) is).right [] (record { command = get key_a; reply = found 5 None }) [] refl in
     elim (one_entry (first_entry put_a1) read.front read.is_front.rest read.is_front.split) as (λ _. ⊥) [
       | inl e ↦ not_five 0 (omega arith) (subst (λ front. 5 ≡ last_sequence 0 front) e read.is_front.ends)
       | inr e ↦ not_five 1 (omega arith) (subst (λ front. 5 ≡ last_sequence 0 front) e read.is_front.ends)
@@ -46,8 +46,8 @@ between is =
 
 pub stale : AreRightIn (first_entry put_a1 ∷ []) 1 (wrote put_a1 ++ reading (found 0 None)) → ⊥
 stale is =
-    let read : ReadsAt single_stage (told_in (first_entry put_a1 ∷ []) 1 (wrote put_a1 ++ reading (found 0 None))) (wrote put_a1) 0 (λ m. None ≡ value_at m (codes "a")) =
-    (part (first_entry put_a1 ∷ []) 1 (wrote put_a1 ++ reading (found 0 None)) is).right (wrote put_a1) (record { command = get (codes "a"); reply = found 0 None }) [] refl in
+    let read : ReadsAt single_stage (told_in (first_entry put_a1 ∷ []) 1 (wrote put_a1 ++ reading (found 0 None))) (wrote put_a1) 0 (λ m. None ≡ value_at m key_a) =
+    (part (first_entry put_a1 ∷ []) 1 (wrote put_a1 ++ reading (found 0 None)) is).right (wrote put_a1) (record { command = get key_a; reply = found 0 None }) [] refl in
     let below : 1 ≤ 0 = read.not_below in omega arith
 
 pub lost : AreRightIn [] 0 (wrote put_a1) → ⊥

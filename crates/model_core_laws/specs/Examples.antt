@@ -1,10 +1,12 @@
 -- What the examples are made of: a client that writes and reads, and four that write where a leader stalls writes.
-use Rattle.std.specs.Prelude.{◌≡◌, ℕ, true, false, List, [], ◌∷◌, ◌++◌, map, Some, codes}
+use Rattle.std.specs.Prelude.{◌≡◌, ℕ, true, false, List, [], ◌∷◌, ◌++◌, map, Some, None, codes}
 use Rattle.model_base.specs.declared.write.Refusal.{Refusal}
 use Rattle.model_base.specs.declared.write.WriteOptions.{WriteOptions}
 use Rattle.model_base.specs.declared.history.Flag.{Flag}
 use Rattle.model_base.specs.declared.history.Flag.TheVariants.{Log, NoLog}
+use Rattle.model_base.specs.declared.key.Key.{Key}
 use Rattle.model_base.specs.Batch.{Record, value}
+use Rattle.model_base.specs.Map.{key_in}
 use Rattle.model_base.specs.History.{Entry}
 use Rattle.model_base.specs.Runs.{commands_of}
 use Rattle.model_base.specs.Calls.{Command, add, commit, get, Reply, quiet, accepted, refused, found, Call}
@@ -14,21 +16,24 @@ use Rattle.model_core.specs.Core.{Options, Writer, Client, State, opening_state,
 use Rattle.model_core.specs.Step.{Replayed, replay, state_after}
 use Rattle.model_core.specs.Replies.{AreRepliesOf}
 
--- groups of up to 1 MiB, batches of up to 4 KiB, and no batch before
+-- the default column family alone, groups of up to 1 MiB, batches of up to 4 KiB, and no batch before
 abbrev pub single_stage : Options
-single_stage = record { pipelined = false; group_bytes = 1048576; batch_bytes = 4096; start = 0 }
+single_stage = record { pipelined = false; families = 1; group_bytes = 1048576; batch_bytes = 4096; start = 0 }
 
 abbrev pub pipelined : Options
-pipelined = record { pipelined = true; group_bytes = 1048576; batch_bytes = 4096; start = 0 }
+pipelined = record { pipelined = true; families = 1; group_bytes = 1048576; batch_bytes = 4096; start = 0 }
 
 abbrev pub plain : WriteOptions
 plain = record { sync = false; no_log = false; no_slowdown = false }
 
+abbrev pub key_a : Key
+key_a = key_in None (codes "a")
+
 abbrev pub put_a1 : Record
-put_a1 = value (codes "a") (codes "1")
+put_a1 = value None (codes "a") (codes "1")
 
 abbrev pub put_a2 : Record
-put_a2 = value (codes "a") (codes "2")
+put_a2 = value None (codes "a") (codes "2")
 
 -- a batch of one record at the first sequence
 abbrev pub first_entry : Record → Entry
@@ -57,7 +62,7 @@ gap_in_the_log = entry_at 1 1 Log ∷ entry_at 2 2 NoLog ∷ entry_at 3 3 Log �
 
 -- a write of put_a1, and then a read
 abbrev pub script : List (List Command)
-script = (add put_a1 ∷ commit plain ∷ get (codes "a") ∷ []) ∷ []
+script = (add put_a1 ∷ commit plain ∷ get key_a ∷ []) ∷ []
 
 abbrev pub wrote : Record → List Call
 wrote r = record { command = add put_a1; reply = quiet }
@@ -68,7 +73,7 @@ refused_for why = record { command = add put_a1; reply = quiet }
     ∷ record { command = commit plain; reply = refused why } ∷ []
 
 abbrev pub reading : Reply → List Call
-reading reply = record { command = get (codes "a"); reply = reply } ∷ []
+reading reply = record { command = get key_a; reply = reply } ∷ []
 
 abbrev pub written_and_read : List Call
 written_and_read = wrote put_a1 ++ reading (found 1 (Some (codes "1")))
@@ -104,13 +109,13 @@ abbrev pub hasty : WriteOptions
 hasty = record { sync = false; no_log = false; no_slowdown = true }
 
 abbrev pub put_b2 : Record
-put_b2 = value (codes "b") (codes "2")
+put_b2 = value None (codes "b") (codes "2")
 
 abbrev pub put_c3 : Record
-put_c3 = value (codes "c") (codes "3")
+put_c3 = value None (codes "c") (codes "3")
 
 abbrev pub put_d4 : Record
-put_d4 = value (codes "d") (codes "4")
+put_d4 = value None (codes "d") (codes "4")
 
 abbrev pub four_writers : List (List Command)
 four_writers = (add put_a1 ∷ commit plain ∷ []) ∷ (add put_b2 ∷ commit hasty ∷ [])
@@ -143,4 +148,4 @@ abbrev pub IsStalledRun : Replayed → ℕ → Type 0
 IsStalledRun run taken = (run.taken ≡ taken) × (run.skipped ≡ 1)
     × (map (λ (client : Client). client.calls) run.state.clients ≡ calls_of_four)
     × (map (λ (w : Writer). w.client) run.state.queue ≡ 4 ∷ []) × (run.state.groups ≡ 1 ∷ [])
-    × (run.state.last ≡ 1) × (published_map run.state ≡ (codes "a", codes "1") ∷ [])
+    × (run.state.last ≡ 1) × (published_map run.state ≡ (key_a, codes "1") ∷ [])

@@ -15,7 +15,7 @@ use Rattle.model_rows.specs.Runs.{nearly_full, adds, commits, finds_full, fillin
 use Rattle.model_rows.proofs.Steps.{run_of, is_accepted, is_attempted}
 
 -- a batch of two records passes the checks
-passes : early_refusal 16777216 false (put_a1 ∷ put_b2 ∷ []) plain ≡ None
+passes : early_refusal 1 16777216 false (put_a1 ∷ put_b2 ∷ []) plain ≡ None
 unfolding varint_within
 passes = refl
 

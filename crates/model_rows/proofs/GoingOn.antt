@@ -9,7 +9,7 @@ use Rattle.model_base.specs.Attempts.{Attempt, succeeded}
 use Rattle.model_base.specs.Progress.{Progress, fresh}
 use Rattle.model_base.specs.Runs.{whole, commands_of}
 use Rattle.model_base.specs.Outcomes.{IsLegal, IsLegalTranscript}
-use Rattle.model_rows.specs.Examples.{put_b2, plain}
+use Rattle.model_rows.specs.Examples.{put_b2, plain, key_a}
 use Rattle.model_rows.specs.Runs.{entry_at, begun_before, going_on_script, going_on_calls, went_on}
 use Rattle.model_rows.proofs.Alone.{each_one, quietly, added, took, shown}
 use Rattle.model_rows.proofs.OwnGroups.{delays_of, groups_of, one_alone}
@@ -20,7 +20,7 @@ attempt = record { records = put_b2 ∷ []; options = plain; status = succeeded 
 
 -- the trace of the one batch after what was recovered
 abbrev behind : Trace
-behind = record { start = 1; opening = begun_before.opening; entries = entry_at 1 2 put_b2 ∷ []; controller_calls = delays_of attempt }
+behind = record { start = 1; opening = begun_before.opening; entries = entry_at 1 2 put_b2 ∷ []; logged = (entry_at 1 2 put_b2 ∷ []) ∷ []; controller_calls = delays_of attempt }
 
 -- The client's progress after each call
 
@@ -65,6 +65,7 @@ went_on-legal = record {
       start = refl;
       opening = refl;
       entries = (record { counted = refl; some = lit≤ tt; first = refl; fits = lit≤ tt }, tt);
+      logged = record { cut = refl; none_empty = (lit≤ tt, tt); runs = (tt, tt) };
       controller_calls = (refl, tt);
       clients = ((lit≤ tt, lit≤ tt), tt);
       tokens = ((λ is. cc), tt);
@@ -79,13 +80,14 @@ went_on-legal = record {
     last = refl;
     state = refl;
     fault = tt;
+    read_faults = tt;
   };
 }
 
 -- over an empty map the map at the sequence 1 is empty, so the read finds no value
 no_value : (m : Pairs) (start : ℕ) (entries front rest : List Entry) → m ≡ [] → entry_at 1 2 put_b2 ∷ [] ≡ entries → entries ≡ front ++ rest
-    → 1 ≡ last_sequence start front → Some (codes "1") ≡ value_at (map_over m front) (codes "a") → ⊥
-no_value m start entries [] rest none is split ends answer = cc (answer ∙ ap (λ (x : Pairs). value_at x (codes "a")) none)
+    → 1 ≡ last_sequence start front → Some (codes "1") ≡ value_at (map_over m front) key_a → ⊥
+no_value m start entries [] rest none is split ends answer = cc (answer ∙ ap (λ (x : Pairs). value_at x key_a) none)
 no_value m start entries (e ∷ []) rest none is split ends answer = let first : entry_at 1 2 put_b2 ≡ e = cc (is, split) in absurd (omega (arith, ends, ap last_of first))
 no_value m start entries (e ∷ f ∷ front) rest none is split ends answer = cc (is, split)
 

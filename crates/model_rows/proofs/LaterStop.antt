@@ -112,7 +112,7 @@ told_before controller_calls stopping client knew knows numbers (Some (slowed pl
 told_before controller_calls stopping client knew knows numbers (Some other) told = absurd told
 
 -- the commit passes the checks
-passes : early_refusal 16777216 false (put_a1 ∷ []) noslow ≡ None
+passes : early_refusal 1 16777216 false (put_a1 ∷ []) noslow ≡ None
 unfolding varint_within
 passes = refl
 

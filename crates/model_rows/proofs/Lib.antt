@@ -11,3 +11,5 @@ pub mod Stale
 pub mod Steps
 pub mod Waits
 pub mod WholeLogs
+pub mod InFamilies
+pub mod OneFamily

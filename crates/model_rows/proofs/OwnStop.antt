@@ -33,6 +33,7 @@ looked_trace = record {
   start = 0;
   opening = [];
   entries = [];
+  logged = [];
   controller_calls =
       record { client = 1; action = controller.stop; told = None }
       ∷ record { client = 1; action = controller.look; told = Some one_stop }
@@ -107,6 +108,7 @@ refused-legal = record {
       start = refl;
       opening = refl;
       entries = tt;
+      logged = record { cut = refl; none_empty = tt; runs = tt };
       controller_calls = (refl, (refl, (refl, tt)));
       clients = tt;
       tokens = ((λ is. (lit≤ tt, lit≤ tt)), ((λ is. cc), ((λ is. (lit≤ tt, lit≤ tt)), tt)));
@@ -121,6 +123,7 @@ refused-legal = record {
     last = refl;
     state = refl;
     fault = tt;
+    read_faults = tt;
   };
 }
 
@@ -141,7 +144,7 @@ module _ (settings : Settings) (trace : Trace) (end : Progress) where
       let free : holds_stop run.2.0.asked ≡ false = (is_accepted settings trace 1 run.2.0 noslow first last records run.2.2.0 run.2.2.1.replies).free in
       absurd (cc (holds, free))
 
-  no_run_in_a_group : (why : Refusal) (status : WriteStatus) → early_refusal settings.batch_bytes true (put_a1 ∷ []) noslow ≡ None
+  no_run_in_a_group : (why : Refusal) (status : WriteStatus) → early_refusal settings.families settings.batch_bytes true (put_a1 ∷ []) noslow ≡ None
       → ((p : Progress) (knows : ℕ) (got : Option WriteStatus) → MayRefuse trace.controller_calls 1 p knows noslow why got → got ≡ Some status)
       → Run settings trace 1 fresh (own_stop_calls (refused why)) end → ⊥
   no_run_in_a_group why status passes in_a_group run =
@@ -152,7 +155,7 @@ module _ (settings : Settings) (trace : Trace) (end : Progress) where
       absurd (cc (some, none))
 
 -- the commit passes the checks
-passes : early_refusal 16777216 true (put_a1 ∷ []) noslow ≡ None
+passes : early_refusal 1 16777216 true (put_a1 ∷ []) noslow ≡ None
 unfolding varint_within
 passes = refl
 

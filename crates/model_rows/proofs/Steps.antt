@@ -3,12 +3,13 @@ use Rattle.std.proofs.Common.{◌≡◌, ℕ, List, fold, Some, None, Option, Ma
 use Rattle.std.proofs.lemmas.List.Sums.{fold-append}
 use Rattle.model_base.specs.declared.write.WriteOptions.{WriteOptions}
 use Rattle.model_base.specs.declared.write.Refusal.{Refusal}
+use Rattle.model_base.specs.declared.write.Refusal.TheVariants as no
 use Rattle.model_base.specs.Batch.{Record}
 use Rattle.model_base.specs.Calls.{Command, Reply, quiet, accepted, refused, no_memory, Call}
 use Rattle.model_base.specs.Trace.{Trace, Settings}
 use Rattle.model_base.specs.Tokens.{holds_stop}
-use Rattle.model_base.specs.Progress.{Progress, fresh, early_refusal}
-use Rattle.model_base.specs.Replies.{IsAccepted, IsAttempted, Commits, Stays}
+use Rattle.model_base.specs.Progress.{Progress, fresh, first_missing, early_refusal}
+use Rattle.model_base.specs.Replies.{IsAccepted, IsAttempted, Commits, IfThere, Stays}
 use Rattle.model_base.specs.Runs.{Run, IsTranscript, whole, cut_off}
 
 -- the last reply of some calls
@@ -30,8 +31,12 @@ module _ (settings : Settings) (trace : Trace) (client : ℕ) (p : Progress) (ho
 
   -- a commit that was answered `ok`
   pub is_accepted : (a b : ℕ) (own : List Record) (q : Progress) → Commits settings trace client p how (accepted a b own) q → IsAccepted client p how a b own q
-  is_accepted a b own q s = by_checks a b own q (early_refusal settings.batch_bytes (holds_stop p.asked) p.pending how) s
+  is_accepted a b own q s = by_checks a b own q (early_refusal settings.families settings.batch_bytes (holds_stop p.asked) p.pending how) s
 
   -- a commit that passed the checks
-  pub is_attempted : (reply : Reply) (q : Progress) → early_refusal settings.batch_bytes (holds_stop p.asked) p.pending how ≡ None → Commits settings trace client p how reply q → IsAttempted trace client p how reply q
+  pub is_attempted : (reply : Reply) (q : Progress) → early_refusal settings.families settings.batch_bytes (holds_stop p.asked) p.pending how ≡ None → Commits settings trace client p how reply q → IsAttempted trace client p how reply q
   is_attempted reply q none s = subst (λ early. MatchOption early (IsAttempted trace client p how reply q) (λ why. (reply ≡ refused why) × Stays p q)) none s
+
+-- a read of families that are all there
+pub is_answered : (settings : Settings) (named : List ℕ) (p : Progress) (reply : Reply) (q : Progress) (X : Type 0) → first_missing settings.families named ≡ None → IfThere settings named p reply q X → X
+is_answered settings named p reply q X none s = subst (λ missing. MatchOption missing X (λ family. (reply ≡ refused (no.NoFamily family)) × Stays p q)) none s

@@ -26,6 +26,7 @@ waited_trace = record {
   start = 0;
   opening = [];
   entries = entry_at 1 1 put_a1 ∷ [];
+  logged = (entry_at 1 1 put_a1 ∷ []) ∷ [];
   controller_calls = told_of_a_stop ++ record { client = 1; action = controller.look; told = Some calm } ∷ [];
 }
 
@@ -117,6 +118,7 @@ waited_out-legal = record {
       start = refl;
       opening = refl;
       entries = (record { counted = refl; some = lit≤ tt; first = refl; fits = lit≤ tt }, tt);
+      logged = record { cut = refl; none_empty = (lit≤ tt, tt); runs = (tt, tt) };
       controller_calls = (refl, (refl, (refl, (refl, tt))));
       clients = ((lit≤ tt, lit≤ tt), tt);
       tokens = ((λ is. (lit≤ tt, lit≤ tt)), ((λ is. cc), ((λ is. (lit≤ tt, lit≤ tt)), ((λ is. cc), tt))));
@@ -131,5 +133,6 @@ waited_out-legal = record {
     last = refl;
     state = refl;
     fault = tt;
+    read_faults = tt;
   };
 }

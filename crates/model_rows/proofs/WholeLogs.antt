@@ -13,10 +13,10 @@ use Rattle.model_rows.specs.NumberedLogs.{older_log, older_recovered}
 use Rattle.model_rows.specs.TwoBatches.{log_of_two, both_recovered, none_recovered, in_two_logs, both_logs_recovered}
 
 readable_a : IsReadable put_a1
-readable_a = record { tag = refl; lengths = (lit< tt, (lit< tt, tt)) }
+readable_a = record { tag = refl; family = tt; lengths = (lit< tt, (lit< tt, tt)) }
 
 readable_b : IsReadable put_b2
-readable_b = record { tag = refl; lengths = (lit< tt, (lit< tt, tt)) }
+readable_b = record { tag = refl; family = tt; lengths = (lit< tt, (lit< tt, tt)) }
 
 pub both : IsRecovered plain_log log_of_two both_recovered
 unfolding varint_within seen_within

@@ -3,3 +3,4 @@ pub mod Runs
 pub mod TwoBatches
 pub mod NumberedLogs
 pub mod Stalls
+pub mod OneFamily

@@ -3,17 +3,27 @@ use Rattle.std.specs.Prelude.{ℕ, codes, List, [], ◌∷◌, Option, Some, Non
 use Rattle.model_base.specs.declared.limits.TheConstants.{MAX_SIZE}
 use Rattle.model_base.specs.declared.history.Flag.TheVariants.{Log}
 use Rattle.model_base.specs.declared.write.Refusal.TheVariants as no
+use Rattle.model_base.specs.declared.key.Key.{Key}
 use Rattle.model_base.specs.Batch.{Record, value}
-use Rattle.model_base.specs.Calls.{Command, add, clear, commit, get, stop, unstop, Reply, quiet, accepted, refused, found, done, Call, Outcome}
+use Rattle.model_base.specs.Calls.{Command, add, clear, commit, get, many, scan, stop, unstop, Reply, quiet, accepted, refused, found, found_each, rows, done, Call, Outcome}
 use Rattle.model_base.specs.Controller as controller
 use Rattle.model_base.specs.Controller.{ControllerCall}
 use Rattle.model_base.specs.History.{Entry}
 use Rattle.model_base.specs.Trace.{Settings}
-use Rattle.model_rows.specs.Examples.{put_a1, put_a2, put_b2, plain, noslow}
+use Rattle.model_rows.specs.Examples.{put_a1, put_a2, put_b2, put_1a2, plain, noslow, default_key, key_a, key_b, key_1a}
 
--- one client, a fresh store, and the limits of RocksDB's groups and of a batch
+-- one client, a fresh store, the default column family, and the limits of RocksDB's groups and of a batch
 abbrev pub one_client : Settings
-one_client = record { start = 0; opening = []; clients = 1; group_bytes = 1048576; batch_bytes = MAX_SIZE; opened = 0 }
+one_client = record {
+  start = 0;
+  opening = [];
+  kept = [];
+  clients = 1;
+  families = 1;
+  group_bytes = 1048576;
+  batch_bytes = MAX_SIZE;
+  opened = 0;
+}
 
 abbrev pub two_clients : Settings
 two_clients = record one_client { clients = 2 }
@@ -28,7 +38,7 @@ used_up = record one_client { start = 72057594037927935 }
 
 -- one client, over one batch that was recovered: `a 1` at the sequence 1
 abbrev pub begun_before : Settings
-begun_before = record one_client { start = 1; opening = (codes "a", codes "1") ∷ [] }
+begun_before = record one_client { start = 1; opening = (key_a, codes "1") ∷ [] }
 
 -- an entry of client 1: its batch with this number, at this sequence, of one record
 abbrev pub entry_at : ℕ → ℕ → Record → Entry
@@ -45,9 +55,12 @@ entry_at ordinal first r = record {
 abbrev pub two_records : Outcome
 two_records = record {
   transcripts = [] ∷ [];
-  history = record (entry_at 1 1 put_a1) { count = 2; records = put_a1 ∷ value (codes "b") (codes "22") ∷ [] } ∷ [];
+  history = record (entry_at 1 1 put_a1) {
+    count = 2;
+    records = put_a1 ∷ value None (codes "b") (codes "22") ∷ [];
+  } ∷ [];
   last = 2;
-  state = (codes "a", codes "1") ∷ (codes "b", codes "22") ∷ [];
+  state = (key_a, codes "1") ∷ (key_b, codes "22") ∷ [];
   log_lens = 0 ∷ [];
   fault = None;
 }
@@ -66,30 +79,30 @@ fails count = record { command = commit plain; reply = refused (no.LogFault coun
 abbrev pub finds_full : ℕ → Call
 finds_full last = record { command = commit plain; reply = refused (no.SequenceFull last) }
 
-abbrev pub reads : List ℕ → ℕ → Option (List ℕ) → Call
+abbrev pub reads : Key → ℕ → Option (List ℕ) → Call
 reads key at v = record { command = get key; reply = found at v }
 
 -- `put a 1`, `commit`, `get a`
 abbrev pub one_script : List (List Command)
-one_script = (add put_a1 ∷ commit plain ∷ get (codes "a") ∷ []) ∷ []
+one_script = (add put_a1 ∷ commit plain ∷ get key_a ∷ []) ∷ []
 
 -- The commit is accepted.
 abbrev pub one_calls : List Call
-one_calls = adds put_a1 ∷ commits 1 put_a1 ∷ reads (codes "a") 1 (Some (codes "1")) ∷ []
+one_calls = adds put_a1 ∷ commits 1 put_a1 ∷ reads key_a 1 (Some (codes "1")) ∷ []
 
 abbrev pub one_commit : Outcome
 one_commit = record {
   transcripts = one_calls ∷ [];
   history = entry_at 1 1 put_a1 ∷ [];
   last = 1;
-  state = (codes "a", codes "1") ∷ [];
+  state = (key_a, codes "1") ∷ [];
   log_lens = 24 ∷ [];
   fault = None;
 }
 
 -- The commit is refused.
 abbrev pub refused_calls : List Call
-refused_calls = adds put_a1 ∷ fails 1 ∷ reads (codes "a") 0 None ∷ []
+refused_calls = adds put_a1 ∷ fails 1 ∷ reads key_a 0 None ∷ []
 
 abbrev pub refused_commit : Outcome
 refused_commit = record {
@@ -104,31 +117,31 @@ refused_commit = record {
 -- `put a 1`, `commit`, `put b 2`, `commit`, `commit`, `get b`, `get a`
 abbrev pub failing_script : List (List Command)
 failing_script =
-    (add put_a1 ∷ commit plain ∷ add put_b2 ∷ commit plain ∷ commit plain ∷ get (codes "b") ∷ get (codes "a") ∷ []) ∷ []
+    (add put_a1 ∷ commit plain ∷ add put_b2 ∷ commit plain ∷ commit plain ∷ get key_b ∷ get key_a ∷ []) ∷ []
 
 -- The first commit is accepted, and the second one meets a fault.
 abbrev pub failing_calls : List Call
 failing_calls =
-    adds put_a1 ∷ commits 1 put_a1 ∷ adds put_b2 ∷ fails 1 ∷ fails 1 ∷ reads (codes "b") 1 None
-    ∷ reads (codes "a") 1 (Some (codes "1")) ∷ []
+    adds put_a1 ∷ commits 1 put_a1 ∷ adds put_b2 ∷ fails 1 ∷ fails 1 ∷ reads key_b 1 None
+    ∷ reads key_a 1 (Some (codes "1")) ∷ []
 
 abbrev pub failed_write : Outcome
 failed_write = record {
   transcripts = failing_calls ∷ [];
   history = entry_at 1 1 put_a1 ∷ [];
   last = 1;
-  state = (codes "a", codes "1") ∷ [];
+  state = (key_a, codes "1") ∷ [];
   log_lens = 24 ∷ [];
   fault = Some 1;
 }
 
 -- `put a 1`, `commit`, `put a 2`, `commit`, `get a`
 abbrev pub stale_script : List (List Command)
-stale_script = (add put_a1 ∷ commit plain ∷ add put_a2 ∷ commit plain ∷ get (codes "a") ∷ []) ∷ []
+stale_script = (add put_a1 ∷ commit plain ∷ add put_a2 ∷ commit plain ∷ get key_a ∷ []) ∷ []
 
 -- Both commits are accepted, and the read answers the first value.
 abbrev pub stale_calls : List Call
-stale_calls = adds put_a1 ∷ commits 1 put_a1 ∷ adds put_a2 ∷ commits 2 put_a2 ∷ reads (codes "a") 1 (Some (codes "1"))
+stale_calls = adds put_a1 ∷ commits 1 put_a1 ∷ adds put_a2 ∷ commits 2 put_a2 ∷ reads key_a 1 (Some (codes "1"))
     ∷ []
 
 abbrev pub stale_read : Outcome
@@ -136,36 +149,36 @@ stale_read = record {
   transcripts = stale_calls ∷ [];
   history = entry_at 1 1 put_a1 ∷ entry_at 2 2 put_a2 ∷ [];
   last = 2;
-  state = (codes "a", codes "2") ∷ [];
+  state = (key_a, codes "2") ∷ [];
   log_lens = 48 ∷ [];
   fault = None;
 }
 
 -- `get a`, `put a 1`, `commit`
 abbrev pub early_script : List (List Command)
-early_script = (get (codes "a") ∷ add put_a1 ∷ commit plain ∷ []) ∷ []
+early_script = (get key_a ∷ add put_a1 ∷ commit plain ∷ []) ∷ []
 
 -- The read answers the value that is committed after it.
 abbrev pub early_calls : List Call
-early_calls = reads (codes "a") 1 (Some (codes "1")) ∷ adds put_a1 ∷ commits 1 put_a1 ∷ []
+early_calls = reads key_a 1 (Some (codes "1")) ∷ adds put_a1 ∷ commits 1 put_a1 ∷ []
 
 abbrev pub read_ahead : Outcome
 read_ahead = record one_commit { transcripts = early_calls ∷ [] }
 
 -- `get a`, `put b 2`, `commit`
 abbrev pub going_on_script : List (List Command)
-going_on_script = (get (codes "a") ∷ add put_b2 ∷ commit plain ∷ []) ∷ []
+going_on_script = (get key_a ∷ add put_b2 ∷ commit plain ∷ []) ∷ []
 
 -- The read answers what was there before the run, and the commit is accepted after that.
 abbrev pub going_on_calls : List Call
-going_on_calls = reads (codes "a") 1 (Some (codes "1")) ∷ adds put_b2 ∷ commits 2 put_b2 ∷ []
+going_on_calls = reads key_a 1 (Some (codes "1")) ∷ adds put_b2 ∷ commits 2 put_b2 ∷ []
 
 abbrev pub went_on : Outcome
 went_on = record {
   transcripts = going_on_calls ∷ [];
   history = entry_at 1 2 put_b2 ∷ [];
   last = 2;
-  state = (codes "a", codes "1") ∷ (codes "b", codes "2") ∷ [];
+  state = (key_a, codes "1") ∷ (key_b, codes "2") ∷ [];
   log_lens = 48 ∷ [];
   fault = None;
 }
@@ -173,18 +186,18 @@ went_on = record {
 -- client 1: `get b`, `put a 1`, `commit`; client 2: `put b 2`, `commit`
 abbrev pub crossing_script : List (List Command)
 crossing_script =
-    (get (codes "b") ∷ add put_a1 ∷ commit plain ∷ []) ∷ (add put_b2 ∷ commit plain ∷ []) ∷ []
+    (get key_b ∷ add put_a1 ∷ commit plain ∷ []) ∷ (add put_b2 ∷ commit plain ∷ []) ∷ []
 
 -- Client 1 reads client 2's batch at 2, and then its own batch is accepted at 1.
 abbrev pub crossing_calls : List Call
-crossing_calls = reads (codes "b") 2 (Some (codes "2")) ∷ adds put_a1 ∷ commits 1 put_a1 ∷ []
+crossing_calls = reads key_b 2 (Some (codes "2")) ∷ adds put_a1 ∷ commits 1 put_a1 ∷ []
 
 abbrev pub run_below_what_was_read : Outcome
 run_below_what_was_read = record {
   transcripts = crossing_calls ∷ (adds put_b2 ∷ commits 2 put_b2 ∷ []) ∷ [];
   history = entry_at 1 1 put_a1 ∷ record (entry_at 1 2 put_b2) { client = 2 } ∷ [];
   last = 2;
-  state = (codes "a", codes "1") ∷ (codes "b", codes "2") ∷ [];
+  state = (key_a, codes "1") ∷ (key_b, codes "2") ∷ [];
   log_lens = 48 ∷ [];
   fault = None;
 }
@@ -278,7 +291,7 @@ told_of_a_stop =
     ∷ record { client = 2; action = controller.unstop; told = None } ∷ []
 
 abbrev pub put_c3 : Record
-put_c3 = value (codes "c") (codes "3")
+put_c3 = value None (codes "c") (codes "3")
 
 -- `put a 1`, `commit`, `put b 2`, `commit`, `put c 3`, `commit`: all are accepted. The first is in a log of its own, and
 -- the others are in the next one.
@@ -290,7 +303,64 @@ in_two_logs = record {
   transcripts = three_calls ∷ [];
   history = entry_at 1 1 put_a1 ∷ entry_at 2 2 put_b2 ∷ entry_at 3 3 put_c3 ∷ [];
   last = 3;
-  state = (codes "a", codes "1") ∷ (codes "b", codes "2") ∷ (codes "c", codes "3") ∷ [];
+  state = (key_a, codes "1") ∷ (key_b, codes "2") ∷ (default_key (codes "c"), codes "3") ∷ [];
   log_lens = 24 ∷ 48 ∷ [];
   fault = None;
 }
+
+-- two families
+abbrev pub two_families : Settings
+two_families = record one_client { families = 2 }
+
+-- a batch of a record of each family
+abbrev pub both_families : List Record
+both_families = put_a1 ∷ put_1a2 ∷ []
+
+-- `fput 2 a 3`
+abbrev pub put_2a3 : Record
+put_2a3 = value (Some 2) (codes "a") (codes "3")
+
+-- `put a 1`, `fput 1 a 2`, `commit`, `fget 1 a`, `get a`, `fscan 1 a b`, `fput 2 a 3`, `commit`
+abbrev pub families_script : List (List Command)
+families_script =
+    (add put_a1 ∷ add put_1a2 ∷ commit plain ∷ get key_1a ∷ get key_a
+    ∷ scan 1 (codes "a") (codes "b") ∷ add put_2a3 ∷ commit plain ∷ []) ∷ []
+
+abbrev pub commits_both : Call
+commits_both = record { command = commit plain; reply = accepted 1 2 both_families }
+
+-- The batch is accepted and read in both families. There is no family 2.
+abbrev pub families_calls : List Call
+families_calls = adds put_a1 ∷ adds put_1a2 ∷ commits_both
+    ∷ reads key_1a 2 (Some (codes "2")) ∷ reads key_a 2 (Some (codes "1"))
+    ∷ record {
+      command = scan 1 (codes "a") (codes "b");
+      reply = rows 2 ((codes "a", codes "2") ∷ []);
+    }
+    ∷ adds put_2a3 ∷ record { command = commit plain; reply = refused (no.NoFamily 2) } ∷ []
+
+abbrev pub in_both_families : Outcome
+in_both_families = record {
+  transcripts = families_calls ∷ [];
+  history = record (entry_at 1 1 put_a1) { count = 2; records = both_families } ∷ [];
+  last = 2;
+  state = (key_a, codes "1") ∷ (key_1a, codes "2") ∷ [];
+  log_lens = 30 ∷ [];
+  fault = None;
+}
+
+-- `put a 1`, `fput 1 a 2`, `commit`, `fmany 0 a 1 a`
+abbrev pub torn_script : List (List Command)
+torn_script = (add put_a1 ∷ add put_1a2 ∷ commit plain
+    ∷ many (key_a ∷ key_1a ∷ []) ∷ []) ∷ []
+
+-- The read sees the batch in one family and not in the other.
+abbrev pub torn_calls : List Call
+torn_calls = adds put_a1 ∷ adds put_1a2 ∷ commits_both
+    ∷ record {
+      command = many (key_a ∷ key_1a ∷ []);
+      reply = found_each 2 (Some (codes "1") ∷ None ∷ []);
+    } ∷ []
+
+abbrev pub torn_read : Outcome
+torn_read = record in_both_families { transcripts = torn_calls ∷ [] }

@@ -1,6 +1,6 @@
 //! What a seed draws, and the script that it makes.
 
-ghost use Rattle.std.specs.Prelude.{◌≡◌, [], ◌∷◌, codes};
+ghost use Rattle.std.specs.Prelude.{◌≡◌, [], ◌∷◌, None, codes};
 ghost use Rattle.model_base.specs.Batch.{value};
 ghost use Rattle.model_base.specs.Calls.{add, commit};
 ghost use Rattle.model_base.specs.Generator.{first_state, numbers_from, script_of_seed, summary_text};
@@ -15,8 +15,8 @@ pub fn first_draws()
 
 /// Its first batch has one record, a value: 908 gives the count, 22817 the key, 10239 the kind, and 12914 the value.
 pub fn first_batch()
-    ensures client_1_of_seed_1 { script_of_seed 1 1 1 ≡ (add (value (codes "c1k17") (codes "914")) ∷ commit plain ∷ [])
-        ∷ [] }
+    ensures client_1_of_seed_1 { script_of_seed 1 1 1
+        ≡ (add (value None (codes "c1k17") (codes "914")) ∷ commit plain ∷ []) ∷ [] }
 {}
 
 /// The summary of a run of one client that wrote two records in one batch.

@@ -4,7 +4,7 @@ ghost use Rattle.std.specs.Prelude.{◌≡◌, ℕ, List, []};
 ghost use Rattle.model_base.specs.Attempts.{Attempt};
 ghost use Rattle.model_base.specs.Trace.{Trace};
 ghost use Rattle.model_base.specs.Outcomes.{IsLegal, IsLegalIn};
-ghost use Rattle.model_rows.specs.Runs.{one_client, two_clients, nearly_full, used_up, one_script, one_commit, refused_commit, failing_script, failed_write, stale_script, stale_read, early_script, read_ahead, crossing_script, run_below_what_was_read, later_stop_script, refused_by_a_later_stop, own_stop_script, refused_in_its_own_stop, accepted_in_its_own_stop, failed_in_its_own_stop, full_in_its_own_stop, filling_script, lower_than_full, begun_before, going_on_script, went_on, waiting_script, waited_out, told_of_a_stop};
+ghost use Rattle.model_rows.specs.Runs.{one_client, two_clients, nearly_full, used_up, one_script, one_commit, refused_commit, failing_script, failed_write, stale_script, stale_read, early_script, read_ahead, crossing_script, run_below_what_was_read, later_stop_script, refused_by_a_later_stop, own_stop_script, refused_in_its_own_stop, accepted_in_its_own_stop, failed_in_its_own_stop, full_in_its_own_stop, filling_script, lower_than_full, begun_before, going_on_script, went_on, waiting_script, waited_out, told_of_a_stop, two_families, families_script, in_both_families, torn_script, torn_read};
 
 /// A batch is accepted and then read.
 pub fn one_commit()
@@ -16,6 +16,16 @@ pub fn one_commit()
 pub fn went_on()
     ensures legal { IsLegal begun_before 0 going_on_script went_on }
     ensures not_over_nothing { IsLegal (record begun_before { opening = [] }) 0 going_on_script went_on → ⊥ }
+{}
+
+/// A batch is accepted and read in two families, and a commit into a third is refused since there isn't one.
+pub fn in_both_families()
+    ensures legal { IsLegal two_families 0 families_script in_both_families }
+{}
+
+/// A read that sees a batch in one family and not in another is legal in no trace.
+pub fn torn_read()
+    ensures not_legal { (ended : ℕ) → IsLegal two_families ended torn_script torn_read → ⊥ }
 {}
 
 /// The log's first write fails: the commit is refused, and the key isn't there. The outcome isn't legal if the log's

@@ -2,7 +2,7 @@
 
 ghost use Rattle.std.specs.Prelude.{◌≡◌, ℕ, [], ◌∷◌, codes, decimal, Some, None};
 ghost use Rattle.model_base.specs.Text.{hex, line, log_text, outcome_text};
-ghost use Rattle.model_rows.specs.Runs.{one_commit, refused_commit, in_two_logs};
+ghost use Rattle.model_rows.specs.Runs.{one_commit, refused_commit, in_two_logs, in_both_families};
 
 /// Two digits for each byte.
 pub fn digits_of_bytes()
@@ -37,4 +37,11 @@ pub fn lines_of_logs()
 pub fn text_of_two_logs()
     ensures text { outcome_text in_two_logs ≡ codes
         "client 1\nok 1 1\nok 2 2\nok 3 3\nhistory 3\n1 1 1 1 log 0100000000000000010000000101610131\n2 2 1 2 log 0200000000000000010000000101620132\n3 3 1 3 log 0300000000000000010000000101630133\nstate 3 3\na 1\nb 2\nc 3\nlog 24 48\n" }
+{}
+
+/// What is printed of a run over two families: the pairs of family 1 are printed with its number, after those of the
+/// default family. A commit into a family that there isn't is refused.
+pub fn text_of_families()
+    ensures text { outcome_text in_both_families ≡ codes
+        "client 1\nok 1 2\nval 2 2\nval 2 1\nscan 2 1 a 2\nno family 2\nhistory 1\n1 2 1 1 log 0100000000000000020000000101610131050101610132\nstate 2 2\na 1\n1 a 2\nlog 30\n" }
 {}

@@ -50,8 +50,9 @@ pub one_record_at_the_end : (group_bytes : ℕ) (trace : Trace) (attempts : List
 one_record_at_the_end group_bytes trace attempts fault entries writes =
     both_in_one group_bytes attempts fault (last_sequence trace.start trace.entries) writes.parts writes.calls writes.lost writes.each writes.none_else writes.by (writes.cut ∙ ap logged_entries entries)
 
-pub a_record_for_each : (group_bytes : ℕ) (trace : Trace) (attempts : List (List Attempt)) → trace.entries ≡ two_entries → WritesLog group_bytes (λ calls. calls ≡ in_two_records) trace attempts None
-a_record_for_each group_bytes trace attempts entries = record {
+pub a_record_for_each : (group_bytes : ℕ) (trace : Trace) (attempts : List (List Attempt)) → trace.entries ≡ two_entries → trace.logged ≡ two_groups
+    → WritesLog group_bytes (λ calls. calls ≡ in_two_records) trace attempts None
+a_record_for_each group_bytes trace attempts entries logged = record {
   parts = two_groups;
   calls = in_two_records;
   lost = [];
@@ -61,6 +62,7 @@ a_record_for_each group_bytes trace attempts entries = record {
     record { some = refl; apart = (tt, tt); batches = refl; synced = ((λ to_sync. refl), tt); ok = refl },
     (record { some = refl; apart = (tt, tt); batches = refl; synced = ((λ to_sync. absurd (cc to_sync)), tt); ok = refl }, tt),
   );
+  logged = sym logged;
   none_else = refl;
   by = refl;
 }

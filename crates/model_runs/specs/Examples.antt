@@ -12,10 +12,10 @@ use Rattle.model_runs.specs.SeveralLogs.{Held}
 
 -- batches of one record: `put a 1` and `put b 2`
 abbrev pub put_a : List Record
-put_a = value (codes "a") (codes "1") ∷ []
+put_a = value None (codes "a") (codes "1") ∷ []
 
 abbrev pub put_b : List Record
-put_b = value (codes "b") (codes "2") ∷ []
+put_b = value None (codes "b") (codes "2") ∷ []
 
 -- the client numbered 1 committed such a batch
 abbrev pub entry_of : ℕ → Flag → List Record → Entry

@@ -42,7 +42,7 @@ AreLost group_bytes attempts fault last lost =
 
 -- How a log was written, where `wrote` says that these calls, and no others, wrote it: one call for each group of the
 -- logged entries, in their order, and if the log has a fault one more call, which failed, after all the others. Between
--- two entries of one call no other entry comes in the history, logged or not.
+-- two entries of one call no other entry comes in the history, logged or not. Reads of the log see these groups.
 pub record WritesLog (group_bytes : ℕ) (wrote : List GroupCall → Type 0) (trace : Trace)
     (attempts : List (List Attempt)) (fault : Option ℕ) : Type 0 where
   pub parts : List (List Entry)
@@ -51,6 +51,7 @@ pub record WritesLog (group_bytes : ℕ) (wrote : List GroupCall → Type 0) (tr
   pub cut : flat_map (λ part. part) parts ≡ logged_entries trace.entries
   pub runs : AllByRecursion RunsFollow parts
   pub each : AllZip WroteEntries parts calls
+  pub logged : parts ≡ trace.logged
   pub none_else : AreLost group_bytes attempts fault (last_sequence trace.start trace.entries) lost
   pub by : wrote (calls ++ lost)
 

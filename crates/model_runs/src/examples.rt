@@ -41,6 +41,6 @@ pub fn written_group_by_group()
         → WritesLog group_bytes (λ calls. calls ≡ in_one_record) trace attempts fault → ⊥ }
     // In two records they are written as they should be.
     ensures a_record_for_each { (group_bytes : ℕ) (trace : Trace) (attempts : List (List Attempt))
-        → trace.entries ≡ two_entries
+        → trace.entries ≡ two_entries → trace.logged ≡ two_groups
         → WritesLog group_bytes (λ calls. calls ≡ in_two_records) trace attempts None }
 {}

@@ -18,33 +18,37 @@ use Rattle.program_call.proofs.Runs.{runs_script, runs_none, completes}
 use Rattle.program_call.proofs.Unread.{source_failed, fault_said, unread_stood, unread_completes, unread_other, unread_status, is_script, left_untouched}
 
 -- the status of a run is none of those for a text that isn't one
-other_status : (n : ℕ) → HasRunStatus n → (n < 9) × (n ≢ 1) × (n ≢ 2) × (n ≢ 4)
+other_status : (n : ℕ) → HasRunStatus n → (n < 10) × (n ≢ 1) × (n ≢ 2) × (n ≢ 4)
 other_status n (inl e) = (omega (arith, e), λ a. omega (arith, a, e), λ a. omega (arith, a, e), λ a. omega (arith, a, e))
 other_status n (inr (inl e)) = (omega (arith, e), λ a. omega (arith, a, e), λ a. omega (arith, a, e), λ a. omega (arith, a, e))
 other_status n (inr (inr (inl e))) = (omega (arith, e), λ a. omega (arith, a, e), λ a. omega (arith, a, e), λ a. omega (arith, a, e))
 other_status n (inr (inr (inr (inl e)))) = (omega (arith, e), λ a. omega (arith, a, e), λ a. omega (arith, a, e), λ a. omega (arith, a, e))
 other_status n (inr (inr (inr (inr (inl e))))) = (omega (arith, e), λ a. omega (arith, a, e), λ a. omega (arith, a, e), λ a. omega (arith, a, e))
-other_status n (inr (inr (inr (inr (inr e))))) = (omega (arith, e), λ a. omega (arith, a, e), λ a. omega (arith, a, e), λ a. omega (arith, a, e))
+other_status n (inr (inr (inr (inr (inr (inl e)))))) = (omega (arith, e), λ a. omega (arith, a, e), λ a. omega (arith, a, e), λ a. omega (arith, a, e))
+other_status n (inr (inr (inr (inr (inr (inr e)))))) = (omega (arith, e), λ a. omega (arith, a, e), λ a. omega (arith, a, e), λ a. omega (arith, a, e))
 
 -- nor is that of a text that wasn't read one of a run
-no_device : (n : ℕ) → (n ≡ 2) ⊎ (n ≡ 4) ⊎ (n ≡ 6) → (n ≡ 0) ⊎ (n ≡ 3) ⊎ (n ≡ 5) ⊎ (n ≡ 7) ⊎ (n ≡ 8) → ⊥
+no_device : (n : ℕ) → (n ≡ 2) ⊎ (n ≡ 4) ⊎ (n ≡ 6) → (n ≡ 0) ⊎ (n ≡ 3) ⊎ (n ≡ 5) ⊎ (n ≡ 7) ⊎ (n ≡ 8) ⊎ (n ≡ 9) → ⊥
 no_device n (inl a) (inl e) = omega (arith, a, e)
 no_device n (inl a) (inr (inl e)) = omega (arith, a, e)
 no_device n (inl a) (inr (inr (inl e))) = omega (arith, a, e)
 no_device n (inl a) (inr (inr (inr (inl e)))) = omega (arith, a, e)
-no_device n (inl a) (inr (inr (inr (inr e)))) = omega (arith, a, e)
+no_device n (inl a) (inr (inr (inr (inr (inl e))))) = omega (arith, a, e)
+no_device n (inl a) (inr (inr (inr (inr (inr e))))) = omega (arith, a, e)
 no_device n (inr (inl a)) (inl e) = omega (arith, a, e)
 no_device n (inr (inl a)) (inr (inl e)) = omega (arith, a, e)
 no_device n (inr (inl a)) (inr (inr (inl e))) = omega (arith, a, e)
 no_device n (inr (inl a)) (inr (inr (inr (inl e)))) = omega (arith, a, e)
-no_device n (inr (inl a)) (inr (inr (inr (inr e)))) = omega (arith, a, e)
+no_device n (inr (inl a)) (inr (inr (inr (inr (inl e))))) = omega (arith, a, e)
+no_device n (inr (inl a)) (inr (inr (inr (inr (inr e))))) = omega (arith, a, e)
 no_device n (inr (inr a)) (inl e) = omega (arith, a, e)
 no_device n (inr (inr a)) (inr (inl e)) = omega (arith, a, e)
 no_device n (inr (inr a)) (inr (inr (inl e))) = omega (arith, a, e)
 no_device n (inr (inr a)) (inr (inr (inr (inl e)))) = omega (arith, a, e)
-no_device n (inr (inr a)) (inr (inr (inr (inr e)))) = omega (arith, a, e)
+no_device n (inr (inr a)) (inr (inr (inr (inr (inl e))))) = omega (arith, a, e)
+no_device n (inr (inr a)) (inr (inr (inr (inr (inr e))))) = omega (arith, a, e)
 
-unread_one : (n : ℕ) → (n ≡ 2) ⊎ (n ≡ 4) ⊎ (n ≡ 6) → (n < 9) × (n ≢ 1)
+unread_one : (n : ℕ) → (n ≡ 2) ⊎ (n ≡ 4) ⊎ (n ≡ 6) → (n < 10) × (n ≢ 1)
 unread_one n (inl a) = (omega (arith, a), λ e. omega (arith, a, e))
 unread_one n (inr (inl a)) = (omega (arith, a), λ e. omega (arith, a, e))
 unread_one n (inr (inr a)) = (omega (arith, a), λ e. omega (arith, a, e))
@@ -74,7 +78,7 @@ module _ {S K : Type 0} (source : source.Ghosts S) (sink : sink.Ghosts K) (had h
     disk_untouched = λ e. absurd (no_text one e);
     no_script = is_script (source.left had) script logs.untouched said;
     runs = runs;
-    completes = λ stood sink_stood disk_stood no_damage told fit. if_some _ (source.left had) (λ text this is. completes seen n runs one sink_stood disk_stood no_damage (λ len bytes. no_bytes len bytes told fit));
+    completes = λ stood sink_stood disk_stood no_damage no_family told fit. if_some _ (source.left had) (λ text this is. completes seen n runs one sink_stood disk_stood no_damage no_family (λ len bytes. no_bytes len bytes told fit));
   }
     where
       at_end : (left : Option (List ℕ)) → IsAtEnd left → IfSome left (λ rest. rest ≡ [])
@@ -105,7 +109,7 @@ module _ {S K : Type 0} (source : source.Ghosts S) (sink : sink.Ghosts K) (had h
         disk_untouched = λ e. untouched;
         no_script = left_untouched left logs.untouched untouched;
         runs = runs_script seen n (subst (AtStatus seen) (sym is) (unread seen why given alone stood tells));
-        completes = λ worked sink_stood disk_stood no_damage told fit. unread_completes left failed fails kf kfs n old new given is why error tells worked;
+        completes = λ worked sink_stood disk_stood no_damage no_family told fit. unread_completes left failed fails kf kfs n old new given is why error tells worked;
       }
 
   -- there was no memory, and no device was touched
@@ -120,5 +124,5 @@ module _ {S K : Type 0} (source : source.Ghosts S) (sink : sink.Ghosts K) (had h
     disk_untouched = λ e. untouched;
     no_script = if_some _ (source.left had) (λ text f other. untouched);
     runs = runs_none seen n six (ap sink.taken silent) (ap sink.faults silent) alone stood;
-    completes = λ worked sink_stood disk_stood no_damage told fit. if_some _ (source.left had) (λ text script said. inr six);
+    completes = λ worked sink_stood disk_stood no_damage no_family told fit. if_some _ (source.left had) (λ text script said. inr six);
   }

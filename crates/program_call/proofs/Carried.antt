@@ -64,8 +64,8 @@ module _ {S D K : Type 0} (source : source.Ghosts S) (disk : disk.Ghosts D) (sin
       let some = ask.6 in
       subst (λ u. RunsSeveral source disk sink had has before after olds news n options limit u) (sym is) (of_run.1 (subst (λ u. 1 < u) is some))
 
-  pub asked_generate : (seed clients batches : ℕ) → IsToGenerate asked seed clients batches → GeneratesOne source disk sink had has before after olds news n seed clients batches
-  asked_generate seed clients batches ask = subst (AnswersAsked source disk sink had has before after olds news n) ask.2 answers
+  pub asked_generate : (seed clients batches families : ℕ) → IsToGenerate asked seed clients batches families → GeneratesOne source disk sink had has before after olds news n seed clients batches families
+  asked_generate seed clients batches families ask = subst (AnswersAsked source disk sink had has before after olds news n) ask.2 answers
 
   recovers_one : (number : Option ℕ) (mode : Mode) (logs : Option ℕ) → AnswersAsked source disk sink had has before after olds news n (Recover number mode logs) → IfSome logs (λ m. m ≡ 1)
       → RecoversOne source disk sink had has before after olds news n number mode
@@ -89,13 +89,13 @@ first_same [] P some each = absurd (omega (arith, some))
 first_same (d ∷ disks) P some each = (each d, refl)
 
 -- There was no memory, and no device was touched.
-pub none_generated : {D K : Type 0} (disk : disk.Ghosts D) (sink : sink.Ghosts K) (before : K) (n : ℕ) → n ≡ 6 → OnlyNow disk → (opened : D) (seed clients batches : ℕ)
-    → RunsGenerated sink before before (log_of_generated disk opened opened) seed clients batches n
-none_generated disk sink before n six only opened seed clients batches =
-    let logs : LogsOfRun = log_of_generated disk opened opened in
+pub none_generated : {D K : Type 0} (disk : disk.Ghosts D) (sink : sink.Ghosts K) (before : K) (n : ℕ) → n ≡ 6 → OnlyNow disk → (opened : D) (families seed clients batches : ℕ)
+    → RunsGenerated sink before before (log_of_generated disk families opened opened) seed clients batches n
+none_generated disk sink before n six only opened families seed clients batches =
+    let logs : LogsOfRun = log_of_generated disk families opened opened in
     record {
       one = inr (inr (inr (inl six)));
-      runs = runs_none (observation_of sink (IsGenerated seed clients batches) form.Summary logs before before) n six refl refl (untouched_alone disk only usual_options New Point opened) refl;
+      runs = runs_none (observation_of sink (IsGenerated seed clients batches) form.Summary logs before before) n six refl refl (untouched_alone disk only (usual_options families) New Point opened) refl;
       completes = λ a b told fit. inr six;
       one_summary = λ e. absurd (omega (arith, six, e));
     }
@@ -146,11 +146,11 @@ module _ {S D K : Type 0} (source : source.Ghosts S) (disk : disk.Ghosts D) (sin
     several mode (Some m) = λ more. recovers_all mode (min m (length disks)) (omega (arith, more, some))
 
     pub none_asked : (asked : Invocation) → AnswersAsked source disk sink had had before before disks disks n asked
-    none_asked (Run pipelined shards group_bytes batch_bytes last number resume mode logs limit) =
-        let options : Options = record { last = last; group_bytes = group_bytes; batch_bytes = batch_bytes } in
+    none_asked (Run pipelined shards group_bytes batch_bytes last number resume mode logs limit families) =
+        let options : Options = record { last = last; group_bytes = group_bytes; batch_bytes = batch_bytes; families = families } in
         (λ one. none_run options (start_of number resume) mode, λ more. none_run_logs options limit (used_of logs (length disks)))
-    none_asked (Generate pipelined shards seed clients batches) = first_same disks _ some (λ d. (refl, none_generated disk sink before n six only d seed clients batches))
+    none_asked (Generate pipelined shards seed clients batches families) = first_same disks _ some (λ d. (refl, none_generated disk sink before n six only d families seed clients batches))
     none_asked (Recover number mode logs) =
         (λ one. first_same disks _ some (λ d. (refl, recovers_none sink before before (log_to_recover disk number mode d d) n six refl (refl, leaves_before disk d (only d)) refl)), several mode logs)
-    none_asked (Replay pipelined group_bytes batch_bytes last) =
-        none_replayed disks (record { pipelined = pipelined; group_bytes = group_bytes; batch_bytes = batch_bytes; last = last })
+    none_asked (Replay pipelined group_bytes batch_bytes last families) =
+        none_replayed disks (record { pipelined = pipelined; families = families; group_bytes = group_bytes; batch_bytes = batch_bytes; last = last })

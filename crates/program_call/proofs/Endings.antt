@@ -11,14 +11,14 @@ use Rattle.run_outcome.specs.Running.{IsReached}
 use Rattle.run_outcome.specs.Shows.{ShowsOutcome}
 use Rattle.run_execution.specs.declared.end.RunEnd.{RunEnd}
 use Rattle.run_execution.specs.declared.end.RunEnd.TheVariants as end
-use Rattle.program_text.specs.Refusals.{damage, not_empty, disk_fault}
+use Rattle.program_text.specs.Refusals.{damage, high_family, not_empty, disk_fault}
 use Rattle.program_call.specs.declared.reading.ReadError.{ReadError}
 use Rattle.program_call.specs.declared.reading.ReadError.TheVariants as read
 use Rattle.program_call.specs.declared.report.Status.{Status}
 use Rattle.program_call.specs.declared.report.Status.TheVariants as status
 use Rattle.program_call.specs.Reports.{SaysNothing, Refuses, PrintsRefusal, EndsWithOutcome, TellsEnd, TellsReadError, HasRunStatus, text_of, code}
 use Rattle.program_call.specs.Logs.{LogsOfRun}
-use Rattle.program_call.specs.Outcomes.{Observation, IsSaid, RanScript, RanWhole, DiskFailed, RanToSinkFault, RanOutOfMemory, MetDamage}
+use Rattle.program_call.specs.Outcomes.{Observation, IsSaid, RanScript, RanWhole, DiskFailed, RanToSinkFault, RanOutOfMemory, MetDamage, MetHighFamily}
 use Rattle.program_call.proofs.Memory.{all_whole, short_of}
 
 abbrev either : Bool → Type 0 → Type 0 → Type 0
@@ -40,6 +40,7 @@ module _ (logs : LogsOfRun) (script : Script) where
   EndsOver (end.DiskFault count) = logs.left_alone × IsReached logs.failed count logs.fails
   EndsOver (end.NotEmpty len) = logs.not_empty len × logs.left_alone × (logs.fails ≡ logs.failed)
   EndsOver (end.Damage at why) = logs.damaged at why × logs.left_alone × (logs.fails ≡ logs.failed)
+  EndsOver (end.Family family) = logs.high_family family × logs.left_alone × (logs.fails ≡ logs.failed)
   EndsOver end.NoMemory = logs.left_alone × (logs.fails ≡ logs.failed)
   EndsOver end.NoOutcome = (o : calls.Outcome) × RanSo o
   EndsOver (end.Ran shown) = (o : calls.Outcome) × RanSo o × ShowsOutcome shown o
@@ -75,9 +76,13 @@ module _ (seen : Observation) where
     pub met : MetDamage seen
     pub stood : seen.logs.fails ≡ seen.logs.failed
 
+  pub record AtHighFamily : Type 0 where
+    pub met : MetHighFamily seen
+    pub stood : seen.logs.fails ≡ seen.logs.failed
+
   -- nothing is said of a status with which no run ends
   abbrev pub AtStatus : ℕ → Type 0
-  AtStatus n = either (eqb n 0) AtWhole (either (eqb n 3) AtFault (either (eqb n 5) AtSinkFault (either (eqb n 6) AtMemory (either (eqb n 7) AtNotEmpty (either (eqb n 8) AtDamage ⊤)))))
+  AtStatus n = either (eqb n 0) AtWhole (either (eqb n 3) AtFault (either (eqb n 5) AtSinkFault (either (eqb n 6) AtMemory (either (eqb n 7) AtNotEmpty (either (eqb n 8) AtDamage (either (eqb n 9) AtHighFamily ⊤))))))
 
   -- there was no memory, and nothing was run or printed
   pub nothing : (given : Status) → SaysNothing seen.before seen.after seen.failed seen.fails given → seen.logs.left_alone → seen.logs.fails ≡ seen.logs.failed → AtStatus (code given)
@@ -159,6 +164,12 @@ module _ (seen : Observation) where
           stood = ends.2;
         } in
         refused (damage at why) status.Damage given there ends.1 ends.2 tells
+    ended_so (end.Family family) given ends tells =
+        let there : IsSaid seen (high_family family) → AtHighFamily = λ told. record {
+          met = record { family = family; high = ends.0; refused = told };
+          stood = ends.2;
+        } in
+        refused (high_family family) status.Family given there ends.1 ends.2 tells
     ended_so end.NoMemory given ends tells = nothing given tells ends.0 ends.1
     ended_so end.NoOutcome given (o, so) tells =
         let there : AtMemory = record { told = inr (inl (record { outcome = o; ran = ran_script o so; silent = tells.1 })); stood = tells.2 } in
@@ -183,7 +194,9 @@ ended_status seen script (end.DiskFault count) given ends tells = subst (λ s. H
 ended_status seen script (end.NotEmpty len) given ends tells =
     refusal_status seen.before seen.after seen.failed seen.fails _ status.NotEmpty given (inr (inr (inr (inr (inl refl))))) tells
 ended_status seen script (end.Damage at why) given ends tells =
-    refusal_status seen.before seen.after seen.failed seen.fails _ status.Damage given (inr (inr (inr (inr (inr refl))))) tells
+    refusal_status seen.before seen.after seen.failed seen.fails _ status.Damage given (inr (inr (inr (inr (inr (inl refl)))))) tells
+ended_status seen script (end.Family family) given ends tells =
+    refusal_status seen.before seen.after seen.failed seen.fails _ status.Family given (inr (inr (inr (inr (inr (inr refl)))))) tells
 ended_status seen script end.NoMemory given ends tells = subst (λ s. HasRunStatus (code s)) (sym tells.0) (inr (inr (inr (inl refl))))
 ended_status seen script end.NoOutcome given ends tells = subst (λ s. HasRunStatus (code s)) (sym tells.0) (inr (inr (inr (inl refl))))
 ended_status seen script (end.Ran shown) given (o, so, shows) tells =

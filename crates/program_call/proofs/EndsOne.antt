@@ -17,7 +17,7 @@ use Rattle.run_outcome.specs.declared.log_start.LogStart.TheVariants.{New, Over,
 use Rattle.run_outcome.specs.Running.{Execution, Before, GoesOnFrom, IsRunOf, LeavesSafeLog}
 use Rattle.run_execution.specs.declared.end.RunEnd.{RunEnd}
 use Rattle.run_execution.specs.declared.end.RunEnd.TheVariants as end
-use Rattle.run_execution.specs.Ends.{EndsOn, IsAccepted, Ran, execution_on}
+use Rattle.run_execution.specs.Ends.{EndsOn, HasFewFamilies, IsAccepted, Ran, execution_on}
 use Rattle.program_call.specs.Logs.{LogsOfRun}
 use Rattle.program_call.specs.OneLog.{HasBytes, log_of_run}
 use Rattle.program_call.specs.Outcomes.{AcceptsCommits}
@@ -64,7 +64,7 @@ module _ {D : Type 0} (disk : Ghosts D) (options : Options) (start : LogStart) (
     found_fit from (Some d) (Some e) o run log = fit_of start d.content log.found_empty
     found_fit from (Some d) None o run log = absurd log
 
-    ran_so : Law → (from : Before) → GoesOnFrom start (disk.told opened) from → IsAccepted start mode (disk.told opened) → (o : calls.Outcome) (run : IsRunOf (execution from) o)
+    ran_so : Law → (from : Before) → GoesOnFrom start (disk.told opened) from → IsAccepted start mode (disk.told opened) × HasFewFamilies start (disk.told opened) → (o : calls.Outcome) (run : IsRunOf (execution from) o)
         → (o.fault ≡ None → AllByRecursion AreRefusedForThemselves o.transcripts) → (o.fault ≡ None → disk.faults ended ≡ disk.faults opened)
         → Told (disk.told opened) (disk.told ended) (LeavesSafeLog (execution from) o run) → RanSo logs script o
     ran_so law from goes_on accepted o run refusals counted log =
@@ -72,7 +72,8 @@ module _ {D : Type 0} (disk : Ghosts D) (options : Options) (start : LogStart) (
         let begun = run.trace.start in
         record {
           ran = record {
-            accepted = accepted;
+            accepted = accepted.0;
+            families = accepted.1;
             before = from;
             goes_on = goes_on;
             is_outcome = record { run = run; counted = counted; log = log };
@@ -86,12 +87,14 @@ module _ {D : Type 0} (disk : Ghosts D) (options : Options) (start : LogStart) (
           rose = λ some. rose_so (disk.faults opened) (disk.faults ended) o.fault some legal.fault;
         }
 
-    pub one_ends : Law → (e : RunEnd) → EndsOn disk options start mode script opened ended e → (Ran e → IsAccepted start mode (disk.told opened)) → EndsOver logs script e
+    pub one_ends : Law → (e : RunEnd) → EndsOn disk options start mode script opened ended e → (Ran e → IsAccepted start mode (disk.told opened) × HasFewFamilies start (disk.told opened)) → EndsOver logs script e
     one_ends law (end.DiskFault count) ends accepted = (record { alone = ends.0; crash = ends.2 }, ends.1)
     one_ends law (end.NotEmpty len) ends accepted =
         (record { is_new = ends.0; some = ends.1; len_is = ends.2; as_before = ends.3; crash = ends.5 }, record { alone = inl ends.3; crash = left_alone disk start mode opened ended ends.5 }, ends.4)
     one_ends law (end.Damage at why) ends accepted =
         (record { is_damaged = ends.0; as_before = ends.1; crash = ends.3 }, record { alone = inl ends.1; crash = left_alone disk start mode opened ended ends.3 }, ends.2)
+    one_ends law (end.Family family) ends accepted =
+        (record { is_high = ends.0; as_before = ends.1; crash = ends.3 }, record { alone = inl ends.1; crash = left_alone disk start mode opened ended ends.3 }, ends.2)
     one_ends law end.NoMemory ends accepted = (record { alone = ends.0; crash = ends.2 }, ends.1)
     one_ends law end.NoOutcome (from, goes_on, has) accepted =
         (has.outcome, ran_so law from goes_on (accepted tt) has.outcome has.run has.refusals has.counted has.log)

@@ -90,6 +90,7 @@ module _ {D : Type 0} (disk : Ghosts D) (options : Options) (limit : ℕ) (opene
     set_ends law (end.DiskFault count) ends = (ends.0, (ends.1, ends.2))
     set_ends law (end.NotEmpty len) ends = (record { first = ends.0; alone = ends.1 }, ends.1, same_count disk.faults opened ended ends.2)
     set_ends law (end.Damage at why) ends = absurd ends
+    set_ends law (end.Family family) ends = absurd ends
     set_ends law end.NoMemory ends = (ends.0, same_count disk.faults opened ended ends.1)
     set_ends law end.NoOutcome (o, has) = (o, ran_so law o has)
     set_ends law (end.Ran shown) (o, has, shows) = (o, ran_so law o has, shows)

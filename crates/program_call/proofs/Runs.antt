@@ -3,11 +3,11 @@ use Rattle.std.proofs.Common.{◌≡◌, ◌⊎◌, inl, inr, ℕ, refl, sym, su
 use Rattle.model_base.specs.Calls as calls
 use Rattle.model_base.specs.Script.{Script}
 use Rattle.program_call.specs.declared.report.Status.TheVariants as status
-use Rattle.program_call.specs.Answers.{MeetsNoDamage, RunsScript}
+use Rattle.program_call.specs.Answers.{MeetsNoDamage, MeetsNoHighFamily, RunsScript}
 use Rattle.program_call.specs.Outcomes.{Observation, RanScript, RanWhole, DiskFailed, RanOutOfMemory}
 use Rattle.program_call.specs.Reports.{HasRunStatus}
 use Rattle.program_call.specs.Texts.{NoFault}
-use Rattle.program_call.proofs.Endings.{AtStatus, AtWhole, AtFault, AtSinkFault, AtMemory, AtNotEmpty, AtDamage, nothing}
+use Rattle.program_call.proofs.Endings.{AtStatus, AtWhole, AtFault, AtSinkFault, AtMemory, AtNotEmpty, AtDamage, AtHighFamily, nothing}
 
 module _ (seen : Observation) (n : ℕ) (at : AtStatus seen n) where
   at_whole : n ≡ 0 → AtWhole seen
@@ -28,9 +28,13 @@ module _ (seen : Observation) (n : ℕ) (at : AtStatus seen n) where
   at_damage : n ≡ 8 → AtDamage seen
   at_damage is = subst (AtStatus seen) is at
 
-  at_refusal : (n ≡ 7) ⊎ (n ≡ 8) → seen.logs.fails ≡ seen.logs.failed
+  at_high_family : n ≡ 9 → AtHighFamily seen
+  at_high_family is = subst (AtStatus seen) is at
+
+  at_refusal : (n ≡ 7) ⊎ (n ≡ 8) ⊎ (n ≡ 9) → seen.logs.fails ≡ seen.logs.failed
   at_refusal (inl is) = (at_not_empty is).stood
-  at_refusal (inr is) = (at_damage is).stood
+  at_refusal (inr (inl is)) = (at_damage is).stood
+  at_refusal (inr (inr is)) = (at_high_family is).stood
 
   at_text : (n ≡ 0) ⊎ (n ≡ 5) → seen.logs.fit
   at_text (inl is) = (at_whole is).fit
@@ -46,6 +50,7 @@ module _ (seen : Observation) (n : ℕ) (at : AtStatus seen n) where
     not_empty = λ e. let told = at_not_empty e in (told.len, told.found, told.says);
     fit = λ e. at_text e;
     damaged = λ e. (at_damage e).met;
+    high_family = λ e. (at_high_family e).met;
     no_disk_fault = λ e. at_refusal e;
     ran = λ e. (at_whole e).whole;
     ran_to_fault = λ e. (at_fault e).told;
@@ -60,14 +65,15 @@ runs_none seen n six silent sink_stood alone stood =
     runs_script seen n (subst (AtStatus seen) (sym six) none)
 
 -- where no device fails and nothing is refused, a run ends well, unless memory runs out
-pub completes : (seen : Observation) (n : ℕ) → RunsScript seen n → HasRunStatus n → NoFault seen.failed seen.fails → NoFault seen.logs.failed seen.logs.fails → MeetsNoDamage seen.logs
+pub completes : (seen : Observation) (n : ℕ) → RunsScript seen n → HasRunStatus n → NoFault seen.failed seen.fails → NoFault seen.logs.failed seen.logs.fails → MeetsNoDamage seen.logs → MeetsNoHighFamily seen.logs
     → ((len : ℕ) → seen.logs.not_empty len → ⊥) → (n ≡ 0) ⊎ (n ≡ 6)
-completes seen n runs (inl e) sink_stood disk_stood no_damage no_bytes = inl e
-completes seen n runs (inr (inl e)) sink_stood disk_stood no_damage no_bytes = absurd (disk_stood (runs.disk_failed e))
-completes seen n runs (inr (inr (inl e))) sink_stood disk_stood no_damage no_bytes = absurd (sink_stood (runs.sink_failed e))
-completes seen n runs (inr (inr (inr (inl e)))) sink_stood disk_stood no_damage no_bytes = inr e
-completes seen n runs (inr (inr (inr (inr (inl e))))) sink_stood disk_stood no_damage no_bytes = absurd (let told = runs.not_empty e in no_bytes told.0 told.1)
-completes seen n runs (inr (inr (inr (inr (inr e))))) sink_stood disk_stood no_damage no_bytes = absurd (let met = runs.damaged e in no_damage met.at met.why met.damaged)
+completes seen n runs (inl e) sink_stood disk_stood no_damage no_family no_bytes = inl e
+completes seen n runs (inr (inl e)) sink_stood disk_stood no_damage no_family no_bytes = absurd (disk_stood (runs.disk_failed e))
+completes seen n runs (inr (inr (inl e))) sink_stood disk_stood no_damage no_family no_bytes = absurd (sink_stood (runs.sink_failed e))
+completes seen n runs (inr (inr (inr (inl e)))) sink_stood disk_stood no_damage no_family no_bytes = inr e
+completes seen n runs (inr (inr (inr (inr (inl e))))) sink_stood disk_stood no_damage no_family no_bytes = absurd (let told = runs.not_empty e in no_bytes told.0 told.1)
+completes seen n runs (inr (inr (inr (inr (inr (inl e)))))) sink_stood disk_stood no_damage no_family no_bytes = absurd (let met = runs.damaged e in no_damage met.at met.why met.damaged)
+completes seen n runs (inr (inr (inr (inr (inr (inr e)))))) sink_stood disk_stood no_damage no_family no_bytes = absurd (let met = runs.high_family e in no_family met.family met.high)
 
 -- If what a call says of a script gives a further statement, this one holds of the script that was run.
 module _ (seen : Observation) (says : Script → Type 0) (tells : (s : Script) → seen.says s → says s) where
@@ -105,6 +111,7 @@ module _ (seen : Observation) (says : Script → Type 0) (tells : (s : Script) �
     not_empty = runs.not_empty;
     fit = runs.fit;
     damaged = λ e. let met = runs.damaged e in record { at = met.at; why = met.why; damaged = met.damaged; refused = met.refused };
+    high_family = λ e. let met = runs.high_family e in record { family = met.family; high = met.high; refused = met.refused };
     no_disk_fault = runs.no_disk_fault;
     ran = λ e. ran_whole (runs.ran e);
     ran_to_fault = λ e. disk_failed (runs.ran_to_fault e);

@@ -16,13 +16,17 @@ use Rattle.run_outcome.specs.Running.{IsReached}
 use Rattle.run_laws.specs.Summaries.{summary_of}
 use Rattle.program_call.specs.declared.report.Form.TheVariants as form
 use Rattle.program_call.specs.Logs.{LogsOfRun, LogsToRecover}
-use Rattle.program_call.specs.Outcomes.{Observation, observation_of, SaysScript, IsGenerated, IsSaid, RanWhole, DiskFailed, RanToSinkFault, RanOutOfMemory, MetDamage}
+use Rattle.program_call.specs.Outcomes.{Observation, observation_of, SaysScript, IsGenerated, IsSaid, RanWhole, DiskFailed, RanToSinkFault, RanOutOfMemory, MetDamage, MetHighFamily}
 use Rattle.program_call.specs.Replays.{Replays, ReplaysFront}
 use Rattle.program_call.specs.Texts.{NoFault, SaysTo, TakesPrefix}
 
 -- no log that should go on has an end of its recovery that the mode doesn't accept
 abbrev pub MeetsNoDamage : LogsOfRun → Type 0
 MeetsNoDamage logs = (at : ℕ) (why : EndReason) → logs.damaged at why → ⊥
+
+-- no log that should go on recovers a key in a family that no run is set up for
+abbrev pub MeetsNoHighFamily : LogsOfRun → Type 0
+MeetsNoHighFamily logs = (family : ℕ) → logs.high_family family → ⊥
 
 -- A script was run over logs, or would have been.
 pub record RunsScript (seen : Observation) (status : ℕ) : Type 0 where
@@ -38,8 +42,11 @@ pub record RunsScript (seen : Observation) (status : ℕ) : Type 0 where
   -- 8: The log should be resumed, but the mode doesn't accept where its recovery ends. The log stays as it was. A
   -- script is run only where the mode accepts that end, and what isn't run leaves the log alone.
   pub damaged : status ≡ 8 → MetDamage seen
-  -- 7, 8: the disk has counted no fault
-  pub no_disk_fault : (status ≡ 7) ⊎ (status ≡ 8) → seen.logs.fails ≡ seen.logs.failed
+  -- 9: The log should be resumed, and the mode accepts where its recovery ends, but a key that it recovers is in a
+  -- family that no run is set up for. The log stays as it was. A script is run only where there is no such key.
+  pub high_family : status ≡ 9 → MetHighFamily seen
+  -- 7, 8, 9: the disk has counted no fault
+  pub no_disk_fault : (status ≡ 7) ⊎ (status ≡ 8) ⊎ (status ≡ 9) → seen.logs.fails ≡ seen.logs.failed
   -- However the clients' threads interleave, every reply in the output is that of a plain map at its point of one
   -- printed history of whole batches, which has each client's acknowledged batches once, in the client's order, each
   -- under its own run of sequences; and a crash at any moment of the run leaves a log that recovers a prefix of the
@@ -114,7 +121,7 @@ module _ {S K : Type 0} (source : source.Ghosts S) (sink : sink.Ghosts K) (had h
 
   -- `run`, over these logs
   pub record AnswersRun (logs : LogsOfRun) (status : ℕ) : Type 0 where
-    pub other : (status < 9) × (status ≢ 1)
+    pub other : (status < 10) × (status ≢ 1)
     -- 2: the text isn't a script, and its first fault is printed
     pub script : status ≡ 2 → (f : Fault)
         × IfSome (source.left had) (λ text. script_of whole_grammar text ≡ Err f) × Says (script_fault f)
@@ -124,17 +131,17 @@ module _ {S K : Type 0} (source : source.Ghosts S) (sink : sink.Ghosts K) (had h
     pub source_failed : status ≡ 4 → SourceFailed
     pub source_fault_is_told : status ≢ 4 → source.faults has ≡ source.faults had
     -- where the script was run, or would have been, the source was read to its end
-    pub read_to_end : (status ≡ 0) ⊎ (status ≡ 3) ⊎ (status ≡ 5) ⊎ (status ≡ 7) ⊎ (status ≡ 8)
+    pub read_to_end : (status ≡ 0) ⊎ (status ≡ 3) ⊎ (status ≡ 5) ⊎ (status ≡ 7) ⊎ (status ≡ 8) ⊎ (status ≡ 9)
         → IfSome (source.left has) (λ left. left ≡ [])
     -- 2, 4: The disk isn't touched. Nor is it, at any status, if the text is no script.
     pub disk_untouched : (status ≡ 2) ⊎ (status ≡ 4) → logs.untouched
     pub no_script : IfSome (source.left had) (λ text. (f : Fault)
         → script_of whole_grammar text ≡ Err f → logs.untouched)
     pub runs : RunsScript (observation_of sink (SaysScript (source.left had)) form.Whole logs before after) status
-    -- where no device fails and no damage is met, a script over an empty log ends well, and so does one whose log is
-    -- written over or resumed, unless memory runs out
+    -- where no device fails, no damage is met and no such family, a script over an empty log ends well, and so does one
+    -- whose log is written over or resumed, unless memory runs out
     pub completes : NoFault (source.faults had) (source.faults has) → NoFault (sink.faults before) (sink.faults after)
-        → NoFault logs.failed logs.fails → MeetsNoDamage logs → logs.told → logs.fit
+        → NoFault logs.failed logs.fails → MeetsNoDamage logs → MeetsNoHighFamily logs → logs.told → logs.fit
         → IfSome (source.left had) (λ text. (script : Script) → script_of whole_grammar text ≡ Ok script
         → (status ≡ 0) ⊎ (status ≡ 6))
 

@@ -14,11 +14,11 @@ use Rattle.run_outcome.specs.declared.log_start.LogStart.TheVariants.{New, Over,
 -- Several logs have no number, and don't go on: the option that says how many there are may come with neither option
 -- for one log.
 abbrev pub AreAtOdds : Invocation → Type 0
-AreAtOdds (Run pipelined shards group_bytes batch_bytes last number resume mode logs log_bytes) =
+AreAtOdds (Run pipelined shards group_bytes batch_bytes last number resume mode logs log_bytes families) =
     IsSome logs × (IsSome number ⊎ (resume ≡ true))
 AreAtOdds (Recover number mode logs) = IsSome logs × IsSome number
-AreAtOdds (Replay pipelined group_bytes batch_bytes last) = ⊥
-AreAtOdds (Generate pipelined shards seed clients batches) = ⊥
+AreAtOdds (Replay pipelined group_bytes batch_bytes last families) = ⊥
+AreAtOdds (Generate pipelined shards seed clients batches families) = ⊥
 
 -- the words aren't lawful
 abbrev pub AskNothing : List (String Global) → Type 0
@@ -50,7 +50,8 @@ start_of None false = New
 abbrev pub IsToRun : Invocation → ℕ → Options → LogStart → Mode → Type 0
 IsToRun asked disks options start mode = (pipelined : Bool) × (shards : Option ℕ) × (number : Option ℕ)
     × (resume : Bool) × (logs : Option ℕ) × (limit : ℕ)
-    × (asked ≡ Run pipelined shards options.group_bytes options.batch_bytes options.last number resume mode logs limit)
+    × (asked ≡ Run pipelined shards options.group_bytes options.batch_bytes options.last number resume mode logs limit
+    options.families)
     × (used_of logs disks ≡ 1) × (start ≡ start_of number resume)
 
 abbrev pub AskToRun : List (String Global) → ℕ → Options → LogStart → Mode → Type 0
@@ -61,24 +62,26 @@ AskToRun words disks options start mode = Ask words (λ asked. IsToRun asked dis
 abbrev pub IsToRunLogs : Invocation → ℕ → Options → ℕ → ℕ → Type 0
 IsToRunLogs asked disks options used limit = (pipelined : Bool) × (shards : Option ℕ) × (mode : Mode) × (logs : ℕ)
     × (asked
-    ≡ Run pipelined shards options.group_bytes options.batch_bytes options.last None false mode (Some logs) limit)
+    ≡ Run pipelined shards options.group_bytes options.batch_bytes options.last None false mode (Some logs) limit
+    options.families)
     × (used ≡ min logs disks) × (1 < used)
 
 abbrev pub AskToRunLogs : List (String Global) → ℕ → Options → ℕ → ℕ → Type 0
 AskToRunLogs words disks options used limit = Ask words (λ asked. IsToRunLogs asked disks options used limit)
 
--- to run the script that a seed makes, for this number of clients with this number of batches each, in one stage or
--- two, over a table of shards or of one tree
-abbrev pub IsToGenerate : Invocation → ℕ → ℕ → ℕ → Type 0
-IsToGenerate asked seed clients batches =
-    (pipelined : Bool) × (shards : Option ℕ) × (asked ≡ Generate pipelined shards seed clients batches)
+-- to run the script that a seed makes, for this number of clients with this number of batches each, where there are so
+-- many column families, in one stage or two, over a table of shards or of one tree
+abbrev pub IsToGenerate : Invocation → ℕ → ℕ → ℕ → ℕ → Type 0
+IsToGenerate asked seed clients batches families =
+    (pipelined : Bool) × (shards : Option ℕ) × (asked ≡ Generate pipelined shards seed clients batches families)
 
-abbrev pub AskToGenerate : List (String Global) → ℕ → ℕ → ℕ → Type 0
-AskToGenerate words seed clients batches = Ask words (λ asked. IsToGenerate asked seed clients batches)
+abbrev pub AskToGenerate : List (String Global) → ℕ → ℕ → ℕ → ℕ → Type 0
+AskToGenerate words seed clients batches families =
+    Ask words (λ asked. IsToGenerate asked seed clients batches families)
 
--- the options with which the script of a seed is run
-abbrev pub usual_options : Options
-usual_options = record { last = 0; group_bytes = 1048576; batch_bytes = MAX_SIZE }
+-- the options with which the script of a seed is run, where there are so many column families
+abbrev pub usual_options : ℕ → Options
+usual_options families = record { last = 0; group_bytes = 1048576; batch_bytes = MAX_SIZE; families = families }
 
 -- to say what one log recovers in this mode, read as a log with this number, or with none
 abbrev pub IsToRecover : Invocation → Option ℕ → Mode → Type 0
@@ -99,7 +102,8 @@ AskToRecoverLogs words disks mode used = Ask words (λ asked. IsToRecoverLogs as
 
 -- to run a schedule on the core
 abbrev pub IsToReplay : Invocation → CoreOptions → Type 0
-IsToReplay asked options = asked ≡ Replay options.pipelined options.group_bytes options.batch_bytes options.last
+IsToReplay asked options =
+    asked ≡ Replay options.pipelined options.group_bytes options.batch_bytes options.last options.families
 
 abbrev pub AskToReplay : List (String Global) → CoreOptions → Type 0
 AskToReplay words options = Ask words (λ asked. IsToReplay asked options)

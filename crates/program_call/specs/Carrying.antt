@@ -27,9 +27,10 @@ module _ {S D K : Type 0} (source : source.Ghosts S) (disk : disk.Ghosts D) (sin
   RunsSeveral options limit used = OverFront used olds news (λ opened ended.
       AnswersRun source sink had has before after (logs_of_run disk options limit opened ended) status)
 
-  abbrev pub GeneratesOne : ℕ → ℕ → ℕ → Type 0
-  GeneratesOne seed clients batches = OverFirst olds news (λ opened ended.
-      AnswersGenerate source sink had has before after (log_of_generated disk opened ended) seed clients batches status)
+  abbrev pub GeneratesOne : ℕ → ℕ → ℕ → ℕ → Type 0
+  GeneratesOne seed clients batches families = OverFirst olds news (λ opened ended.
+      AnswersGenerate source sink had has before after (log_of_generated disk families opened ended) seed clients
+      batches status)
 
   -- recovery of one log, or of several
   abbrev pub RecoversOne : Option ℕ → Mode → Type 0
@@ -44,12 +45,19 @@ module _ {S D K : Type 0} (source : source.Ghosts S) (disk : disk.Ghosts D) (sin
   RunsSchedule options = AnswersReplay source sink had has before after olds news options status
 
   abbrev pub AnswersAsked : Invocation → Type 0
-  AnswersAsked (Run pipelined shards group_bytes batch_bytes last number resume mode logs limit) =
-      let options : Options = record { last = last; group_bytes = group_bytes; batch_bytes = batch_bytes } in
+  AnswersAsked (Run pipelined shards group_bytes batch_bytes last number resume mode logs limit families) =
+      let options : Options =
+      record { last = last; group_bytes = group_bytes; batch_bytes = batch_bytes; families = families } in
       let used : ℕ = used_of logs (length olds) in
       (used ≡ 1 → RunsOne options (start_of number resume) mode) × (1 < used → RunsSeveral options limit used)
-  AnswersAsked (Generate pipelined shards seed clients batches) = GeneratesOne seed clients batches
+  AnswersAsked (Generate pipelined shards seed clients batches families) =
+      GeneratesOne seed clients batches families
   AnswersAsked (Recover number mode logs) = (IfSome logs (λ n. n ≡ 1) → RecoversOne number mode)
       × IfSome logs (λ n. 1 < n → RecoversSeveral mode (min n (length olds)))
-  AnswersAsked (Replay pipelined group_bytes batch_bytes last) = RunsSchedule
-      (record { pipelined = pipelined; group_bytes = group_bytes; batch_bytes = batch_bytes; last = last })
+  AnswersAsked (Replay pipelined group_bytes batch_bytes last families) = RunsSchedule (record {
+    pipelined = pipelined;
+    families = families;
+    group_bytes = group_bytes;
+    batch_bytes = batch_bytes;
+    last = last;
+  })

@@ -25,6 +25,9 @@ pub record LogsOfRun : Type 1 where
   -- They should go on, but recovery ends at this place for this reason, which the mode doesn't accept. They stay as
   -- they were.
   pub damaged : ℕ → EndReason → Type 0
+  -- They should go on, and the mode accepts where their recovery ends, but this is the greatest family of the keys that
+  -- it recovers, and no run is set up for it. They stay as they were.
+  pub high_family : ℕ → Type 0
 
 -- The logs of a call that should say what they recover.
 pub record LogsToRecover : Type 1 where

@@ -17,7 +17,7 @@ use Rattle.log_writer.specs.Opening.{LeavesAsBefore}
 use Rattle.run_outcome.specs.declared.log_start.LogStart.{LogStart}
 use Rattle.run_outcome.specs.declared.log_start.LogStart.TheVariants.{New, Behind}
 use Rattle.run_outcome.specs.Running.{Execution, Before, GoesOnFrom, IsRunOf, LeavesSafeLog}
-use Rattle.run_execution.specs.Ends.{IsAccepted, IsDamaged, IsLeftAlone, LeavesAlone, execution_on}
+use Rattle.run_execution.specs.Ends.{IsAccepted, IsDamaged, HasFewFamilies, HasHighFamily, IsLeftAlone, LeavesAlone, execution_on}
 use Rattle.program_text.specs.Refusals.{damage}
 use Rattle.program_call.specs.Asking.{usual_options}
 use Rattle.program_call.specs.Logs.{LogsOfRun, LogsToRecover}
@@ -37,10 +37,12 @@ pub record IsOutcome (execution : Execution) (opened ended : Option Disk) (o : c
 -- resumed. The call leaves the disk `ended`.
 module _ {D : Type 0} (disk : Ghosts D) (options : Options) (start : LogStart) (mode : Mode) (opened ended : D) where
   -- A script was run, and this is its outcome. If its log was resumed, the mode accepts the end of the log's recovery,
-  -- and the run went on from what the log recovers. If the log has no fault, commits were refused only for causes of
-  -- their own; they were accepted unless a named cause holds, or found no memory.
+  -- no key that it recovers is in a family that no run is set up for, and the run went on from what the log recovers.
+  -- If the log has no fault, commits were refused only for causes of their own; they were accepted unless a named cause
+  -- holds, or found no memory.
   pub record RanOverLog (script : Script) (o : calls.Outcome) : Type 0 where
     pub accepted : IsAccepted start mode (disk.told opened)
+    pub families : HasFewFamilies start (disk.told opened)
     pub before : Before
     pub goes_on : GoesOnFrom start (disk.told opened) before
     pub is_outcome : IsOutcome (execution_on disk options start before script opened ended) (disk.told opened)
@@ -68,6 +70,13 @@ module _ {D : Type 0} (disk : Ghosts D) (options : Options) (start : LogStart) (
     pub as_before : disk.told ended ≡ disk.told opened
     pub crash : LeavesAsBefore disk opened ended
 
+  -- The log should be resumed, and the mode accepts the end of its recovery, but this is the greatest family of the
+  -- keys that it recovers, and no run is set up for it. It stays as it was, and a crash leaves no less.
+  pub record NeedsFamily (family : ℕ) : Type 0 where
+    pub is_high : HasHighFamily start mode (disk.told opened) family
+    pub as_before : disk.told ended ≡ disk.told opened
+    pub crash : LeavesAsBefore disk opened ended
+
   abbrev pub log_of_run : LogsOfRun
   log_of_run = record {
     failed = disk.faults opened;
@@ -79,11 +88,12 @@ module _ {D : Type 0} (disk : Ghosts D) (options : Options) (start : LogStart) (
     left_alone = IsLeftLog;
     not_empty = λ len. HasBytes len;
     damaged = λ at why. HasDamage at why;
+    high_family = λ family. NeedsFamily family;
   }
 
--- the log of `gen`: a new one, with the usual options
-abbrev pub log_of_generated : {D : Type 0} → Ghosts D → D → D → LogsOfRun
-log_of_generated disk opened ended = log_of_run disk usual_options New Point opened ended
+-- the log of `gen`: a new one, with the usual options, where there are so many column families
+abbrev pub log_of_generated : {D : Type 0} → Ghosts D → ℕ → D → D → LogsOfRun
+log_of_generated disk families opened ended = log_of_run disk (usual_options families) New Point opened ended
 
 -- the disk tells what it told before, and a crash leaves no less
 abbrev pub IsOnlyRead : {D : Type 0} → Ghosts D → D → D → Type 0

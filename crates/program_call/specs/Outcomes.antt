@@ -15,7 +15,7 @@ use Rattle.model_base.specs.Progress.{batch_after}
 use Rattle.model_base.specs.Trace.{Settings}
 use Rattle.run_outcome.specs.Running.{IsReached}
 use Rattle.run_laws.specs.Accepting.{ReachesCommit, PassesChecks, HasRoom, IsNotHeldUp, IsAccepted}
-use Rattle.program_text.specs.Refusals.{damage, disk_fault}
+use Rattle.program_text.specs.Refusals.{damage, disk_fault, high_family}
 use Rattle.program_call.specs.declared.report.Form.{Form}
 use Rattle.program_call.specs.Logs.{LogsOfRun}
 use Rattle.program_call.specs.Reports.{text_of}
@@ -128,6 +128,13 @@ module _ (seen : Observation) where
     pub why : EndReason
     pub damaged : seen.logs.damaged at why
     pub refused : IsSaid (damage at why)
+
+  -- status 9: the log should be resumed, but a key that it recovers is in this family, the greatest one, and no run is
+  -- set up for it
+  pub record MetHighFamily : Type 0 where
+    pub family : ℕ
+    pub high : seen.logs.high_family family
+    pub refused : IsSaid (high_family family)
 
   -- Status 6: nothing was run or printed. The log was left alone, and its disk has counted no fault.
   pub record RanNothing : Type 0 where

@@ -32,7 +32,7 @@ use Rattle.log_recovery.specs.RecoveringLogs.{ShowsLogs}
 use Rattle.log_recovery.specs.declared.many.RecoveredMany.{RecoveredMany}
 use Rattle.run_outcome.specs.Shows.{ShowsOutcome, ran_short}
 use Rattle.program_call.specs.Texts.{SaysTo}
-use Rattle.program_text.specs.Refusals.{damage, logs_damage, script_fault, source_fault, disk_fault, not_empty}
+use Rattle.program_text.specs.Refusals.{damage, high_family, logs_damage, script_fault, source_fault, disk_fault, not_empty}
 
 -- the refusal's text was printed, and the status goes with it
 abbrev pub PrintsRefusal : Option (List ℕ) → Option (List ℕ) → ℕ → ℕ → List ℕ → Status → Status → Type 0
@@ -88,6 +88,8 @@ TellsEnd form old new failed fails (end.NotEmpty len) given =
     Refuses old new failed fails (not_empty len) status.NotEmpty given
 TellsEnd form old new failed fails (end.Damage at why) given =
     Refuses old new failed fails (damage at why) status.Damage given
+TellsEnd form old new failed fails (end.Family family) given =
+    Refuses old new failed fails (high_family family) status.Family given
 TellsEnd form old new failed fails end.NoMemory given = SaysNothing old new failed fails given
 TellsEnd form old new failed fails end.NoOutcome given = SaysNothing old new failed fails given
 TellsEnd form old new failed fails (end.Ran shown) given = TellsOutcome form old new failed fails shown given
@@ -148,7 +150,8 @@ code status.Sink = 5
 code status.Memory = 6
 code status.NotEmpty = 7
 code status.Damage = 8
+code status.Family = 9
 
 -- a status with which a run ends, once its script was read
 abbrev pub HasRunStatus : ℕ → Type 0
-HasRunStatus n = (n ≡ 0) ⊎ (n ≡ 3) ⊎ (n ≡ 5) ⊎ (n ≡ 6) ⊎ (n ≡ 7) ⊎ (n ≡ 8)
+HasRunStatus n = (n ≡ 0) ⊎ (n ≡ 3) ⊎ (n ≡ 5) ⊎ (n ≡ 6) ⊎ (n ≡ 7) ⊎ (n ≡ 8) ⊎ (n ≡ 9)

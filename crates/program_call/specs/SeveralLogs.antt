@@ -33,7 +33,7 @@ module _ {D : Type 0} (disk : Ghosts D) (options : Options) (limit : ℕ) (opene
     pub first : HasFirstBytes disk opened len
     pub alone : AreLeftAlone disk opened ended
 
-  -- New logs never go on, so no end of a recovery is refused.
+  -- New logs never go on, so no end of a recovery is refused, and no family that one needs.
   abbrev pub logs_of_run : LogsOfRun
   logs_of_run = record {
     failed = count_in_all disk.faults opened;
@@ -45,6 +45,7 @@ module _ {D : Type 0} (disk : Ghosts D) (options : Options) (limit : ℕ) (opene
     left_alone = AreLeftAlone disk opened ended;
     not_empty = λ len. HaveBytes len;
     damaged = λ at why. ⊥;
+    high_family = λ family. ⊥;
   }
 
 -- this is the text of what the files recover, one after another, and the mode accepts the end

@@ -30,16 +30,18 @@ use std::thread::Threads;
 /// has this number: the clients find what the log recovers, and the printed state has it too; what recovery doesn't
 /// keep is cut off, and the new batches come after what it keeps, in the log and in their sequences. With `--mode` it
 /// goes on only if the mode accepts the end of this recovery; without `--resume` nothing is recovered, and the mode
-/// has no effect. A commit is refused for a cause of its own where its batch is empty or larger than `--batch-bytes`,
-/// where it asks for a sync without the log, where its client holds a stop token, and where no sequences are left for
-/// it; and where it has `noslow` and writes are held up. Otherwise only a fault of the log refuses it. `gen SEED
-/// CLIENTS BATCHES` runs the script that a seed makes in the same way as `run`, with the usual limits and over an
-/// empty log, and prints a summary of its outcome; it doesn't look at the source. `recover` prints what the log
-/// recovers, and changes nothing; with `--number` it reads the log as one whose fragments have that number, as do the
-/// logs that `run` writes with it, and those of RocksDB that are written over older ones; with `--mode` it refuses an
-/// end that the mode doesn't accept. `replay` reads a script of 1 to 64 clients and a schedule of events after it,
-/// runs the schedule on the write path's core, and prints the clients' replies, the history and the published state;
-/// it doesn't look at the disk. The disk is given back however the call ends.
+/// has no effect. There are the column families with the numbers below `--families`, empty at first; where the log goes
+/// on, there are more if the keys that it recovers need them, up to 16. A commit is refused for a cause of its own
+/// where its batch is empty or larger than `--batch-bytes`, where it asks for a sync without the log, where a record
+/// names a family that there isn't, where its client holds a stop token, and where no sequences are left for it; and
+/// where it has `noslow` and writes are held up. Otherwise only a fault of the log refuses it. `gen SEED CLIENTS
+/// BATCHES` runs the script that a seed makes in the same way as `run`, with the usual limits and over an empty log,
+/// and prints a summary of its outcome; it doesn't look at the source. `recover` prints what the log recovers, and
+/// changes nothing; with `--number` it reads the log as one whose fragments have that number, as do the logs that `run`
+/// writes with it, and those of RocksDB that are written over older ones; with `--mode` it refuses an end that the mode
+/// doesn't accept. `replay` reads a script of 1 to 64 clients and a schedule of events after it, runs the schedule on
+/// the write path's core, and prints the clients' replies, the history and the published state; it doesn't look at the
+/// disk. The disk is given back however the call ends.
 ///
 /// This is the call over several disks ([`run_many`]) where there is one. So `run` with `--logs` has one log, which has
 /// no greatest length; `recover` with more than one takes the disk for the first of them, and its text names that log.
@@ -49,6 +51,7 @@ use std::thread::Threads;
 /// | Option | Commands | Range | Without it | Meaning |
 /// |---|---|---|---|---|
 /// | `--batch-bytes` | `run`, `replay` | 12 to 16777216 | 16777216 | the most bytes of a batch |
+/// | `--families` | `run`, `gen`, `replay` | 1 to 16 | 1 | how many column families there are, numbered from 0 |
 /// | `--group-bytes` | `run`, `replay` | 1 to 16777216 | 1048576 | the most bytes of a write group |
 /// | `--last` | `run`, `replay` | 0 to 2^56 - 1 | 0 | the sequence before the first batch, or the recovered last one |
 /// | `--log-bytes` | `run` | 1 to 2^40 | 67108864 | with several logs, from which length on a log is full |
@@ -78,7 +81,7 @@ pub fn run<
     clock: C,
 ) -> Ended<D>
     // no other status ever comes
-    ensures status { result.status < 9 }
+    ensures status { result.status < 10 }
     // 1 comes only of unlawful words
     ensures words { result.status ≡ 1 → AskNothing words.now }
     // One clause for unlawful words, and one for the words of each command. The record that it names has what is
@@ -88,9 +91,9 @@ pub fn run<
     ensures run { (options : RunOptions) (start : Start) (mode : Accepting) → AskToRun words.now 1 options start mode
         → AnswersRun ⟦<S as Source>⟧ ⟦<K as Sink>⟧ source.old source.new sink.old sink.new
         (log_of_run ⟦<D as Disk>⟧ options start mode disk result.disk) result.status }
-    ensures generate { (seed clients batches : ℕ) → AskToGenerate words.now seed clients batches
+    ensures generate { (seed clients batches families : ℕ) → AskToGenerate words.now seed clients batches families
         → AnswersGenerate ⟦<S as Source>⟧ ⟦<K as Sink>⟧ source.old source.new sink.old sink.new
-        (log_of_generated ⟦<D as Disk>⟧ disk result.disk) seed clients batches result.status }
+        (log_of_generated ⟦<D as Disk>⟧ families disk result.disk) seed clients batches result.status }
     ensures recover { (number : Option ℕ) (mode : Accepting) → AskToRecover words.now number mode
         → AnswersRecover ⟦<S as Source>⟧ ⟦<K as Sink>⟧ source.old source.new sink.old sink.new
         (log_to_recover ⟦<D as Disk>⟧ number mode disk result.disk) result.status }
@@ -124,7 +127,7 @@ pub fn run_gated<
     gate: &G,
 ) -> Ended<D>
     // no other status ever comes
-    ensures status { result.status < 9 }
+    ensures status { result.status < 10 }
     // 1 comes only of unlawful words
     ensures words { result.status ≡ 1 → AskNothing words.now }
     // One clause for unlawful words, and one for the words of each command. The record that it names has what is
@@ -134,9 +137,9 @@ pub fn run_gated<
     ensures run { (options : RunOptions) (start : Start) (mode : Accepting) → AskToRun words.now 1 options start mode
         → AnswersRun ⟦<S as Source>⟧ ⟦<K as Sink>⟧ source.old source.new sink.old sink.new
         (log_of_run ⟦<D as Disk>⟧ options start mode disk result.disk) result.status }
-    ensures generate { (seed clients batches : ℕ) → AskToGenerate words.now seed clients batches
+    ensures generate { (seed clients batches families : ℕ) → AskToGenerate words.now seed clients batches families
         → AnswersGenerate ⟦<S as Source>⟧ ⟦<K as Sink>⟧ source.old source.new sink.old sink.new
-        (log_of_generated ⟦<D as Disk>⟧ disk result.disk) seed clients batches result.status }
+        (log_of_generated ⟦<D as Disk>⟧ families disk result.disk) seed clients batches result.status }
     ensures recover { (number : Option ℕ) (mode : Accepting) → AskToRecover words.now number mode
         → AnswersRecover ⟦<S as Source>⟧ ⟦<K as Sink>⟧ source.old source.new sink.old sink.new
         (log_to_recover ⟦<D as Disk>⟧ number mode disk result.disk) result.status }

@@ -20,6 +20,7 @@ pub struct Ended<D> {
     /// | 6 | there was no memory | nothing, or the outcome where only clients' calls found none |
     /// | 7 | the log isn't empty, and should neither be written over nor resumed | `log not empty LEN` |
     /// | 8 | the mode doesn't accept where the log's recovery ends | `damage AT REASON` |
+    /// | 9 | the log is to go on, and the greatest family of the keys that it recovers is above 15 | `family F` |
     pub status: u8,
     pub disk: D,
 }

@@ -19,11 +19,12 @@ use std::rt;
 use std::sync::Wait;
 use std::thread::Threads;
 
-/// The options with which a generated script is run.
+/// The options with which a generated script is run, where there is one column family.
 const USUAL_OPTIONS: Options = Options {
     last: 0,
     group_bytes: 1_048_576,
     batch_bytes: MAX_SIZE,
+    families: 1,
 };
 
 /// Runs the script that a seed makes, and prints the summary of its outcome.
@@ -38,6 +39,7 @@ pub fn run_generated<
     seed: u64,
     clients: u64,
     batches: u64,
+    families: u32,
     shards: u32,
     pipelined: bool,
     disk: D,
@@ -46,16 +48,21 @@ pub fn run_generated<
 ) -> Ended<D>
     requires clients { (1 ≤ clients) × (clients ≤ MAX_CLIENTS) }
     requires batches { (1 ≤ batches) × (batches ≤ 100000) }
+    requires families { 1 ≤ families }
     requires shards { 0 < shards }
-    ensures { RunsGenerated ⟦<K as Sink>⟧ sink.old sink.new (log_of_generated ⟦<D as Disk>⟧ disk result.disk)
-        seed clients batches result.status }
+    ensures { RunsGenerated ⟦<K as Sink>⟧ sink.old sink.new
+        (log_of_generated ⟦<D as Disk>⟧ families disk result.disk) seed clients batches result.status }
 {
     let Ok(script) = generate(host.alloc, seed, clients as u32, batches) else {
         return end_with(Status::Memory, disk);
     };
     summaries_are_one();
+    let options = Options {
+        families,
+        ..USUAL_OPTIONS
+    };
     let setup = Setup {
-        options: USUAL_OPTIONS,
+        options,
         start: LogStart::New,
         // The log isn't resumed, so the mode has no effect.
         mode: Mode::Point,

@@ -20,7 +20,7 @@ use crate::running::{run_logs, run_script, shards_or_one};
 use base_devices::{Clock, Disk, Sink, Source};
 use engine_calls::{Gate, OpenGate};
 use log_recovery::Mode;
-use model_base::Options;
+use model_base::{MAX_FAMILIES, Options};
 use program_text::usage;
 use program_words::{Invocation, WordsError, read_words};
 use replay_core::CoreOptions;
@@ -54,7 +54,7 @@ pub fn run_many<
     clock: C,
 ) -> EndedMany<D>
     requires { (0 < length disks.items) × (length disks.items ≤ 16) }
-    ensures status { result.status < 9 }
+    ensures status { result.status < 10 }
     ensures words { result.status ≡ 1 → AskNothing words.now }
     // as many disks are handed back
     ensures number { length result.disks.items ≡ length disks.items }
@@ -69,9 +69,9 @@ pub fn run_many<
         → AskToRunLogs words.now (length disks.items) options used limit
         → RunsSeveral ⟦<S as Source>⟧ ⟦<D as Disk>⟧ ⟦<K as Sink>⟧ source.old source.new sink.old sink.new
         disks.items result.disks.items result.status options limit used }
-    ensures generate { (seed clients batches : ℕ) → AskToGenerate words.now seed clients batches
+    ensures generate { (seed clients batches families : ℕ) → AskToGenerate words.now seed clients batches families
         → GeneratesOne ⟦<S as Source>⟧ ⟦<D as Disk>⟧ ⟦<K as Sink>⟧ source.old source.new sink.old sink.new
-        disks.items result.disks.items result.status seed clients batches }
+        disks.items result.disks.items result.status seed clients batches families }
     ensures recover { (number : Option ℕ) (mode : Accepting) → AskToRecover words.now number mode
         → RecoversOne ⟦<S as Source>⟧ ⟦<D as Disk>⟧ ⟦<K as Sink>⟧ source.old source.new sink.old sink.new
         disks.items result.disks.items result.status number mode }
@@ -105,7 +105,7 @@ pub(crate) fn run_many_gated<
     gate: &G,
 ) -> EndedMany<D>
     requires { (0 < length disks.items) × (length disks.items ≤ 16) }
-    ensures status { result.status < 9 }
+    ensures status { result.status < 10 }
     ensures words { result.status ≡ 1 → AskNothing words.now }
     // as many disks are handed back
     ensures number { length result.disks.items ≡ length disks.items }
@@ -120,9 +120,9 @@ pub(crate) fn run_many_gated<
         → AskToRunLogs words.now (length disks.items) options used limit
         → RunsSeveral ⟦<S as Source>⟧ ⟦<D as Disk>⟧ ⟦<K as Sink>⟧ source.old source.new sink.old sink.new
         disks.items result.disks.items result.status options limit used }
-    ensures generate { (seed clients batches : ℕ) → AskToGenerate words.now seed clients batches
+    ensures generate { (seed clients batches families : ℕ) → AskToGenerate words.now seed clients batches families
         → GeneratesOne ⟦<S as Source>⟧ ⟦<D as Disk>⟧ ⟦<K as Sink>⟧ source.old source.new sink.old sink.new
-        disks.items result.disks.items result.status seed clients batches }
+        disks.items result.disks.items result.status seed clients batches families }
     ensures recover { (number : Option ℕ) (mode : Accepting) → AskToRecover words.now number mode
         → RecoversOne ⟦<S as Source>⟧ ⟦<D as Disk>⟧ ⟦<K as Sink>⟧ source.old source.new sink.old sink.new
         disks.items result.disks.items result.status number mode }
@@ -193,7 +193,7 @@ fn carry_out<
 ) -> EndedMany<D>
     requires limits { KeepsLimits asked }
     requires disks { (0 < length disks.items) × (length disks.items ≤ 16) }
-    ensures other { (result.status < 9) × (result.status ≢ 1) }
+    ensures other { (result.status < 10) × (result.status ≢ 1) }
     ensures number { length result.disks.items ≡ length disks.items }
     ensures answers { AnswersAsked ⟦<S as Source>⟧ ⟦<D as Disk>⟧ ⟦<K as Sink>⟧ source.old source.new
         sink.old sink.new disks.items result.disks.items result.status asked }
@@ -210,6 +210,7 @@ fn carry_out<
             mode,
             logs,
             log_bytes,
+            families,
         } => {
             let start = log_start(number, resume);
             let setup = setup_of(
@@ -218,6 +219,7 @@ fn carry_out<
                 group_bytes,
                 batch_bytes,
                 last,
+                families_of(families),
                 start,
                 mode,
             );
@@ -234,11 +236,13 @@ fn carry_out<
             seed,
             clients,
             batches,
+            families,
         } => {
             let shards = shards_or_one(shards);
+            let families = families_of(families);
             let (first, others) = first_of(disks);
             let ended = run_generated(
-                host, seed, clients, batches, shards, pipelined, first, sink, clock,
+                host, seed, clients, batches, families, shards, pipelined, first, sink, clock,
             );
             with_others(ended, others)
         }
@@ -256,9 +260,11 @@ fn carry_out<
             group_bytes,
             batch_bytes,
             last,
+            families,
         } => {
             let options = CoreOptions {
                 pipelined,
+                families: families_of(families),
                 group_bytes,
                 batch_bytes,
                 last,
@@ -283,6 +289,14 @@ fn log_number(number: Option<u64>) -> Option<u32>
     }
 }
 
+/// How many column families there are, by what the words say about it.
+fn families_of(families: u64) -> u32
+    requires { families ≤ MAX_FAMILIES }
+    ensures { result ≡ families }
+{
+    families as u32
+}
+
 /// How the log of a run is opened, by what the words say about it.
 fn log_start(number: Option<u64>, resume: bool) -> LogStart
     requires { IfSome number (λ n. (1 ≤ n) × (n < 2 ^ 32)) }
@@ -305,6 +319,7 @@ fn setup_of(
     group_bytes: u64,
     batch_bytes: u64,
     last: u64,
+    families: u32,
     start: LogStart,
     mode: Mode,
 ) -> Setup
@@ -314,12 +329,14 @@ fn setup_of(
     ensures stages { result.pipelined ≡ pipelined }
     ensures shards { MatchOption shards (result.shards ≡ 1) (λ n. result.shards ≡ n) }
     ensures some { 0 < result.shards }
-    ensures options { result.options ≡ record { last = last; group_bytes = group_bytes; batch_bytes = batch_bytes } }
+    ensures options { result.options
+        ≡ record { last = last; group_bytes = group_bytes; batch_bytes = batch_bytes; families = families } }
 {
     let options = Options {
         last,
         group_bytes,
         batch_bytes,
+        families,
     };
     Setup {
         options,

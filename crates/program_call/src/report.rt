@@ -13,13 +13,13 @@ ghost use Rattle.program_call.specs.Reports.{SaysNothing, TellsReadError, TellsE
 use crate::reading::ReadError;
 use base_bytes::Bytes;
 use base_devices::{Failed, Sink, write_all};
-use base_maps::ByteMap;
+use base_maps::FamilyMap;
 use itoa::Buffer;
 use log_recovery::{RecoverError, Recovered, RecoveredMany};
 use model_base::{EndReason, NoMemory};
 use program_text::{
-    log_damage, log_not_empty, logs_damage, outcome_text, recovered_logs_text, recovered_text,
-    replayed_text, script_fault, summary_text,
+    high_family, log_damage, log_not_empty, logs_damage, outcome_text, recovered_logs_text,
+    recovered_text, replayed_text, script_fault, summary_text,
 };
 use replay_schedules::Replayed;
 use run_execution::RunEnd;
@@ -39,6 +39,7 @@ pub enum Status {
     Memory,
     NotEmpty,
     Damage,
+    Family,
 }
 
 /// How an outcome is printed: whole, or as a summary.
@@ -122,6 +123,9 @@ pub fn tell_end<K: Sink>(alloc: Global, sink: &mut K, form: Form, end: &RunEnd) 
         RunEnd::Damage { at, why } => {
             refuse_with(sink, log_damage(alloc, *at, *why), Status::Damage)
         }
+        RunEnd::Family { family } => {
+            refuse_with(sink, high_family(alloc, *family), Status::Family)
+        }
         RunEnd::NoMemory | RunEnd::NoOutcome => Status::Memory,
         RunEnd::Ran(outcome) => tell_outcome(alloc, sink, form, outcome),
     }
@@ -132,7 +136,7 @@ fn tell_outcome<K: Sink>(
     alloc: Global,
     sink: &mut K,
     form: Form,
-    outcome: &Outcome<ByteMap>,
+    outcome: &Outcome<FamilyMap>,
 ) -> Status
     ensures { TellsOutcome form (K.taken sink.old) (K.taken sink.new) (K.faults sink.old)
         (K.faults sink.new) outcome.now result }
@@ -147,7 +151,7 @@ fn tell_outcome<K: Sink>(
 }
 
 /// The text of an outcome in a form.
-fn text_of(alloc: Global, form: Form, outcome: &Outcome<ByteMap>) -> Result<Bytes, NoMemory>
+fn text_of(alloc: Global, form: Form, outcome: &Outcome<FamilyMap>) -> Result<Bytes, NoMemory>
     ensures { (o : calls.Outcome) (start : ℕ) → IsHistory start o.history → ShowsOutcome outcome.now o
         → IfOk result (λ t. t ≡ reports.text_of form o) }
 {
@@ -162,7 +166,7 @@ fn text_of(alloc: Global, form: Form, outcome: &Outcome<ByteMap>) -> Result<Byte
 }
 
 /// The status of an outcome that was printed.
-fn status_of(outcome: &Outcome<ByteMap>) -> Status
+fn status_of(outcome: &Outcome<FamilyMap>) -> Status
     ensures { result ≡ ran_status outcome.now }
 {
     if outcome.fault.is_some() {

@@ -1,3 +1,4 @@
+mod Pairs
 mod Words
 mod Clients
 mod Shown

@@ -19,6 +19,10 @@ disk_fault count = line (codes "disk" ∷ codes "fault" ∷ decimal count ∷ []
 abbrev pub not_empty : ℕ → List ℕ
 not_empty len = line (codes "log" ∷ codes "not" ∷ codes "empty" ∷ decimal len ∷ [])
 
+-- a key that the log recovers is in this family, and no run is set up for it
+abbrev pub high_family : ℕ → List ℕ
+high_family family = line (codes "family" ∷ decimal family ∷ [])
+
 -- the log's recovery ends at this place for this reason, which isn't accepted
 abbrev pub damage : ℕ → EndReason → List ℕ
 damage at why = line (codes "damage" ∷ decimal at ∷ end_words why)

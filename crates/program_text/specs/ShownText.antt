@@ -1,11 +1,11 @@
 -- The text of what a run's values show, part by part.
-use Rattle.std.specs.Prelude.{ℕ, List, [], ◌∷◌, ◌++◌, length, flat_map, codes, decimal, Vec}
+use Rattle.std.specs.Prelude.{ℕ, List, [], ◌∷◌, ◌++◌, ◌==◌, if◌then◌else◌, length, flat_map, codes, decimal, Vec}
 use Rattle.std.specs.List.{enumerate_from}
 use Rattle.std.specs.declared.alloc.Global.{Global}
 use Rattle.model_base.specs.Batch.{batch}
 use Rattle.model_base.specs.Calls as calls
 use Rattle.model_base.specs.declared.log.EndReason.{EndReason}
-use Rattle.model_base.specs.Text.{line, hex, reply_text, flag_word, state_text, log_text, hex_word, end_words}
+use Rattle.model_base.specs.Text.{line, hex, reply_text, flag_word, key_words, state_text, log_text, hex_word, end_words}
 use Rattle.run_outcome.specs.declared.reply.Reply.{Reply}
 use Rattle.run_outcome.specs.declared.reply.Reply.TheVariants.{Accepted, Refused, Found, FoundEach, Rows, Done, Held, NotHeld, NoMemory}
 use Rattle.run_outcome.specs.declared.history_entry.HistoryEntry.{HistoryEntry}
@@ -15,6 +15,7 @@ use Rattle.log_recovery.specs.declared.recovery.Recovered.{Recovered}
 use Rattle.log_recovery.specs.declared.many.RecoveredMany.{RecoveredMany}
 use Rattle.replay_core.specs.declared.step.Counts.{Counts}
 use Rattle.replay_schedules.specs.declared.replaying.Replayed.{Replayed}
+use Rattle.model_base.specs.declared.key.Key.{Key}
 use Rattle.model_base.specs.Map.{Pairs}
 use Rattle.log_batch.specs.Contents.{Contents}
 
@@ -22,9 +23,17 @@ use Rattle.log_batch.specs.Contents.{Contents}
 abbrev pub plain : List ℕ → List ℕ
 plain w = w
 
--- a line with a key and its value, each printed as `word` says
-abbrev pub pair_line : (List ℕ → List ℕ) → List ℕ × List ℕ → List ℕ
-pair_line word p = line (word p.0 ∷ word p.1 ∷ [])
+-- a line with a key of the default family and its value, each printed as `word` says
+abbrev pub row_line : (List ℕ → List ℕ) → List ℕ × List ℕ → List ℕ
+row_line word r = line (word r.0 ∷ word r.1 ∷ [])
+
+-- what comes before a key: its family's number and a space, unless it is of the default family
+abbrev pub family_front : ℕ → List ℕ
+family_front family = if family == 0 then [] else decimal family ++ codes " "
+
+-- a line with a key of any family and its value
+abbrev pub pair_line : (List ℕ → List ℕ) → Key × List ℕ → List ℕ
+pair_line word p = line (key_words word p.0 ++ word p.1 ∷ [])
 
 abbrev pub pair_words : List ℕ × List ℕ → List (List ℕ)
 pair_words p = p.0 ∷ p.1 ∷ []

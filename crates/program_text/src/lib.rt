@@ -15,4 +15,4 @@ mod texts;
 pub use recovered::{log_damage, logs_damage, recovered_logs_text, recovered_text};
 pub use replayed::replayed_text;
 pub use summary::summary_text;
-pub use texts::{log_not_empty, outcome_text, script_fault, usage};
+pub use texts::{high_family, log_not_empty, outcome_text, script_fault, usage};

@@ -2,6 +2,7 @@
 
 ghost use Rattle.std.specs.Prelude.{◌≡◌, ◌≤◌, ◌∷◌, ◌++◌, length, map, flat_map, decimal, OnOk};
 ghost use Rattle.model_base.specs.Text.{line, hex};
+ghost use Rattle.program_text.specs.ShownText.{family_front};
 
 use base_bytes::Bytes;
 use itoa::Buffer;
@@ -28,6 +29,17 @@ pub fn put_numbers(text: &mut Bytes, numbers: &[u64]) -> Result<(), NoMemory>
         put_number(text, *number)?;
     }
     Ok(())
+}
+
+/// Appends the number of a family and a space to the text, unless it is the default family, whose number is 0.
+pub fn put_family(text: &mut Bytes, family: u32) -> Result<(), NoMemory>
+    ensures { OnOk result (text.new ≡ text.old ++ family_front family) }
+{
+    if family == 0 {
+        return Ok(());
+    }
+    put_number(text, u64::from(family))?;
+    text.append(b" ")
 }
 
 /// Appends a line to the text: its first words as they are, and then numbers.

@@ -18,6 +18,7 @@ fn put_refusal(text: &mut Bytes, why: Refusal) -> Result<(), NoMemory>
         Refusal::Empty => put_line(text, b"no empty", &[]),
         Refusal::TooLarge { size } => put_line(text, b"no large", &[size]),
         Refusal::SyncWithoutLog => put_line(text, b"no syncwithoutlog", &[]),
+        Refusal::NoFamily { family } => put_line(text, b"no family", &[u64::from(family)]),
         Refusal::SelfStop => put_line(text, b"no selfstop", &[]),
         Refusal::NoMemory => put_line(text, b"no memory", &[]),
         Refusal::Incomplete {

@@ -11,14 +11,18 @@ ghost use Rattle.model_base.specs.Script.{value_of_digits};
 ghost use Rattle.run_outcome.specs.Shows.{ShowsOutcome};
 
 use base_bytes::Bytes;
-use base_maps::ByteMap;
+use base_maps::FamilyMap;
 use itoa::Buffer;
 use model_base::NoMemory;
 use run_outcome::{History, Outcome};
 use std::alloc::Global;
 
 /// The summary of an outcome. `sum` is the sum of its map's values, read as numbers.
-pub fn summary_text(alloc: Global, outcome: &Outcome<ByteMap>, sum: u128) -> Result<Bytes, NoMemory>
+pub fn summary_text(
+    alloc: Global,
+    outcome: &Outcome<FamilyMap>,
+    sum: u128,
+) -> Result<Bytes, NoMemory>
     // It is said only of outcomes whose history is one (`IsHistory`), and whose values have the sum that is handed in.
     ensures { (o : calls.Outcome) (start : ℕ) → IsHistory start o.history → ShowsOutcome outcome.now o
         → sum ≡ sum_by (λ p. value_of_digits p.1) o.state → IfOk result (λ t. t ≡ model.summary_text o) }

@@ -12,13 +12,13 @@ use crate::lines::{put_line, put_numbers};
 use crate::parts::{put_clients, put_history, put_log};
 use crate::states::put_map;
 use base_bytes::Bytes;
-use base_maps::ByteMap;
+use base_maps::FamilyMap;
 use model_base::{NoMemory, ScriptFault};
 use run_outcome::Outcome;
 use std::alloc::Global;
 
 /// The text of an outcome: each client's replies, the history, the published state, the log.
-pub fn outcome_text(alloc: Global, outcome: &Outcome<ByteMap>) -> Result<Bytes, NoMemory>
+pub fn outcome_text(alloc: Global, outcome: &Outcome<FamilyMap>) -> Result<Bytes, NoMemory>
     // Want of memory is the only error, here and of each other text.
     ensures { (o : calls.Outcome) → ShowsOutcome outcome.now o → IfOk result (λ t. t ≡ outcome_text o) }
 {
@@ -76,5 +76,14 @@ pub fn log_not_empty(alloc: Global, len: u64) -> Result<Bytes, NoMemory>
 {
     let mut text = Bytes::new(alloc);
     put_line(&mut text, b"log not empty", &[len])?;
+    Ok(text)
+}
+
+/// The refusal of a log that recovers a key in a family that no run is set up for: the greatest such family.
+pub fn high_family(alloc: Global, family: u32) -> Result<Bytes, NoMemory>
+    ensures { IfOk result (λ t. t ≡ texts.high_family family) }
+{
+    let mut text = Bytes::new(alloc);
+    put_line(&mut text, b"family", &[u64::from(family)])?;
     Ok(text)
 }

@@ -4,7 +4,7 @@ use Rattle.std.specs.Str.Parse.{digits_value, without_leading_plus}
 use Rattle.clap.specs.ValueTests.{is_numeral}
 use Rattle.log_recovery.specs.declared.modes.Mode.{Mode}
 use Rattle.log_recovery.specs.declared.modes.Mode.TheVariants.{Point, Tail, Absolute}
-use Rattle.program_words.specs.Options.{Known, Place, Word, batch_bytes, batches, clients, group_bytes, last, log_bytes, logs, mode, number, pipelined, resume, seed, shards, table}
+use Rattle.program_words.specs.Options.{Known, Place, Word, batch_bytes, batches, clients, families, group_bytes, last, log_bytes, logs, mode, number, pipelined, resume, seed, shards, table}
 use Rattle.program_words.specs.declared.invocation.Invocation.{Invocation}
 use Rattle.program_words.specs.declared.invocation.Invocation.TheVariants.{Run, Recover, Replay, Generate}
 
@@ -92,7 +92,7 @@ abbrev pub run : Command
 run = record {
   name = codes "run";
   options = pipelined ∷ table ∷ shards ∷ group_bytes ∷ batch_bytes ∷ last ∷ number ∷ resume ∷ mode ∷ logs ∷ log_bytes
-      ∷ [];
+      ∷ families ∷ [];
   places = [];
   made =
       with_flag pipelined.name λ in_stages.
@@ -105,7 +105,9 @@ run = record {
       with_mode λ accepting.
       with_optional logs.name λ of_logs.
       with_number log_bytes.name λ full_at.
-      asks (Run in_stages in_shards most_of_group most_of_batch before its_number goes_on accepting of_logs full_at);
+      with_number families.name λ of_families.
+      asks (Run in_stages in_shards most_of_group most_of_batch before its_number goes_on accepting of_logs full_at
+      of_families);
 }
 
 abbrev pub recover : Command
@@ -123,20 +125,21 @@ recover = record {
 abbrev pub replay : Command
 replay = record {
   name = codes "replay";
-  options = pipelined ∷ group_bytes ∷ batch_bytes ∷ last ∷ [];
+  options = pipelined ∷ group_bytes ∷ batch_bytes ∷ last ∷ families ∷ [];
   places = [];
   made =
       with_flag pipelined.name λ in_stages.
       with_number group_bytes.name λ most_of_group.
       with_number batch_bytes.name λ most_of_batch.
       with_number last.name λ before.
-      asks (Replay in_stages most_of_group most_of_batch before);
+      with_number families.name λ of_families.
+      asks (Replay in_stages most_of_group most_of_batch before of_families);
 }
 
 abbrev pub generate : Command
 generate = record {
   name = codes "gen";
-  options = pipelined ∷ table ∷ shards ∷ [];
+  options = pipelined ∷ table ∷ shards ∷ families ∷ [];
   places = seed ∷ clients ∷ batches ∷ [];
   made =
       with_flag pipelined.name λ in_stages.
@@ -144,7 +147,8 @@ generate = record {
       with_number seed.name λ from.
       with_number clients.name λ of_clients.
       with_number batches.name λ of_batches.
-      asks (Generate in_stages in_shards from of_clients of_batches);
+      with_number families.name λ of_families.
+      asks (Generate in_stages in_shards from of_clients of_batches of_families);
 }
 
 abbrev pub commands : List Command

@@ -1,7 +1,7 @@
 -- The options of the commands, and the numbers that have places of their own behind them: the name of each, what it
 -- takes, and what stands for it unless it is given.
 use Rattle.std.specs.Prelude.{ℕ, ◌-◌, ◌^◌, List, [], ◌∷◌, Option, Some, None, codes}
-use Rattle.model_base.specs.declared.limits.TheConstants.{MAX_CLIENTS, MAX_SIZE}
+use Rattle.model_base.specs.declared.limits.TheConstants.{MAX_CLIENTS, MAX_FAMILIES, MAX_SIZE}
 
 -- the bytes of a word
 abbrev pub Word : Type 0
@@ -75,6 +75,10 @@ logs = record { name = codes "logs"; kind = number_within 1 16 None }
 -- from which length on a log is full, if the run has several
 abbrev pub log_bytes : Known
 log_bytes = record { name = codes "log-bytes"; kind = number_within 1 (2 ^ 40) (Some (codes "67108864")) }
+
+-- how many column families there are: those with the numbers below this one
+abbrev pub families : Known
+families = record { name = codes "families"; kind = number_within 1 MAX_FAMILIES (Some (codes "1")) }
 
 -- ---- the numbers of `gen`
 

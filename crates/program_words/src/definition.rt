@@ -8,7 +8,7 @@ ghost use Rattle.program_words.specs.Options.{no_value, number_within, word_amon
 
 use clap::builder::ValueParser;
 use clap::{Arg, ArgAction, Command};
-use model_base::{MAX_CLIENTS, MAX_SIZE};
+use model_base::{MAX_CLIENTS, MAX_FAMILIES, MAX_SIZE};
 use std::alloc::{AllocError, Global};
 
 /// An option of a command, or a number in a place of its own.
@@ -60,7 +60,10 @@ const LOGS: Argument = Argument::Number("logs", 1, 16);
 /// From which length on a log is full, if the run has several. The greatest is `2^40`.
 const LOG_BYTES: Argument = Argument::NumberOr("log-bytes", 1, 1099511627776, "67108864");
 
-const RUN: [Argument; 11] = [
+/// How many column families there are: those with the numbers below this one.
+const FAMILIES: Argument = Argument::NumberOr("families", 1, MAX_FAMILIES as u64, "1");
+
+const RUN: [Argument; 12] = [
     PIPELINED,
     TABLE,
     SHARDS,
@@ -72,16 +75,18 @@ const RUN: [Argument; 11] = [
     MODE,
     LOGS,
     LOG_BYTES,
+    FAMILIES,
 ];
 
 const RECOVER: [Argument; 3] = [NUMBER, MODE, LOGS];
 
-const REPLAY: [Argument; 4] = [PIPELINED, GROUP_BYTES, BATCH_BYTES, LAST];
+const REPLAY: [Argument; 5] = [PIPELINED, GROUP_BYTES, BATCH_BYTES, LAST, FAMILIES];
 
-const GENERATE: [Argument; 6] = [
+const GENERATE: [Argument; 7] = [
     PIPELINED,
     TABLE,
     SHARDS,
+    FAMILIES,
     Argument::Placed("SEED", 0, 2147483647),
     Argument::Placed("CLIENTS", 1, MAX_CLIENTS as u64),
     Argument::Placed("BATCHES", 1, 100000),

@@ -41,6 +41,8 @@ pub enum Invocation {
         logs: Option<u64>,
         /// From which length on a log is full, if there are several.
         log_bytes: u64,
+        /// How many column families there are.
+        families: u64,
     },
     /// To say what the log recovers.
     Recover {
@@ -61,6 +63,8 @@ pub enum Invocation {
         batch_bytes: u64,
         /// The sequence number before that of the first batch.
         last: u64,
+        /// How many column families there are.
+        families: u64,
     },
     /// To run the script that a seed makes.
     Generate {
@@ -74,6 +78,8 @@ pub enum Invocation {
         clients: u64,
         /// How many batches each client commits.
         batches: u64,
+        /// How many column families there are.
+        families: u64,
     },
 }
 
@@ -147,6 +153,7 @@ fn run_by(options: &ArgMatches) -> Option<Invocation>
         mode: mode_in(options)?,
         logs: number_in("logs", options),
         log_bytes: number_in("log-bytes", options)?,
+        families: number_in("families", options)?,
     })
 }
 
@@ -168,6 +175,7 @@ fn replay_by(options: &ArgMatches) -> Option<Invocation>
         group_bytes: number_in("group-bytes", options)?,
         batch_bytes: number_in("batch-bytes", options)?,
         last: number_in("last", options)?,
+        families: number_in("families", options)?,
     })
 }
 
@@ -180,6 +188,7 @@ fn generate_by(options: &ArgMatches) -> Option<Invocation>
         seed: number_in("SEED", options)?,
         clients: number_in("CLIENTS", options)?,
         batches: number_in("BATCHES", options)?,
+        families: number_in("families", options)?,
     })
 }
 

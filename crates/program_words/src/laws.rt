@@ -20,22 +20,22 @@ pub fn words_that_are_lawful()
     ensures run { lawful_in (codes "writepath" ∷ codes "run" ∷ codes "--last" ∷ codes "5" ∷ codes "--shards"
         ∷ codes "64" ∷ codes "--batch-bytes" ∷ codes "12" ∷ codes "--table" ∷ codes "shards"
         ∷ codes "--pipelined" ∷ codes "--group-bytes" ∷ codes "1" ∷ [])
-        ≡ Some (Run true (Some 64) 1 12 5 None false Point None 67108864) }
+        ≡ Some (Run true (Some 64) 1 12 5 None false Point None 67108864 1) }
     ensures run_by_number { lawful_in (codes "writepath" ∷ codes "run" ∷ codes "--number" ∷ codes "7" ∷ [])
-        ≡ Some (Run false None 1048576 16777216 0 (Some 7) false Point None 67108864) }
+        ≡ Some (Run false None 1048576 16777216 0 (Some 7) false Point None 67108864 1) }
     ensures number_before_others { lawful_in (codes "writepath" ∷ codes "run" ∷ codes "--number" ∷ codes "4294967295"
         ∷ codes "--last" ∷ codes "5" ∷ codes "--pipelined" ∷ [])
-        ≡ Some (Run true None 1048576 16777216 5 (Some 4294967295) false Point None 67108864) }
+        ≡ Some (Run true None 1048576 16777216 5 (Some 4294967295) false Point None 67108864 1) }
     ensures number_behind_others { lawful_in (codes "writepath" ∷ codes "run" ∷ codes "--pipelined" ∷ codes "--last"
         ∷ codes "5" ∷ codes "--number" ∷ codes "4294967295" ∷ [])
-        ≡ Some (Run true None 1048576 16777216 5 (Some 4294967295) false Point None 67108864) }
+        ≡ Some (Run true None 1048576 16777216 5 (Some 4294967295) false Point None 67108864 1) }
     ensures going_on { lawful_in (codes "writepath" ∷ codes "run" ∷ codes "--resume" ∷ [])
-        ≡ Some (Run false None 1048576 16777216 0 None true Point None 67108864) }
+        ≡ Some (Run false None 1048576 16777216 0 None true Point None 67108864 1) }
     ensures going_on_by_number { lawful_in (codes "writepath" ∷ codes "run" ∷ codes "--resume" ∷ codes "--number"
-        ∷ codes "7" ∷ []) ≡ Some (Run false None 1048576 16777216 0 (Some 7) true Point None 67108864) }
+        ∷ codes "7" ∷ []) ≡ Some (Run false None 1048576 16777216 0 (Some 7) true Point None 67108864 1) }
     ensures going_on_behind_others { lawful_in (codes "writepath" ∷ codes "run" ∷ codes "--number" ∷ codes "7"
         ∷ codes "--last" ∷ codes "5" ∷ codes "--resume" ∷ [])
-        ≡ Some (Run false None 1048576 16777216 5 (Some 7) true Point None 67108864) }
+        ≡ Some (Run false None 1048576 16777216 5 (Some 7) true Point None 67108864 1) }
     ensures recover { lawful_in (codes "writepath" ∷ codes "recover" ∷ []) ≡ Some (Recover None Point None) }
     ensures recover_by_number { lawful_in (codes "writepath" ∷ codes "recover" ∷ codes "--number"
         ∷ codes "4294967295" ∷ []) ≡ Some (Recover (Some 4294967295) Point None) }
@@ -44,45 +44,51 @@ pub fn words_that_are_lawful()
     ensures recover_by_name { lawful_in (codes "writepath" ∷ codes "recover" ∷ codes "--mode" ∷ codes "point" ∷ [])
         ≡ Some (Recover None Point None) }
     ensures going_on_by_mode { lawful_in (codes "writepath" ∷ codes "run" ∷ codes "--mode" ∷ codes "absolute"
-        ∷ codes "--resume" ∷ []) ≡ Some (Run false None 1048576 16777216 0 None true Absolute None 67108864) }
+        ∷ codes "--resume" ∷ []) ≡ Some (Run false None 1048576 16777216 0 None true Absolute None 67108864 1) }
     ensures run_over_logs { lawful_in (codes "writepath" ∷ codes "run" ∷ codes "--logs" ∷ codes "2"
         ∷ codes "--log-bytes" ∷ codes "24" ∷ [])
-        ≡ Some (Run false None 1048576 16777216 0 None false Point (Some 2) 24) }
+        ≡ Some (Run false None 1048576 16777216 0 None false Point (Some 2) 24 1) }
+    ensures run_in_families { lawful_in (codes "writepath" ∷ codes "run" ∷ codes "--families" ∷ codes "16" ∷ [])
+        ≡ Some (Run false None 1048576 16777216 0 None false Point None 67108864 16) }
     ensures recover_logs { lawful_in (codes "writepath" ∷ codes "recover" ∷ codes "--logs" ∷ codes "16" ∷ [])
         ≡ Some (Recover None Point (Some 16)) }
     ensures replay { lawful_in (codes "writepath" ∷ codes "replay" ∷ codes "--last" ∷ codes "5" ∷ codes "--pipelined"
-        ∷ []) ≡ Some (Replay true 1048576 16777216 5) }
+        ∷ []) ≡ Some (Replay true 1048576 16777216 5 1) }
+    ensures replay_in_families { lawful_in (codes "writepath" ∷ codes "replay" ∷ codes "--families" ∷ codes "2" ∷ [])
+        ≡ Some (Replay false 1048576 16777216 0 2) }
+    ensures generate_in_families { lawful_in (codes "writepath" ∷ codes "gen" ∷ codes "--families" ∷ codes "2"
+        ∷ codes "7" ∷ codes "2" ∷ codes "3" ∷ []) ≡ Some (Generate false None 7 2 3 2) }
     ensures generate { lawful_in (codes "writepath" ∷ codes "gen" ∷ codes "--table" ∷ codes "shards" ∷ codes "7"
-        ∷ codes "2" ∷ codes "3" ∷ []) ≡ Some (Generate false (Some 16) 7 2 3) }
+        ∷ codes "2" ∷ codes "3" ∷ []) ≡ Some (Generate false (Some 16) 7 2 3 1) }
 {}
 
 /// Words that ask for something. Some aren't lawful, but clap takes them too, such as `--last=4` and `04`.
 pub fn words_that_ask()
     ensures run { invocation_in (codes "writepath" ∷ codes "run" ∷ [])
-        ≡ Some (Run false None 1048576 16777216 0 None false Point None 67108864) }
+        ≡ Some (Run false None 1048576 16777216 0 None false Point None 67108864 1) }
     ensures run_with_groups { invocation_in (codes "writepath" ∷ codes "run" ∷ codes "--group-bytes" ∷ codes "1" ∷ [])
-        ≡ Some (Run false None 1 16777216 0 None false Point None 67108864) }
+        ≡ Some (Run false None 1 16777216 0 None false Point None 67108864 1) }
     ensures run_in_shards { invocation_in (codes "writepath" ∷ codes "run" ∷ codes "--table" ∷ codes "shards" ∷ [])
-        ≡ Some (Run false (Some 16) 1048576 16777216 0 None false Point None 67108864) }
+        ≡ Some (Run false (Some 16) 1048576 16777216 0 None false Point None 67108864 1) }
     ensures run_in_one { invocation_in (codes "writepath" ∷ codes "run" ∷ codes "--shards" ∷ codes "7" ∷ [])
-        ≡ Some (Run false None 1048576 16777216 0 None false Point None 67108864) }
+        ≡ Some (Run false None 1048576 16777216 0 None false Point None 67108864 1) }
     ensures run_in_most_shards { invocation_in (codes "writepath" ∷ codes "run" ∷ codes "--table" ∷ codes "shards"
         ∷ codes "--shards" ∷ codes "64" ∷ codes "--last" ∷ codes "3" ∷ [])
-        ≡ Some (Run false (Some 64) 1048576 16777216 3 None false Point None 67108864) }
+        ≡ Some (Run false (Some 64) 1048576 16777216 3 None false Point None 67108864 1) }
     ensures run_in_two_stages { invocation_in (codes "writepath" ∷ codes "run" ∷ codes "--pipelined" ∷ [])
-        ≡ Some (Run true None 1048576 16777216 0 None false Point None 67108864) }
+        ≡ Some (Run true None 1048576 16777216 0 None false Point None 67108864 1) }
     ensures run_by_number { invocation_in (codes "writepath" ∷ codes "run" ∷ codes "--number" ∷ codes "7" ∷ [])
-        ≡ Some (Run false None 1048576 16777216 0 (Some 7) false Point None 67108864) }
+        ≡ Some (Run false None 1048576 16777216 0 (Some 7) false Point None 67108864 1) }
     ensures run_by_most { invocation_in (codes "writepath" ∷ codes "run" ∷ codes "--last" ∷ codes "3"
         ∷ codes "--number=4294967295" ∷ codes "--pipelined" ∷ [])
-        ≡ Some (Run true None 1048576 16777216 3 (Some 4294967295) false Point None 67108864) }
+        ≡ Some (Run true None 1048576 16777216 3 (Some 4294967295) false Point None 67108864 1) }
     ensures going_on { invocation_in (codes "writepath" ∷ codes "run" ∷ codes "--resume" ∷ [])
-        ≡ Some (Run false None 1048576 16777216 0 None true Point None 67108864) }
+        ≡ Some (Run false None 1048576 16777216 0 None true Point None 67108864 1) }
     ensures going_on_by_number { invocation_in (codes "writepath" ∷ codes "run" ∷ codes "--resume" ∷ codes "--number=7"
-        ∷ []) ≡ Some (Run false None 1048576 16777216 0 (Some 7) true Point None 67108864) }
+        ∷ []) ≡ Some (Run false None 1048576 16777216 0 (Some 7) true Point None 67108864 1) }
     ensures going_on_behind_others { invocation_in (codes "writepath" ∷ codes "run" ∷ codes "--number" ∷ codes "7"
         ∷ codes "--pipelined" ∷ codes "--resume" ∷ [])
-        ≡ Some (Run true None 1048576 16777216 0 (Some 7) true Point None 67108864) }
+        ≡ Some (Run true None 1048576 16777216 0 (Some 7) true Point None 67108864 1) }
     ensures recover { invocation_in (codes "writepath" ∷ codes "recover" ∷ []) ≡ Some (Recover None Point None) }
     ensures recover_by_number { invocation_in (codes "writepath" ∷ codes "recover" ∷ codes "--number" ∷ codes "7" ∷ [])
         ≡ Some (Recover (Some 7) Point None) }
@@ -91,31 +97,37 @@ pub fn words_that_ask()
     ensures recover_by_mode { invocation_in (codes "writepath" ∷ codes "recover" ∷ codes "--mode" ∷ codes "absolute"
         ∷ []) ≡ Some (Recover None Absolute None) }
     ensures going_on_by_mode { invocation_in (codes "writepath" ∷ codes "run" ∷ codes "--resume" ∷ codes "--mode=tail"
-        ∷ []) ≡ Some (Run false None 1048576 16777216 0 None true Tail None 67108864) }
+        ∷ []) ≡ Some (Run false None 1048576 16777216 0 None true Tail None 67108864 1) }
     ensures mode_alone { invocation_in (codes "writepath" ∷ codes "run" ∷ codes "--mode" ∷ codes "absolute" ∷ [])
-        ≡ Some (Run false None 1048576 16777216 0 None false Absolute None 67108864) }
+        ≡ Some (Run false None 1048576 16777216 0 None false Absolute None 67108864 1) }
     ensures run_over_logs { invocation_in (codes "writepath" ∷ codes "run" ∷ codes "--logs=16"
         ∷ codes "--log-bytes=1099511627776" ∷ [])
-        ≡ Some (Run false None 1048576 16777216 0 None false Point (Some 16) 1099511627776) }
+        ≡ Some (Run false None 1048576 16777216 0 None false Point (Some 16) 1099511627776 1) }
+    ensures run_in_families { invocation_in (codes "writepath" ∷ codes "run" ∷ codes "--families=2" ∷ [])
+        ≡ Some (Run false None 1048576 16777216 0 None false Point None 67108864 2) }
+    ensures replay_in_families { invocation_in (codes "writepath" ∷ codes "replay" ∷ codes "--families" ∷ codes "16"
+        ∷ []) ≡ Some (Replay false 1048576 16777216 0 16) }
+    ensures generate_in_families { invocation_in (codes "writepath" ∷ codes "gen" ∷ codes "--families" ∷ codes "2"
+        ∷ codes "7" ∷ codes "2" ∷ codes "3" ∷ []) ≡ Some (Generate false None 7 2 3 2) }
     ensures recover_logs { invocation_in (codes "writepath" ∷ codes "recover" ∷ codes "--logs" ∷ codes "3" ∷ [])
         ≡ Some (Recover None Point (Some 3)) }
     ensures replay { invocation_in (codes "writepath" ∷ codes "replay" ∷ codes "--last" ∷ codes "7"
         ∷ codes "--group-bytes"
-        ∷ codes "1" ∷ []) ≡ Some (Replay false 1 16777216 7) }
+        ∷ codes "1" ∷ []) ≡ Some (Replay false 1 16777216 7 1) }
     ensures pipelined { invocation_in (codes "writepath" ∷ codes "replay" ∷ codes "--last" ∷ codes "7"
         ∷ codes "--pipelined"
-        ∷ []) ≡ Some (Replay true 1048576 16777216 7) }
+        ∷ []) ≡ Some (Replay true 1048576 16777216 7 1) }
     ensures with_equals_sign { invocation_in (codes "writepath" ∷ codes "run" ∷ codes "--last=4" ∷ [])
-        ≡ Some (Run false None 1048576 16777216 4 None false Point None 67108864) }
+        ≡ Some (Run false None 1048576 16777216 4 None false Point None 67108864 1) }
     ensures with_leading_zero { invocation_in (codes "writepath" ∷ codes "run" ∷ codes "--last" ∷ codes "04" ∷ [])
-        ≡ Some (Run false None 1048576 16777216 4 None false Point None 67108864) }
+        ≡ Some (Run false None 1048576 16777216 4 None false Point None 67108864 1) }
     ensures generate { invocation_in (codes "writepath" ∷ codes "gen" ∷ codes "7" ∷ codes "64" ∷ codes "100000" ∷ [])
-        ≡ Some (Generate false None 7 64 100000) }
+        ≡ Some (Generate false None 7 64 100000 1) }
     ensures generate_in_shards { invocation_in (codes "writepath" ∷ codes "gen" ∷ codes "--table" ∷ codes "shards"
         ∷ codes "--shards" ∷ codes "2" ∷ codes "7" ∷ codes "2" ∷ codes "3" ∷ [])
-        ≡ Some (Generate false (Some 2) 7 2 3) }
+        ≡ Some (Generate false (Some 2) 7 2 3 1) }
     ensures generate_in_two_stages { invocation_in (codes "writepath" ∷ codes "gen" ∷ codes "--pipelined" ∷ codes "7"
-        ∷ codes "2" ∷ codes "3" ∷ []) ≡ Some (Generate true None 7 2 3) }
+        ∷ codes "2" ∷ codes "3" ∷ []) ≡ Some (Generate true None 7 2 3 1) }
 {}
 
 /// Words that ask for nothing.
@@ -193,6 +205,12 @@ pub fn words_that_do_not_ask()
         ∷ codes "24" ∷ []) ≡ None }
     ensures logs_of_replay { invocation_in (codes "writepath" ∷ codes "replay" ∷ codes "--logs" ∷ codes "2" ∷ [])
         ≡ None }
+    ensures no_family { invocation_in (codes "writepath" ∷ codes "run" ∷ codes "--families" ∷ codes "0" ∷ [])
+        ≡ None }
+    ensures too_many_families { invocation_in (codes "writepath" ∷ codes "replay" ∷ codes "--families" ∷ codes "17"
+        ∷ []) ≡ None }
+    ensures families_of_recover { invocation_in (codes "writepath" ∷ codes "recover" ∷ codes "--families" ∷ codes "2"
+        ∷ []) ≡ None }
     ensures unknown_table { invocation_in (codes "writepath" ∷ codes "run" ∷ codes "--table" ∷ codes "tree" ∷ [])
         ≡ None }
     ensures table_twice { invocation_in (codes "writepath" ∷ codes "run" ∷ codes "--table" ∷ codes "one"

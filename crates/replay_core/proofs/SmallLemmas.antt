@@ -3,7 +3,7 @@ use Rattle.std.proofs.Common.{◌≡◌, ◌+◌, ◌≤◌, List, [], ◌∷◌
 use Rattle.model_base.specs.declared.limits.TheConstants.{MAX_SIZE}
 use Rattle.model_base.specs.declared.write.WriteOptions.{WriteOptions}
 use Rattle.model_base.specs.Batch.{Record, size_of_batch}
-use Rattle.model_base.specs.Calls.{Command, add, clear, commit, get, many, scan, stop, unstop, slow, unslow, quiet, Call}
+use Rattle.model_base.specs.Calls.{Command, add, clear, commit, get, many, scan, updates, stop, unstop, slow, unslow, quiet, Call}
 use Rattle.model_core.specs.Core as core
 use Rattle.replay_plans.specs.Small.{AreSmall}
 use Rattle.replay_plans.proofs.SizeLemmas.{size_is, size_push}
@@ -16,7 +16,8 @@ small_less less more (clear ∷ left) h small = small
 small_less less more (commit how ∷ left) h small = (omega (arith, h, small.0), small_less less more left h small.1)
 small_less less more (get key ∷ left) h small = small_less less more left h small
 small_less less more (many keys ∷ left) h small = small_less less more left h small
-small_less less more (scan lo hi ∷ left) h small = small_less less more left h small
+small_less less more (scan family lo hi ∷ left) h small = small_less less more left h small
+small_less less more (updates n ∷ left) h small = small_less less more left h small
 small_less less more (stop ∷ left) h small = small_less less more left h small
 small_less less more (unstop ∷ left) h small = small_less less more left h small
 small_less less more (slow rate ∷ left) h small = small_less less more left h small
@@ -34,7 +35,8 @@ small_ahead calls added (clear ∷ left) client small = small_ahead (calls ++ re
 small_ahead calls added (commit how ∷ left) client small = small.1
 small_ahead calls added (get key ∷ left) client small = small
 small_ahead calls added (many keys ∷ left) client small = small
-small_ahead calls added (scan lo hi ∷ left) client small = small
+small_ahead calls added (scan family lo hi ∷ left) client small = small
+small_ahead calls added (updates n ∷ left) client small = small
 small_ahead calls added (stop ∷ left) client small = small
 small_ahead calls added (unstop ∷ left) client small = small
 small_ahead calls added (slow rate ∷ left) client small = small
@@ -49,7 +51,8 @@ commit_small calls added (clear ∷ left) client how small e = commit_small (cal
 commit_small calls added (commit this ∷ left) client how small e = small.0
 commit_small calls added (get key ∷ left) client how small e = cc
 commit_small calls added (many keys ∷ left) client how small e = cc
-commit_small calls added (scan lo hi ∷ left) client how small e = cc
+commit_small calls added (scan family lo hi ∷ left) client how small e = cc
+commit_small calls added (updates n ∷ left) client how small e = cc
 commit_small calls added (stop ∷ left) client how small e = cc
 commit_small calls added (unstop ∷ left) client how small e = cc
 commit_small calls added (slow rate ∷ left) client how small e = cc

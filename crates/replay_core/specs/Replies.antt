@@ -1,5 +1,6 @@
 -- A client's replies to its commits and reads: in short in the code, in full in the machine of events.
-use Rattle.std.specs.Prelude.{◌≡◌, List, [], ◌∷◌}
+use Rattle.std.specs.Prelude.{◌≡◌, ℕ, List, [], ◌∷◌, Option, Some, None}
+use Rattle.model_base.specs.declared.write.Refusal.TheVariants.{NoFamily}
 use Rattle.model_base.specs.Calls.{Reply, accepted, refused, found, found_each, rows}
 use Rattle.replay_core.specs.declared.writer.CoreReply.{CoreReply}
 use Rattle.replay_core.specs.declared.writer.CoreReply.TheVariants.{Accepted, Refused, ReadAt}
@@ -14,6 +15,11 @@ IsReply (ReadAt n) (rows at pairs) = n ≡ at
 IsReply (Accepted run) other = ⊥
 IsReply (Refused why) other = ⊥
 IsReply (ReadAt n) other = ⊥
+
+-- the reply to a read at this published sequence, where this is the first family that it names and that there isn't
+abbrev pub reply_at : ℕ → Option ℕ → CoreReply
+reply_at n None = ReadAt n
+reply_at n (Some family) = Refused (NoFamily family)
 
 abbrev pub AreReplies : List CoreReply → List Reply → Type 0
 AreReplies [] [] = Unit {0}

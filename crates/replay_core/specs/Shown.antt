@@ -20,6 +20,7 @@ use Rattle.replay_core.specs.declared.state.State.{State}
 abbrev pub options_of : CoreOptions → core.Options
 options_of o = record {
   pipelined = o.pipelined;
+  families = o.families;
   group_bytes = o.group_bytes;
   batch_bytes = o.batch_bytes;
   start = o.last;

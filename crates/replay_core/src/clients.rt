@@ -1,6 +1,10 @@
 //! The events of clients: `link`, `complete` and `read`.
 
-ghost use Rattle.std.specs.Prelude.{◌≡◌, false, None};
+ghost use Rattle.std.specs.Prelude.{◌≡◌, false, None, [], slice_get};
+ghost use Rattle.std.specs.Option.{option_map_or};
+ghost use Rattle.model_base.specs.Progress.{first_missing};
+ghost use Rattle.replay_plans.specs.Ahead.{read_families};
+ghost use Rattle.replay_core.specs.Replies.{reply_at};
 
 use crate::leaving::{done_of, set_done};
 use crate::room::push_both;
@@ -8,8 +12,8 @@ use crate::seats::{answer, next_call, settle, wait};
 use crate::state::State;
 use crate::writer::{CoreReply, Writer};
 use log_batch::refusal_at_once;
-use model_base::{Item, WriteOptions};
-use replay_plans::{Lines, commit_at, is_read, measure_batch};
+use model_base::{Item, Refusal, WriteOptions};
+use replay_plans::{ClientPlan, Lines, commit_at, is_read, measure_batch, missing_family};
 
 impl State<'_> {
     ghost use Rattle.std.specs.Prelude.{find, ◌==◌, ◌<◌, vec_len};
@@ -38,7 +42,8 @@ impl State<'_> {
             from: ahead.from,
             to: ahead.call,
         };
-        let measured = measure_batch(&self.plans[place], batch);
+        let families = self.options.families;
+        let measured = measure_batch(&self.plans[place], batch, families);
         let early = refusal_at_once(measured, options, self.options.batch_bytes, false);
         let refusal = self.log.refusal_in(options, early);
         if !self.log.may_link(refusal) {
@@ -82,9 +87,10 @@ impl State<'_> {
         true
     }
 
-    /// The client is idle, and its next call is a read. It is answered at the published sequence.
+    /// The client is idle, and its next call is a read. It is answered at the published sequence, or refused, where it
+    /// names a family that there isn't.
     pub(crate) fn read(&mut self, client: u32) -> bool
-        ensures steps { Steps (λ o s. event.read s client (core.client_at s client)) self.old result self.new }
+        ensures steps { Steps (λ o s. event.read o s client (core.client_at s client)) self.old result self.new }
         ensures unchanged { result ≡ false → self.new ≡ self.old }
         ensures plans { plans_in self.new ≡ plans_in self.old }
     {
@@ -97,12 +103,23 @@ impl State<'_> {
         if !is_read(&self.plans[place], ahead.call) {
             return false;
         }
-        answer(
-            &mut self.seats[place],
-            ahead,
-            CoreReply::ReadAt { at: self.last },
-        );
+        let families = self.options.families;
+        let reply = read_reply(&self.plans[place], ahead.call, families, self.last);
+        answer(&mut self.seats[place], ahead, reply);
         true
+    }
+}
+
+/// The reply to the read at a line of a plan, at this published sequence.
+fn read_reply(plan: &ClientPlan<'_>, line: usize, families: u32, last: u64) -> CoreReply
+    ensures { result ≡ reply_at last (first_missing families
+        (option_map_or read_families (slice_get plan.now line) [])) }
+{
+    match missing_family(plan, line, families) {
+        Some(family) => CoreReply::Refused {
+            why: Refusal::NoFamily { family },
+        },
+        None => CoreReply::ReadAt { at: last },
     }
 }
 

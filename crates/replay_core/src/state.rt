@@ -14,6 +14,8 @@ use run_outcome::HistoryEntry;
 pub struct CoreOptions {
     /// Whether the log is handed on before a group is inserted.
     pub pipelined: bool,
+    /// There are the column families with the numbers below this one.
+    pub families: u32,
     /// The most bytes of a group.
     pub group_bytes: u64,
     /// The most bytes of a batch.

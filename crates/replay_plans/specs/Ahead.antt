@@ -1,5 +1,6 @@
 -- What the search for a client's next call finds.
-use Rattle.std.specs.Prelude.{◌≡◌, ℕ, ◌+◌, ◌<◌, ◌≤◌, Bool, true, false, List, length, drop, Option, Some, None, slice_get}
+use Rattle.std.specs.Prelude.{◌≡◌, ℕ, ◌+◌, ◌<◌, ◌≤◌, Bool, true, false, List, [], ◌∷◌, length, map, drop, Option, Some, None, slice_get}
+use Rattle.model_base.specs.declared.key.Key.{Key}
 use Rattle.model_base.specs.declared.write.WriteOptions.{WriteOptions}
 use Rattle.model_base.specs.Calls.{Command, commit, get, many, scan, Call}
 use Rattle.model_core.specs.Core as core
@@ -26,8 +27,15 @@ pub record IsAhead (plan : List Command) (at : ℕ) (a : Ahead) (calls : List Ca
 abbrev pub is_read : Command → Bool
 is_read (get key) = true
 is_read (many keys) = true
-is_read (scan lo hi) = true
+is_read (scan family lo hi) = true
 is_read other = false
+
+-- the families of the keys that a command reads
+abbrev pub read_families : Command → List ℕ
+read_families (get key) = key.family ∷ []
+read_families (many keys) = map (λ (k : Key). k.family) keys
+read_families (scan family lo hi) = family ∷ []
+read_families other = []
 
 -- the options of a commit
 abbrev pub commit_of : Command → Option WriteOptions

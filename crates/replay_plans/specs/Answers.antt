@@ -1,6 +1,6 @@
 -- Which replies of a client's calls are answers.
 use Rattle.std.specs.Prelude.{List, filter_map, Option, Some, None}
-use Rattle.model_base.specs.Calls.{Reply, quiet, accepted, refused, found, found_each, rows, done, held, not_held, no_memory, Call}
+use Rattle.model_base.specs.Calls.{Reply, quiet, accepted, refused, found, found_each, rows, updates_found, read_failed, done, held, not_held, no_memory, Call}
 
 -- all replies but `quiet`; on the core these are the replies to commits and reads
 abbrev pub is_answer : Reply → Option Reply
@@ -10,6 +10,8 @@ is_answer (refused why) = Some (refused why)
 is_answer (found at v) = Some (found at v)
 is_answer (found_each at vs) = Some (found_each at vs)
 is_answer (rows at pairs) = Some (rows at pairs)
+is_answer (updates_found at records) = Some (updates_found at records)
+is_answer (read_failed count) = Some (read_failed count)
 is_answer done = Some done
 is_answer held = Some held
 is_answer not_held = Some not_held

@@ -2,6 +2,7 @@
 use Rattle.std.specs.Prelude.{ℕ, ◌+◌, ◌-◌, ◌^◌, min, nat_le, ◌≤◌, Bool, true, List, [], ◌∷◌, ◌++◌, length, Option, Some, None, if◌then◌else◌}
 use Rattle.model_base.specs.declared.limits.TheConstants.{MAX_SIZE}
 use Rattle.model_base.specs.Batch.{Record, is_counted, record_bytes, size_of_batch}
+use Rattle.model_base.specs.Progress.{families_in, first_missing}
 use Rattle.model_base.specs.Calls.{Command, add, clear, commit}
 use Rattle.run_command_list.specs.Kinds.{record_added}
 
@@ -13,6 +14,11 @@ record_size (Some r) = length (record_bytes r)
 abbrev pub record_count : Option Record → ℕ
 record_count None = 0
 record_count (Some r) = if is_counted r then 1 else 0
+
+-- a record's family, if it has one and there isn't that family
+abbrev pub missing_in : ℕ → Option Record → Option ℕ
+missing_in families None = None
+missing_in families (Some r) = first_missing families (families_in (r ∷ []))
 
 -- Each commit of these commands, by a client that has these records in its batch, has a batch of at most 16 MiB, even
 -- if no commit before it is accepted.

@@ -1,10 +1,11 @@
 //! Finds a client's next call: a commit, a read, or a command about a token.
 
-ghost use Rattle.std.specs.Prelude.{◌≡◌, ◌≤◌, ◌+◌, ◌-◌, false, List, length, drop, slice_get};
+ghost use Rattle.std.specs.Prelude.{◌≡◌, ◌≤◌, ◌+◌, ◌-◌, ◌∷◌, [], false, List, length, drop, slice_get};
 ghost use Rattle.std.specs.Option.{option_map_or, option_and_then};
 ghost use Rattle.model_base.specs.Calls.{Call};
 ghost use Rattle.model_core.specs.Core as core;
-ghost use Rattle.replay_plans.specs.Ahead.{IsAhead, is_read, commit_of};
+ghost use Rattle.model_base.specs.Progress.{first_missing};
+ghost use Rattle.replay_plans.specs.Ahead.{IsAhead, is_read, read_families, commit_of};
 ghost use Rattle.replay_plans.specs.Plans.{added_between};
 
 use crate::plan::ClientPlan;
@@ -69,4 +70,26 @@ pub fn is_read(plan: &ClientPlan<'_>, line: usize) -> bool
     ensures { result ≡ option_map_or is_read (slice_get plan.now line) false }
 {
     line < plan.len() && matches!(plan.line(line).kind(), CommandKind::Read)
+}
+
+/// The first family of the keys that a line reads that isn't below `families`, if there is one.
+pub fn missing_family(plan: &ClientPlan<'_>, line: usize, families: u32) -> Option<u32>
+    ensures { result ≡ first_missing families (option_map_or read_families (slice_get plan.now line) []) }
+{
+    if line >= plan.len() {
+        return None;
+    }
+    match plan.line(line) {
+        CommandView::Get { family, .. } => missing(*family, families),
+        CommandView::Scan { family, .. } => missing(*family, families),
+        CommandView::Many { keys } => keys.missing_family(families),
+        _ => None,
+    }
+}
+
+/// A family, if it isn't below `families`.
+fn missing(family: u32, families: u32) -> Option<u32>
+    ensures { result ≡ first_missing families (family ∷ []) }
+{
+    (family >= families).then_some(family)
 }

@@ -12,7 +12,9 @@ use Rattle.model_base.specs.declared.write.Refusal.{Refusal}
 use Rattle.model_base.specs.declared.write.WriteOptions.{WriteOptions}
 use Rattle.model_base.specs.Map.{rows_within, value_at}
 use Rattle.model_base.specs.History.{Entry, IsHistory, IsUpTo, last_sequence, last_of, map_of}
-use Rattle.model_base.specs.Progress.{early_refusal, batch_after}
+use Rattle.model_base.specs.declared.key.Key.{Key}
+use Rattle.model_base.specs.declared.write.Refusal.TheVariants.{NoFamily}
+use Rattle.model_base.specs.Progress.{first_missing, early_refusal, batch_after}
 use Rattle.model_base.specs.Calls as calls
 use Rattle.model_base.specs.Calls.{Command, add, clear, commit, get, many, scan}
 use Rattle.model_base.specs.Runs.{commands_of}
@@ -55,9 +57,12 @@ IsTold entries (add r) calls.quiet = ⊤
 IsTold entries clear calls.quiet = ⊤
 IsTold entries (commit how) (calls.accepted a b records) = ⊤
 IsTold entries (commit how) (calls.refused why) = ⊤
+IsTold entries (get key) (calls.refused why) = ⊤
+IsTold entries (many keys) (calls.refused why) = ⊤
+IsTold entries (scan family lo hi) (calls.refused why) = ⊤
 IsTold entries (get key) (calls.found at v) = v ≡ value_at (map_up_to at entries) key
 IsTold entries (many keys) (calls.found_each at vs) = vs ≡ map (value_at (map_up_to at entries)) keys
-IsTold entries (scan lo hi) (calls.rows at pairs) = pairs ≡ rows_within lo hi (map_up_to at entries)
+IsTold entries (scan family lo hi) (calls.rows at pairs) = pairs ≡ rows_within family lo hi (map_up_to at entries)
 IsTold entries x r = ⊥
 
 attempts : (o : Options) (s : State) (before : List calls.Call) (how : WriteOptions) (r : calls.Reply) → IsHandled o s before how r → IsTold s.entries (commit how) r
@@ -70,25 +75,34 @@ committed : (o : Options) (s : State) (before : List calls.Call) (how : WriteOpt
 committed o s before how r None is = attempts o s before how r is
 committed o s before how r (Some why) is = subst (IsTold s.entries (commit how)) (sym is) tt
 
-got : (o : Options) (s : State) (before : List calls.Call) (key : List ℕ) (r : calls.Reply) → IsHistory o.start s.entries → Gets o s before key r → IsTold s.entries (get key) r
+got : (o : Options) (s : State) (before : List calls.Call) (key : Key) (r : calls.Reply) → IsHistory o.start s.entries → Gets o s before key r → IsTold s.entries (get key) r
 got o s before key (calls.found at v) history is = is.answer ∙ ap (λ m. value_at m key) (map_at o.start s.entries is.front at history is.is_front)
 got o s before key other history is = absurd is
 
-got_many : (o : Options) (s : State) (before : List calls.Call) (keys : List (List ℕ)) (r : calls.Reply) → IsHistory o.start s.entries → GetsMany o s before keys r → IsTold s.entries (many keys) r
+got_many : (o : Options) (s : State) (before : List calls.Call) (keys : List Key) (r : calls.Reply) → IsHistory o.start s.entries → GetsMany o s before keys r → IsTold s.entries (many keys) r
 got_many o s before keys (calls.found_each at vs) history is = is.answer ∙ ap (λ m. map (value_at m) keys) (map_at o.start s.entries is.front at history is.is_front)
 got_many o s before keys other history is = absurd is
 
-scanned : (o : Options) (s : State) (before : List calls.Call) (lo hi : List ℕ) (r : calls.Reply) → IsHistory o.start s.entries → Scans o s before lo hi r → IsTold s.entries (scan lo hi) r
-scanned o s before lo hi (calls.rows at pairs) history is = is.answer ∙ ap (λ m. rows_within lo hi m) (map_at o.start s.entries is.front at history is.is_front)
-scanned o s before lo hi other history is = absurd is
+scanned : (o : Options) (s : State) (before : List calls.Call) (family : ℕ) (lo hi : List ℕ) (r : calls.Reply) → IsHistory o.start s.entries → Scans o s before family lo hi r → IsTold s.entries (scan family lo hi) r
+scanned o s before family lo hi (calls.rows at pairs) history is = is.answer ∙ ap (λ m. rows_within family lo hi m) (map_at o.start s.entries is.front at history is.is_front)
+scanned o s before family lo hi other history is = absurd is
+
+-- a read is answered, or it is refused for a family that there isn't
+if_there : (entries : List Entry) (x : Command) (r : calls.Reply) (missing : Option ℕ) (answered : Type 0) → ((family : ℕ) → IsTold entries x (calls.refused (NoFamily family))) → (answered → IsTold entries x r)
+    → MatchOption missing answered (λ family. r ≡ calls.refused (NoFamily family)) → IsTold entries x r
+if_there entries x r None answered refuses answers is = answers is
+if_there entries x r (Some family) answered refuses answers is = subst (IsTold entries x) (sym is) (refuses family)
 
 told_of : (o : Options) (s : State) (before : List calls.Call) (x : Command) (r : calls.Reply) → IsHistory o.start s.entries → IsClientsCommand x → MayReply o s before x r → IsTold s.entries x r
 told_of o s before (add a) r history said may = subst (IsTold s.entries (add a)) (sym may) tt
 told_of o s before clear r history said may = subst (IsTold s.entries clear) (sym may) tt
-told_of o s before (commit how) r history said may = committed o s before how r (early_refusal o.batch_bytes false (batch_after before) how) may
-told_of o s before (get key) r history said may = got o s before key r history may
-told_of o s before (many keys) r history said may = got_many o s before keys r history may
-told_of o s before (scan lo hi) r history said may = scanned o s before lo hi r history may
+told_of o s before (commit how) r history said may = committed o s before how r (early_refusal o.families o.batch_bytes false (batch_after before) how) may
+told_of o s before (get key) r history said may =
+    if_there s.entries (get key) r (first_missing o.families (key.family ∷ [])) (Gets o s before key r) (λ family. tt) (got o s before key r history) may
+told_of o s before (many keys) r history said may =
+    if_there s.entries (many keys) r (first_missing o.families (map (λ (k : Key). k.family) keys)) (GetsMany o s before keys r) (λ family. tt) (got_many o s before keys r history) may
+told_of o s before (scan family lo hi) r history said may =
+    if_there s.entries (scan family lo hi) r (first_missing o.families (family ∷ [])) (Scans o s before family lo hi r) (λ other. tt) (scanned o s before family lo hi r history) may
 told_of o s before other r history said may = absurd said
 
 none_told : (entries : List Entry) (xs : List Command) → replies_by entries xs [] ≡ []
@@ -117,10 +131,19 @@ one_shown entries (many keys) xs command (calls.found_each at vs) cs (ReadAt n �
     (subst (λ m. calls.found_each at vs ≡ calls.found_each m (map (value_at (map_up_to m entries)) keys)) (sym are.0) (ap (calls.found_each at) is), rest ts are.1)
 one_shown entries (many keys) xs command (calls.found_each at vs) cs (t ∷ ts) is are rest = absurd are.0
 one_shown entries (many keys) xs command (calls.found_each at vs) cs [] is are rest = absurd are
-one_shown entries (scan lo hi) xs command (calls.rows at pairs) cs (ReadAt n ∷ ts) is are rest =
-    (subst (λ m. calls.rows at pairs ≡ calls.rows m (rows_within lo hi (map_up_to m entries))) (sym are.0) (ap (calls.rows at) is), rest ts are.1)
-one_shown entries (scan lo hi) xs command (calls.rows at pairs) cs (t ∷ ts) is are rest = absurd are.0
-one_shown entries (scan lo hi) xs command (calls.rows at pairs) cs [] is are rest = absurd are
+one_shown entries (scan family lo hi) xs command (calls.rows at pairs) cs (ReadAt n ∷ ts) is are rest =
+    (subst (λ m. calls.rows at pairs ≡ calls.rows m (rows_within family lo hi (map_up_to m entries))) (sym are.0) (ap (calls.rows at) is), rest ts are.1)
+one_shown entries (scan family lo hi) xs command (calls.rows at pairs) cs (t ∷ ts) is are rest = absurd are.0
+one_shown entries (scan family lo hi) xs command (calls.rows at pairs) cs [] is are rest = absurd are
+one_shown entries (get key) xs command (calls.refused why) cs (Refused w ∷ ts) is are rest = let e : w ≡ why = are.0 in (ap calls.refused (sym e), rest ts are.1)
+one_shown entries (get key) xs command (calls.refused why) cs (t ∷ ts) is are rest = absurd are.0
+one_shown entries (get key) xs command (calls.refused why) cs [] is are rest = absurd are
+one_shown entries (many keys) xs command (calls.refused why) cs (Refused w ∷ ts) is are rest = let e : w ≡ why = are.0 in (ap calls.refused (sym e), rest ts are.1)
+one_shown entries (many keys) xs command (calls.refused why) cs (t ∷ ts) is are rest = absurd are.0
+one_shown entries (many keys) xs command (calls.refused why) cs [] is are rest = absurd are
+one_shown entries (scan family lo hi) xs command (calls.refused why) cs (Refused w ∷ ts) is are rest = let e : w ≡ why = are.0 in (ap calls.refused (sym e), rest ts are.1)
+one_shown entries (scan family lo hi) xs command (calls.refused why) cs (t ∷ ts) is are rest = absurd are.0
+one_shown entries (scan family lo hi) xs command (calls.refused why) cs [] is are rest = absurd are
 one_shown entries x xs command r cs told is are rest = absurd is
 
 told_shown : (o : Options) (s : State) (whole before cs : List calls.Call) (xs : List Command) (rest : List calls.Command) (told : List CoreReply) → IsHistory o.start s.entries → AreRight o s whole

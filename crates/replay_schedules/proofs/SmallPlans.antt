@@ -5,7 +5,7 @@ use Rattle.std.specs.List.{AllByRecursion}
 use Rattle.std.proofs.lemmas.Grind.{flat_map-append}
 use Rattle.model_base.specs.declared.limits.TheConstants.{MAX_SIZE}
 use Rattle.model_base.specs.Batch.{Record, count_of, header, body, record_bytes, size_of_batch}
-use Rattle.model_base.specs.Calls.{Command, add, clear, commit, get, many, scan, stop, unstop, slow, unslow}
+use Rattle.model_base.specs.Calls.{Command, add, clear, commit, get, many, scan, updates, stop, unstop, slow, unslow}
 use Rattle.run_scripts.specs.declared.script.Script.{Script}
 use Rattle.run_scripts.specs.Scripts as scripts
 use Rattle.run_scripts.specs.Scripts.{additions_of, FitsBatches}
@@ -29,7 +29,8 @@ small_commands (clear ∷ cs) added fits = small_commands cs [] (omega (arith, f
 small_commands (commit how ∷ cs) added fits = (omega (arith, fits), small_commands cs added fits)
 small_commands (get key ∷ cs) added fits = small_commands cs added fits
 small_commands (many keys ∷ cs) added fits = small_commands cs added fits
-small_commands (scan lo hi ∷ cs) added fits = small_commands cs added fits
+small_commands (scan family lo hi ∷ cs) added fits = small_commands cs added fits
+small_commands (updates n ∷ cs) added fits = small_commands cs added fits
 small_commands (stop ∷ cs) added fits = small_commands cs added fits
 small_commands (unstop ∷ cs) added fits = small_commands cs added fits
 small_commands (slow rate ∷ cs) added fits = small_commands cs added fits

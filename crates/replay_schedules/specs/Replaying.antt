@@ -33,7 +33,7 @@ InEachShown core is = (o : machine.Options) (s : machine.State) → IsCore o s �
 abbrev pub read_by : List history.Entry → ℕ → Command → Option Reply
 read_by entries at (get key) = Some (reply.Found at (value_at (map_up_to at entries) key))
 read_by entries at (many keys) = Some (reply.FoundEach at (map (value_at (map_up_to at entries)) keys))
-read_by entries at (scan lo hi) = Some (reply.Rows at (rows_within lo hi (map_up_to at entries)))
+read_by entries at (scan family lo hi) = Some (reply.Rows at (rows_within family lo hi (map_up_to at entries)))
 read_by entries at other = None
 
 abbrev pub reply_by : List history.Entry → Command → CoreReply → Option Reply
@@ -51,7 +51,7 @@ abbrev pub next_reply : List history.Entry → List CoreReply → Command → Li
 next_reply entries told (commit options) = first_reply entries (commit options) told
 next_reply entries told (get key) = first_reply entries (get key) told
 next_reply entries told (many keys) = first_reply entries (many keys) told
-next_reply entries told (scan lo hi) = first_reply entries (scan lo hi) told
+next_reply entries told (scan family lo hi) = first_reply entries (scan family lo hi) told
 next_reply entries told other = []
 
 -- the replies to these commands: the commits and reads among them have those of `told`, in order

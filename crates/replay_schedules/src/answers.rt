@@ -2,20 +2,25 @@
 
 ghost use Rattle.std.specs.Prelude.{◌≡◌, [], ◌∷◌, ◌++◌, map, IfOk, OnOk};
 ghost use Rattle.std.specs.Ordering.{is_lt};
-ghost use Rattle.model_base.specs.Map.{byte_order, rows_within, value_at};
+ghost use Rattle.model_base.specs.Map.{byte_order, key_at, rows_within, value_at};
 ghost use Rattle.base_bytes.specs.Answers.{found_value};
 
 use base_bytes::{Bytes, Found, FoundList, PairList};
-use base_maps::ByteMap;
+use base_maps::FamilyMap;
 use model_base::NoMemory;
-use run_command_list::Words;
+use run_command_list::Keys;
 use std::alloc::Global;
 
-/// The value of a key in the map, if it has one.
-pub(crate) fn value_in(alloc: Global, pairs: &ByteMap, key: &[u8]) -> Result<Found, NoMemory>
-    ensures { IfOk result (λ found. found_value found ≡ value_at pairs.now key.now) }
+/// The value of a family's key in the map, if it has one.
+pub(crate) fn value_in(
+    alloc: Global,
+    pairs: &FamilyMap,
+    family: u32,
+    key: &[u8],
+) -> Result<Found, NoMemory>
+    ensures { IfOk result (λ found. found_value found ≡ value_at pairs.now (key_at family key.now)) }
 {
-    match pairs.get(key) {
+    match pairs.get(family, key) {
         Some(value) => Ok(Found::Value(Bytes::copy(alloc, value)?)),
         None => Ok(Found::Absent),
     }
@@ -24,32 +29,33 @@ pub(crate) fn value_in(alloc: Global, pairs: &ByteMap, key: &[u8]) -> Result<Fou
 /// The value of each of these keys in the map, if it has one, in the order of the keys.
 pub(crate) fn values_in(
     alloc: Global,
-    pairs: &ByteMap,
-    keys: Words<'_>,
+    pairs: &FamilyMap,
+    keys: Keys<'_>,
 ) -> Result<FoundList, NoMemory>
     ensures { IfOk result (λ values. values ≡ map (value_at pairs.now) keys.entry) }
 {
     let mut values = FoundList::new(alloc);
     // There is a value, or none, for each key so far.
-    for key in keys {
-        values.push(value_in(alloc, pairs, key)?)?;
+    for (family, key) in keys {
+        values.push(value_in(alloc, pairs, family, key)?)?;
     }
     Ok(values)
 }
 
-/// The keys of the map from `lo` on and below `hi`, with their values, in the byte order of the keys.
+/// The keys of a family in the map from `lo` on and below `hi`, with their values, in the byte order of the keys.
 pub(crate) fn rows_in(
     alloc: Global,
-    pairs: &ByteMap,
+    pairs: &FamilyMap,
+    family: u32,
     lo: &[u8],
     hi: &[u8],
 ) -> Result<PairList, NoMemory>
-    ensures { IfOk result (λ rows. rows ≡ rows_within lo.now hi.now pairs.now) }
+    ensures { IfOk result (λ rows. rows ≡ rows_within family lo.now hi.now pairs.now) }
 {
     let mut rows = PairList::new(alloc);
-    // The rows are those of the keys so far that are in the range.
-    for (key, value) in pairs.iter() {
-        if !is_before(key, lo) && is_before(key, hi) {
+    // The rows are those of the family's keys so far that are in the range.
+    for (own, key, value) in pairs.iter() {
+        if own == family && !is_before(key, lo) && is_before(key, hi) {
             rows.push(Bytes::copy(alloc, key)?, Bytes::copy(alloc, value)?)?;
         }
     }

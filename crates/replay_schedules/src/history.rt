@@ -5,7 +5,6 @@ ghost use Rattle.std.specs.List.{AllZip};
 ghost use Rattle.std.specs.Option.{option_map_or};
 ghost use Rattle.run_outcome.specs.Shows.{ShowsEntry};
 ghost use Rattle.log_batch.specs.Contents.{Contents, with_addition};
-ghost use Rattle.log_batch.specs.View.{record_of};
 ghost use Rattle.run_command_list.specs.Kinds.{record_added};
 ghost use Rattle.run_command_list.specs.Views.{command_of};
 ghost use Rattle.replay_core.specs.Shown.{plans_in};
@@ -13,7 +12,7 @@ ghost use Rattle.replay_schedules.specs.Maps.{records_added};
 ghost use Rattle.replay_schedules.specs.Replaying.{InEachShown, entry_by};
 
 use crate::maps::batch_lines;
-use log_batch::{AddError, Batch, RecordView};
+use log_batch::{AddError, Batch};
 use model_base::NoMemory;
 use replay_core::State;
 use replay_plans::Lines;
@@ -77,20 +76,8 @@ fn add_line(batch: &mut Batch, line: &CommandView<'_>) -> Result<(), NoMemory>
     let Some(view) = line.record() else {
         return Ok(());
     };
-    match add_record(batch, view) {
+    match batch.add(view) {
         Ok(()) => Ok(()),
         Err(AddError::NoMemory | AddError::TooLarge { .. }) => Err(NoMemory),
-    }
-}
-
-/// Adds a record of any kind.
-fn add_record(batch: &mut Batch, view: RecordView<'_>) -> Result<(), AddError>
-    ensures { OnOk result (batch.new ≡ with_addition batch.old (record_of view.entry)) }
-{
-    match view {
-        RecordView::Value { key, value } => batch.put(key, value),
-        RecordView::Deletion { key } => batch.delete(key),
-        RecordView::SingleDeletion { key } => batch.single_delete(key),
-        RecordView::LogData { blob } => batch.log_data(blob),
     }
 }

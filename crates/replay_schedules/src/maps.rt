@@ -12,7 +12,7 @@ ghost use Rattle.replay_core.specs.Shows.{Shows};
 ghost use Rattle.replay_schedules.specs.Maps.{records_added, after_entries, after_line, map_up_to};
 
 use crate::reading::MapUpTo;
-use base_maps::ByteMap;
+use base_maps::FamilyMap;
 use log_batch::write_record;
 use model_base::NoMemory;
 use replay_core::State;
@@ -22,7 +22,7 @@ use run_outcome::HistoryEntry;
 use std::alloc::Global;
 
 /// The map at the sequence that was published last.
-pub fn map(state: &State<'_>, alloc: Global) -> Result<ByteMap, NoMemory>
+pub fn map(state: &State<'_>, alloc: Global) -> Result<FamilyMap, NoMemory>
     ensures { (o : core.Options) (s : core.State) → IsCore o s → Shows state.now o s
         → IfOk result (λ m. m ≡ core.published_map s) }
 {
@@ -30,7 +30,7 @@ pub fn map(state: &State<'_>, alloc: Global) -> Result<ByteMap, NoMemory>
 }
 
 /// The map after the entries whose runs end at a sequence or before, as a read at that sequence sees it.
-pub fn map_at(state: &State<'_>, alloc: Global, at: u64) -> Result<ByteMap, NoMemory>
+pub fn map_at(state: &State<'_>, alloc: Global, at: u64) -> Result<FamilyMap, NoMemory>
     ensures { (o : core.Options) (s : core.State) → IsCore o s → Shows state.now o s
         → IfOk result (λ m. m ≡ map_up_to at s.entries) }
 {
@@ -41,7 +41,7 @@ pub fn map_at(state: &State<'_>, alloc: Global, at: u64) -> Result<ByteMap, NoMe
 
 /// Writes entries into a map, in order.
 pub(crate) fn write_entries(
-    map: &mut ByteMap,
+    map: &mut FamilyMap,
     state: &State<'_>,
     entries: &[HistoryEntry<Lines>],
 ) -> Result<(), NoMemory>
@@ -56,7 +56,7 @@ pub(crate) fn write_entries(
 
 /// Writes the records of an entry into a map.
 fn write_entry(
-    map: &mut ByteMap,
+    map: &mut FamilyMap,
     state: &State<'_>,
     entry: &HistoryEntry<Lines>,
 ) -> Result<(), NoMemory>
@@ -96,7 +96,7 @@ fn lines_between<'a, 'b>(lines: &'a [CommandView<'b>], batch: Lines) -> &'a [Com
 }
 
 /// Writes the records that commands add into a map.
-fn write_lines(map: &mut ByteMap, lines: &[CommandView<'_>]) -> Result<(), NoMemory>
+fn write_lines(map: &mut FamilyMap, lines: &[CommandView<'_>]) -> Result<(), NoMemory>
     ensures { OnOk result (map.new ≡ after_records map.old (records_added lines.now)) }
 {
     // The map has the records that the lines so far add.
@@ -107,7 +107,7 @@ fn write_lines(map: &mut ByteMap, lines: &[CommandView<'_>]) -> Result<(), NoMem
 }
 
 /// Applies to a map the record that a command adds, if it adds one.
-fn write_line(map: &mut ByteMap, line: &CommandView<'_>) -> Result<(), NoMemory>
+fn write_line(map: &mut FamilyMap, line: &CommandView<'_>) -> Result<(), NoMemory>
     ensures { OnOk result (map.new ≡ after_line map.old (command_of line.now)) }
 {
     match line.record() {

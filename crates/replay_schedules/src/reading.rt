@@ -3,7 +3,7 @@
 ghost use Rattle.std.specs.Prelude.{◌≡◌, ◌≤◌, ◌+◌, nat_le, List, length, map, drop, take_while, IfOk, OnOk};
 ghost use Rattle.std.specs.List.{prefix_len};
 ghost use Rattle.model_base.specs.History as history;
-ghost use Rattle.model_base.specs.Map.{rows_within, value_at};
+ghost use Rattle.model_base.specs.Map.{key_at, rows_within, value_at};
 ghost use Rattle.base_bytes.specs.Answers.{found_value};
 ghost use Rattle.model_core.specs.Core as core;
 ghost use Rattle.model_core.specs.CoreLaw.{IsCore};
@@ -14,11 +14,11 @@ ghost use Rattle.replay_schedules.specs.Maps.{IsMapOf, map_up_to};
 use crate::answers::{rows_in, value_in, values_in};
 use crate::maps::write_entries;
 use base_bytes::{Found, FoundList, PairList};
-use base_maps::ByteMap;
+use base_maps::FamilyMap;
 use model_base::NoMemory;
 use replay_core::State;
 use replay_plans::Lines;
-use run_command_list::Words;
+use run_command_list::Keys;
 use run_outcome::HistoryEntry;
 use std::alloc::Global;
 
@@ -27,7 +27,7 @@ use std::alloc::Global;
 #[derive(Drop)]
 pub struct MapUpTo {
     alloc: Global,
-    map: ByteMap,
+    map: FamilyMap,
     /// The sequence; `count` is how many entries are in the map.
     at: u64,
     count: usize,
@@ -40,25 +40,32 @@ impl MapUpTo {
     {
         MapUpTo {
             alloc,
-            map: ByteMap::new(alloc),
+            map: FamilyMap::new(alloc),
             at: 0,
             count: 0,
         }
     }
 
-    /// The value of a key after the entries whose runs end at a sequence or before. The map moves to that sequence.
-    /// Where there is no memory it begins anew before the first entry.
-    pub fn value(&mut self, state: &State<'_>, key: &[u8], at: u64) -> Result<Found, NoMemory>
+    /// The value of a family's key after the entries whose runs end at a sequence or before. The map moves to that
+    /// sequence. Where there is no memory it begins anew before the first entry.
+    pub fn value(
+        &mut self,
+        state: &State<'_>,
+        family: u32,
+        key: &[u8],
+        at: u64,
+    ) -> Result<Found, NoMemory>
         ensures value { (o : core.Options) (s : core.State) → IsCore o s → Shows state.now o s
             → IsMapOf s.entries self.old
-            → IfOk result (λ found. found_value found ≡ value_at (map_up_to at s.entries) key.now) }
+            → IfOk result (λ found. found_value found
+            ≡ value_at (map_up_to at s.entries) (key_at family key.now)) }
         // It is the map of some first entries of the history, also where memory was short: so it can go on from there.
         ensures kept { (o : core.Options) (s : core.State) → IsCore o s → Shows state.now o s
             → IsMapOf s.entries self.old
             → IsMapOf s.entries self.new }
     {
         self.move_to(state, at)?;
-        value_in(self.alloc, &self.map, key)
+        value_in(self.alloc, &self.map, family, key)
     }
 
     /// The values of several keys after the entries whose runs end at a sequence or before, in the order of the keys,
@@ -66,7 +73,7 @@ impl MapUpTo {
     pub fn values(
         &mut self,
         state: &State<'_>,
-        keys: Words<'_>,
+        keys: Keys<'_>,
         at: u64,
     ) -> Result<FoundList, NoMemory>
         ensures values { (o : core.Options) (s : core.State) → IsCore o s → Shows state.now o s
@@ -80,28 +87,29 @@ impl MapUpTo {
         values_in(self.alloc, &self.map, keys)
     }
 
-    /// The keys from `lo` on and below `hi`, with their values after the entries whose runs end at a sequence or
-    /// before, in the byte order of the keys. The map moves there as for one key.
+    /// The keys of a family from `lo` on and below `hi`, with their values after the entries whose runs end at a
+    /// sequence or before, in the byte order of the keys. The map moves there as for one key.
     pub fn rows(
         &mut self,
         state: &State<'_>,
+        family: u32,
         lo: &[u8],
         hi: &[u8],
         at: u64,
     ) -> Result<PairList, NoMemory>
         ensures rows { (o : core.Options) (s : core.State) → IsCore o s → Shows state.now o s
             → IsMapOf s.entries self.old
-            → IfOk result (λ rows. rows ≡ rows_within lo.now hi.now (map_up_to at s.entries)) }
+            → IfOk result (λ rows. rows ≡ rows_within family lo.now hi.now (map_up_to at s.entries)) }
         ensures kept { (o : core.Options) (s : core.State) → IsCore o s → Shows state.now o s
             → IsMapOf s.entries self.old
             → IsMapOf s.entries self.new }
     {
         self.move_to(state, at)?;
-        rows_in(self.alloc, &self.map, lo, hi)
+        rows_in(self.alloc, &self.map, family, lo, hi)
     }
 
     /// The map as it is now.
-    pub(crate) fn into_map(self) -> ByteMap
+    pub(crate) fn into_map(self) -> FamilyMap
         ensures { result ≡ self.map }
     {
         self.map
@@ -130,7 +138,7 @@ impl MapUpTo {
         ensures kept { (entries : List history.Entry) → IsMapOf entries self.old → IsMapOf entries self.new }
     {
         if at < self.at {
-            self.map = ByteMap::new(self.alloc);
+            self.map = FamilyMap::new(self.alloc);
             self.at = at;
             self.count = 0;
         }

@@ -9,7 +9,7 @@ use crate::history::history_of;
 use crate::maps::map;
 use crate::plans::plans_of;
 use crate::replies::transcripts_of;
-use base_maps::ByteMap;
+use base_maps::FamilyMap;
 use log_batch::Batch;
 use model_base::{MAX_CLIENTS, NoMemory};
 use replay_core::{CoreOptions, Counts, State, replay};
@@ -28,7 +28,7 @@ pub struct Replayed {
     pub history: Vec<HistoryEntry<Batch>>,
     /// The published sequence; `map` is the map at it.
     pub last: u64,
-    pub map: ByteMap,
+    pub map: FamilyMap,
     /// How many groups were logged.
     pub groups: u64,
 }

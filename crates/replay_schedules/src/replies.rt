@@ -135,17 +135,17 @@ fn read_of(
         → IfOk result (λ reply. reply ≡ read_by s.entries at (command_of command.now))) }
 {
     match command {
-        CommandView::Get { key } => Ok(Some(Reply::Found {
+        CommandView::Get { family, key } => Ok(Some(Reply::Found {
             at,
-            value: found(reads.value(core, key, at)?),
+            value: found(reads.value(core, *family, key, at)?),
         })),
         CommandView::Many { keys } => Ok(Some(Reply::FoundEach {
             at,
             values: reads.values(core, keys.again(), at)?,
         })),
-        CommandView::Scan { lo, hi } => Ok(Some(Reply::Rows {
+        CommandView::Scan { family, lo, hi } => Ok(Some(Reply::Rows {
             at,
-            rows: reads.rows(core, lo, hi, at)?,
+            rows: reads.rows(core, *family, lo, hi, at)?,
         })),
         _ => Ok(None),
     }

@@ -1,14 +1,12 @@
 -- What one more batch changes in a list.
-use Rattle.std.proofs.Common.{◌≡◌, ℕ, ◌+◌, ◌<◌, ◌≤◌, ◌^◌, List, [], ◌∷◌, ◌++◌, length, take, drop, refl, sym, ap, ◌∙◌, arith, append-nil, length-append}
+use Rattle.std.proofs.Common.{◌≡◌, ℕ, ◌+◌, ◌<◌, ◌^◌, List, [], ◌∷◌, ◌++◌, length, take, drop, refl, sym, ap, ◌∙◌, arith, append-nil, length-append}
 use Rattle.std.proofs.lemmas.Grind.{flat_map-append}
 use Rattle.std.proofs.lemmas.Nat.{from_le_bytes-to_le_bytes_4}
 use Rattle.std.specs.Int.{w32, from_le_bytes}
 use Rattle.std.specs.List.{AllByRecursion}
 use Rattle.std.specs.Prelude.{Result, Ok, Err, is_err, OnOk, true, false}
-use Rattle.model_base.specs.declared.limits.TheConstants.{MAX_SIZE}
-use Rattle.model_base.specs.Batch.{count_of, size_of_batch}
+use Rattle.model_base.specs.Batch.{IsReadable, count_of}
 use Rattle.log_batch.specs.Contents.{Contents}
-use Rattle.log_batch.proofs.OwnRecords.{own_readable}
 use Rattle.run_batches.specs.declared.accepted.AcceptedBatch.{AcceptedBatch}
 use Rattle.run_batches.specs.OneBatch.{batch_bytes, IsBatchOf}
 use Rattle.run_batches.specs.Layout.{bytes_of, body, ends_from}
@@ -17,12 +15,11 @@ use Rattle.run_batches.specs.OneList.{Fits, AreBatches, same_batches}
 pub count_read : (bytes : List ℕ) (b : Contents) → IsBatchOf bytes b → from_le_bytes w32 (take 4 (drop 8 bytes)) ≡ count_of b.records
 count_read bytes b is = ap (λ (l : List ℕ). from_le_bytes w32 (take 4 (drop 8 l))) is.spelled ∙ from_le_bytes-to_le_bytes_4 (count_of b.records) is.count_fits
 
--- A small batch is determined by its bytes.
-pub small_batch : (bytes : List ℕ) (b : Contents) → bytes ≡ batch_bytes b → b.sequence < 2 ^ 64 → count_of b.records < 2 ^ 32 → size_of_batch b.records ≤ MAX_SIZE → IsBatchOf bytes b
-small_batch bytes b spelled sequence count size = record {
+-- A batch of readable records whose header fits is determined by its bytes.
+pub own_batch : (bytes : List ℕ) (b : Contents) → bytes ≡ batch_bytes b → AllByRecursion IsReadable b.records → b.sequence < 2 ^ 64 → count_of b.records < 2 ^ 32 → IsBatchOf bytes b
+own_batch bytes b spelled readable sequence count = record {
   spelled = spelled;
-  readable = own_readable bytes b.sequence (count_of b.records)
-      (record { records = b.records; count_is = refl; bytes_are = spelled; fits = omega (arith, ap length spelled, size) });
+  readable = readable;
   sequence_fits = sequence;
   count_fits = count;
 }

@@ -37,7 +37,8 @@ pub fn flag_of(byte: u8) -> Flag
 pub fn bytes_of(batch: &Batch) -> &[u8]
     ensures { IsBatchOf result.now batch.now }
 {
-    // From these calls the proof knows that the numbers of the header fit, and the lengths of the strings.
-    let _fit = (batch.sequence(), batch.count(), batch.size());
+    // From these calls the proof knows that the numbers of the header fit, and that the records can be read back.
+    let _fit = (batch.sequence(), batch.count());
+    drop(batch.records());
     batch.bytes()
 }

@@ -2,16 +2,17 @@
 use Rattle.std.proofs.Common.{◌≡◌, ℕ, ◌+◌, ◌<◌, ◌≤◌, List, [], ◌∷◌, ◌++◌, length, sym, ap, ◌∙◌, arith, append-nil, length-append}
 use Rattle.std.proofs.lemmas.Grind.{flat_map-append, common_steps}
 use Rattle.std.proofs.lemmas.List.Sums.{count_by-le-length}
-use Rattle.std.specs.Prelude.{Result, Ok, Err, is_err, OnOk, true, false}
+use Rattle.std.specs.Prelude.{Result, Ok, Err, is_err, OnOk, Some, None, true, false}
 use Rattle.std.specs.List.{AllByRecursion}
+use Rattle.model_base.specs.declared.key.Key.{Key}
 use Rattle.model_base.specs.Batch.{value, deletion, single_deletion, log_data}
-use Rattle.model_base.specs.Calls.{Command, add, clear, commit, get, many, scan, stop, unstop, slow, unslow}
-use Rattle.run_command_list.specs.Layout.{bytes_of_words, bytes_of, body}
-use Rattle.run_command_list.specs.Contents.{is_commit, commits_in, AreShort, Fits, AreWords, AreCommands, IsList}
-use Rattle.run_command_list.specs.OneList.{same_words, one_body}
+use Rattle.model_base.specs.Calls.{Command, add, clear, commit, get, many, scan, updates, stop, unstop, slow, unslow}
+use Rattle.run_command_list.specs.Layout.{bytes_of_keys, bytes_of, body}
+use Rattle.run_command_list.specs.Contents.{is_commit, commits_in, AreSmall, Fits, AreKeys, AreCommands, IsList}
+use Rattle.run_command_list.specs.OneList.{same_keys, one_body}
 
-pub words_are : (bytes : List ℕ) (count : ℕ) (h : AreWords bytes count) (words : List (List ℕ)) → AreShort words → count ≡ length words → bytes ≡ bytes_of_words words → h.words ≡ words
-words_are bytes count h words short counted spelled = same_words bytes count h (record { words = words; short = short; counted = counted; spelled = spelled })
+pub keys_are : (bytes : List ℕ) (count : ℕ) (h : AreKeys bytes count) (keys : List Key) → AreSmall keys → count ≡ length keys → bytes ≡ bytes_of_keys keys → h.keys ≡ keys
+keys_are bytes count h keys small counted spelled = same_keys bytes count h (record { keys = keys; small = small; counted = counted; spelled = spelled })
 
 pub commands_are : (bytes : List ℕ) (h : AreCommands bytes) (commands : List Command) → AllByRecursion Fits commands → bytes ≡ body commands → h.commands ≡ commands
 commands_are bytes h commands fit spelled = one_body h.commands commands h.fit fit (sym h.spelled ∙ spelled)
@@ -28,15 +29,19 @@ all_fit (d ∷ commands) c fit one = (fit.0, all_fit commands c fit.1 one)
 
 -- Each command has at least one byte.
 pub some_bytes : (c : Command) → 0 < length (bytes_of c)
-some_bytes (add (value k v)) = omega arith
-some_bytes (add (deletion k)) = omega arith
-some_bytes (add (single_deletion k)) = omega arith
+some_bytes (add (value None k v)) = omega arith
+some_bytes (add (value (Some f) k v)) = omega arith
+some_bytes (add (deletion None k)) = omega arith
+some_bytes (add (deletion (Some f) k)) = omega arith
+some_bytes (add (single_deletion None k)) = omega arith
+some_bytes (add (single_deletion (Some f) k)) = omega arith
 some_bytes (add (log_data t)) = omega arith
 some_bytes clear = omega arith
 some_bytes (commit o) = omega arith
 some_bytes (get k) = omega arith
 some_bytes (many ks) = omega arith
-some_bytes (scan lo hi) = omega arith
+some_bytes (scan f lo hi) = omega arith
+some_bytes (updates n) = omega arith
 some_bytes stop = omega arith
 some_bytes unstop = omega arith
 some_bytes (slow rate) = omega arith

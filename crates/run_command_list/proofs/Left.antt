@@ -1,37 +1,38 @@
--- What is left after the first word and after the first command.
+-- What is left after the first key and after the first command.
 use Rattle.std.proofs.Common.{◌≡◌, ℕ, ◌-◌, List, [], ◌∷◌, length, refl, sym, ap, ◌∙◌, arith}
 use Rattle.std.specs.Prelude.{Some, None}
 use Rattle.std.specs.List.{AllByRecursion}
+use Rattle.model_base.specs.declared.key.Key.{Key}
 use Rattle.model_base.specs.Calls.{Command}
-use Rattle.run_command_list.specs.Layout.{bytes_of_words, body}
-use Rattle.run_command_list.specs.Contents.{AreShort, Fits, AreWords, AreCommands}
-use Rattle.run_command_list.specs.Reading.{Read, read_byte, read_fixed32, read_word, read_command}
-use Rattle.run_command_list.specs.ReadBack.{word_back, command_back}
+use Rattle.run_command_list.specs.Layout.{bytes_of_keys, body}
+use Rattle.run_command_list.specs.Contents.{AreSmall, Fits, AreKeys, AreCommands}
+use Rattle.run_command_list.specs.Reading.{Read, read_byte, read_fixed32, read_key, read_command}
+use Rattle.run_command_list.specs.ReadBack.{key_back, command_back}
 use Rattle.run_command_list.specs.OneList.{one_read}
 
 -- what is there isn't nothing
 there : {A : Type 0} (p : A × List ℕ) → ◌≡◌ {A = Read A} None (Some p) → ⊥
 there p e = cc
 
-no_word_of : (bytes : List ℕ) (words : List (List ℕ)) → AreShort words → bytes ≡ bytes_of_words words → ◌≡◌ {A = Read (List ℕ)} None (read_word bytes) → words ≡ []
-no_word_of bytes [] short is none = refl
-no_word_of bytes (w ∷ words) short is none =
-    absurd (there {A = List ℕ} (w, bytes_of_words words) (none ∙ ap read_word is ∙ word_back w (bytes_of_words words) short.0))
+no_key_of : (bytes : List ℕ) (keys : List Key) → AreSmall keys → bytes ≡ bytes_of_keys keys → ◌≡◌ {A = Read Key} None (read_key bytes) → keys ≡ []
+no_key_of bytes [] small is none = refl
+no_key_of bytes (k ∷ keys) small is none =
+    absurd (there {A = Key} (k, bytes_of_keys keys) (none ∙ ap read_key is ∙ key_back k (bytes_of_keys keys) small.0))
 
-pub no_word : (bytes : List ℕ) (count : ℕ) (h : AreWords bytes count) → ◌≡◌ {A = Read (List ℕ)} None (read_word bytes) → h.words ≡ []
-no_word bytes count h none = no_word_of bytes h.words h.short h.spelled none
+pub no_key : (bytes : List ℕ) (count : ℕ) (h : AreKeys bytes count) → ◌≡◌ {A = Read Key} None (read_key bytes) → h.keys ≡ []
+no_key bytes count h none = no_key_of bytes h.keys h.small h.spelled none
 
-behind_word_of : (bytes : List ℕ) (count : ℕ) (words : List (List ℕ)) (w rest : List ℕ) → AreShort words → count ≡ length words → bytes ≡ bytes_of_words words
-    → ◌≡◌ {A = Read (List ℕ)} (Some (w, rest)) (read_word bytes) → (later : AreWords rest (count - 1)) × (words ≡ w ∷ later.words)
-unfolding read_word read_fixed32
-behind_word_of bytes count [] w rest short counted is first = absurd (there {A = List ℕ} (w, rest) (sym (first ∙ ap read_word is)))
-behind_word_of bytes count (v ∷ words) w rest short counted is first =
-    let same = one_read {A = List ℕ} (w, rest) (v, bytes_of_words words) (first ∙ ap read_word is ∙ word_back v (bytes_of_words words) short.0) in
-    (record { words = words; short = short.1; counted = omega (arith, counted); spelled = same.1 }, ap (λ (x : List ℕ). x ∷ words) (sym same.0))
+behind_key_of : (bytes : List ℕ) (count : ℕ) (keys : List Key) (k : Key) (rest : List ℕ) → AreSmall keys → count ≡ length keys → bytes ≡ bytes_of_keys keys
+    → ◌≡◌ {A = Read Key} (Some (k, rest)) (read_key bytes) → (later : AreKeys rest (count - 1)) × (keys ≡ k ∷ later.keys)
+unfolding read_key read_fixed32
+behind_key_of bytes count [] k rest small counted is first = absurd (there {A = Key} (k, rest) (sym (first ∙ ap read_key is)))
+behind_key_of bytes count (v ∷ keys) k rest small counted is first =
+    let same = one_read {A = Key} (k, rest) (v, bytes_of_keys keys) (first ∙ ap read_key is ∙ key_back v (bytes_of_keys keys) small.0) in
+    (record { keys = keys; small = small.1; counted = omega (arith, counted); spelled = same.1 }, ap (λ (x : Key). x ∷ keys) (sym same.0))
 
-pub behind_word : (bytes : List ℕ) (count : ℕ) (h : AreWords bytes count) (w rest : List ℕ) → ◌≡◌ {A = Read (List ℕ)} (Some (w, rest)) (read_word bytes)
-    → (later : AreWords rest (count - 1)) × (h.words ≡ w ∷ later.words)
-behind_word bytes count h w rest first = behind_word_of bytes count h.words w rest h.short h.counted h.spelled first
+pub behind_key : (bytes : List ℕ) (count : ℕ) (h : AreKeys bytes count) (k : Key) (rest : List ℕ) → ◌≡◌ {A = Read Key} (Some (k, rest)) (read_key bytes)
+    → (later : AreKeys rest (count - 1)) × (h.keys ≡ k ∷ later.keys)
+behind_key bytes count h k rest first = behind_key_of bytes count h.keys k rest h.small h.counted h.spelled first
 
 no_command_of : (bytes : List ℕ) (commands : List Command) → AllByRecursion Fits commands → bytes ≡ body commands → ◌≡◌ {A = Read Command} None (read_command bytes) → commands ≡ []
 no_command_of bytes [] fit is none = refl

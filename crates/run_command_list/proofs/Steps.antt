@@ -1,15 +1,17 @@
 -- What the steps of reading read.
-use Rattle.std.proofs.Common.{◌≡◌, ℕ, zero, suc, ◌+◌, ◌-◌, ◌<◌, ◌≤◌, ◌^◌, List, [], ◌∷◌, ◌++◌, length, take, drop, refl, sym, ap, ◌∙◌, arith, append_assoc, append-nil, length-append}
+use Rattle.std.proofs.Common.{◌≡◌, ℕ, zero, suc, ◌+◌, ◌-◌, ◌<◌, ◌≤◌, List, [], ◌∷◌, ◌++◌, length, take, drop, refl, sym, ap, ◌∙◌, arith, append_assoc, append-nil, length-append}
 use Rattle.std.specs.Prelude.{Some, None}
 use Rattle.std.specs.Int.{w32, w64, to_le_bytes, from_le_bytes}
 use Rattle.std.proofs.Math.Seq.{take-append_seam}
 use Rattle.std.proofs.lemmas.Bool.{lt-ltb, le-ltb}
 use Rattle.std.proofs.lemmas.Grind.{flat_map-append}
 use Rattle.std.proofs.lemmas.List.{take-append-drop}
-use Rattle.run_command_list.specs.Layout.{bytes_of_word, bytes_of_words}
-use Rattle.run_command_list.specs.Contents.{AreShort}
-use Rattle.run_command_list.specs.Reading.{Read, read_byte, read_fixed32, read_fixed64, read_word, read_words}
-use Rattle.run_command_list.specs.ReadBack.{word_back, words_back}
+use Rattle.model_base.specs.declared.key.Key.{Key}
+use Rattle.model_base.specs.Map.{key_at}
+use Rattle.run_command_list.specs.Layout.{bytes_of_word, bytes_of_key, bytes_of_keys}
+use Rattle.run_command_list.specs.Contents.{IsSmall, AreSmall}
+use Rattle.run_command_list.specs.Reading.{Read, read_byte, read_fixed32, read_fixed64, read_word, read_key, read_keys}
+use Rattle.run_command_list.specs.ReadBack.{key_back, keys_back}
 
 pub no_byte : (bytes : List ℕ) → length bytes ≡ 0 → ◌≡◌ {A = Read ℕ} None (read_byte bytes)
 unfolding read_byte
@@ -57,62 +59,78 @@ word_spelled bytes n behind w rest len is_n is_w is_rest =
     let parts : behind ≡ w ++ rest = sym (ap (λ (l : List ℕ). l ++ rest) is_w ∙ ap (λ (l : List ℕ). take n behind ++ l) is_rest ∙ take-append-drop n behind) in
     len ∙ ap (λ (l : List ℕ). to_le_bytes w32 n ++ l) parts ∙ ap (λ (k : ℕ). to_le_bytes w32 k ++ (w ++ rest)) (sym is_n) ∙ sym (append_assoc (to_le_bytes w32 (length w)) w rest)
 
--- `found` words, and then the rest
+pub no_family : (bytes : List ℕ) → ◌≡◌ {A = Read ℕ} None (read_fixed32 bytes) → ◌≡◌ {A = Read Key} None (read_key bytes)
+unfolding read_key
+no_family bytes none = rw (← none) refl
+
+pub key_cut : (bytes : List ℕ) (family : ℕ) (behind : List ℕ) → ◌≡◌ {A = Read ℕ} (Some (family, behind)) (read_fixed32 bytes) → ◌≡◌ {A = Read (List ℕ)} None (read_word behind) → ◌≡◌ {A = Read Key} None (read_key bytes)
+unfolding read_key
+key_cut bytes family behind number none = rw (← number, ← none) refl
+
+pub a_key : (bytes : List ℕ) (family : ℕ) (behind w rest : List ℕ) → ◌≡◌ {A = Read ℕ} (Some (family, behind)) (read_fixed32 bytes) → ◌≡◌ {A = Read (List ℕ)} (Some (w, rest)) (read_word behind) → ◌≡◌ {A = Read Key} (Some (key_at family w, rest)) (read_key bytes)
+unfolding read_key
+a_key bytes family behind w rest number word = rw (← number, ← word) refl
+
+pub key_spelled : (bytes : List ℕ) (family : ℕ) (behind w rest : List ℕ) → bytes ≡ to_le_bytes w32 family ++ behind → behind ≡ bytes_of_word w ++ rest → bytes ≡ bytes_of_key (key_at family w) ++ rest
+key_spelled bytes family behind w rest number word =
+    number ∙ ap (λ (l : List ℕ). to_le_bytes w32 family ++ l) word ∙ sym (append_assoc (to_le_bytes w32 family) (bytes_of_word w) rest)
+
+-- `found` keys, and then the rest
 pub record Walked (bytes rest : List ℕ) (found : ℕ) : Type 0 where
-  pub words : List (List ℕ)
-  pub short : AreShort words
-  pub counted : found ≡ length words
-  pub spelled : bytes ≡ bytes_of_words words ++ rest
+  pub keys : List Key
+  pub small : AreSmall keys
+  pub counted : found ≡ length keys
+  pub spelled : bytes ≡ bytes_of_keys keys ++ rest
 
-pub all_short : (words : List (List ℕ)) (w : List ℕ) → AreShort words → length w < 2 ^ 32 → AreShort (words ++ w ∷ [])
-all_short [] w short one = (one, tt)
-all_short (v ∷ words) w short one = (short.0, all_short words w short.1 one)
+pub all_small : (keys : List Key) (k : Key) → AreSmall keys → IsSmall k → AreSmall (keys ++ k ∷ [])
+all_small [] k small one = (one, tt)
+all_small (v ∷ keys) k small one = (small.0, all_small keys k small.1 one)
 
-pub words_added : (words : List (List ℕ)) (w : List ℕ) → bytes_of_words (words ++ w ∷ []) ≡ bytes_of_words words ++ bytes_of_word w
-words_added words w = flat_map-append bytes_of_word words (w ∷ []) ∙ ap (λ (l : List ℕ). bytes_of_words words ++ l) (append-nil (bytes_of_word w))
+pub keys_added : (keys : List Key) (k : Key) → bytes_of_keys (keys ++ k ∷ []) ≡ bytes_of_keys keys ++ bytes_of_key k
+keys_added keys k = flat_map-append bytes_of_key keys (k ∷ []) ∙ ap (λ (l : List ℕ). bytes_of_keys keys ++ l) (append-nil (bytes_of_key k))
 
 pub walked_none : (bytes : List ℕ) → Walked bytes bytes 0
-walked_none bytes = record { words = []; short = tt; counted = refl; spelled = refl }
+walked_none bytes = record { keys = []; small = tt; counted = refl; spelled = refl }
 
-pub walked_more : (bytes rest : List ℕ) (found : ℕ) (w behind : List ℕ) → Walked bytes rest found → length w < 2 ^ 32 → rest ≡ bytes_of_word w ++ behind → Walked bytes behind (found + 1)
-walked_more bytes rest found w behind walked short first = record {
-  words = walked.words ++ w ∷ [];
-  short = all_short walked.words w walked.short short;
-  counted = omega (arith, walked.counted, length-append walked.words (w ∷ []));
-  spelled = walked.spelled ∙ ap (λ (l : List ℕ). bytes_of_words walked.words ++ l) first ∙ sym (append_assoc (bytes_of_words walked.words) (bytes_of_word w) behind)
-      ∙ ap (λ (l : List ℕ). l ++ behind) (sym (words_added walked.words w));
+pub walked_more : (bytes rest : List ℕ) (found : ℕ) (k : Key) (behind : List ℕ) → Walked bytes rest found → IsSmall k → rest ≡ bytes_of_key k ++ behind → Walked bytes behind (found + 1)
+walked_more bytes rest found k behind walked small first = record {
+  keys = walked.keys ++ k ∷ [];
+  small = all_small walked.keys k walked.small small;
+  counted = omega (arith, walked.counted, length-append walked.keys (k ∷ []));
+  spelled = walked.spelled ∙ ap (λ (l : List ℕ). bytes_of_keys walked.keys ++ l) first ∙ sym (append_assoc (bytes_of_keys walked.keys) (bytes_of_key k) behind)
+      ∙ ap (λ (l : List ℕ). l ++ behind) (sym (keys_added walked.keys k));
 }
 
--- where a word breaks off before as many words as were asked for, nothing is read
-pub words_cut : (words : List (List ℕ)) (rest : List ℕ) (n : ℕ) → AreShort words → length words < n → ◌≡◌ {A = Read (List ℕ)} None (read_word rest) → ◌≡◌ {A = Read (List (List ℕ))} None (read_words n (bytes_of_words words ++ rest))
-unfolding read_words
-words_cut words rest zero short fewer none = absurd (omega (arith, fewer))
-words_cut [] rest (suc n) short fewer none = rw (← none) refl
-words_cut (w ∷ words) rest (suc n) short fewer none =
-    rw (append_assoc (bytes_of_word w) (bytes_of_words words) rest, word_back w (bytes_of_words words ++ rest) short.0, ← words_cut words rest n short.1 (omega (arith, fewer)) none) refl
+-- where a key breaks off before as many as were asked for, nothing is read
+pub keys_cut : (keys : List Key) (rest : List ℕ) (n : ℕ) → AreSmall keys → length keys < n → ◌≡◌ {A = Read Key} None (read_key rest) → ◌≡◌ {A = Read (List Key)} None (read_keys n (bytes_of_keys keys ++ rest))
+unfolding read_keys
+keys_cut keys rest zero small fewer none = absurd (omega (arith, fewer))
+keys_cut [] rest (suc n) small fewer none = rw (← none) refl
+keys_cut (k ∷ keys) rest (suc n) small fewer none =
+    rw (append_assoc (bytes_of_key k) (bytes_of_keys keys) rest, key_back k (bytes_of_keys keys ++ rest) small.0, ← keys_cut keys rest n small.1 (omega (arith, fewer)) none) refl
 
-pub walked_cut : (bytes rest : List ℕ) (found n : ℕ) → Walked bytes rest found → found < n → ◌≡◌ {A = Read (List ℕ)} None (read_word rest) → ◌≡◌ {A = Read (List (List ℕ))} None (read_words n bytes)
+pub walked_cut : (bytes rest : List ℕ) (found n : ℕ) → Walked bytes rest found → found < n → ◌≡◌ {A = Read Key} None (read_key rest) → ◌≡◌ {A = Read (List Key)} None (read_keys n bytes)
 walked_cut bytes rest found n walked fewer none =
-    words_cut walked.words rest n walked.short (omega (arith, fewer, walked.counted)) none ∙ ap (λ (l : List ℕ). read_words n l) (sym walked.spelled)
+    keys_cut walked.keys rest n walked.small (omega (arith, fewer, walked.counted)) none ∙ ap (λ (l : List ℕ). read_keys n l) (sym walked.spelled)
 
-pub walked_all : (bytes rest : List ℕ) (n : ℕ) (walked : Walked bytes rest n) → ◌≡◌ {A = Read (List (List ℕ))} (Some (walked.words, rest)) (read_words n bytes)
+pub walked_all : (bytes rest : List ℕ) (n : ℕ) (walked : Walked bytes rest n) → ◌≡◌ {A = Read (List Key)} (Some (walked.keys, rest)) (read_keys n bytes)
 walked_all bytes rest n walked =
-    sym (ap (λ (k : ℕ). read_words k bytes) walked.counted ∙ ap (λ (l : List ℕ). read_words (length walked.words) l) walked.spelled ∙ words_back walked.words rest walked.short)
+    sym (ap (λ (k : ℕ). read_keys k bytes) walked.counted ∙ ap (λ (l : List ℕ). read_keys (length walked.keys) l) walked.spelled ∙ keys_back walked.keys rest walked.small)
 
-pub walked_front : (bytes rest front : List ℕ) (n : ℕ) (walked : Walked bytes rest n) → front ≡ take (length bytes - length rest) bytes → front ≡ bytes_of_words walked.words
+pub walked_front : (bytes rest front : List ℕ) (n : ℕ) (walked : Walked bytes rest n) → front ≡ take (length bytes - length rest) bytes → front ≡ bytes_of_keys walked.keys
 walked_front bytes rest front n walked is =
-    let ws = bytes_of_words walked.words in
+    let ws = bytes_of_keys walked.keys in
     let len : length bytes - length rest ≡ length ws = omega (arith, ap length walked.spelled, length-append ws rest) in
     is ∙ ap (λ (k : ℕ). take k bytes) len ∙ ap (λ (l : List ℕ). take (length ws) l) walked.spelled ∙ take-append_seam ws rest
 
 pub walked_fewer : (bytes rest : List ℕ) (n : ℕ) → Walked bytes rest n → length rest ≤ length bytes
-walked_fewer bytes rest n walked = omega (arith, ap length walked.spelled, length-append (bytes_of_words walked.words) rest)
+walked_fewer bytes rest n walked = omega (arith, ap length walked.spelled, length-append (bytes_of_keys walked.keys) rest)
 
--- as many words as were asked for
+-- as many keys as were asked for
 pub walked_as_many : (bytes rest : List ℕ) (found n : ℕ) → Walked bytes rest found → found ≤ n → n ≤ found → Walked bytes rest n
 walked_as_many bytes rest found n walked most least = record {
-  words = walked.words;
-  short = walked.short;
+  keys = walked.keys;
+  small = walked.small;
   counted = omega (arith, walked.counted, most, least);
   spelled = walked.spelled;
 }

@@ -1,14 +1,15 @@
--- Bytes are those of at most one list of words, and of at most one list of commands.
+-- Bytes are those of at most one list of keys, and of at most one list of commands.
 use Rattle.std.proofs.Common.{◌≡◌, ℕ, List, [], ◌∷◌, ◌++◌, length, refl, sym, ap, ◌∙◌}
 use Rattle.std.specs.Prelude.{Some, None}
 use Rattle.std.specs.List.{AllByRecursion, AllByRecursion-prop}
 use Rattle.std.specs.Coded.{le_prop, Coded-set, coded_ℕ, coded_list}
 use mathlib.Core.HLevel.{is_prop→PathP}
+use Rattle.model_base.specs.declared.key.Key.{Key}
 use Rattle.model_base.specs.Calls.{Command}
-use Rattle.run_command_list.specs.Layout.{bytes_of_words, bytes_of, body}
-use Rattle.run_command_list.specs.Contents.{words_of, commits_in, AreShort, Fits, AreWords, AreCommands, IsList}
-use Rattle.run_command_list.specs.Reading.{Read, read_byte, read_words, read_command}
-use Rattle.run_command_list.specs.ReadBack.{words_back, command_back}
+use Rattle.run_command_list.specs.Layout.{bytes_of_keys, bytes_of, body}
+use Rattle.run_command_list.specs.Contents.{words_of, keys_of, commits_in, IsSmall, AreSmall, Fits, AreKeys, AreCommands, IsList}
+use Rattle.run_command_list.specs.Reading.{Read, read_byte, read_keys, read_command}
+use Rattle.run_command_list.specs.ReadBack.{keys_back, command_back}
 
 -- where two reads give the same, they read the same thing and leave the same bytes after it
 pub one_read : {A : Type 0} (p q : A × List ℕ) → Some p ≡ Some q → (p.0 ≡ q.0) × (p.1 ≡ q.1)
@@ -16,12 +17,12 @@ one_read {A} p q same = (ap (λ (r : A × List ℕ). r.0) pairs, ap (λ (r : A �
   pairs : p ≡ q
   pairs = cc
 
-pub one_words : (a b : List (List ℕ)) → AreShort a → AreShort b → length a ≡ length b
-    → bytes_of_words a ≡ bytes_of_words b → a ≡ b
-one_words a b short_a short_b as_many same =
-    (one_read {A = List (List ℕ)} (a, []) (b, []) (sym (words_back a [] short_a)
-    ∙ ap (λ (n : ℕ). read_words n (bytes_of_words a ++ [])) as_many
-    ∙ ap (λ (l : List ℕ). read_words (length b) (l ++ [])) same ∙ words_back b [] short_b)).0
+pub one_keys : (a b : List Key) → AreSmall a → AreSmall b → length a ≡ length b
+    → bytes_of_keys a ≡ bytes_of_keys b → a ≡ b
+one_keys a b small_a small_b as_many same =
+    (one_read {A = List Key} (a, []) (b, []) (sym (keys_back a [] small_a)
+    ∙ ap (λ (n : ℕ). read_keys n (bytes_of_keys a ++ [])) as_many
+    ∙ ap (λ (l : List ℕ). read_keys (length b) (l ++ [])) same ∙ keys_back b [] small_b)).0
 
 no_bytes : (c : Command) (x : List ℕ) → Fits c → [] ≡ bytes_of c ++ x → ⊥
 unfolding read_command read_byte
@@ -39,27 +40,34 @@ one_body (c ∷ a) (d ∷ b) fit_a fit_b same =
     let rest = one_body a b fit_a.1 fit_b.1 first.1 in
     ap (λ (v : Command). v ∷ a) first.0 ∙ ap (λ (l : List Command). d ∷ l) rest
 
+IsSmall-prop : (key : Key) → IsProp (IsSmall key)
+IsSmall-prop key x y = λ i. (le_prop x.0 y.0 i, le_prop x.1 y.1 i)
+
+AreSmall-prop : (keys : List Key) → IsProp (AreSmall keys)
+AreSmall-prop keys x y = AllByRecursion-prop IsSmall IsSmall-prop keys x y
+
 Fits-prop : (c : Command) → IsProp (Fits c)
 Fits-prop c x y = λ i. record {
   words = AllByRecursion-prop _ (λ w. le_prop) (words_of c) x.words y.words i;
+  keys = AreSmall-prop (keys_of c) x.keys y.keys i;
   count = le_prop x.count y.count i;
   rate = le_prop x.rate y.rate i;
 }
 
--- bytes with this count are those of one list of words only
-pub same_words : (bytes : List ℕ) (count : ℕ) (x y : AreWords bytes count) → x.words ≡ y.words
-same_words bytes count x y =
-    one_words x.words y.words x.short y.short (sym x.counted ∙ y.counted) (sym x.spelled ∙ y.spelled)
+-- bytes with this count are those of one list of keys only
+pub same_keys : (bytes : List ℕ) (count : ℕ) (x y : AreKeys bytes count) → x.keys ≡ y.keys
+same_keys bytes count x y =
+    one_keys x.keys y.keys x.small y.small (sym x.counted ∙ y.counted) (sym x.spelled ∙ y.spelled)
 
-pub AreWords-prop : (bytes : List ℕ) (count : ℕ) → IsProp (AreWords bytes count)
-AreWords-prop bytes count x y = λ i. record {
-  words = same_words bytes count x y i;
-  short = is_prop→PathP (λ j. AreShort (same_words bytes count x y j))
-      (λ j. AllByRecursion-prop _ (λ w. le_prop) (same_words bytes count x y j)) x.short y.short i;
-  counted = is_prop→PathP (λ j. count ≡ length (same_words bytes count x y j))
-      (λ j. Coded-set coded_ℕ count (length (same_words bytes count x y j))) x.counted y.counted i;
-  spelled = is_prop→PathP (λ j. bytes ≡ bytes_of_words (same_words bytes count x y j))
-      (λ j. Coded-set (coded_list coded_ℕ) bytes (bytes_of_words (same_words bytes count x y j))) x.spelled y.spelled i;
+pub AreKeys-prop : (bytes : List ℕ) (count : ℕ) → IsProp (AreKeys bytes count)
+AreKeys-prop bytes count x y = λ i. record {
+  keys = same_keys bytes count x y i;
+  small = is_prop→PathP (λ j. AreSmall (same_keys bytes count x y j))
+      (λ j. AreSmall-prop (same_keys bytes count x y j)) x.small y.small i;
+  counted = is_prop→PathP (λ j. count ≡ length (same_keys bytes count x y j))
+      (λ j. Coded-set coded_ℕ count (length (same_keys bytes count x y j))) x.counted y.counted i;
+  spelled = is_prop→PathP (λ j. bytes ≡ bytes_of_keys (same_keys bytes count x y j))
+      (λ j. Coded-set (coded_list coded_ℕ) bytes (bytes_of_keys (same_keys bytes count x y j))) x.spelled y.spelled i;
 }
 
 pub same_commands : (bytes : List ℕ) (x y : AreCommands bytes) → x.commands ≡ y.commands

@@ -4,37 +4,64 @@ ghost use Rattle.std.specs.Prelude.{◌≡◌, [], ◌∷◌};
 ghost use Rattle.run_command_list.specs.Contents.{commits_in};
 ghost use Rattle.run_command_list.specs.Views.{command_of};
 
-use crate::{CommandKind, Words};
+use crate::{CommandKind, Keys};
 use log_batch::RecordView;
 use model_base::WriteOptions;
 
 /// A command of a client, whose words are borrowed. Contracts see it by `command_of`.
+///
+/// A record that is added names its key's family, or it names none and is about the default one, whose number is 0.
 #[derive(Drop)]
 pub enum CommandView<'a> {
     /// Adds a value to the client's batch.
-    Put { key: &'a [u8], value: &'a [u8] },
+    Put {
+        family: Option<u32>,
+        key: &'a [u8],
+        value: &'a [u8],
+    },
     /// Adds the deletion of a key.
-    Delete { key: &'a [u8] },
+    Delete {
+        family: Option<u32>,
+        key: &'a [u8],
+    },
     /// Adds the deletion of a key that was put once.
-    SingleDelete { key: &'a [u8] },
+    SingleDelete {
+        family: Option<u32>,
+        key: &'a [u8],
+    },
     /// Adds a note for the log alone.
-    Note { text: &'a [u8] },
+    Note {
+        text: &'a [u8],
+    },
     /// Empties the batch.
     Clear,
     /// Writes the batch.
-    Commit { options: WriteOptions },
-    /// Reads a key.
-    Get { key: &'a [u8] },
-    /// Reads several keys at one sequence.
-    Many { keys: Words<'a> },
-    /// Reads the keys from `lo` on and below `hi`.
-    Scan { lo: &'a [u8], hi: &'a [u8] },
+    Commit {
+        options: WriteOptions,
+    },
+    /// Reads a key of a family.
+    Get {
+        family: u32,
+        key: &'a [u8],
+    },
+    /// Reads several keys in families at one sequence.
+    Many {
+        keys: Keys<'a>,
+    },
+    /// Reads the keys of a family from `lo` on and below `hi`.
+    Scan {
+        family: u32,
+        lo: &'a [u8],
+        hi: &'a [u8],
+    },
     /// Takes the write controller's stop token for the client, which holds writes back.
     Stop,
     /// Gives the stop token back.
     Unstop,
     /// Takes the write controller's delay token for the client, which slows writes down to `rate` bytes a second.
-    Slow { rate: u64 },
+    Slow {
+        rate: u64,
+    },
     /// Gives the delay token back.
     Unslow,
 }
@@ -70,9 +97,19 @@ impl<'a> CommandView<'a> {
         ensures { option_map record_of result ≡ record_added (command_of self.now) }
     {
         match self {
-            CommandView::Put { key, value } => Some(RecordView::Value { key, value }),
-            CommandView::Delete { key } => Some(RecordView::Deletion { key }),
-            CommandView::SingleDelete { key } => Some(RecordView::SingleDeletion { key }),
+            CommandView::Put { family, key, value } => Some(RecordView::Value {
+                family: *family,
+                key,
+                value,
+            }),
+            CommandView::Delete { family, key } => Some(RecordView::Deletion {
+                family: *family,
+                key,
+            }),
+            CommandView::SingleDelete { family, key } => Some(RecordView::SingleDeletion {
+                family: *family,
+                key,
+            }),
             CommandView::Note { text } => Some(RecordView::LogData { blob: text }),
             CommandView::Clear
             | CommandView::Commit { .. }

@@ -1,7 +1,8 @@
 //! The commands of a client, kept as bytes one after another. They take little memory: a put takes nine bytes and
 //! those of its key and its value, and no allocation of its own.
 //!
-//! Numbers have the lowest byte first. A word comes after its length, which has four bytes.
+//! Numbers have the lowest byte first. A word comes after its length, which has four bytes. The number of a family has
+//! four bytes.
 //!
 //! | Tag | Command | After the tag |
 //! |---|---|---|
@@ -11,25 +12,28 @@
 //! | 4 | note | a word: the text |
 //! | 5 | clear | nothing |
 //! | 6 | commit | a byte: 1 for sync, 2 for no log and 4 for no slowdown, added up |
-//! | 7 | get | a word: the key |
-//! | 8 | get of several keys | the number of keys in four bytes, and a word for each |
-//! | 9 | scan | two words: where it begins, and what it stays below |
+//! | 7 | get | the key's family, and a word: the key |
+//! | 8 | get of several keys | the number of keys in four bytes, and for each its family and a word |
+//! | 9 | scan | a family, and two words: where it begins, and what it stays below |
 //! | 10 | stop | nothing |
 //! | 11 | unstop | nothing |
 //! | 12 | slow | the rate in eight bytes |
 //! | 13 | unslow | nothing |
+//! | 14 | put in a family that is named | the family, and two words: the key and the value |
+//! | 15 | delete in a family that is named | the family, and a word: the key |
+//! | 16 | single delete in a family that is named | the family, and a word: the key |
 #![tactic(auto)]
 
 mod command_kind;
 mod command_view;
 mod commands;
+mod keys;
 mod layout;
 mod list;
 mod reading;
-mod words;
 
 pub use command_kind::CommandKind;
 pub use command_view::CommandView;
 pub use commands::Commands;
+pub use keys::{KeyList, Keys};
 pub use list::CommandList;
-pub use words::{WordList, Words};

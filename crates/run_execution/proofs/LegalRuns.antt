@@ -1,10 +1,10 @@
 -- What a legal outcome says of each batch and of each refusal.
-use Rattle.std.proofs.Common.{◌≡◌, ℕ, zero, suc, ◌+◌, ◌-◌, ◌≤◌, ◌==◌, Bool, true, false, cond, Option, Some, None, List, [], ◌∷◌, length, slice_get, refl, sym, subst, inl, inr, arith}
+use Rattle.std.proofs.Common.{◌≡◌, ℕ, zero, suc, ◌+◌, ◌-◌, ◌^◌, ◌<◌, ◌≤◌, ◌==◌, Bool, true, false, cond, Option, Some, None, List, [], ◌∷◌, length, slice_get, refl, sym, subst, inl, inr, arith}
 use Rattle.std.specs.List.{AllByRecursion}
 use Rattle.std.proofs.lemmas.Bool.{eq-eqb}
 use Rattle.std.proofs.lemmas.Option.{slice_get_cases, slice_get_within}
 use Rattle.model_base.specs.declared.limits.TheConstants.{MAX_SIZE}
-use Rattle.model_base.specs.Batch.{size_of_batch}
+use Rattle.model_base.specs.Progress.{families_in}
 use Rattle.model_base.specs.History.{Entry}
 use Rattle.model_base.specs.Trace.{Trace, Settings}
 use Rattle.model_base.specs.Attempts.{Attempt}
@@ -12,7 +12,8 @@ use Rattle.model_base.specs.Groups.{Group, AreStatuses}
 use Rattle.model_base.specs.Calls.{Command, Call, Outcome}
 use Rattle.model_base.specs.Outcomes.{IsClient, IsLegalIn, IsLegalTranscript, entries_of_client}
 use Rattle.model_runs.specs.Refusals.{AreRefusedForThemselves}
-use Rattle.run_execution.proofs.LegalSteps.{AreSmall, NoneFaulted, none_faulted, transcribed}
+use Rattle.run_execution.proofs.LoggedGroups.{IsBounded}
+use Rattle.run_execution.proofs.LegalSteps.{IsAllowed, AreSmall, NoneFaulted, none_faulted, transcribed}
 
 -- Each element of a list
 
@@ -65,22 +66,26 @@ part_at settings ended script trace attempts o legal i calls at =
     record { commands = mine.it; attempts = part.0; part = part.2 }
 
 client_small : (settings : Settings) (ended : ℕ) (script : List (List Command)) (trace : Trace) (attempts : List (List Attempt)) (o : Outcome) → IsLegalIn settings ended script trace attempts o
-    → (c : ℕ) → IsClient settings c → AreSmall settings.batch_bytes (entries_of_client c trace.entries)
+    → (c : ℕ) → IsClient settings c → AreSmall settings.families settings.batch_bytes (entries_of_client c trace.entries)
 client_small settings ended script trace attempts o legal c is =
     let some = is.0 in let most = is.1 in let clients = legal.clients in let count = legal.count in
     let at = at_place o.transcripts (c - 1) (omega (arith, some, most, clients, count)) in
     let has = part_at settings ended script trace attempts o legal (c - 1) at.it at.there in
     let small = (transcribed settings trace (c - 1 + 1) has.commands at.it has.part.end has.part.is_transcript).small tt in
     let number : c - 1 + 1 ≡ c = omega (arith, some) in
-    subst (λ (n : ℕ). AreSmall settings.batch_bytes (entries_of_client n trace.entries)) number (subst (AreSmall settings.batch_bytes) (sym has.part.accepted) small)
+    subst (λ (n : ℕ). AreSmall settings.families settings.batch_bytes (entries_of_client n trace.entries)) number (subst (AreSmall settings.families settings.batch_bytes) (sym has.part.accepted) small)
 
--- no accepted batch is larger than the settings allow
+-- no accepted batch is larger than the settings allow, and its families are among those that there are
 pub small_entries : (settings : Settings) (ended : ℕ) (script : List (List Command)) (trace : Trace) (attempts : List (List Attempt)) (o : Outcome)
-    → IsLegalIn settings ended script trace attempts o → settings.batch_bytes ≤ MAX_SIZE
-    → AllByRecursion (λ (e : Entry). size_of_batch e.records ≤ MAX_SIZE) trace.entries
-small_entries settings ended script trace attempts o legal limit =
-    all_weaker (λ (e : Entry). size_of_batch e.records ≤ settings.batch_bytes) (λ (e : Entry). size_of_batch e.records ≤ MAX_SIZE) (λ e small. omega (arith, small, limit)) trace.entries
-    (all_of_clients (λ (e : Entry). size_of_batch e.records ≤ settings.batch_bytes) (IsClient settings) trace.entries legal.is_trace.clients (client_small settings ended script trace attempts o legal))
+    → IsLegalIn settings ended script trace attempts o → settings.batch_bytes ≤ MAX_SIZE → settings.families < 2 ^ 32
+    → AllByRecursion IsBounded trace.entries
+small_entries settings ended script trace attempts o legal limit few =
+    all_weaker (λ (e : Entry). IsAllowed settings.families settings.batch_bytes e.records) IsBounded
+    (λ e allowed. (
+      (let small = allowed.0 in omega (arith, small, limit)),
+      all_weaker (λ (f : ℕ). f < settings.families) (λ (f : ℕ). f < 2 ^ 32) (λ f below. omega (arith, below, few)) (families_in e.records) allowed.1,
+    )) trace.entries
+    (all_of_clients (λ (e : Entry). IsAllowed settings.families settings.batch_bytes e.records) (IsClient settings) trace.entries legal.is_trace.clients (client_small settings ended script trace attempts o legal))
 
 -- where the log has no fault, commits were refused only for causes of their own
 pub refused_for_themselves : (settings : Settings) (ended : ℕ) (script : List (List Command)) (trace : Trace) (attempts : List (List Attempt)) (o : Outcome)

@@ -1,5 +1,5 @@
 -- The records of a log's groups are batches that recovery reads, and their runs rise.
-use Rattle.std.proofs.Common.{◌≡◌, ◌≢◌, inl, inr, ℕ, zero, suc, ◌+◌, ◌-◌, ◌*◌, ◌^◌, ◌<◌, ◌≤◌, Bool, true, false, eqb, IsTrue, List, [], ◌∷◌, ◌++◌, length, take, map, flat_map, cond, ◌==◌, refl, ap, sym, ◌∙◌, subst, arith, length-append}
+use Rattle.std.proofs.Common.{◌≡◌, ◌≢◌, inl, inr, ℕ, zero, suc, ◌+◌, ◌-◌, ◌*◌, ◌^◌, ◌<◌, ◌≤◌, Bool, true, false, eqb, IsTrue, Some, None, IfSome, List, [], ◌∷◌, ◌++◌, length, take, map, flat_map, cond, ◌==◌, refl, ap, sym, ◌∙◌, subst, arith, length-append}
 use Rattle.std.proofs.lemmas.Bool.{eqb-true, ne_eqb, or_cases}
 use Rattle.std.proofs.lemmas.Grind.{flat_map-append}
 use Rattle.std.proofs.lemmas.List.{length-map, take-map, map-append}
@@ -8,7 +8,8 @@ use Rattle.std.proofs.lemmas.Map.Steps.{length-le_from_distinct_below}
 use Rattle.std.specs.List.{AllByRecursion, AllZip, IsDistinct, list_any}
 use Rattle.model_base.specs.declared.limits.TheConstants.{MAX_CLIENTS, MAX_SIZE}
 use Rattle.model_base.specs.Varint.{varint}
-use Rattle.model_base.specs.Batch.{Record, value, deletion, single_deletion, log_data, tag_of, is_tag, strings_of, is_counted, count_of, varstring, record_bytes, header, body, size_of_batch, IsReadable, IsBatch}
+use Rattle.model_base.specs.Batch.{Record, value, deletion, single_deletion, log_data, tag_of, is_tag, named_by, family_bytes, strings_of, is_counted, count_of, varstring, record_bytes, header, body, size_of_batch, IsReadable, IsBatch}
+use Rattle.model_base.specs.Progress.{families_in}
 use Rattle.model_base.specs.History.{Entry, max_sequence, last_of, IsHistory, RunsFollow, last_sequence, is_logged, logged_entries}
 use Rattle.model_base.specs.LogContents.{GroupCall, record_of_entries, records_of}
 use Rattle.model_base.specs.Recovery.{Logged, logged_bytes, last_after, AreInOrder, last_sequence as last_kept}
@@ -24,16 +25,43 @@ strings_short (s ∷ strings) few =
     (omega (arith, few, all, length-append (varint (length s)) s), strings_short strings (omega (arith, few, all)))
 
 each_tag : (r : Record) → IsTrue (is_tag (tag_of r))
-each_tag (value key v) = refl
-each_tag (deletion key) = refl
-each_tag (single_deletion key) = refl
+each_tag (value None key v) = refl
+each_tag (value (Some family) key v) = refl
+each_tag (deletion None key) = refl
+each_tag (deletion (Some family) key) = refl
+each_tag (single_deletion None key) = refl
+each_tag (single_deletion (Some family) key) = refl
 each_tag (log_data blob) = refl
 
-readable : (records : List Record) → length (body records) < 2 ^ 32 → AllByRecursion IsReadable records
-readable [] few = tt
-readable (r ∷ records) few =
+-- the families of records have numbers of 32 bits
+abbrev AreSmall : List Record → Type 0
+AreSmall records = AllByRecursion (λ (f : ℕ). f < 2 ^ 32) (families_in records)
+
+first_family : (r : Record) (records : List Record) → AreSmall (r ∷ records) → IfSome (named_by r) (λ f. f < 2 ^ 32) × AreSmall records
+first_family (value None key v) records small = (tt, small.1)
+first_family (value (Some family) key v) records small = small
+first_family (deletion None key) records small = (tt, small.1)
+first_family (deletion (Some family) key) records small = small
+first_family (single_deletion None key) records small = (tt, small.1)
+first_family (single_deletion (Some family) key) records small = small
+first_family (log_data blob) records small = (tt, small)
+
+all_families : (xs ys : List Record) → AreSmall xs → AreSmall ys → AreSmall (xs ++ ys)
+all_families [] ys a b = b
+all_families (value family key v ∷ xs) ys a b = (a.0, all_families xs ys a.1 b)
+all_families (deletion family key ∷ xs) ys a b = (a.0, all_families xs ys a.1 b)
+all_families (single_deletion family key ∷ xs) ys a b = (a.0, all_families xs ys a.1 b)
+all_families (log_data blob ∷ xs) ys a b = all_families xs ys a b
+
+readable : (records : List Record) → length (body records) < 2 ^ 32 → AreSmall records → AllByRecursion IsReadable records
+readable [] few small = tt
+readable (r ∷ records) few small =
     let all = length-append (record_bytes r) (body records) in
-    (record { tag = each_tag r; lengths = strings_short (strings_of r) (omega (arith, few, all)) }, readable records (omega (arith, few, all)))
+    let own = length-append (family_bytes (named_by r)) (flat_map varstring (strings_of r)) in
+    let families = first_family r records small in (
+      record { tag = each_tag r; family = families.0; lengths = strings_short (strings_of r) (omega (arith, few, all, own)) },
+      readable records (omega (arith, few, all)) families.1,
+    )
 
 -- each record has at least one byte
 few_records : (records : List Record) → length records ≤ length (body records)
@@ -57,15 +85,23 @@ same_records [] some = refl
 same_records ([] ∷ groups) some = absurd (omega (arith, some.0))
 same_records ((e ∷ entries) ∷ groups) some = ap (λ l. record_of_entries (e ∷ entries) ∷ l) (same_records groups some.1)
 
--- a batch of at most 16 MiB, of one of 64 clients
+-- a batch of at most 16 MiB, whose families have numbers of 32 bits
+abbrev pub IsBounded : Entry → Type 0
+IsBounded e = (size_of_batch e.records ≤ MAX_SIZE) × AllByRecursion (λ (f : ℕ). f < 2 ^ 32) (families_in e.records)
+
+-- such a batch, of one of 64 clients
 abbrev pub Suits : Entry → Type 0
-Suits e = (size_of_batch e.records ≤ MAX_SIZE) × (e.client ≤ MAX_CLIENTS)
+Suits e = IsBounded e × (e.client ≤ MAX_CLIENTS)
 
 body_joined : (entries : List Entry) → AllByRecursion Suits entries → length (body (joined entries)) ≤ MAX_SIZE * length entries
 body_joined [] suit = omega arith
 body_joined (e ∷ entries) suit =
-    let small : size_of_batch e.records ≤ MAX_SIZE = suit.0.0 in
+    let small : size_of_batch e.records ≤ MAX_SIZE = suit.0.0.0 in
     omega (arith, small, length-append (header 0 (count_of e.records)) (body e.records), ap length (flat_map-append record_bytes e.records (joined entries)), length-append (body e.records) (body (joined entries)), body_joined entries suit.1)
+
+families_joined : (entries : List Entry) → AllByRecursion Suits entries → AreSmall (joined entries)
+families_joined [] suit = tt
+families_joined (e ∷ entries) suit = all_families e.records (joined entries) suit.0.0.1 (families_joined entries suit.1)
 
 -- No client has two entries in a group. So a group has few entries (no more than there are numbers up to the greatest
 -- client), and its batches have less than 2 ^ 32 bytes together.
@@ -154,7 +190,7 @@ is_own low e entries small above =
     let few : length (body records) < 2 ^ 32 = omega (arith, body_joined (e ∷ entries) small.suit, few_entries (e ∷ entries) small.apart small.suit) in
     record {
       spelled = refl;
-      readable = readable records few;
+      readable = readable records few (families_joined (e ∷ entries) small.suit);
       sequence_fits = omega (arith, above.fits, above.some);
       count_fits = omega (arith, few, few_records records, count_by-le-length is_counted records);
     }

@@ -18,7 +18,7 @@ use Rattle.run_outcome.specs.declared.log_start.LogStart.{LogStart}
 use Rattle.run_outcome.specs.declared.log_start.LogStart.TheVariants.{New, Over, Behind}
 use Rattle.run_outcome.specs.Running.{Before, nothing, number_in, RecoversTo, GoesOnFrom, beginning_of, begun_on, RecoversKept, IfGoesOn, IsOpened, IsAsFound, GoesOn}
 use Rattle.log_recovery.specs.declared.modes.Mode.{Mode}
-use Rattle.run_execution.specs.Ends.{HasOpenedAs, IsOpenedFor, IsAccepted, IsLeftAlone, LeavesAlone, IsRefused, end_of}
+use Rattle.run_execution.specs.Ends.{HasOpenedAs, IsOpenedFor, IsAccepted, HasFewFamilies, IsLeftAlone, LeavesAlone, IsRefused, end_of}
 use Rattle.run_execution.proofs.SafeLogs.{KeepsBatches, keeps_none}
 
 -- what holds of any content holds of what a disk tells
@@ -137,17 +137,17 @@ module _ {D : Type 0} {ghosts : Ghosts D} where
 
   -- and a crash leaves no less of it
   pub crash_as : (start : LogStart) (mode : Mode) (before : Before) (disk : D) (log : LogWriter D ghosts) → OnlyNow ghosts disk → GoesOnFrom start (ghosts.told disk) before → IsAccepted start mode (ghosts.told disk)
-      → HasOpenedAs start before disk log → LeavesAlone ghosts start mode disk (disk_of log)
-  crash_as New mode before disk log only goes accepted has_opened = leaves_looked ghosts disk (disk_of log) only (has_opened.looked_at).same (has_opened.looked_at).time
-  crash_as (Over n) mode before disk log only goes accepted has_opened = has_opened.crash
-  crash_as (Behind number) mode before disk log only goes accepted has_opened = inr (accepted, (before, goes, (has_opened.0).crash))
+      → HasFewFamilies start (ghosts.told disk) → HasOpenedAs start before disk log → LeavesAlone ghosts start mode disk (disk_of log)
+  crash_as New mode before disk log only goes accepted in_range has_opened = leaves_looked ghosts disk (disk_of log) only (has_opened.looked_at).same (has_opened.looked_at).time
+  crash_as (Over n) mode before disk log only goes accepted in_range has_opened = has_opened.crash
+  crash_as (Behind number) mode before disk log only goes accepted in_range has_opened = inr (accepted, in_range, (before, goes, (has_opened.0).crash))
 
   -- The log was opened for a run that goes on from nothing.
-  pub opened_new : (disk : D) (log : LogWriter D ghosts) → HasOpened disk log → IsOpenedFor ghosts New disk (record { log = log; map = []; last = 0 })
-  opened_new disk log has_opened = record { before = nothing; goes_on = refl; is_opened = has_opened; map = refl; last = refl; none = λ e. refl }
+  pub opened_new : (disk : D) (log : LogWriter D ghosts) → HasOpened disk log → IsOpenedFor ghosts New disk (record { log = log; map = []; last = 0; families = 1 })
+  opened_new disk log has_opened = record { before = nothing; goes_on = refl; is_opened = has_opened; map = refl; last = refl; none = λ e. refl; families = refl }
 
-  pub opened_over : (n : ℕ) (disk : D) (log : LogWriter D ghosts) → HasReused disk n log → IsOpenedFor ghosts (Over n) disk (record { log = log; map = []; last = 0 })
-  opened_over n disk log has_reused = record { before = nothing; goes_on = refl; is_opened = has_reused; map = refl; last = refl; none = λ e. refl }
+  pub opened_over : (n : ℕ) (disk : D) (log : LogWriter D ghosts) → HasReused disk n log → IsOpenedFor ghosts (Over n) disk (record { log = log; map = []; last = 0; families = 1 })
+  opened_over n disk log has_reused = record { before = nothing; goes_on = refl; is_opened = has_reused; map = refl; last = refl; none = λ e. refl; families = refl }
 
 -- Where the log was not opened
 
@@ -177,7 +177,7 @@ module _ {D : Type 0} (ghosts : Ghosts D) (disk now : D) where
   refused_over n mode why error = by_cause why error.cause
     where
       found : IsLeftAlone (Over n) mode (ghosts.told disk) (ghosts.told now)
-      found = inr (tt, as_found (Over n) nothing (ghosts.told disk) (ghosts.told now) (λ x y. y ≡ rewound x) refl (λ x y e. e) error.told)
+      found = inr (tt, tt, as_found (Over n) nothing (ghosts.told disk) (ghosts.told now) (λ x y. y ≡ rewound x) refl (λ x y e. e) error.told)
 
       by_cause : (why : OpenError) → IsCauseOver ghosts disk now why → IsRefused ghosts (Over n) mode disk now (end_of why)
       by_cause (Fault count) cause = let now_is = cause.1 in (found, (cause.0, omega (arith, now_is)), error.crash)

@@ -1,10 +1,12 @@
--- A log that goes on after what is recovered of it.
-use Rattle.std.proofs.Common.{◌≡◌, ◌⊎◌, inl, inr, ℕ, ◌≤◌, List, length, take, map, replicate, IfSome, Option, Some, None, ap, sym, ◌∙◌, subst, arith, length-take}
+-- A log that is resumed after what is recovered of it.
+use Rattle.std.proofs.Common.{◌≡◌, ◌⊎◌, inl, inr, ℕ, ◌<◌, ◌≤◌, List, length, take, map, replicate, IfSome, Option, Some, None, ap, sym, ◌∙◌, subst, arith, length-take}
 use Rattle.std.proofs.lemmas.List.{length-replicate}
 use Rattle.base_devices.specs.Disk.{Disk, Told, TimePasses, all_safe, cut_at}
 use Rattle.base_devices.specs.declared.disk.Disk.{Ghosts}
+use Rattle.model_base.specs.declared.limits.TheConstants.{MAX_FAMILIES}
 use Rattle.model_base.specs.Counts.{Rose}
 use Rattle.model_base.specs.Log.{SpellsWhole}
+use Rattle.model_base.specs.Map.{greatest_family}
 use Rattle.model_base.specs.Recovery.{logged_bytes}
 use Rattle.log_recovery.specs.declared.modes.Mode.{Mode}
 use Rattle.log_recovery.specs.declared.recovery.Recovered.{Recovered}
@@ -19,7 +21,7 @@ use Rattle.log_writer.proofs.Putting.{leaves_more}
 use Rattle.log_writer.proofs.Beginning.{leaves_before_of}
 use Rattle.run_outcome.specs.declared.log_start.LogStart.TheVariants.{Behind}
 use Rattle.run_outcome.specs.Running.{Before, GoesOnFrom, GoesOn}
-use Rattle.run_execution.specs.Ends.{HasAcceptedEnd, HasOpenedAs, IsAccepted, IsLeftAlone, LeavesAlone, IsRefused, end_of}
+use Rattle.run_execution.specs.Ends.{HasAcceptedEnd, HasFewFamilies, HasHighFamily, HasOpenedAs, IsAccepted, IsLeftAlone, LeavesAlone, IsRefused, end_of}
 use Rattle.run_execution.proofs.Openings.{OnlyNow, leaves_looked, as_found}
 
 -- What is recovered, and the bytes that are kept. Where the disk doesn't tell them, as many zeros take their place.
@@ -79,7 +81,7 @@ module _ (number : Option ℕ) (shown : Recovered) where
         leaves_more ghosts.moment ghosts.from ghosts.since (MayBeLeftOf (ghosts.told disk) kept) (MayBeLeftOf (ghosts.told read) kept) disk read now
         (leaves_before_of ghosts disk read kept (leaves_looked ghosts disk read only same time)) leaves (λ image may. subst (λ (t : Option Disk). MayBeLeftOf t kept image) same may)
 
-    -- A log that goes on over a disk that was read goes on over the disk as it was before it was read.
+    -- A log that was resumed over a disk that was read was resumed over the disk as it was before it was read.
     read_first : (log : LogWriter D ghosts) → OnlyNow ghosts disk → HasResumed read shown.kept number log → HasResumed disk shown.kept number log
     read_first log only resumed =
         record {
@@ -97,19 +99,20 @@ module _ (number : Option ℕ) (shown : Recovered) where
 
     -- and where the log was not opened, why
     module _ (now : D) where
-      pub refused_behind : (mode : Mode) (why : OpenError) → OnlyNow ghosts disk → IsAccepted (Behind number) mode (ghosts.told disk) → IsResumeError ghosts read now shown.kept why → IsRefused ghosts (Behind number) mode disk now (end_of why)
-      refused_behind mode why only accepted error = by_cause why error.cause
+      pub refused_behind : (mode : Mode) (why : OpenError) → OnlyNow ghosts disk → IsAccepted (Behind number) mode (ghosts.told disk) → HasFewFamilies (Behind number) (ghosts.told disk) → IsResumeError ghosts read now shown.kept why → IsRefused ghosts (Behind number) mode disk now (end_of why)
+      refused_behind mode why only accepted in_range error = by_cause why error.cause
         where
           found : IsLeftAlone (Behind number) mode (ghosts.told disk) (ghosts.told now)
           found = inr (
             accepted,
+            in_range,
             as_found (Behind number) (before_of (ghosts.told disk) shown) (ghosts.told disk) (ghosts.told now) (λ x y. y ≡ cut_at shown.kept x) (goes_behind (ghosts.told disk) has)
                 (λ x y e. inl (e ∙ ap (λ (n : ℕ). cut_at n x) (sym (kept_len (ghosts.told disk) has))))
                 (subst (λ (t : Option Disk). Told t (ghosts.told now) (λ x y. (y ≡ x) ⊎ (y ≡ cut_at shown.kept x))) same error.told),
           )
 
           crash : LeavesAlone ghosts (Behind number) mode disk now
-          crash = inr (accepted, (before_of (ghosts.told disk) shown, goes_behind (ghosts.told disk) has, subst (λ (n : ℕ). LeavesOf ghosts disk now n) (sym (kept_len (ghosts.told disk) has)) (leaves_first now only error.crash)))
+          crash = inr (accepted, in_range, (before_of (ghosts.told disk) shown, goes_behind (ghosts.told disk) has, subst (λ (n : ℕ). LeavesOf ghosts disk now n) (sym (kept_len (ghosts.told disk) has)) (leaves_first now only error.crash)))
 
           by_cause : (why : OpenError) → IsCauseOver ghosts read now why → IsRefused ghosts (Behind number) mode disk now (end_of why)
           by_cause (Fault count) cause = let now_is = cause.1 in (found, (subst (λ (n : ℕ). Rose n count) no_fault cause.0, omega (arith, now_is)), crash)
@@ -132,3 +135,15 @@ accepted_end number mode (Some d) shown has accepts =
       is = has.is;
       accepts = subst (λ (at : ℕ). Accepts number mode d.content at (has.recovered).why) shows.at (subst (Accepts number mode d.content shown.end.at) shows.why accepts);
     }
+
+-- The greatest family of the keys that are recovered
+
+pub high_family : (number : Option ℕ) (mode : Mode) (told : Option Disk) (shown : Recovered) → IfSome told (λ d. HasRecovered number d.content shown)
+    → IfSome told (λ d. Accepts number mode d.content shown.end.at shown.end.why) → (family : ℕ) → family ≡ greatest_family shown.map → MAX_FAMILIES ≤ family → HasHighFamily (Behind number) mode told family
+unfolding accepted_end
+high_family number mode None shown has accepts family is high = (high, tt)
+high_family number mode (Some d) shown has accepts family is high = (high, (accepted_end number mode (Some d) shown has accepts, is ∙ ap greatest_family (has.shows).map_is))
+
+pub few_families : (number : Option ℕ) (told : Option Disk) (shown : Recovered) → IfSome told (λ d. HasRecovered number d.content shown) → (family : ℕ) → family ≡ greatest_family shown.map → family < MAX_FAMILIES → HasFewFamilies (Behind number) told
+few_families number None shown has family is few = tt
+few_families number (Some d) shown has family is few = (has.recovered, has.is, subst (λ (n : ℕ). n < MAX_FAMILIES) (is ∙ ap greatest_family (has.shows).map_is) few)

@@ -1,5 +1,5 @@
 -- How a run ends, from its result over its opened log.
-use Rattle.std.proofs.Common.{◌≡◌, inr, ℕ, ◌≤◌, max, List, [], ◌∷◌, ◌++◌, length, take, IfSome, Option, None, Vec, Global, refl, ap, sym, ◌∙◌, subst, arith, length-append}
+use Rattle.std.proofs.Common.{◌≡◌, inr, ℕ, ◌^◌, ◌<◌, ◌≤◌, max, List, [], ◌∷◌, ◌++◌, length, take, IfSome, Option, None, Vec, Global, refl, ap, sym, ◌∙◌, subst, arith, length-append}
 use Rattle.model_base.specs.declared.limits.TheConstants.{MAX_CLIENTS, MAX_SIZE}
 use Rattle.base_devices.specs.declared.disk.Disk.{Ghosts}
 use Rattle.base_devices.specs.Disk as dev
@@ -30,7 +30,7 @@ use Rattle.run_execution.specs.declared.opening.Opened.{Opened}
 use Rattle.run_execution.specs.declared.end.RunEnd.{RunEnd}
 use Rattle.run_execution.specs.declared.end.RunEnd.TheVariants.{NoMemory}
 use Rattle.log_recovery.specs.declared.modes.Mode.{Mode}
-use Rattle.run_execution.specs.Ends.{HasOutcome, HasOpenedAs, IsOpenedFor, IsAccepted, IsRefused, options_behind, execution_on, EndsOn, IsEndOfRun}
+use Rattle.run_execution.specs.Ends.{HasFewFamilies, HasOutcome, HasOpenedAs, IsOpenedFor, IsAccepted, IsRefused, options_behind, execution_on, EndsOn, IsEndOfRun}
 use Rattle.run_execution.proofs.LegalRuns.{small_entries, refused_for_themselves}
 use Rattle.run_execution.proofs.Openings.{OnlyNow, ImageLaw, keeps_as, recovers_as, content_as, empty_as, found_as, no_fault_as, crash_as}
 use Rattle.run_execution.proofs.SafeLogs.{len_is, safe_log, left_since, kept_left, held_images, is_written, goes_on, later}
@@ -44,13 +44,16 @@ comes_to fault faults ran s t xs ys v w same_settings same_script same_calls com
     (subst (λ (u : List GroupCall → _ → Type 0). ComesTo s xs u fault faults ran) same_calls comes))
 
 -- The settings of an engine over what was opened are those of a run that goes on from it.
-pub settings_behind : {D : Type 0} {ghosts : Ghosts D} (start : LogStart) (disk : D) (opened : Opened D ghosts) (options : Options) (last n m : ℕ) (is : IsOpenedFor ghosts start disk opened) → last ≡ max options.last opened.last → n ≡ m
-    → settings_of (record options { last = last }) opened.map n (ghosts.faults (disk_of opened.log)) ≡ settings_of (options_behind options is.before) is.before.map m (ghosts.faults disk)
-settings_behind {ghosts = ghosts} start disk opened options last n m is last_is same =
-    ap (λ (l : ℕ). settings_of (record options { last = l }) opened.map n (ghosts.faults (disk_of opened.log))) (last_is ∙ ap (max options.last) is.last)
+pub settings_behind : {D : Type 0} {ghosts : Ghosts D} (start : LogStart) (disk : D) (opened : Opened D ghosts) (options : Options) (last families n m : ℕ) (is : IsOpenedFor ghosts start disk opened) → last ≡ max options.last opened.last
+    → families ≡ max options.families opened.families → n ≡ m
+    → settings_of (record options { last = last; families = families }) opened.map n (ghosts.faults (disk_of opened.log)) ≡ settings_of (options_behind options is.before) is.before.map m (ghosts.faults disk)
+settings_behind {ghosts = ghosts} start disk opened options last families n m is last_is families_are same =
+    ap (λ (l : ℕ). settings_of (record options { last = l; families = families }) opened.map n (ghosts.faults (disk_of opened.log))) (last_is ∙ ap (max options.last) is.last)
+    ∙ (ap (λ (f : ℕ). settings_of (record options { last = max options.last is.before.last; families = f }) opened.map n (ghosts.faults (disk_of opened.log)))
+    (families_are ∙ ap (max options.families) is.families)
     ∙ (ap (λ (p : Pairs). settings_of (options_behind options is.before) p n (ghosts.faults (disk_of opened.log))) is.map
     ∙ (ap (λ (k : ℕ). settings_of (options_behind options is.before) is.before.map k (ghosts.faults (disk_of opened.log))) same
-    ∙ ap (settings_of (options_behind options is.before) is.before.map m) (no_fault_as start is.before disk opened.log is.is_opened)))
+    ∙ ap (settings_of (options_behind options is.before) is.before.map m) (no_fault_as start is.before disk opened.log is.is_opened))))
 
 -- What the laws say of a log with this beginning, and of its calls
 module _ {D : Type 0} (ghosts : Ghosts D) (b : Beginning) where
@@ -79,7 +82,7 @@ module _ {D : Type 0} {ghosts : Ghosts D} where
   not_written old calls new (one_more {calls = before} c wrote adds) none = absurd (omega (arith, ap length none, length-append before (c ∷ [])))
 
   module _ (start : LogStart) (before : Before) (disk : D) (opened : LogWriter D ghosts) (options : Options) (script : List (List Command)) (goes : GoesOnFrom start (ghosts.told disk) before)
-      (has_opened : HasOpenedAs start before disk opened) (begun : HasBegun (beginning_of start before) disk opened) (few : length script ≤ MAX_CLIENTS) (bounded : options.batch_bytes ≤ MAX_SIZE) (recovers : ImageLaw)
+      (has_opened : HasOpenedAs start before disk opened) (begun : HasBegun (beginning_of start before) disk opened) (few : length script ≤ MAX_CLIENTS) (bounded : options.batch_bytes ≤ MAX_SIZE) (families : (options_behind options before).families < 2 ^ 32) (recovers : ImageLaw)
       (stands : StandsBy ghosts (beginning_of start before) disk) (content : HasContent ghosts (beginning_of start before) disk) (cause : HasCause ghosts (beginning_of start before) disk) (held : Holds ghosts (beginning_of start before) disk) (begins : Begins ghosts (beginning_of start before)) where
     abbrev settings : Settings
     settings = settings_of (options_behind options before) before.map (length script) (ghosts.faults disk)
@@ -111,6 +114,7 @@ module _ {D : Type 0} {ghosts : Ghosts D} where
               cut = ran.writes.cut;
               runs = ran.writes.runs;
               each = ran.writes.each;
+              logged = ran.writes.logged;
               none_else = ran.writes.none_else;
               by = (log, written, refl);
             };
@@ -121,7 +125,7 @@ module _ {D : Type 0} {ghosts : Ghosts D} where
             run = run;
             refusals = refused_for_themselves settings ended script ran.trace ran.attempts o legal;
             counted = (cause calls log written).no_fault;
-            log = safe_log disk opened log execution o run few (small_entries settings ended script ran.trace ran.attempts o legal bounded)
+            log = safe_log disk opened log execution o run few (small_entries settings ended script ran.trace ran.attempts o legal bounded families)
                 (keeps_as start before (ghosts.told disk) ran.trace.start goes (let first = (legal.is_trace).start in omega (arith, first))) (empty_as start before disk opened has_opened) (content_as start before disk opened has_opened) begun ran.writes.by
                 (stands calls log written) (content calls opened log begun ran.writes.by) (held_images b ghosts.moment ghosts.from ghosts.since (ghosts.told disk) disk (disk_of log) calls (held calls log written))
                 (kept_left b disk (disk_of log) calls stands begins)
@@ -147,15 +151,15 @@ module _ {D : Type 0} {ghosts : Ghosts D} where
             }
 
     -- how the run ends, from its result
-    pub is_end : (mode : Mode) → IsAccepted start mode (ghosts.told disk) → OnlyNow ghosts disk → (ran : ClientsEnd (LogWriter D ghosts)) → ComesTo settings script (Wrote opened) fault_of (λ l. ghosts.faults (disk_of l)) ran
+    pub is_end : (mode : Mode) → IsAccepted start mode (ghosts.told disk) → HasFewFamilies start (ghosts.told disk) → OnlyNow ghosts disk → (ran : ClientsEnd (LogWriter D ghosts)) → ComesTo settings script (Wrote opened) fault_of (λ l. ghosts.faults (disk_of l)) ran
         → (told : RunEnd) → IsEndOfRun ran told → EndsOn ghosts options start mode script disk (disk_of (log_of ran)) told
-    is_end mode accepted only (NotRun log) wrote told e =
+    is_end mode accepted in_range only (NotRun log) wrote told e =
         subst (λ (r : RunEnd). EndsOn ghosts options start mode script disk (disk_of log) r) (sym e)
         (subst (λ (l : LogWriter D ghosts). IsRefused ghosts start mode disk (disk_of l) NoMemory) (sym (not_written opened [] log wrote refl))
-        (inr (accepted, found_as start before disk opened goes has_opened), no_fault_as start before disk opened has_opened, crash_as start mode before disk opened only goes accepted has_opened))
-    is_end mode accepted only (Untold log last) ran told e =
+        (inr (accepted, in_range, found_as start before disk opened goes has_opened), no_fault_as start before disk opened has_opened, crash_as start mode before disk opened only goes accepted in_range has_opened))
+    is_end mode accepted in_range only (Untold log last) ran told e =
         subst (λ (r : RunEnd). EndsOn ghosts options start mode script disk (disk_of log) r) (sym e) (before, goes, has_outcome log last ran)
-    is_end mode accepted only (Told log last transcripts history state) both told e =
+    is_end mode accepted in_range only (Told log last transcripts history state) both told e =
         subst (λ (r : RunEnd). EndsOn ghosts options start mode script disk (disk_of log) r) (sym e.2) (before, goes, has_run log last transcripts history state e.0 e.1 both.0 both.1)
 
   -- the disk's time has gone on, and its count of faults hasn't fallen, whether calls wrote the log or none did

@@ -3,10 +3,9 @@ use Rattle.std.proofs.Common.{◌≡◌, ℕ, zero, suc, ◌+◌, ◌-◌, ◌<�
 use Rattle.std.proofs.lemmas.List.{take-append-le, append-nil}
 use Rattle.std.specs.Prelude.{⊤}
 use Rattle.std.specs.List.{AllByRecursion, AllZip}
-use Rattle.model_base.specs.declared.limits.TheConstants.{MAX_CLIENTS, MAX_SIZE}
+use Rattle.model_base.specs.declared.limits.TheConstants.{MAX_CLIENTS}
 use Rattle.base_devices.specs.Disk.{Disk, Told, IsImage, LeavesOnly}
 use Rattle.base_devices.specs.declared.disk.Disk.{Ghosts}
-use Rattle.model_base.specs.Batch.{size_of_batch}
 use Rattle.model_base.specs.Log.{Beginning, text_after, SpellsWhole}
 use Rattle.model_base.specs.History.{Entry, RunsFollow, IsHistory, last_sequence, logged_entries}
 use Rattle.model_base.specs.Attempts.{Attempt}
@@ -34,7 +33,7 @@ use Rattle.run_outcome.specs.declared.log_start.LogStart.{LogStart}
 use Rattle.run_outcome.specs.declared.log_start.LogStart.TheVariants.{New}
 use Rattle.run_outcome.specs.Running.{Execution, Before, beginning_of, begun_on, IsRunOf, IfGoesOn, RecoversKept, LeavesSafeLog, GoesOn}
 use Rattle.model_runs.specs.Written.{WroteEntries, AreLost, WritesLog}
-use Rattle.run_execution.proofs.LoggedGroups.{Suits, each_has_entries, AreKept, rising_groups}
+use Rattle.run_execution.proofs.LoggedGroups.{IsBounded, Suits, each_has_entries, AreKept, rising_groups}
 use Rattle.run_execution.proofs.GroupCalls.{written_front, safe_front, written_is, synced_is, held_is, kept_is, failed_write}
 
 -- how the log of an execution begins
@@ -159,7 +158,7 @@ tells_on (Some x) (Some y) (Some z) first second = tt
 
 -- batches of at most 16 MiB, of no more than 64 clients
 pub all_suit : (settings : Settings) → settings.clients ≤ MAX_CLIENTS → (entries : List Entry) → AllByRecursion (λ (e : Entry). IsClient settings e.client) entries
-    → AllByRecursion (λ (e : Entry). size_of_batch e.records ≤ MAX_SIZE) entries → AllByRecursion Suits entries
+    → AllByRecursion IsBounded entries → AllByRecursion Suits entries
 all_suit settings few [] clients small = tt
 all_suit settings few (e ∷ entries) clients small = ((small.0, let within = clients.0.1 in omega (arith, within, few)), all_suit settings few entries clients.1 small.1)
 
@@ -287,7 +286,7 @@ module _ {D : Type 0} {ghosts : Ghosts D} where
 
   -- what the log holds, and what a crash leaves of it
   pub safe_log : (disk : D) (opened log : LogWriter D ghosts) (execution : Execution) (o : Outcome) (run : IsRunOf execution o) → length execution.script ≤ MAX_CLIENTS
-      → AllByRecursion (λ (e : Entry). size_of_batch e.records ≤ MAX_SIZE) run.trace.entries
+      → AllByRecursion IsBounded run.trace.entries
       → IfSome (ghosts.told disk) (λ d. KeepsBatches (own execution) run.trace.start)
       → (execution.start ≡ New → IfSome (ghosts.told disk) (λ d. d.content ≡ []))
       → Told (ghosts.told disk) (ghosts.told (disk_of opened)) (λ x y. y.content ≡ begun_on execution.start execution.before x.content)

@@ -1,5 +1,5 @@
 -- How a run over a set of logs ends, from its result over its opened set.
-use Rattle.std.proofs.Common.{◌≡◌, ℕ, ◌+◌, ◌-◌, ◌^◌, ◌≤◌, min, List, [], ◌∷◌, ◌++◌, length, map, sum_by, IfSome, Vec, Global, refl, ap, sym, ◌∙◌, subst, arith, length-append}
+use Rattle.std.proofs.Common.{◌≡◌, ℕ, ◌+◌, ◌-◌, ◌^◌, ◌<◌, ◌≤◌, min, List, [], ◌∷◌, ◌++◌, length, map, sum_by, IfSome, Vec, Global, refl, ap, sym, ◌∙◌, subst, arith, length-append}
 use Rattle.std.proofs.lemmas.List.Sums.{sum_by-cons}
 use Rattle.std.specs.List.{AllByRecursion, AllZip}
 use Rattle.model_base.specs.declared.limits.TheConstants.{MAX_CLIENTS, MAX_SIZE}
@@ -132,7 +132,7 @@ module _ {D : Type 0} {ghosts : Ghosts D} where
   not_written old calls new (one_more {calls = before} c wrote adds) none = absurd (omega (arith, ap length none, length-append before (c ∷ [])))
 
   module _ (laws : SetLaws ghosts) (only_now : (disk : D) → OnlyNow ghosts disk) (disks : List D) (opened : LogSet D ghosts) (options : Options) (limit : ℕ) (script : List (List Command)) (has : HasOpenedSet disks opened) (limit_is : limit_of opened ≡ limit)
-      (few : length script ≤ MAX_CLIENTS) (bounded : options.batch_bytes ≤ MAX_SIZE) where
+      (few : length script ≤ MAX_CLIENTS) (bounded : options.batch_bytes ≤ MAX_SIZE) (families : options.families < 2 ^ 32) where
     abbrev settings : Settings
     settings = settings_of options [] (length script) (count_in_all ghosts.faults disks)
 
@@ -167,6 +167,7 @@ module _ {D : Type 0} {ghosts : Ghosts D} where
               cut = w.cut;
               runs = w.runs;
               each = w.each;
+              logged = w.logged;
               none_else = w.none_else;
               by = (set, record { opened = opened; has_opened = has; limit_is = limit_is; wrote = w.by }, refl, refl);
             };
@@ -179,7 +180,7 @@ module _ {D : Type 0} {ghosts : Ghosts D} where
           } in
           let ended : ℕ = count_in_all ghosts.faults (disks_of set) in
           let caused = caused_in_set opened (w.calls ++ w.lost) set has.fault w.by in
-          let small = small_entries settings ended script ran.trace ran.attempts outcome legal bounded in
+          let small = small_entries settings ended script ran.trace ran.attempts outcome legal bounded families in
           let suit = all_suit settings (let many = legal.clients in omega (arith, many, few)) (ran.trace).entries (legal.is_trace).clients small in
           record {
             run = run;

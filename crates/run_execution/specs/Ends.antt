@@ -1,15 +1,16 @@
 -- How a run ends, and what is true then.
-use Rattle.std.specs.Prelude.{◌≡◌, ◌≢◌, ◌⊎◌, ◌<◌, ℕ, max, List, [], length, take, Option, None, IfSome, Vec, ⊤}
+use Rattle.std.specs.Prelude.{◌≡◌, ◌≢◌, ◌⊎◌, ◌<◌, ◌≤◌, ◌+◌, ℕ, max, List, [], length, take, Option, None, IfSome, Vec, ⊤}
 use Rattle.std.specs.declared.alloc.Global.{Global}
 use Rattle.std.specs.List.{AllByRecursion}
 use Rattle.base_devices.specs.Disk.{Disk, Told}
 use Rattle.base_devices.specs.declared.disk.Disk.{Ghosts}
 use Rattle.model_base.specs.Settings.{settings_of}
 use Rattle.model_base.specs.Calls as calls
-use Rattle.model_base.specs.Map.{Pairs}
+use Rattle.model_base.specs.declared.limits.TheConstants.{MAX_FAMILIES}
+use Rattle.model_base.specs.Map.{Pairs, greatest_family}
 use Rattle.model_base.specs.declared.log.EndReason.{EndReason}
 use Rattle.model_base.specs.declared.options.Options.{Options}
-use Rattle.model_base.specs.Recovery.{Recovered, IsRecovered}
+use Rattle.model_base.specs.Recovery.{Recovered, IsRecovered, recovered_map}
 use Rattle.model_runs.specs.Crashes.{IsImageSince}
 use Rattle.model_runs.specs.Refusals.{AreRefusedForThemselves}
 use Rattle.run_outcome.specs.declared.log_start.LogStart.{LogStart}
@@ -55,16 +56,20 @@ pub record HasOutcome (execution : Execution) (old new : Option Disk) : Type 0 w
   pub log : Told old new (LeavesSafeLog execution outcome run)
 
 -- The log was opened in one of three ways: a new one on an empty disk, one with a number over what is there, or one
--- that goes on after the bytes that are kept.
+-- that is resumed after the bytes that are kept.
 abbrev pub HasOpenedAs : {D : Type 0} {ghosts : Ghosts D} → LogStart → Before → D → LogWriter D ghosts → Type 0
 HasOpenedAs New before disk log = HasOpened disk log
 HasOpenedAs (Over number) before disk log = HasReused disk number log
 HasOpenedAs {ghosts = ghosts} (Behind number) before disk log = HasResumed disk (length before.kept) number log
     × IfSome (ghosts.told disk) (λ d. take (length before.kept) d.content ≡ before.kept)
 
--- these options; but their last sequence is that of what the run goes on from, where that one is greater
+-- These options; but their last sequence is that of what the run goes on from, where that one is greater, and there are
+-- more families, where the keys that the run goes on from need more.
 abbrev pub options_behind : Options → Before → Options
-options_behind options before = record options { last = max options.last before.last }
+options_behind options before = record options {
+  last = max options.last before.last;
+  families = max options.families (greatest_family before.map + 1);
+}
 
 -- The clients of a script have run over this opened log, or none has. `opened` is how many faults the disk had counted
 -- at its opening, and `map` is the table's map then.
@@ -99,6 +104,8 @@ pub record IsOpenedFor {D : Type 0} (ghosts : Ghosts D) (start : LogStart) (disk
   pub last : opened.last ≡ before.last
   -- where the last sequence is 0, there are no keys
   pub none : before.last ≡ 0 → before.map ≡ []
+  -- as many families as the keys need
+  pub families : opened.families ≡ greatest_family before.map + 1
 
 -- the file recovers to an end that the mode accepts
 pub record HasAcceptedEnd (number : Option ℕ) (mode : Mode) (file : List ℕ) : Type 0 where
@@ -120,28 +127,48 @@ IsDamaged (Over number) mode told at why = ⊥
 IsDamaged (Behind number) mode told at why =
     (mode ≢ Point) × IfSome told (λ d. IsDamage number mode d.content at why)
 
+-- where the log is resumed, what it recovers has no key in a family that no run is set up for
+abbrev pub HasFewFamilies : LogStart → Option Disk → Type 0
+HasFewFamilies New told = ⊤
+HasFewFamilies (Over number) told = ⊤
+HasFewFamilies (Behind number) told = IfSome told (λ d. (recovered : Recovered)
+    × IsRecovered number d.content recovered × (greatest_family (recovered_map recovered) < MAX_FAMILIES))
+
+-- The log should be resumed, and the mode accepts the end of its recovery; but this is the greatest family of the keys
+-- that it recovers, and no run is set up for it.
+abbrev pub HasHighFamily : LogStart → Mode → Option Disk → ℕ → Type 0
+HasHighFamily New mode told family = ⊥
+HasHighFamily (Over number) mode told family = ⊥
+HasHighFamily (Behind number) mode told family = (MAX_FAMILIES ≤ family)
+    × IfSome told (λ d. (found : HasAcceptedEnd number mode d.content)
+    × (family ≡ greatest_family (recovered_map found.recovered)))
+
 -- the clients of a script ran, whether there was memory for the outcome or not
 abbrev pub Ran : RunEnd → Type 0
 Ran (end.DiskFault count) = ⊥
 Ran (end.NotEmpty len) = ⊥
 Ran (end.Damage at why) = ⊥
+Ran (end.Family family) = ⊥
 Ran end.NoMemory = ⊥
 Ran end.NoOutcome = ⊤
 Ran (end.Ran shown) = ⊤
 
--- The disk tells what it told before; or, only where the mode accepts the end of the log's recovery, it is as the
--- opening of the log leaves it.
+-- The disk tells what it told before; or it is as the opening of the log leaves it. Of a log that should be resumed
+-- that is so only where the mode accepts the end of its recovery, and runs are set up for the families of its keys.
 abbrev pub IsLeftAlone : LogStart → Mode → Option Disk → Option Disk → Type 0
-IsLeftAlone start mode old new = (new ≡ old) ⊎ (IsAccepted start mode old × IsAsFound start old new)
+IsLeftAlone start mode old new = (new ≡ old)
+    ⊎ (IsAccepted start mode old × HasFewFamilies start old × IsAsFound start old new)
 
 -- What a crash may leave at any moment of a call in which nothing was run: only what it might have left before. Where
--- the log should be resumed, and the mode accepts the end of its recovery, the bytes that it doesn't keep may have been
--- truncated; of what was safe, those that it keeps are still certain to stay.
+-- the log should be resumed, the mode accepts the end of its recovery, and runs are set up for the families of its
+-- keys, the bytes that it doesn't keep may have been truncated; of what was safe, those that it keeps are still
+-- certain to stay.
 abbrev pub LeavesAlone : {D : Type 0} → Ghosts D → LogStart → Mode → D → D → Type 0
 LeavesAlone ghosts New mode old new = LeavesAsBefore ghosts old new
 LeavesAlone ghosts (Over number) mode old new = LeavesAsBefore ghosts old new
 LeavesAlone ghosts (Behind number) mode old new = LeavesAsBefore ghosts old new
     ⊎ (IsAccepted (Behind number) mode (ghosts.told old)
+    × HasFewFamilies (Behind number) (ghosts.told old)
     × ((before : Before) × GoesOnFrom (Behind number) (ghosts.told old) before
     × LeavesOf ghosts old new (length before.kept)))
 
@@ -155,6 +182,8 @@ module _ {D : Type 0} (ghosts : Ghosts D) (start : LogStart) (mode : Mode) (old 
       × IfSome (ghosts.told old) (λ d. length d.content ≡ len)
       × (ghosts.told new ≡ ghosts.told old) × (ghosts.faults new ≡ ghosts.faults old) × LeavesAsBefore ghosts old new
   IsRefused (end.Damage at why) = IsDamaged start mode (ghosts.told old) at why
+      × (ghosts.told new ≡ ghosts.told old) × (ghosts.faults new ≡ ghosts.faults old) × LeavesAsBefore ghosts old new
+  IsRefused (end.Family family) = HasHighFamily start mode (ghosts.told old) family
       × (ghosts.told new ≡ ghosts.told old) × (ghosts.faults new ≡ ghosts.faults old) × LeavesAsBefore ghosts old new
   IsRefused end.NoMemory = IsLeftAlone start mode (ghosts.told old) (ghosts.told new)
       × (ghosts.faults new ≡ ghosts.faults old) × LeavesAlone ghosts start mode old new
@@ -172,6 +201,7 @@ module _ {D : Type 0} (ghosts : Ghosts D) (start : LogStart) (mode : Mode) (old 
     Ends (end.DiskFault count) = IsRefused (end.DiskFault count)
     Ends (end.NotEmpty len) = IsRefused (end.NotEmpty len)
     Ends (end.Damage at why) = IsRefused (end.Damage at why)
+    Ends (end.Family family) = IsRefused (end.Family family)
     Ends end.NoMemory = IsRefused end.NoMemory
     Ends end.NoOutcome = Went (λ execution. HasOutcome execution (ghosts.told old) (ghosts.told new))
     Ends (end.Ran shown) = Went (λ execution. HasRun execution (ghosts.told old) (ghosts.told new) shown)

@@ -115,6 +115,7 @@ module _ {D : Type 0} (ghosts : Ghosts D) (options : Options) (limit : ℕ) (scr
   EndsOnSet (end.NotEmpty len) =
       HasFirstBytes ghosts olds len × AreLeftAlone ghosts olds news × CountNone ghosts olds news
   EndsOnSet (end.Damage at why) = ⊥
+  EndsOnSet (end.Family family) = ⊥
   EndsOnSet end.NoMemory = AreLeftAlone ghosts olds news × CountNone ghosts olds news
   EndsOnSet end.NoOutcome = (o : calls.Outcome) × HasSetOutcome ghosts olds news this_execution o
   EndsOnSet (end.Ran shown) = (o : calls.Outcome) × HasSetOutcome ghosts olds news this_execution o

@@ -8,7 +8,7 @@ ghost use Rattle.run_execution.specs.Ends.{IsEndOfRun};
 ghost use Rattle.run_execution.specs.SetEnds.{IsEndOfSet};
 
 use base_devices::Disk;
-use base_maps::ByteMap;
+use base_maps::FamilyMap;
 use log_writer::{LogSet, LogWriter, OpenError};
 use model_base::EndReason;
 use run_outcome::Outcome;
@@ -22,14 +22,18 @@ pub enum RunEnd {
     DiskFault { count: u64 },
     /// The log holds this many bytes already.
     NotEmpty { len: u64 },
-    /// The log should have gone on, but the mode doesn't accept that its recovery ends at this offset for this reason.
+    /// The log should have been resumed, but the mode doesn't accept that its recovery ends at this offset for this
+    /// reason.
     Damage { at: u64, why: EndReason },
+    /// The log should have been resumed, but a key that it recovers is in this family, the greatest one, and a run is
+    /// set up for no such family.
+    Family { family: u32 },
     /// Nothing was run, since there was no memory for it.
     NoMemory,
     /// All was run, but there was no memory for its outcome.
     NoOutcome,
     /// The run has this outcome.
-    Ran(Outcome<ByteMap>),
+    Ran(Outcome<FamilyMap>),
 }
 
 impl From<OpenError> for RunEnd {

@@ -1,6 +1,6 @@
 //! From the result of a run over an opened log to the end of the whole run.
 
-ghost use Rattle.std.specs.Prelude.{◌≡◌, ◌≤◌, ℕ, List, [], length};
+ghost use Rattle.std.specs.Prelude.{◌≡◌, ◌<◌, ◌≤◌, ◌^◌, ℕ, List, [], length};
 ghost use Rattle.std.specs.List.{AllZip};
 ghost use Rattle.model_base.specs.LogContents.{GroupCall};
 ghost use Rattle.model_base.specs.Settings.{settings_of};
@@ -20,7 +20,8 @@ ghost use Rattle.run_outcome.specs.declared.log_start.LogStart.{LogStart};
 ghost use Rattle.run_outcome.specs.Running.{Before, GoesOn, GoesOnFrom};
 ghost use Rattle.run_threads.specs.declared.run.ClientsEnd.{ClientsEnd as Ended};
 ghost use Rattle.run_threads.specs.Runs.{ComesTo, log_of};
-ghost use Rattle.run_execution.specs.Ends.{EndsOn, HasOpenedAs, IsAccepted, HasRunOver, IsEndOfRun, options_behind};
+ghost use Rattle.run_execution.specs.Ends.{EndsOn, HasFewFamilies, HasOpenedAs, HasRunOver, IsAccepted};
+ghost use Rattle.run_execution.specs.Ends.{IsEndOfRun, options_behind};
 
 use base_devices::Disk;
 use log_recovery_laws::{an_image_of_the_file, fronts_recover_prefixes};
@@ -36,8 +37,9 @@ pub fn runs_leave_safe_logs<D: Disk>()
     ensures ends { (disk : D) (opened : Log D ⟦<D as Disk>⟧) (options : RunOptions) (start : LogStart) (mode : Mode)
         (before : Before) (script : List (List Command)) (ran : Ended (Log D ⟦<D as Disk>⟧)) (end : End)
         → GoesOnFrom start (D.told disk) before → IsAccepted start mode (D.told disk)
-        → HasOpenedAs start before disk opened
+        → HasFewFamilies start (D.told disk) → HasOpenedAs start before disk opened
         → length script ≤ MAX_CLIENTS → options.batch_bytes ≤ MAX_SIZE
+        → (options_behind options before).families < 2 ^ 32
         → HasRunOver opened (options_behind options before) before.map (D.faults disk) script ran
         → IsEndOfRun ran end
         → EndsOn ⟦<D as Disk>⟧ options start mode script disk (disk_of (log_of ran)) end }
@@ -58,7 +60,7 @@ pub fn runs_leave_safe_sets<D: Disk>()
     ensures ends { (disks : List D) (opened : Set D ⟦<D as Disk>⟧) (options : RunOptions) (limit : ℕ)
         (script : List (List Command)) (ran : Ended (Set D ⟦<D as Disk>⟧)) (end : End)
         → HasOpenedSet disks opened → limit_of opened ≡ limit → length script ≤ MAX_CLIENTS
-        → options.batch_bytes ≤ MAX_SIZE
+        → options.batch_bytes ≤ MAX_SIZE → options.families < 2 ^ 32
         → ComesTo (settings_of options [] (length script) (count_in (logs_of opened))) script (WroteSet opened) fault_in
         (λ set. count_in (logs_of set)) ran → IsEndOfSet ran end
         → EndsOnSet ⟦<D as Disk>⟧ options limit script disks (disks_of (log_of ran)) end }

@@ -9,7 +9,7 @@ ghost use Rattle.run_execution.specs.Bare.{bare_of};
 
 use crate::setup::Host;
 use base_devices::Clock;
-use base_maps::ByteMap;
+use base_maps::FamilyMap;
 use engine_calls::Gate;
 use engine_memory::open_engine;
 use engine_parts::OpenLog;
@@ -32,7 +32,7 @@ pub(crate) fn run_on<
 >(
     host: &Host<'_, R, G>,
     log: L,
-    map: ByteMap,
+    map: FamilyMap,
     last: u64,
     clock: C,
     shared: H,

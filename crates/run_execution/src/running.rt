@@ -6,7 +6,7 @@ ghost use Rattle.run_scripts.specs.Scripts.{commands_of, FitsBatches};
 ghost use Rattle.log_writer.specs.Words.{disk_of};
 ghost use Rattle.run_outcome.specs.Running.{GoesOn};
 ghost use Rattle.std.specs.List.{AllZip};
-ghost use Rattle.run_execution.specs.Ends.{EndsOn, IsAccepted, IsOpenedFor, Ran};
+ghost use Rattle.run_execution.specs.Ends.{EndsOn, HasFewFamilies, IsAccepted, IsOpenedFor, Ran};
 ghost use Rattle.run_execution.specs.SetEnds.{EndsOnSet};
 
 use crate::end::{RunEnd, end_run, end_set_run};
@@ -16,7 +16,7 @@ use crate::over_log::run_on;
 use crate::setup::{Host, Setup};
 use crate::shared_gate::SharedGate;
 use base_devices::{Clock, Disk};
-use base_maps::ByteMap;
+use base_maps::FamilyMap;
 use engine_calls::Gate;
 use log_writer::LogSet;
 use model_base::{MAX_CLIENTS, MAX_SIZE, Options};
@@ -43,6 +43,8 @@ pub fn execute<
         result.1 }
     // nothing runs over a log whose recovery has an end that the mode doesn't accept
     ensures accepted { Ran result.1 → IsAccepted setup.start setup.mode (D.told disk) }
+    // nor over one that recovers a key of a family that no run is set up for
+    ensures families { Ran result.1 → HasFewFamilies setup.start (D.told disk) }
     // the disk's count of faults doesn't fall, so it can be compared before and after
     ensures later { D.faults disk ≤ D.faults result.0 }
     // moments don't turn back, and what the disk has forgotten it doesn't tell again
@@ -79,12 +81,17 @@ fn run_over<
     requires last { opened.last ≤ max_sequence }
     requires opened { (disk : D) × IsOpenedFor ⟦<D as Disk>⟧ setup.start disk opened }
     ensures end { (disk : D) → IsOpenedFor ⟦<D as Disk>⟧ setup.start disk opened
-        → IsAccepted setup.start setup.mode (D.told disk)
+        → IsAccepted setup.start setup.mode (D.told disk) → HasFewFamilies setup.start (D.told disk)
         → EndsOn ⟦<D as Disk>⟧ setup.options setup.start setup.mode (commands_of script.now) disk result.0 result.1 }
     ensures later { D.faults (disk_of opened.log) ≤ D.faults result.0 }
     ensures time { GoesOn D.moment D.from (disk_of opened.log) result.0 }
 {
-    let Opened { log, map, last } = opened;
+    let Opened {
+        log,
+        map,
+        last,
+        families,
+    } = opened;
     let Setup {
         options,
         start: _,
@@ -94,6 +101,7 @@ fn run_over<
     } = setup;
     let options = Options {
         last: options.last.max(last),
+        families: options.families.max(families),
         ..options
     };
     runs_leave_safe_logs::<D>();
@@ -142,7 +150,7 @@ pub fn execute_set<
     match LogSet::open(host.alloc, disks, limit) {
         Ok(set) => {
             let shared = SharedGate { gate: host.gate };
-            let map = ByteMap::new(host.alloc);
+            let map = FamilyMap::new(host.alloc);
             let ran = run_on(
                 host, set, map, 0, clock, shared, script, options, shards, pipelined,
             );

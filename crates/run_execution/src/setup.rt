@@ -13,10 +13,11 @@ pub struct Host<'a, R, G> {
     pub gate: &'a G,
 }
 
-/// How the write path is set up: its limits, how its log is opened, which ends of its recovery are accepted where it
-/// goes on, how many shards its table has, and whether groups go into the table in a stage of their own.
+/// How the write path is set up: its limits, how its log is opened, which ends of its recovery are accepted where it is
+/// resumed, how many shards its table has, and whether groups go into the table in a stage of their own.
 ///
-/// The last sequence of a run whose log goes on is that of its options or the recovered one, whichever is greater.
+/// The last sequence of a run whose log is resumed is that of its options or the recovered one, whichever is greater,
+/// and there are as many column families as its options say or as the recovered keys need, whichever are more.
 #[derive(Drop)]
 pub struct Setup {
     pub options: Options,

@@ -15,7 +15,7 @@ value_is_short v small = let len = value_len v small in (len.0, omega (arith, le
 
 record_made : (client state : ℕ) → client ≤ MAX_CLIENTS → AddsShort (record_drawn client state).made
 record_made client state few =
-    of_drawn AddsShort client state (λ n small. key_is_short client n few small) (λ n v small below. (key_is_short client n few small, value_is_short v below))
+    of_drawn AddsShort client state (λ n small. (tt, key_is_short client n few small)) (λ n v small below. (tt, key_is_short client n few small, value_is_short v below))
 
 made-append : (cs ds : List calls.Command) → AllByRecursion IsScriptCommand cs → AllByRecursion IsScriptCommand ds → AllByRecursion IsScriptCommand (cs ++ ds)
 made-append [] ds first second = second

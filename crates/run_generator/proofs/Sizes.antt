@@ -1,5 +1,5 @@
 -- All that a client adds fits into one batch: a record has 12 bytes at most, and a batch four records.
-use Rattle.std.proofs.Common.{◌≡◌, ℕ, zero, suc, ◌+◌, ◌*◌, ◌/◌, ◌%◌, ◌<◌, ◌≤◌, Bool, true, false, cond, nat_lt, ◌==◌, List, [], ◌∷◌, ◌++◌, length, map, codes, decimal, ap, arith, length-append}
+use Rattle.std.proofs.Common.{◌≡◌, ℕ, zero, suc, ◌+◌, ◌*◌, ◌/◌, ◌%◌, ◌<◌, ◌≤◌, Bool, true, false, cond, nat_lt, ◌==◌, List, [], ◌∷◌, ◌++◌, length, map, codes, decimal, None, ap, arith, length-append}
 use Rattle.std.specs.List.{AllByRecursion, range_with_len}
 use Rattle.std.proofs.lemmas.Bool.{cond-true, lt-ltb}
 use Rattle.std.proofs.lemmas.Fmt.{length-decimal-le, decimal_nonempty}
@@ -34,10 +34,10 @@ key_len client n few small =
 pub value_len : (n : ℕ) → n < 1000 → (1 ≤ length (decimal n)) × (length (decimal n) ≤ 3)
 value_len n small = (decimal_nonempty n (omega arith), length-decimal-le 3 n (omega arith) (omega arith) (omega arith))
 
-deletion_len : (key : List ℕ) → length key ≤ 6 → length (record_bytes (deletion key)) ≤ 12
+deletion_len : (key : List ℕ) → length key ≤ 6 → length (record_bytes (deletion None key)) ≤ 12
 deletion_len key short = omega (arith, varstring_len key (omega arith), ap length (append-nil (varstring key)))
 
-put_len : (key v : List ℕ) → length key ≤ 6 → length v ≤ 3 → length (record_bytes (value key v)) ≤ 12
+put_len : (key v : List ℕ) → length key ≤ 6 → length v ≤ 3 → length (record_bytes (value None key v)) ≤ 12
 put_len key v short few =
     omega (arith, varstring_len key (omega arith), varstring_len v (omega arith), length-append (varstring key) (varstring v ++ []), ap length (append-nil (varstring v)))
 
@@ -46,7 +46,7 @@ by_kind P true one other p q = p
 by_kind P false one other p q = q
 
 -- what holds of each record that can be drawn holds of the one that is
-pub of_drawn : (P : Record → Type 0) (client state : ℕ) → ((n : ℕ) → n < 100 → P (deletion (key_of client n))) → ((n v : ℕ) → n < 100 → v < 1000 → P (value (key_of client n) (decimal v))) → P (record_drawn client state).made
+pub of_drawn : (P : Record → Type 0) (client state : ℕ) → ((n : ℕ) → n < 100 → P (deletion None (key_of client n))) → ((n v : ℕ) → n < 100 → v < 1000 → P (value None (key_of client n) (decimal v))) → P (record_drawn client state).made
 of_drawn P client state deleted put =
     let at_key = next_state state in
     let at_kind = next_state at_key in
@@ -55,7 +55,7 @@ of_drawn P client state deleted put =
     let v = number_at at_value % 1000 in
     let small : n < 100 = mod_below (number_at at_key) 100 (omega arith) in
     let few : v < 1000 = mod_below (number_at at_value) 1000 (omega arith) in
-    by_kind P (number_at at_kind % 4 == 0) (record { made = deletion (key_of client n); state = at_kind }) (record { made = value (key_of client n) (decimal v); state = at_value }) (deleted n small) (put n v small few)
+    by_kind P (number_at at_kind % 4 == 0) (record { made = deletion None (key_of client n); state = at_kind }) (record { made = value None (key_of client n) (decimal v); state = at_value }) (deleted n small) (put n v small few)
 
 record_len : (client state : ℕ) → client ≤ MAX_CLIENTS → length (record_bytes (record_drawn client state).made) ≤ 12
 record_len client state few =

@@ -8,7 +8,7 @@ use Rattle.model_base.specs.Script.{value_of_digits}
 
 -- a value that a command puts is a number below 1000
 abbrev pub HasSmallValue : Command → Type 0
-HasSmallValue (add (value key v)) = value_of_digits v < 1000
+HasSmallValue (add (value family key v)) = value_of_digits v < 1000
 HasSmallValue other = Unit {0}
 
 abbrev pub HasSmallValues : List (List Command) → Type 0

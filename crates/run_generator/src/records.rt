@@ -47,9 +47,13 @@ pub fn add_record(
     let key = key(alloc, client, number)?;
     let key = key.as_slice();
     if draws.next() % KINDS == 0 {
-        return commands.push(CommandView::Delete { key });
+        return commands.push(CommandView::Delete { family: None, key });
     }
     let mut buffer = Buffer::new();
     let value = buffer.format(draws.next() % VALUES).as_bytes();
-    commands.push(CommandView::Put { key, value })
+    commands.push(CommandView::Put {
+        family: None,
+        key,
+        value,
+    })
 }

@@ -3,11 +3,11 @@
 ghost use Rattle.std.specs.Prelude.{◌≡◌, Some, None, if◌then◌else◌};
 ghost use Rattle.run_generator.specs.Values.{have_numbers, sum_of_values};
 
-use base_maps::ByteMap;
+use base_maps::FamilyMap;
 use run_scripts::value_of_digits;
 
 /// The sum of a map's values as numbers, if each of them is below `2^64`.
-pub fn sum_of(map: &ByteMap) -> Option<u128>
+pub fn sum_of(map: &FamilyMap) -> Option<u128>
     // There is no sum where a value is no number below `2^64`. A sum may be greater than that.
     ensures { result ≡ (if have_numbers map.now then Some (sum_of_values map.now) else None) }
 {
@@ -16,7 +16,7 @@ pub fn sum_of(map: &ByteMap) -> Option<u128>
     prove!(count <= usize::MAX);
     let mut sum: u128 = 0;
     // What is summed up and what is left make the whole sum, and each value so far is below 2^64.
-    for (_, value) in map.iter() {
+    for (_, _, value) in map.iter() {
         sum += u128::from(value_of_digits(value)?);
     }
     Some(sum)

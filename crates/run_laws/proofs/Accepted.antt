@@ -1,5 +1,5 @@
 -- A commit that passes the checks, has room, and isn't held up, is accepted or finds no memory.
-use Rattle.std.proofs.Common.{◌≡◌, ◌⊎◌, ℕ, ◌+◌, ◌≤◌, Bool, true, false, ◌==◌, nat_lt, ◌&&◌, List, Option, None, MatchOption, refl, ap, subst, inl, inr, arith}
+use Rattle.std.proofs.Common.{◌≡◌, ◌⊎◌, ℕ, ◌+◌, ◌<◌, ◌≤◌, Bool, true, false, ◌==◌, nat_lt, nat_le, ◌&&◌, List, [], ◌∷◌, Option, None, MatchOption, refl, ap, subst, inl, inr, arith}
 use Rattle.std.proofs.lemmas.Bool.Decides.{nat_tests}
 use Rattle.model_base.specs.declared.write.WriteOptions.{WriteOptions}
 use Rattle.model_base.specs.declared.write.Refusal.{Refusal}
@@ -9,7 +9,8 @@ use Rattle.model_base.specs.History.{max_sequence}
 use Rattle.model_base.specs.Tokens.{holds_stop}
 use Rattle.model_base.specs.Attempts.{Attempt, WriteStatus, faulted, full, with_attempt}
 use Rattle.model_base.specs.Trace.{Trace, Settings}
-use Rattle.model_base.specs.Progress.{Progress, fresh, early_refusal, batch_after}
+use Rattle.std.specs.List.{AllByRecursion}
+use Rattle.model_base.specs.Progress.{Progress, fresh, families_in, first_missing, early_refusal, batch_after}
 use Rattle.model_base.specs.Replies.{MayRefuse, IsAttempted, Commits, Stays}
 use Rattle.model_base.specs.Outcomes.{IsLegal, IsLegalTranscript}
 use Rattle.model_base.specs.Calls.{Command, commit, Reply, accepted, refused, no_memory, Call, Outcome}
@@ -30,13 +31,20 @@ not_both : (a b : Bool) → (a ≡ true → b ≡ false) → (a && b) ≡ false
 not_both true b f = f refl
 not_both false b f = refl
 
+all_there : (families : ℕ) (named : List ℕ) → AllByRecursion (λ family. family < families) named → first_missing families named ≡ None
+all_there families [] there = refl
+all_there families (family ∷ named) there =
+    let first = there.0 in
+    let below : nat_le families family ≡ false = grind (arith, nat_tests) in
+    rw below (all_there families named there.1)
+
 no_early_refusal : (settings : Settings) (before : List Call) (how : WriteOptions) → PassesChecks settings before how
-    → early_refusal settings.batch_bytes (holds_stop (asked_by before)) (batch_after before) how ≡ None
+    → early_refusal settings.families settings.batch_bytes (holds_stop (asked_by before)) (batch_after before) how ≡ None
 no_early_refusal settings before how checks =
     let some = checks.some in let within = checks.fits in
     let counted : (count_of (batch_after before) == 0) ≡ false = grind (arith, nat_tests) in
     let fits : nat_lt settings.batch_bytes (size_of_batch (batch_after before)) ≡ false = grind (arith, nat_tests) in
-    rw (counted, fits, not_both how.sync how.no_log checks.logged, checks.no_stop) refl
+    rw (counted, fits, not_both how.sync how.no_log checks.logged, all_there settings.families (families_in (batch_after before)) checks.there, checks.no_stop) refl
 
 module _ (settings : Settings) (ended : ℕ) (script : Script) (o : Outcome) (client : ℕ) (before : List Call) (how : WriteOptions) (reply : Reply) (legal : IsLegal settings ended script o) where
   abbrev trace : Trace
@@ -59,6 +67,7 @@ module _ (settings : Settings) (ended : ℕ) (script : Script) (o : Outcome) (cl
   never_refused p knows no.Empty status room freed s may = may
   never_refused p knows (no.TooLarge size) status room freed s may = may
   never_refused p knows no.SyncWithoutLog status room freed s may = may
+  never_refused p knows (no.NoFamily family) status room freed s may = may
   never_refused p knows no.SelfStop status room freed s may = may
   never_refused p knows no.NoMemory status room freed s may = may
 
@@ -71,7 +80,7 @@ module _ (settings : Settings) (ended : ℕ) (script : Script) (o : Outcome) (cl
   commit_accepted : (p q : Progress) → p.pending ≡ batch_after before → p.asked ≡ asked_by before → PassesChecks settings before how → (q.mine ≡ p.mine → most + count_of p.pending ≤ max_sequence)
       → (how.no_slowdown ≡ false) ⊎ HoldsNothingUp script → AreSound most q.attempts → Commits settings trace (client + 1) p how reply q → IsAccepted (batch_after before) reply
   commit_accepted p q batch tokens checks room freed s e =
-      let none : early_refusal settings.batch_bytes (holds_stop p.asked) p.pending how ≡ None = rw (batch, tokens) (no_early_refusal settings before how checks) in
+      let none : early_refusal settings.families settings.batch_bytes (holds_stop p.asked) p.pending how ≡ None = rw (batch, tokens) (no_early_refusal settings before how checks) in
       subst (λ records. IsAccepted records reply) batch
       (attempt_accepted p q reply room freed s
       (subst (λ early. MatchOption early (IsAttempted trace (client + 1) p how reply q) (λ why. (reply ≡ refused why) × Stays p q)) none e))

@@ -11,7 +11,7 @@ use Rattle.model_base.specs.Progress.{Progress, fresh}
 use Rattle.model_base.specs.Runs.{Run, commands_of, IsTranscript}
 use Rattle.model_base.specs.Replies.{IsTold, Unstops, Unslows, Replies}
 use Rattle.model_base.specs.Outcomes.{IsClient}
-use Rattle.model_base.specs.Calls.{Command, add, clear, commit, get, many, scan, stop, unstop, slow, unslow, Reply, done, not_held, Call}
+use Rattle.model_base.specs.Calls.{Command, add, clear, commit, get, many, scan, updates, stop, unstop, slow, unslow, Reply, done, not_held, Call}
 use Rattle.run_laws.proofs.Lists.{some_same, all_front}
 use Rattle.run_laws.proofs.Entries.{same_number}
 use Rattle.run_laws.proofs.Progresses.{run_of}
@@ -40,11 +40,12 @@ module _ (settings : Settings) (trace : Trace) (client : ℕ) where
   none_after p unstop reply q quiet none a = none_by_unstop p q reply none a
   none_after p unslow reply q quiet none a = none_by_unslow p q reply none a
   none_after p (add r) reply q quiet none a = (follows settings trace client p (add r) reply q a).asked ∙ none
+  none_after p (updates n) reply q quiet none a = (follows settings trace client p (updates n) reply q a).asked ∙ none
   none_after p clear reply q quiet none a = (follows settings trace client p clear reply q a).asked ∙ none
   none_after p (commit how) reply q quiet none a = (follows settings trace client p (commit how) reply q a).asked ∙ none
   none_after p (get key) reply q quiet none a = (follows settings trace client p (get key) reply q a).asked ∙ none
   none_after p (many keys) reply q quiet none a = (follows settings trace client p (many keys) reply q a).asked ∙ none
-  none_after p (scan lo hi) reply q quiet none a = (follows settings trace client p (scan lo hi) reply q a).asked ∙ none
+  none_after p (scan family lo hi) reply q quiet none a = (follows settings trace client p (scan family lo hi) reply q a).asked ∙ none
 
   none_by_run : (p : Progress) (calls : List Call) (q : Progress) → AsksNothing (commands_of calls) → p.asked ≡ [] → Run settings trace client p calls q → q.asked ≡ []
   none_by_run p [] q quiet none run = ap (λ (x : Progress). x.asked) run ∙ none

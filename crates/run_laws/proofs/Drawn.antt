@@ -1,5 +1,5 @@
 -- What holds of each record that can be drawn holds of all records that a generated client adds.
-use Rattle.std.proofs.Common.{◌≡◌, ℕ, zero, suc, ◌+◌, ◌-◌, ◌*◌, ◌%◌, ◌^◌, ◌<◌, Bool, true, false, cond, ◌==◌, [], ◌∷◌, decimal, ◌∙◌, arith}
+use Rattle.std.proofs.Common.{◌≡◌, ℕ, zero, suc, ◌+◌, ◌-◌, ◌*◌, ◌%◌, ◌^◌, ◌<◌, Bool, true, false, cond, ◌==◌, [], ◌∷◌, decimal, None, ◌∙◌, arith}
 use Rattle.std.specs.List.{AllByRecursion}
 use Rattle.std.proofs.lemmas.Fmt.{decimal_by_steps}
 use Rattle.std.proofs.lemmas.List.Sums.{fold_push}
@@ -26,15 +26,15 @@ by_kind P false one other p q = q
 
 -- it holds of the client's deletions and of its values below 1000
 pub record HoldsOfDrawn (P : ℕ → Record → Type 0) (client : ℕ) : Type 0 where
-  pub deletions : (n : ℕ) → n < 100 → P client (deletion (key_of client n))
-  pub values : (n v : ℕ) → n < 100 → v < 1000 → P client (value (key_of client n) (decimal v))
+  pub deletions : (n : ℕ) → n < 100 → P client (deletion None (key_of client n))
+  pub values : (n v : ℕ) → n < 100 → v < 1000 → P client (value None (key_of client n) (decimal v))
 
 module _ (P : ℕ → Record → Type 0) (client : ℕ) (drawn : HoldsOfDrawn P client) where
   pub of_drawn : (state : ℕ) → P client (record_drawn client state).made
   of_drawn state =
       let at_key = next_state state in let at_kind = next_state at_key in let at_value = next_state at_kind in
       let n = number_at at_key % 100 in let v = number_at at_value % 1000 in
-      by_kind (P client) (number_at at_kind % 4 == 0) (record { made = deletion (key_of client n); state = at_kind }) (record { made = value (key_of client n) (decimal v); state = at_value })
+      by_kind (P client) (number_at at_kind % 4 == 0) (record { made = deletion None (key_of client n); state = at_kind }) (record { made = value None (key_of client n) (decimal v); state = at_value })
       (drawn.deletions n (mod_below (number_at at_key) 100 (omega arith))) (drawn.values n v (mod_below (number_at at_key) 100 (omega arith)) (mod_below (number_at at_value) 1000 (omega arith)))
 
   of_records : (n state : ℕ) → AllByRecursion (AddsOnly P client) (records_drawn n client state).made

@@ -1,5 +1,5 @@
 -- What a generated client adds and commits: short records with keys of its own, one to four in a batch.
-use Rattle.std.proofs.Common.{◌≡◌, ℕ, zero, suc, ◌+◌, ◌*◌, ◌/◌, ◌%◌, ◌^◌, ◌<◌, ◌≤◌, nat_lt, List, [], ◌∷◌, ◌++◌, length, codes, decimal, refl, sym, ap, subst, append_assoc, append-nil, arith, length-append}
+use Rattle.std.proofs.Common.{◌≡◌, ℕ, zero, suc, ◌+◌, ◌*◌, ◌/◌, ◌%◌, ◌^◌, ◌<◌, ◌≤◌, nat_lt, List, [], ◌∷◌, ◌++◌, length, codes, decimal, None, refl, sym, ap, subst, append_assoc, append-nil, arith, length-append}
 use Rattle.std.proofs.lemmas.Bool.{cond-true, lt-ltb}
 use Rattle.std.proofs.lemmas.Fmt.{length-decimal-le}
 use Rattle.std.proofs.lemmas.Nat.{mod_below}
@@ -34,10 +34,10 @@ key_len client n few small =
     let digits : length (decimal n) ≤ 2 = length-decimal-le 2 n (omega arith) (omega arith) (omega arith) in
     omega (arith, whole, before, first, client_digits, digits)
 
-deletion_len : (key : List ℕ) → length key ≤ 6 → length (record_bytes (deletion key)) ≤ 12
+deletion_len : (key : List ℕ) → length key ≤ 6 → length (record_bytes (deletion None key)) ≤ 12
 deletion_len key short = omega (arith, varstring_len key (omega arith), ap length (append-nil (varstring key)))
 
-put_len : (key v : List ℕ) → length key ≤ 6 → length v ≤ 3 → length (record_bytes (value key v)) ≤ 12
+put_len : (key v : List ℕ) → length key ≤ 6 → length v ≤ 3 → length (record_bytes (value None key v)) ≤ 12
 put_len key v short few =
     omega (arith, varstring_len key (omega arith), varstring_len v (omega arith), length-append (varstring key) (varstring v ++ []), ap length (append-nil (varstring v)))
 
@@ -46,8 +46,8 @@ IsShortOf client r = IsShort r
 
 short_drawn : (client : ℕ) → client ≤ MAX_CLIENTS → HoldsOfDrawn IsShortOf client
 short_drawn client few = record {
-  deletions = λ n small. (refl, deletion_len (key_of client n) (key_len client n few small));
-  values = λ n v small below. (refl, put_len (key_of client n) (decimal v) (key_len client n few small) (length-decimal-le 3 v (omega arith) (omega arith) (omega arith)));
+  deletions = λ n small. ((refl, refl), deletion_len (key_of client n) (key_len client n few small));
+  values = λ n v small below. ((refl, refl), put_len (key_of client n) (decimal v) (key_len client n few small) (length-decimal-le 3 v (omega arith) (omega arith) (omega arith)));
 }
 
 -- n more records of its batch may come before a client's next commands

@@ -1,16 +1,18 @@
 -- A client's batch, its tokens and its accepted batches are those that its calls and replies make.
-use Rattle.std.proofs.Common.{◌≡◌, ℕ, List, [], ◌∷◌, ◌++◌, fold, Option, Some, None, MatchOption, sym, ap, ◌∙◌, subst}
+use Rattle.std.proofs.Common.{◌≡◌, ℕ, List, [], ◌∷◌, ◌++◌, map, fold, Option, Some, None, MatchOption, sym, ap, ◌∙◌, subst}
 use Rattle.model_base.specs.declared.write.WriteOptions.{WriteOptions}
+use Rattle.model_base.specs.declared.key.Key.{Key}
 use Rattle.model_base.specs.declared.write.Refusal.{Refusal}
+use Rattle.model_base.specs.declared.write.Refusal.TheVariants as no
 use Rattle.model_base.specs.Batch.{Record}
 use Rattle.model_base.specs.History.{Entry}
 use Rattle.model_base.specs.Controller.{Action}
 use Rattle.model_base.specs.Tokens.{holds_stop}
 use Rattle.model_base.specs.Trace.{Trace, Settings}
-use Rattle.model_base.specs.Progress.{Progress, next_entry, early_refusal, added_by}
+use Rattle.model_base.specs.Progress.{Progress, next_entry, first_missing, early_refusal, added_by}
 use Rattle.model_base.specs.Runs.{Run}
-use Rattle.model_base.specs.Replies.{Adds, Clears, Stays, IsAttempted, Gets, GetsMany, Scans, Stops, Unstops, Slows, Unslows, Replies}
-use Rattle.model_base.specs.Calls.{Command, add, clear, commit, get, many, scan, stop, unstop, slow, unslow, Reply, quiet, accepted, refused, found, found_each, rows, done, held, not_held, Call}
+use Rattle.model_base.specs.Replies.{Adds, Clears, Stays, IsAttempted, Gets, GetsMany, Scans, Updates, Stops, Unstops, Slows, Unslows, Replies}
+use Rattle.model_base.specs.Calls.{Command, add, clear, commit, get, many, scan, updates, stop, unstop, slow, unslow, Reply, quiet, accepted, refused, found, found_each, rows, updates_found, read_failed, done, held, not_held, Call}
 use Rattle.run_laws.specs.Accepting.{asked_with}
 
 -- a client's accepted batches after a call
@@ -52,17 +54,29 @@ module _ (trace : Trace) (client : ℕ) (p q : Progress) where
   by_commit how reply None a = by_attempt how reply a
   by_commit how reply (Some why) a = subst (λ x. Follows client p (commit how) x q) (sym a.0) (record { batch = batch_is q _ a.1; asked = asked_is q _ a.1; mine = mine_is q _ a.1 })
 
-  by_get : (key : List ℕ) (reply : Reply) → Gets trace p key reply q → Follows client p (get key) reply q
+  -- a read is answered, or it is refused for a family that there isn't, and then nothing changes
+  by_there : (F : Type 0) (missing : Option ℕ) (reply : Reply) (answered : Type 0) → (answered → F) → (Stays p q → F)
+      → MatchOption missing answered (λ family. (reply ≡ refused (no.NoFamily family)) × Stays p q) → F
+  by_there F None reply answered f g a = f a
+  by_there F (Some family) reply answered f g a = g a.1
+
+  by_get : (key : Key) (reply : Reply) → Gets trace p key reply q → Follows client p (get key) reply q
   by_get key (found at v) r = record { batch = batch_is q _ r.after; asked = asked_is q _ r.after; mine = mine_is q _ r.after }
   by_get key other r = absurd r
 
-  by_many : (keys : List (List ℕ)) (reply : Reply) → GetsMany trace p keys reply q → Follows client p (many keys) reply q
+  by_many : (keys : List Key) (reply : Reply) → GetsMany trace p keys reply q → Follows client p (many keys) reply q
   by_many keys (found_each at vs) r = record { batch = batch_is q _ r.after; asked = asked_is q _ r.after; mine = mine_is q _ r.after }
   by_many keys other r = absurd r
 
-  by_scan : (lo hi : List ℕ) (reply : Reply) → Scans trace p lo hi reply q → Follows client p (scan lo hi) reply q
-  by_scan lo hi (rows at pairs) r = record { batch = batch_is q _ r.after; asked = asked_is q _ r.after; mine = mine_is q _ r.after }
-  by_scan lo hi other r = absurd r
+  by_scan : (family : ℕ) (lo hi : List ℕ) (reply : Reply) → Scans trace p family lo hi reply q → Follows client p (scan family lo hi) reply q
+  by_scan family lo hi (rows at pairs) r = record { batch = batch_is q _ r.after; asked = asked_is q _ r.after; mine = mine_is q _ r.after }
+  by_scan family lo hi other r = absurd r
+
+  by_updates : (settings : Settings) (n : ℕ) (reply : Reply) → Updates settings trace p n reply q → Follows client p (updates n) reply q
+  by_updates settings n (updates_found at records) r = let e = r.1.reads.after in record { batch = batch_is q _ e; asked = asked_is q _ e; mine = mine_is q _ e }
+  by_updates settings n (refused why) r = record { batch = batch_is q _ r.2; asked = asked_is q _ r.2; mine = mine_is q _ r.2 }
+  by_updates settings n (read_failed count) r = record { batch = batch_is q _ r.2; asked = asked_is q _ r.2; mine = mine_is q _ r.2 }
+  by_updates settings n other r = absurd r
 
   by_stop : (reply : Reply) → Stops trace client p reply q → Follows client p stop reply q
   by_stop done d = record { batch = batch_is q _ d.1.after; asked = asked_is q _ d.1.after; mine = mine_is q _ d.1.after }
@@ -87,10 +101,17 @@ module _ (trace : Trace) (client : ℕ) (p q : Progress) where
 pub follows : (settings : Settings) (trace : Trace) (client : ℕ) (p : Progress) (command : Command) (reply : Reply) (q : Progress) → Replies settings trace client p command reply q → Follows client p command reply q
 follows settings trace client p (add r) reply q a = by_add trace client p q r reply a
 follows settings trace client p clear reply q a = by_clear trace client p q reply a
-follows settings trace client p (commit how) reply q a = by_commit trace client p q how reply (early_refusal settings.batch_bytes (holds_stop p.asked) p.pending how) a
-follows settings trace client p (get key) reply q a = by_get trace client p q key reply a
-follows settings trace client p (many keys) reply q a = by_many trace client p q keys reply a
-follows settings trace client p (scan lo hi) reply q a = by_scan trace client p q lo hi reply a
+follows settings trace client p (commit how) reply q a = by_commit trace client p q how reply (early_refusal settings.families settings.batch_bytes (holds_stop p.asked) p.pending how) a
+follows settings trace client p (get key) reply q a =
+    by_there trace client p q (Follows client p (get key) reply q) (first_missing settings.families (key.family ∷ [])) reply (Gets trace p key reply q) (by_get trace client p q key reply)
+    (λ e. record { batch = batch_is q _ e; asked = asked_is q _ e; mine = mine_is q _ e }) a
+follows settings trace client p (many keys) reply q a =
+    by_there trace client p q (Follows client p (many keys) reply q) (first_missing settings.families (map (λ (k : Key). k.family) keys)) reply (GetsMany trace p keys reply q) (by_many trace client p q keys reply)
+    (λ e. record { batch = batch_is q _ e; asked = asked_is q _ e; mine = mine_is q _ e }) a
+follows settings trace client p (scan family lo hi) reply q a =
+    by_there trace client p q (Follows client p (scan family lo hi) reply q) (first_missing settings.families (family ∷ [])) reply (Scans trace p family lo hi reply q) (by_scan trace client p q family lo hi reply)
+    (λ e. record { batch = batch_is q _ e; asked = asked_is q _ e; mine = mine_is q _ e }) a
+follows settings trace client p (updates n) reply q a = by_updates trace client p q settings n reply a
 follows settings trace client p stop reply q a = by_stop trace client p q reply a
 follows settings trace client p unstop reply q a = by_unstop trace client p q reply a
 follows settings trace client p (slow rate) reply q a = by_slow trace client p q rate reply a

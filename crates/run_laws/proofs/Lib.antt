@@ -19,3 +19,4 @@ mod SameMap
 mod SmallValues
 mod Splits
 mod Statuses
+mod WholeBatches

@@ -46,7 +46,7 @@ text_of clients batches records last state =
     ++ number_line (codes "keys") (length state)
     ++ number_line (codes "sum") (sum_by (λ p. value_of_digits p.1) state)
 
-module _ (seed clients batches ended : ℕ) (settings : Settings) (o : Outcome) (few : clients ≤ MAX_CLIENTS) (bounded : batches ≤ 100000) (start : settings.start ≡ 0) (opening : settings.opening ≡ []) (bytes : settings.batch_bytes ≡ MAX_SIZE)
+module _ (seed clients batches ended : ℕ) (settings : Settings) (o : Outcome) (few : clients ≤ MAX_CLIENTS) (bounded : batches ≤ 100000) (start : settings.start ≡ 0) (opening : settings.opening ≡ []) (bytes : settings.batch_bytes ≡ MAX_SIZE) (some_family : 1 ≤ settings.families)
     (legal : IsLegal settings ended (script_of_seed seed clients batches) o) (no_fault : o.fault ≡ None) (found : AllByRecursion NoneWithoutMemory o.transcripts) where
   abbrev trace : Trace
   trace = legal.trace
@@ -90,7 +90,7 @@ module _ (seed clients batches ended : ℕ) (settings : Settings) (o : Outcome) 
       let statuses = sound 25600000 trace legal.legal.groups o.fault (i + 1) 0 t.attempts no_fault
       (λ last b. omega (arith, all_within, trace_start, boundary_within trace.start trace.entries last legal.legal.is_trace.entries b)) right.statuses in
       let is_plain = subst (IsPlain 0) w.0 (plain_batches batches (i + 1) (first_state seed (i + 1)) (omega arith)) in
-      let accepted = all_accepted 25600000 (omega arith) settings bytes trace (i + 1) 0 fresh t.calls right.end is_plain (record { long = refl; short = tt; asked = refl }) (subst (AreSound 25600000) right.commits statuses) w.1 in
+      let accepted = all_accepted 25600000 (omega arith) settings bytes some_family trace (i + 1) 0 fresh t.calls right.end is_plain (record { long = refl; short = tt; asked = refl }) (subst (AreSound 25600000) right.commits statuses) w.1 in
       ap (map (λ (e : Entry). e.records)) right.accepted ∙ accepted ∙ ap (batches_after []) (sym w.0)
 
   have_batches : HaveBatches trace.entries 1 (script_of_seed seed clients batches)

@@ -1,6 +1,6 @@
 -- A client that only adds short counted records and commits one to four of them at a time. If its commits aren't
 -- refused for a fault or because no run fits, its accepted batches are just those that its commands make.
-use Rattle.std.proofs.Common.{◌≡◌, ℕ, ◌+◌, ◌*◌, ◌≤◌, Bool, true, false, cond, ◌==◌, nat_lt, List, [], ◌∷◌, ◌++◌, length, map, Option, Some, None, MatchOption, refl, sym, ap, ◌∙◌, subst, append_assoc, append-nil, arith, length-append}
+use Rattle.std.proofs.Common.{◌≡◌, ℕ, ◌+◌, ◌*◌, ◌≤◌, Bool, true, false, cond, ◌==◌, nat_lt, nat_le, List, [], ◌∷◌, ◌++◌, length, map, Option, Some, None, MatchOption, refl, sym, ap, ◌∙◌, subst, append_assoc, append-nil, arith, length-append}
 use Rattle.std.specs.List.{AllByRecursion}
 use Rattle.std.proofs.lemmas.Bool.Decides.{nat_tests}
 use Rattle.std.proofs.lemmas.List.{map_push}
@@ -14,7 +14,7 @@ use Rattle.model_base.specs.History.{Entry, max_sequence}
 use Rattle.model_base.specs.Tokens.{holds_stop}
 use Rattle.model_base.specs.Attempts.{Attempt, WriteStatus, succeeded, slowed, faulted, full, with_attempt}
 use Rattle.model_base.specs.Trace.{Trace, Settings}
-use Rattle.model_base.specs.Progress.{Progress, next_entry, early_refusal}
+use Rattle.model_base.specs.Progress.{Progress, next_entry, family_about, families_in, first_missing, early_refusal}
 use Rattle.model_base.specs.Generator.{plain}
 use Rattle.model_base.specs.Runs.{Run, commands_of}
 use Rattle.model_base.specs.Replies.{MayRefuse, Adds, IsAttempted, Commits, Stays, Replies}
@@ -23,9 +23,9 @@ use Rattle.run_laws.specs.Summaries.{batches_after}
 use Rattle.run_laws.proofs.Lists.{all_front, all_back, all_both}
 use Rattle.run_laws.proofs.Progresses.{Moves, stays, adds, clears, accepts, refuses, moves}
 
--- a record that counts and has at most 12 bytes
+-- a record that counts, is in the default family, and has at most 12 bytes
 abbrev pub IsShort : Record → Type 0
-IsShort r = (is_counted r ≡ true) × (length (record_bytes r) ≤ 12)
+IsShort r = ((is_counted r ≡ true) × (family_about r ≡ Some 0)) × (length (record_bytes r) ≤ 12)
 
 -- the commands of such a client whose batch has n records
 abbrev pub IsPlain : ℕ → List Command → Type 0
@@ -40,20 +40,26 @@ short_count : (records : List Record) → AllByRecursion IsShort records → cou
 short_count [] a = refl
 short_count (r ∷ records) a =
     let first = sum_by-cons (λ r. cond (is_counted r) 1 0) r records in
-    let weight : Bool → ℕ = λ b. cond b 1 0 in let counted = ap weight a.0.0 in
+    let weight : Bool → ℕ = λ b. cond b 1 0 in let counted = ap weight a.0.0.0 in
     omega (arith, first, counted, short_count records a.1)
 
 short_body : (records : List Record) → AllByRecursion IsShort records → length (body records) ≤ 12 * length records
 short_body [] a = omega arith
 short_body (r ∷ records) a = omega (arith, a.0.1, short_body records a.1, length-append (record_bytes r) (body records))
 
-passes : (records : List Record) → AllByRecursion IsShort records → 1 ≤ length records → length records ≤ 4 → early_refusal MAX_SIZE false records plain ≡ None
-passes records a some few =
+short_there : (families : ℕ) → 1 ≤ families → (records : List Record) → AllByRecursion IsShort records → first_missing families (families_in records) ≡ None
+short_there families some [] a = refl
+short_there families some (r ∷ records) a =
+    let below : nat_le families 0 ≡ false = grind (arith, nat_tests) in
+    rw (a.0.0.1, below) (short_there families some records a.1)
+
+passes : (families : ℕ) → 1 ≤ families → (records : List Record) → AllByRecursion IsShort records → 1 ≤ length records → length records ≤ 4 → early_refusal families MAX_SIZE false records plain ≡ None
+passes families some_family records a some few =
     let count = short_count records a in let bytes = short_body records a in
     let counted : (count_of records == 0) ≡ false = grind (arith, nat_tests) in
     let size : size_of_batch records ≤ 60 = omega (arith, few, bytes, length-append (header 0 (count_of records)) (body records)) in
     let fits : nat_lt MAX_SIZE (size_of_batch records) ≡ false = grind (arith, nat_tests) in
-    rw (counted, fits) refl
+    rw (counted, fits, short_there families some_family records a) refl
 
 -- Its attempts
 
@@ -105,7 +111,7 @@ pub record GoesOn (p : Progress) (command : Command) (commands : List Command) (
   pub left : IsPlain n commands
   pub same : made_with q commands ≡ made_with p (command ∷ commands)
 
-module _ (most : ℕ) (small : most + 4 ≤ max_sequence) (settings : Settings) (bytes : settings.batch_bytes ≡ MAX_SIZE) (trace : Trace) (client : ℕ) where
+module _ (most : ℕ) (small : most + 4 ≤ max_sequence) (settings : Settings) (bytes : settings.batch_bytes ≡ MAX_SIZE) (some_family : 1 ≤ settings.families) (trace : Trace) (client : ℕ) where
   after_add : (n : ℕ) (p : Progress) (r : Record) (commands : List Command) (reply : Reply) (q : Progress) → IsPlain n (add r ∷ commands) → Stands n p → Adds p r reply q → GoesOn p (add r) commands q
   after_add n p r commands quiet q is s e = record {
     n = n + 1;
@@ -131,6 +137,7 @@ module _ (most : ℕ) (small : most + 4 ≤ max_sequence) (settings : Settings) 
   never_refused n p knows how no.Empty status is few s a may = may
   never_refused n p knows how (no.TooLarge size) status is few s a may = may
   never_refused n p knows how no.SyncWithoutLog status is few s a may = may
+  never_refused n p knows how (no.NoFamily family) status is few s a may = may
   never_refused n p knows how no.SelfStop status is few s a may = may
   never_refused n p knows how no.NoMemory status is few s a may = may
 
@@ -153,7 +160,7 @@ module _ (most : ℕ) (small : most + 4 ≤ max_sequence) (settings : Settings) 
   after_commit n p how commands reply q is s a e =
       let some : 1 ≤ length p.pending = let n_some = is.1 in let long = s.long in omega arith in
       let few : length p.pending ≤ 4 = let n_few = is.2 in let long = s.long in omega arith in
-      let checks : early_refusal settings.batch_bytes (holds_stop p.asked) p.pending how ≡ None = rw (bytes, s.asked, is.0) (passes p.pending s.short some few) in
+      let checks : early_refusal settings.families settings.batch_bytes (holds_stop p.asked) p.pending how ≡ None = rw (bytes, s.asked, is.0) (passes settings.families some_family p.pending s.short some few) in
       after_attempt n p how commands reply q is s a
       (subst (λ early. MatchOption early (IsAttempted trace client p how reply q) (λ why. (reply ≡ refused why) × Stays p q)) checks e)
 

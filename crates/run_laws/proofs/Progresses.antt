@@ -1,19 +1,21 @@
 -- A client's progress after a call: what its batch, its accepted batches and its attempts are then.
-use Rattle.std.proofs.Common.{◌≡◌, ℕ, List, [], ◌∷◌, ◌++◌, Option, Some, None, MatchOption, refl, sym, ap, ◌∙◌, subst, append-nil, append_assoc}
+use Rattle.std.proofs.Common.{◌≡◌, ℕ, List, [], ◌∷◌, ◌++◌, map, Option, Some, None, MatchOption, refl, sym, ap, ◌∙◌, subst, append-nil, append_assoc}
 use Rattle.std.specs.List.{AllByRecursion}
 use Rattle.model_base.specs.declared.write.WriteOptions.{WriteOptions}
+use Rattle.model_base.specs.declared.key.Key.{Key}
 use Rattle.model_base.specs.declared.write.Refusal.{Refusal}
+use Rattle.model_base.specs.declared.write.Refusal.TheVariants as no
 use Rattle.model_base.specs.Batch.{Record}
 use Rattle.model_base.specs.Map.{Pairs}
 use Rattle.model_base.specs.History.{Entry}
 use Rattle.model_base.specs.Controller.{Action}
 use Rattle.model_base.specs.Attempts.{WriteStatus, succeeded, with_attempt}
 use Rattle.model_base.specs.Trace.{Trace, Settings}
-use Rattle.model_base.specs.Progress.{Progress, fresh, next_entry, early_refusal}
+use Rattle.model_base.specs.Progress.{Progress, fresh, next_entry, first_missing, early_refusal}
 use Rattle.model_base.specs.Tokens.{holds_stop}
 use Rattle.model_base.specs.Runs.{Run, commands_of, IsTranscript, whole, cut_off}
-use Rattle.model_base.specs.Replies.{Adds, Clears, Stays, IsAttempted, ReadsAt, Gets, GetsMany, Scans, IsDone, Stops, Unstops, Slows, Unslows, Replies}
-use Rattle.model_base.specs.Calls.{Command, add, clear, commit, get, many, scan, stop, unstop, slow, unslow, Reply, quiet, accepted, refused, found, found_each, rows, done, held, not_held, no_memory, Call}
+use Rattle.model_base.specs.Replies.{Adds, Clears, Stays, IsAttempted, ReadsAt, Gets, GetsMany, Scans, Updates, IsDone, Stops, Unstops, Slows, Unslows, Replies}
+use Rattle.model_base.specs.Calls.{Command, add, clear, commit, get, many, scan, updates, stop, unstop, slow, unslow, Reply, quiet, accepted, refused, found, found_each, rows, updates_found, read_failed, done, held, not_held, no_memory, Call}
 use Rattle.run_laws.proofs.Lists.{all_front, all_both}
 
 -- what a call may change of the client's batch, accepted batches and attempts
@@ -53,17 +55,29 @@ module _ (client : ℕ) (p : Progress) (command : Command) (q : Progress) where
   by_read : (trace : Trace) (at : ℕ) (answers : Pairs → Type 0) → ReadsAt trace p at answers q → Moves client p command q
   by_read trace at answers r = let e = r.after in stays (ap (λ (x : Progress). x.pending) e) (ap (λ (x : Progress). x.mine) e) (ap (λ (x : Progress). x.attempts) e)
 
-  by_get : (trace : Trace) (key : List ℕ) (reply : Reply) → Gets trace p key reply q → Moves client p command q
+  -- a read is answered, or it is refused for a family that there isn't, and then nothing changes
+  by_there : (F : Type 0) (missing : Option ℕ) (reply : Reply) (answered : Type 0) → (answered → F) → (Stays p q → F)
+      → MatchOption missing answered (λ family. (reply ≡ refused (no.NoFamily family)) × Stays p q) → F
+  by_there F None reply answered f g a = f a
+  by_there F (Some family) reply answered f g a = g a.1
+
+  by_get : (trace : Trace) (key : Key) (reply : Reply) → Gets trace p key reply q → Moves client p command q
   by_get trace key (found at v) r = by_read trace at _ r
   by_get trace key other r = absurd r
 
-  by_many : (trace : Trace) (keys : List (List ℕ)) (reply : Reply) → GetsMany trace p keys reply q → Moves client p command q
+  by_many : (trace : Trace) (keys : List Key) (reply : Reply) → GetsMany trace p keys reply q → Moves client p command q
   by_many trace keys (found_each at vs) r = by_read trace at _ r
   by_many trace keys other r = absurd r
 
-  by_scan : (trace : Trace) (lo hi : List ℕ) (reply : Reply) → Scans trace p lo hi reply q → Moves client p command q
-  by_scan trace lo hi (rows at pairs) r = by_read trace at _ r
-  by_scan trace lo hi other r = absurd r
+  by_scan : (trace : Trace) (family : ℕ) (lo hi : List ℕ) (reply : Reply) → Scans trace p family lo hi reply q → Moves client p command q
+  by_scan trace family lo hi (rows at pairs) r = by_read trace at _ r
+  by_scan trace family lo hi other r = absurd r
+
+  by_updates : (settings : Settings) (trace : Trace) (n : ℕ) (reply : Reply) → Updates settings trace p n reply q → Moves client p command q
+  by_updates settings trace n (updates_found at records) r = by_read trace at _ r.1.reads
+  by_updates settings trace n (refused why) r = same r.2
+  by_updates settings trace n (read_failed count) r = same r.2
+  by_updates settings trace n other r = absurd r
 
   by_done : (trace : Trace) (action : Action) → IsDone trace client p action q → Moves client p command q
   by_done trace action d = let e = d.after in stays (ap (λ (x : Progress). x.pending) e) (ap (λ (x : Progress). x.mine) e) (ap (λ (x : Progress). x.attempts) e)
@@ -91,10 +105,16 @@ module _ (client : ℕ) (p : Progress) (command : Command) (q : Progress) where
 pub moves : (settings : Settings) (trace : Trace) (client : ℕ) (p : Progress) (command : Command) (reply : Reply) (q : Progress) → Replies settings trace client p command reply q → Moves client p command q
 moves settings trace client p (add r) reply q a = by_add client p (add r) q r reply refl a
 moves settings trace client p clear reply q a = by_clear client p clear q reply a
-moves settings trace client p (commit how) reply q a = by_commit client p (commit how) q trace how reply (early_refusal settings.batch_bytes (holds_stop p.asked) p.pending how) a
-moves settings trace client p (get key) reply q a = by_get client p (get key) q trace key reply a
-moves settings trace client p (many keys) reply q a = by_many client p (many keys) q trace keys reply a
-moves settings trace client p (scan lo hi) reply q a = by_scan client p (scan lo hi) q trace lo hi reply a
+moves settings trace client p (commit how) reply q a = by_commit client p (commit how) q trace how reply (early_refusal settings.families settings.batch_bytes (holds_stop p.asked) p.pending how) a
+moves settings trace client p (get key) reply q a =
+    by_there client p (get key) q (Moves client p (get key) q) (first_missing settings.families (key.family ∷ [])) reply (Gets trace p key reply q) (by_get client p (get key) q trace key reply) (same client p (get key) q) a
+moves settings trace client p (many keys) reply q a =
+    by_there client p (many keys) q (Moves client p (many keys) q) (first_missing settings.families (map (λ (k : Key). k.family) keys)) reply (GetsMany trace p keys reply q) (by_many client p (many keys) q trace keys reply)
+    (same client p (many keys) q) a
+moves settings trace client p (scan family lo hi) reply q a =
+    by_there client p (scan family lo hi) q (Moves client p (scan family lo hi) q) (first_missing settings.families (family ∷ [])) reply (Scans trace p family lo hi reply q) (by_scan client p (scan family lo hi) q trace family lo hi reply)
+    (same client p (scan family lo hi) q) a
+moves settings trace client p (updates n) reply q a = by_updates client p (updates n) q settings trace n reply a
 moves settings trace client p stop reply q a = by_stop client p stop q trace reply a
 moves settings trace client p unstop reply q a = by_unstop client p unstop q trace reply a
 moves settings trace client p (slow rate) reply q a = by_slow client p (slow rate) q trace rate reply a

@@ -6,7 +6,8 @@ use Rattle.std.specs.Map.{remove_entry}
 use Rattle.std.specs.BTreeMap.{insert_entry, is_at}
 use Rattle.std.specs.Ordering.{match_ordering}
 use Rattle.model_base.specs.Batch.{Record, value, deletion, single_deletion, log_data}
-use Rattle.model_base.specs.Map.{Pairs, byte_order, after_record, after_records}
+use Rattle.model_base.specs.declared.key.Key.{Key}
+use Rattle.model_base.specs.Map.{Pairs, key_order, key_in, after_record, after_records}
 use Rattle.model_base.specs.History.{Entry, map_over}
 use Rattle.model_base.specs.Calls.{Outcome}
 use Rattle.model_base.specs.Script.{value_of_digits}
@@ -19,32 +20,32 @@ use Rattle.run_laws.proofs.DrawnTranscripts.{all_drawn}
 
 -- If each value that some records set has a property, a map whose values have it still does after these records
 
-module _ (P : List ℕ × List ℕ → Type 0) where
-  inserted : (m : Pairs) (key v : List ℕ) → AllByRecursion P m → ((k : List ℕ) → P (k, v)) → AllByRecursion P (insert_entry byte_order m key v)
+module _ (P : Key × List ℕ → Type 0) where
+  inserted : (m : Pairs) (key : Key) (v : List ℕ) → AllByRecursion P m → ((k : Key) → P (k, v)) → AllByRecursion P (insert_entry key_order m key v)
   inserted [] key v a p = (p key, tt)
   inserted (e ∷ m) key v a p =
-      elim (byte_order key e.0) as (λ o. AllByRecursion P (match_ordering o ((key, v) ∷ e ∷ m) ((e.0, v) ∷ m) (e ∷ insert_entry byte_order m key v))) [
+      elim (key_order key e.0) as (λ o. AllByRecursion P (match_ordering o ((key, v) ∷ e ∷ m) ((e.0, v) ∷ m) (e ∷ insert_entry key_order m key v))) [
         | Less ↦ (p key, a)
         | Equal ↦ (p e.0, a.1)
         | Greater ↦ (a.0, inserted m key v a.1 p)
       ]
 
-  removed : (test : List ℕ → Bool) (m : Pairs) → AllByRecursion P m → AllByRecursion P (remove_entry test m)
+  removed : (test : Key → Bool) (m : Pairs) → AllByRecursion P m → AllByRecursion P (remove_entry test m)
   removed test [] a = tt
   removed test (e ∷ m) a = elim (test e.0) as (λ b. AllByRecursion P (cond b m (e ∷ remove_entry test m))) [ true ↦ a.1 | false ↦ (a.0, removed test m a.1) ]
 
 -- a value is a number below 1000
-abbrev IsSmall : List ℕ × List ℕ → Type 0
+abbrev IsSmall : Key × List ℕ → Type 0
 IsSmall p = value_of_digits p.1 < 1000
 
 abbrev HasSmallValue : ℕ → Record → Type 0
-HasSmallValue client (value key v) = value_of_digits v < 1000
+HasSmallValue client (value family key v) = value_of_digits v < 1000
 HasSmallValue client other = Unit {0}
 
 small_record : (client : ℕ) (m : Pairs) (r : Record) → HasSmallValue client r → AllByRecursion IsSmall m → AllByRecursion IsSmall (after_record m r)
-small_record client m (value key v) small a = inserted IsSmall m key v a (λ k. small)
-small_record client m (deletion key) small a = removed IsSmall (is_at (byte_order key)) m a
-small_record client m (single_deletion key) small a = removed IsSmall (is_at (byte_order key)) m a
+small_record client m (value family key v) small a = inserted IsSmall m (key_in family key) v a (λ k. small)
+small_record client m (deletion family key) small a = removed IsSmall (is_at (key_order (key_in family key))) m a
+small_record client m (single_deletion family key) small a = removed IsSmall (is_at (key_order (key_in family key))) m a
 small_record client m (log_data blob) small a = a
 
 small_records : (client : ℕ) (m : Pairs) (records : List Record) → AllByRecursion (HasSmallValue client) records → AllByRecursion IsSmall m → AllByRecursion IsSmall (after_records m records)

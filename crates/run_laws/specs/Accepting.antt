@@ -1,5 +1,5 @@
 -- What may keep a commit from being accepted, by the script and the clients' calls.
-use Rattle.std.specs.Prelude.{◌≡◌, ◌⊎◌, ℕ, ◌+◌, ◌≤◌, Bool, true, false, List, [], ◌∷◌, ◌++◌, fold, sum_by, Some, slice_get}
+use Rattle.std.specs.Prelude.{◌≡◌, ◌⊎◌, ℕ, ◌+◌, ◌<◌, ◌≤◌, Bool, true, false, List, [], ◌∷◌, ◌++◌, fold, sum_by, Some, slice_get}
 use Rattle.std.specs.List.{AllByRecursion}
 use Rattle.model_base.specs.declared.write.WriteOptions.{WriteOptions}
 use Rattle.model_base.specs.Batch.{Record, count_of, size_of_batch}
@@ -8,7 +8,7 @@ use Rattle.model_base.specs.Controller as controller
 use Rattle.model_base.specs.Controller.{Action}
 use Rattle.model_base.specs.Tokens.{holds_stop}
 use Rattle.model_base.specs.Trace.{Settings}
-use Rattle.model_base.specs.Progress.{added_by, batch_after}
+use Rattle.model_base.specs.Progress.{added_by, batch_after, families_in}
 use Rattle.model_base.specs.Calls.{Command, commit, stop, unstop, slow, unslow, Reply, accepted, done, Call, Outcome}
 use Rattle.model_base.specs.Script.{Script}
 
@@ -64,11 +64,12 @@ pub record ReachesCommit (o : Outcome) (client : ℕ) (before : List Call) (how 
   pub after : List Call
   pub split : calls ≡ before ++ record { command = commit how; reply = reply } ∷ after
 
--- the batch after these calls has a counted record and isn't too large; if it was to be synced, it was to be logged
--- too; and the client doesn't hold a stop token itself
+-- the batch after these calls has a counted record and isn't too large; each of its records is in a family that there
+-- is; if it was to be synced, it was to be logged too; and the client doesn't hold a stop token itself
 pub record PassesChecks (settings : Settings) (before : List Call) (how : WriteOptions) : Type 0 where
   pub some : 1 ≤ count_of (batch_after before)
   pub fits : size_of_batch (batch_after before) ≤ settings.batch_bytes
+  pub there : AllByRecursion (λ family. family < settings.families) (families_in (batch_after before))
   pub logged : how.sync ≡ true → how.no_log ≡ false
   pub no_stop : holds_stop (asked_by before) ≡ false
 

@@ -17,12 +17,13 @@ ghost use Rattle.run_laws.specs.Summaries.{summary_of};
 use model_base::{MAX_CLIENTS, MAX_SIZE};
 
 /// All legal outcomes of one generated script, of at most 64 clients and 100000 batches of each, have one summary,
-/// whatever the schedule, if they began with nothing, a batch may have `MAX_SIZE` bytes, and no call failed.
+/// whatever the schedule, if they began with nothing, a batch may have `MAX_SIZE` bytes, the default column family is
+/// there, and no call failed.
 pub fn summaries_are_one()
     // It is reckoned from the script, all batches client by client: so it is the same in each schedule.
     ensures one_summary { (seed clients batches ended : ℕ) (settings : Settings) (o : Outcome)
         → clients ≤ MAX_CLIENTS → batches ≤ 100000 → settings.start ≡ 0 → settings.opening ≡ []
-        → settings.batch_bytes ≡ MAX_SIZE
+        → settings.batch_bytes ≡ MAX_SIZE → 1 ≤ settings.families
         → IsLegal settings ended (script_of_seed seed clients batches) o → o.fault ≡ None
         → AllByRecursion NoneWithoutMemory o.transcripts
         → summary_text o ≡ summary_of (script_of_seed seed clients batches) }

@@ -1,3 +1,4 @@
+pub mod Families
 pub mod ScheduleReading
 pub mod ScriptNumbers
 pub mod ScriptParts

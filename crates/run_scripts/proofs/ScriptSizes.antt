@@ -1,17 +1,20 @@
 -- All that a client adds fits into one batch, since each record is shorter than its line.
-use Rattle.std.proofs.Common.{suc, ◌/◌, ◌%◌, ◌*◌, Bool, true, false, cond, nat_lt, ◌≡◌, ℕ, ◌+◌, ◌<◌, ◌≤◌, List, [], ◌∷◌, ◌++◌, length, sum_by, ap, arith, length-append}
+use Rattle.std.proofs.Common.{zero, suc, ◌/◌, ◌%◌, ◌*◌, ◌^◌, Bool, true, false, cond, nat_lt, ◌≡◌, ℕ, ◌+◌, ◌<◌, ◌≤◌, List, [], ◌∷◌, ◌++◌, length, sum_by, Option, Some, None, decimal, refl, ap, subst, arith, pow-suc, length-append}
 use Rattle.std.specs.List.{AllByRecursion}
-use Rattle.std.proofs.lemmas.Bool.{cond-true, lt-ltb}
+use Rattle.std.specs.Str.Parse.{digits_value}
+use Rattle.std.proofs.lemmas.Bool.{cond-true, lt-ltb, ltb-false}
+use Rattle.std.proofs.lemmas.Fmt.{decimal_is_IsNumeral, decimal_nonempty}
+use Rattle.std.proofs.lemmas.Int.Digits.{digits_value-lt}
 use Rattle.std.proofs.lemmas.List.{append-nil}
 use Rattle.std.proofs.lemmas.List.Sums.{sum_by-cons}
 use Rattle.model_base.specs.declared.limits.TheConstants.{MAX_SIZE}
 use Rattle.model_base.specs.Varint.{varint, varint_within}
-use Rattle.model_base.specs.Batch.{Record, value, deletion, single_deletion, log_data, count_of, varstring, record_bytes, header, body, size_of_batch}
-use Rattle.model_base.specs.Calls.{Command, add, clear, commit, get, many, scan, stop, unstop, slow, unslow}
+use Rattle.model_base.specs.Batch.{Record, value, deletion, single_deletion, log_data, tag_of, count_of, varstring, family_bytes, record_bytes, header, body, size_of_batch}
+use Rattle.model_base.specs.Calls.{Command, add, clear, commit, get, many, scan, updates, stop, unstop, slow, unslow}
 use Rattle.run_scripts.specs.declared.script.Script.{Script}
 use Rattle.run_scripts.specs.declared.language.Language.{Language}
 use Rattle.run_scripts.specs.Languages.{IsCommandOf, HasCommandsOf}
-use Rattle.run_scripts.specs.Scripts.{additions_of, FitsBatches, line_len, lines_len, script_len, IsShort}
+use Rattle.run_scripts.specs.Scripts.{additions_of, FitsBatches, line_len, family_len, lines_len, script_len, IsShort, NamesSmall}
 
 -- the length of a short word is spelled in at most two bytes
 one_byte : (k n : ℕ) → n < 128 → length (varint_within (suc k) n) ≡ 1
@@ -30,20 +33,62 @@ two_bytes n short = by_size (nat_lt n 128) (one_byte 3 (n / 128) (omega arith))
 word_len : (w : List ℕ) → IsShort w → (length (varstring w) ≤ length w + 2) × (length w ≤ 1024)
 word_len w short = (omega (arith, two_bytes (length w) short.1, length-append (varint (length w)) w), short.1)
 
--- a record of one string and of two
-one_len : (tag : ℕ) (w : List ℕ) → length (tag ∷ (varstring w ++ [])) ≡ 1 + length (varstring w)
-one_len tag w = omega (arith, ap length (append-nil (varstring w)))
+-- A number is spelled in no more bytes than it has decimal digits
 
-two_len : (tag : ℕ) (w v : List ℕ) → length (tag ∷ (varstring w ++ (varstring v ++ []))) ≡ 1 + length (varstring w) + length (varstring v)
-two_len tag w v = omega (arith, length-append (varstring w) (varstring v ++ []), ap length (append-nil (varstring v)))
+few_bytes : (k d n : ℕ) → n < 10 ^ suc d → length (varint_within k n) ≤ suc d
+unfolding varint_within
+few_bytes zero d n small = omega arith
+few_bytes (suc k) d n small = by_size (nat_lt n 128) refl d small (λ e. few_bytes k e (n / 128))
+  where
+    by_size : (b : Bool) → nat_lt n 128 ≡ b → (d : ℕ) → n < 10 ^ suc d → ((e : ℕ) → n / 128 < 10 ^ suc e → length (varint_within k (n / 128)) ≤ suc e)
+        → length (cond b (n ∷ []) ((128 + n % 128) ∷ varint_within k (n / 128))) ≤ suc d
+    by_size true less d small later = omega arith
+    by_size false more zero small later = absurd (omega (arith, small, ltb-false n 128 more))
+    by_size false more (suc e) small later = omega (arith, later e (tenth (10 ^ suc e) (omega (arith, small, pow-suc 10 (suc e)))))
+      where
+        tenth : (power : ℕ) → n < 10 * power → n / 128 < power
+        tenth power small = omega (arith, small)
+
+value_within : (f : ℕ) → f < 2 ^ 64 → f < 10 ^ length (decimal f)
+value_within f fits =
+    let numeral = decimal_is_IsNumeral f fits in
+    subst (λ (n : ℕ). n < 10 ^ length (decimal f)) numeral.1 (digits_value-lt 10 (decimal f) numeral.0.1)
+
+family_within : (f : ℕ) → f < 2 ^ 32 → length (varint f) ≤ length (decimal f)
+family_within f small = by_len (length (decimal f)) (decimal_nonempty f (omega (arith, small))) (value_within f (omega (arith, small)))
+  where
+    by_len : (d : ℕ) → 0 < d → f < 10 ^ d → length (varint f) ≤ d
+    by_len zero some within = absurd (omega (arith, some))
+    by_len (suc d) some within = few_bytes 5 d f within
+
+at_most : (k n : ℕ) → length (varint_within k n) ≤ k
+unfolding varint_within
+at_most zero n = omega arith
+at_most (suc k) n = by_size (nat_lt n 128) (at_most k (n / 128))
+  where
+    by_size : (b : Bool) → length (varint_within k (n / 128)) ≤ k → length (cond b (n ∷ []) ((128 + n % 128) ∷ varint_within k (n / 128))) ≤ suc k
+    by_size true rest = omega arith
+    by_size false rest = omega (arith, rest)
+
+-- the bytes by which a record names its family
+names_len : (family : Option ℕ) → NamesSmall family → (length (family_bytes family) ≤ family_len family) × (length (family_bytes family) ≤ 5)
+names_len None small = (omega arith, omega arith)
+names_len (Some f) small = (omega (arith, family_within f small), at_most 5 f)
+
+-- a record of one string and of two
+one_len : (tag : ℕ) (name w : List ℕ) → length (tag ∷ (name ++ (varstring w ++ []))) ≡ 1 + length name + length (varstring w)
+one_len tag name w = omega (arith, length-append name (varstring w ++ []), ap length (append-nil (varstring w)))
+
+two_len : (tag : ℕ) (name w v : List ℕ) → length (tag ∷ (name ++ (varstring w ++ (varstring v ++ [])))) ≡ 1 + length name + length (varstring w) + length (varstring v)
+two_len tag name w v = omega (arith, length-append name (varstring w ++ (varstring v ++ [])), length-append (varstring w) (varstring v ++ []), ap length (append-nil (varstring v)))
 
 -- how long records are together, where their lines have this length
 record IsWithin (rs : List Record) (len : ℕ) : Type 0 where
   lines : length (body rs) + length rs ≤ len
-  words : length (body rs) ≤ 2053 * length rs
+  words : length (body rs) ≤ 2058 * length rs
 
 -- a command that adds a record, and one that adds none
-with_record : (r : Record) (c : Command) (cs : List Command) (rs : List Record) → length (record_bytes r) + 1 ≤ line_len c → length (record_bytes r) ≤ 2053 → IsWithin rs (lines_len cs) → IsWithin (r ∷ rs) (lines_len (c ∷ cs))
+with_record : (r : Record) (c : Command) (cs : List Command) (rs : List Record) → length (record_bytes r) + 1 ≤ line_len c → length (record_bytes r) ≤ 2058 → IsWithin rs (lines_len cs) → IsWithin (r ∷ rs) (lines_len (c ∷ cs))
 with_record r c cs rs line words rest = record {
   lines = omega (arith, line, rest.lines, length-append (record_bytes r) (body rs), sum_by-cons line_len c cs);
   words = omega (arith, words, rest.words, length-append (record_bytes r) (body rs));
@@ -54,24 +99,31 @@ without_record c cs rs rest = record { lines = omega (arith, rest.lines, sum_by-
 
 within : (language : Language) (cs : List Command) → AllByRecursion (IsCommandOf language) cs → IsWithin (additions_of cs) (lines_len cs)
 within language [] short = record { lines = omega arith; words = omega arith }
-within language (add (value key v) ∷ cs) short =
-    let k = word_len key short.0.0 in
-    let w = word_len v short.0.1 in
-    with_record (value key v) (add (value key v)) cs _ (omega (arith, k, w, two_len 1 key v)) (omega (arith, k, w, two_len 1 key v)) (within language cs short.1)
-within language (add (deletion key) ∷ cs) short =
-    let k = word_len key short.0 in
-    with_record (deletion key) (add (deletion key)) cs _ (omega (arith, k, one_len 0 key)) (omega (arith, k, one_len 0 key)) (within language cs short.1)
-within language (add (single_deletion key) ∷ cs) short =
-    let k = word_len key short.0 in
-    with_record (single_deletion key) (add (single_deletion key)) cs _ (omega (arith, k, one_len 7 key)) (omega (arith, k, one_len 7 key)) (within language cs short.1)
+within language (add (value family key v) ∷ cs) short =
+    let f = names_len family short.0.0 in
+    let k = word_len key short.0.1 in
+    let w = word_len v short.0.2 in
+    let len = two_len (tag_of (value family key v)) (family_bytes family) key v in
+    with_record (value family key v) (add (value family key v)) cs _ (omega (arith, f, k, w, len)) (omega (arith, f, k, w, len)) (within language cs short.1)
+within language (add (deletion family key) ∷ cs) short =
+    let f = names_len family short.0.0 in
+    let k = word_len key short.0.1 in
+    let len = one_len (tag_of (deletion family key)) (family_bytes family) key in
+    with_record (deletion family key) (add (deletion family key)) cs _ (omega (arith, f, k, len)) (omega (arith, f, k, len)) (within language cs short.1)
+within language (add (single_deletion family key) ∷ cs) short =
+    let f = names_len family short.0.0 in
+    let k = word_len key short.0.1 in
+    let len = one_len (tag_of (single_deletion family key)) (family_bytes family) key in
+    with_record (single_deletion family key) (add (single_deletion family key)) cs _ (omega (arith, f, k, len)) (omega (arith, f, k, len)) (within language cs short.1)
 within language (add (log_data text) ∷ cs) short =
     let k = word_len text short.0 in
-    with_record (log_data text) (add (log_data text)) cs _ (omega (arith, k, one_len 3 text)) (omega (arith, k, one_len 3 text)) (within language cs short.1)
+    with_record (log_data text) (add (log_data text)) cs _ (omega (arith, k, one_len 3 [] text)) (omega (arith, k, one_len 3 [] text)) (within language cs short.1)
 within language (clear ∷ cs) short = without_record clear cs _ (within language cs short.1)
 within language (commit options ∷ cs) short = without_record (commit options) cs _ (within language cs short.1)
 within language (get key ∷ cs) short = without_record (get key) cs _ (within language cs short.1)
 within language (many keys ∷ cs) short = without_record (many keys) cs _ (within language cs short.1)
-within language (scan lo hi ∷ cs) short = without_record (scan lo hi) cs _ (within language cs short.1)
+within language (scan family lo hi ∷ cs) short = without_record (scan family lo hi) cs _ (within language cs short.1)
+within language (updates n ∷ cs) short = without_record (updates n) cs _ (within language cs short.1)
 within language (stop ∷ cs) short = without_record stop cs _ (within language cs short.1)
 within language (unstop ∷ cs) short = without_record unstop cs _ (within language cs short.1)
 within language (slow rate ∷ cs) short = without_record (slow rate) cs _ (within language cs short.1)

@@ -1,7 +1,9 @@
 -- What a line of a script says, as the parser holds it.
-use Rattle.std.specs.Prelude.{◌≡◌, ℕ, List, Result, Ok, Err, if◌then◌else◌}
+use Rattle.std.specs.Prelude.{◌≡◌, ◌&&◌, ℕ, List, [], ◌∷◌, Option, Some, None, Result, Ok, Err, map, option_map, if◌then◌else◌}
 use Rattle.std.specs.List.{list_all}
 use Rattle.model_base.specs.declared.script.ScriptFault.TheVariants.{Form}
+use Rattle.model_base.specs.declared.key.Key.{Key}
+use Rattle.model_base.specs.Map.{key_at}
 use Rattle.model_base.specs.Calls.{many}
 use Rattle.model_base.specs.Script as model
 use Rattle.model_base.specs.Script.{Grammar, section, command, line_of, with_line, ◌>>=◌}
@@ -41,9 +43,25 @@ Reads view given (Ok x) = given ≡ Ok (view x)
 Reads view given (Err (Fault kind)) = given ≡ Err kind
 Reads view given (Err NoMemory) = Unit {0}
 
--- all these parts, if each of them is a word
-abbrev pub all_words : List (List ℕ) → model.Read (List (List ℕ))
-all_words ws = if list_all model.is_word ws then Ok ws else Err Form
+-- keys of the default family, if each of these parts is a word
+abbrev pub default_keys : List (List ℕ) → model.Read (List Key)
+default_keys ws = if list_all model.is_word ws then Ok (map (key_at 0) ws) else Err Form
+
+-- keys, each after its family's number, if each of these parts is a word
+abbrev pub family_keys : List (List ℕ) → model.Read (List Key)
+family_keys ws = if list_all model.is_word ws then model.or_form (model.keys_in_families ws) else Err Form
+
+-- the family whose number comes first, and the parts behind it
+abbrev pub family_first : List (List ℕ) → Option (ℕ × List (List ℕ))
+family_first [] = None
+family_first (w ∷ ws) = if model.is_word w then option_map (λ family. (family, ws)) (model.family_number w) else None
+
+-- the key that comes first after its family's number, and the parts behind it
+abbrev pub key_first : List (List ℕ) → Option (Key × List (List ℕ))
+key_first [] = None
+key_first (f ∷ []) = None
+key_first (f ∷ w ∷ ws) = if model.is_word f && model.is_word w
+    then option_map (λ family. (key_at family w, ws)) (model.family_number f) else None
 
 -- the number that the one word spells, where there is no other word
 abbrev pub number_alone : List (List ℕ) → model.Read ℕ

@@ -2,6 +2,7 @@
 //! script, and `schedule` that of a script with a schedule.
 #![tactic(auto)]
 
+mod family_lines;
 mod language;
 mod lines;
 mod numbers;

@@ -1,22 +1,24 @@
 //! One line of a script.
 
-ghost use Rattle.std.specs.Prelude.{◌≡◌, ◌+◌, ◌≤◌, ◌++◌, true, length, drop, IfOk, option_copied};
+ghost use Rattle.std.specs.Prelude.{◌≡◌, ◌+◌, ◌≤◌, ◌++◌, true, length, map, drop, IfOk, option_copied};
 ghost use Rattle.std.specs.List.{AllByRecursion};
 ghost use Rattle.model_base.specs.Batch.{value, deletion, single_deletion, log_data};
+ghost use Rattle.model_base.specs.Map.{key_at};
 ghost use Rattle.model_base.specs.Calls as calls;
 ghost use Rattle.model_base.specs.Script as model;
 ghost use Rattle.run_scripts.specs.Languages.{grammar_of, more_forms, has_tokens, IsCommandOf};
-ghost use Rattle.run_scripts.specs.Scripts.{IsShort, line_len};
+ghost use Rattle.run_scripts.specs.Scripts.{IsShort, NamesSmall, family_len, line_len};
 ghost use Rattle.run_command_list.specs.Views.{command_of};
 ghost use Rattle.run_scripts.specs.ScriptWords.{parts_of, len_behind, alone};
-ghost use Rattle.run_scripts.specs.ScriptLines.{line_said, said_len, MayBeSaid, Reads, all_words, number_alone, behind_word, error_at};
+ghost use Rattle.run_scripts.specs.ScriptLines.{line_said, said_len, MayBeSaid, Reads, default_keys, number_alone, behind_word, error_at};
 
+use crate::family_lines::read_in_family;
 use crate::language::Language;
 use crate::numbers::number_of;
 use crate::script::ScriptError;
 use crate::words::{is_word, one_word, split_once, two_words};
 use model_base::{NoMemory, ScriptFault, WriteOptions};
-use run_command_list::{CommandView, WordList};
+use run_command_list::{CommandView, KeyList};
 use std::alloc::{AllocFailed, Global};
 
 /// What a line says, unless it is passed over.
@@ -27,7 +29,7 @@ pub enum Line<'a> {
     /// A command of the client whose section it is. Its words are parts of the line.
     Command(CommandView<'a>),
     /// A read of several keys, which are gathered in a list of their own.
-    Many(WordList),
+    Many(KeyList),
 }
 
 /// Why a line is not read.
@@ -108,13 +110,13 @@ fn read_words<'a>(
         return read_section(rest);
     }
     if word == b"put".as_slice() {
-        return read_put(rest);
+        return read_put(None, rest);
     }
     if word == b"del".as_slice() {
-        return read_delete(rest);
+        return read_delete(None, rest);
     }
     if word == b"sdel".as_slice() {
-        return read_single_delete(rest);
+        return read_single_delete(None, rest);
     }
     read_second(alloc, language, word, rest)
 }
@@ -141,12 +143,12 @@ fn read_second<'a>(
         return read_commit(rest);
     }
     if word == b"get".as_slice() {
-        return read_get(rest);
+        return read_get(0, rest);
     }
     read_other(alloc, language, word, rest)
 }
 
-/// Reads a line that reads several keys, or one that not every language has.
+/// Reads a line that reads several keys, or one that names a family, or one that not every language has.
 fn read_other<'a>(
     alloc: Global,
     language: Language,
@@ -154,16 +156,31 @@ fn read_other<'a>(
     rest: Option<&'a [u8]>,
 ) -> Result<Line<'a>, LineError>
     ensures line { let words = parts_of 32 (option_copied rest.entry) in
-        Reads line_said (model.by_form (model.read_forms ++ more_forms language) word.now words) result }
-    ensures len { IfOk result (λ l. said_len l ≡ 0) }
+        let forms = (model.read_forms ++ model.family_forms) ++ more_forms language in
+        Reads line_said (model.by_form forms word.now words) result }
+    ensures len { IfOk result (λ l. said_len l ≤ length word.now + len_behind (option_copied rest.entry) + 1) }
     ensures command { IfOk result (MayBeSaid language) }
 {
     if word == b"many".as_slice() {
         return read_many(alloc, rest);
     }
     if word == b"scan".as_slice() {
-        return read_scan(rest);
+        return read_scan(0, rest);
     }
+    read_in_family(alloc, language, word, rest)
+}
+
+/// Reads a line with any other first word than those that every language has.
+pub fn read_more<'a>(
+    language: Language,
+    word: &[u8],
+    rest: Option<&'a [u8]>,
+) -> Result<Line<'a>, LineError>
+    ensures line { let words = parts_of 32 (option_copied rest.entry) in
+        Reads line_said (model.by_form (more_forms language) word.now words) result }
+    ensures len { IfOk result (λ l. said_len l ≡ 0) }
+    ensures command { IfOk result (MayBeSaid language) }
+{
     if language.has_tokens() {
         return read_token(word, rest);
     }
@@ -210,40 +227,40 @@ fn read_section(rest: Option<&[u8]>) -> Result<Line<'_>, LineError>
     Ok(Line::Section(number))
 }
 
-/// Reads what comes after `put`.
-fn read_put(rest: Option<&[u8]>) -> Result<Line<'_>, LineError>
+/// Reads what comes after `put`, or after the family of `fput`.
+pub fn read_put(family: Option<u32>, rest: Option<&[u8]>) -> Result<Line<'_>, LineError>
     ensures line { let words = parts_of 32 (option_copied rest.entry) in
-        let put = model.two_words (λ k v. model.command (calls.add (value k v))) in
+        let put = model.two_words (λ k v. model.command (calls.add (value family k v))) in
         Reads line_said (behind_word put words) result }
-    ensures len { IfOk result (λ l. said_len l ≡ len_behind (option_copied rest.entry) + 4) }
-    ensures command { (language : Language) → IfOk result (MayBeSaid language) }
+    ensures len { IfOk result (λ l. said_len l ≡ len_behind (option_copied rest.entry) + family_len family + 4) }
+    ensures command { (language : Language) → NamesSmall family → IfOk result (MayBeSaid language) }
 {
     let (key, value) = two_words(rest).ok_or(LineError::FORM)?;
-    Ok(Line::Command(CommandView::Put { key, value }))
+    Ok(Line::Command(CommandView::Put { family, key, value }))
 }
 
-/// Reads what comes after `del`.
-fn read_delete(rest: Option<&[u8]>) -> Result<Line<'_>, LineError>
+/// Reads what comes after `del`, or after the family of `fdel`.
+pub fn read_delete(family: Option<u32>, rest: Option<&[u8]>) -> Result<Line<'_>, LineError>
     ensures line { let words = parts_of 32 (option_copied rest.entry) in
-        let delete = model.one_word (λ k. model.command (calls.add (deletion k))) in
+        let delete = model.one_word (λ k. model.command (calls.add (deletion family k))) in
         Reads line_said (behind_word delete words) result }
-    ensures len { IfOk result (λ l. said_len l ≡ len_behind (option_copied rest.entry) + 4) }
-    ensures command { (language : Language) → IfOk result (MayBeSaid language) }
+    ensures len { IfOk result (λ l. said_len l ≡ len_behind (option_copied rest.entry) + family_len family + 4) }
+    ensures command { (language : Language) → NamesSmall family → IfOk result (MayBeSaid language) }
 {
     let key = read_word(rest)?;
-    Ok(Line::Command(CommandView::Delete { key }))
+    Ok(Line::Command(CommandView::Delete { family, key }))
 }
 
-/// Reads what comes after `sdel`.
-fn read_single_delete(rest: Option<&[u8]>) -> Result<Line<'_>, LineError>
+/// Reads what comes after `sdel`, or after the family of `fsdel`.
+pub fn read_single_delete(family: Option<u32>, rest: Option<&[u8]>) -> Result<Line<'_>, LineError>
     ensures line { let words = parts_of 32 (option_copied rest.entry) in
-        let single_delete = model.one_word (λ k. model.command (calls.add (single_deletion k))) in
+        let single_delete = model.one_word (λ k. model.command (calls.add (single_deletion family k))) in
         Reads line_said (behind_word single_delete words) result }
-    ensures len { IfOk result (λ l. said_len l ≡ len_behind (option_copied rest.entry) + 5) }
-    ensures command { (language : Language) → IfOk result (MayBeSaid language) }
+    ensures len { IfOk result (λ l. said_len l ≡ len_behind (option_copied rest.entry) + family_len family + 5) }
+    ensures command { (language : Language) → NamesSmall family → IfOk result (MayBeSaid language) }
 {
     let key = read_word(rest)?;
-    Ok(Line::Command(CommandView::SingleDelete { key }))
+    Ok(Line::Command(CommandView::SingleDelete { family, key }))
 }
 
 /// Reads what comes after `note`.
@@ -293,43 +310,43 @@ fn read_commit(rest: Option<&[u8]>) -> Result<Line<'_>, LineError>
     Ok(Line::Command(CommandView::Commit { options }))
 }
 
-/// Reads what comes after `get`.
-fn read_get(rest: Option<&[u8]>) -> Result<Line<'_>, LineError>
+/// Reads what comes after `get`, or after the family of `fget`.
+pub fn read_get(family: u32, rest: Option<&[u8]>) -> Result<Line<'_>, LineError>
     ensures line { let words = parts_of 32 (option_copied rest.entry) in
-        let get = model.one_word (λ k. model.command (calls.get k)) in
+        let get = model.one_word (λ k. model.command (calls.get (key_at family k))) in
         Reads line_said (behind_word get words) result }
     ensures len { IfOk result (λ l. said_len l ≡ 0) }
     ensures command { (language : Language) → IfOk result (MayBeSaid language) }
 {
     let key = read_word(rest)?;
-    Ok(Line::Command(CommandView::Get { key }))
+    Ok(Line::Command(CommandView::Get { family, key }))
 }
 
 /// Reads what comes after `many`.
 fn read_many(alloc: Global, rest: Option<&[u8]>) -> Result<Line<'_>, LineError>
     ensures line { let words = parts_of 32 (option_copied rest.entry) in
-        let many = model.some_words (λ keys. model.command (calls.many keys)) in
+        let many = model.some_words (λ keys. model.command (calls.many (map (key_at 0) keys))) in
         Reads line_said (behind_word many words) result }
     ensures len { IfOk result (λ l. said_len l ≡ 0) }
     ensures command { (language : Language) → IfOk result (MayBeSaid language) }
 {
-    let keys = read_all_words(alloc, rest)?;
-    if keys.words().len() == 0 {
+    if rest.is_none() {
         return Err(LineError::FORM);
     }
+    let keys = read_default_keys(alloc, rest)?;
     Ok(Line::Many(keys))
 }
 
-/// Reads what comes after `scan`.
-fn read_scan(rest: Option<&[u8]>) -> Result<Line<'_>, LineError>
+/// Reads what comes after `scan`, or after the family of `fscan`.
+pub fn read_scan(family: u32, rest: Option<&[u8]>) -> Result<Line<'_>, LineError>
     ensures line { let words = parts_of 32 (option_copied rest.entry) in
-        let scan = model.two_words (λ lo hi. model.command (calls.scan lo hi)) in
+        let scan = model.two_words (λ lo hi. model.command (calls.scan family lo hi)) in
         Reads line_said (behind_word scan words) result }
     ensures len { IfOk result (λ l. said_len l ≡ 0) }
     ensures command { (language : Language) → IfOk result (MayBeSaid language) }
 {
     let (lo, hi) = two_words(rest).ok_or(LineError::FORM)?;
-    Ok(Line::Command(CommandView::Scan { lo, hi }))
+    Ok(Line::Command(CommandView::Scan { family, lo, hi }))
 }
 
 /// Reads what comes after `slow`.
@@ -370,22 +387,22 @@ fn read_word(rest: Option<&[u8]>) -> Result<&[u8], LineError>
     one_word(rest).ok_or(LineError::FORM)
 }
 
-/// Reads all words that are left of a line.
-fn read_all_words(alloc: Global, rest: Option<&[u8]>) -> Result<WordList, LineError>
-    ensures words { Reads (λ w. w) (all_words (parts_of 32 (option_copied rest.entry))) result }
-    ensures short { IfOk result (AllByRecursion IsShort) }
+/// Reads all words that are left of a line, as keys of the default family.
+fn read_default_keys(alloc: Global, rest: Option<&[u8]>) -> Result<KeyList, LineError>
+    ensures keys { Reads (λ k. k) (default_keys (parts_of 32 (option_copied rest.entry))) result }
+    ensures short { IfOk result (AllByRecursion (λ k. IsShort k.bytes)) }
 {
-    let mut words = WordList::new(alloc);
+    let mut keys = KeyList::new(alloc);
     let mut left = rest;
     while let Some(text) = left {
         let (word, behind) = split_once(text, b' ');
         if !is_word(word) {
             return Err(LineError::FORM);
         }
-        words.push(word)?;
+        keys.push(0, word)?;
         left = behind;
     }
-    Ok(words)
+    Ok(keys)
 }
 
 /// Reads the one number that comes after a command's word.

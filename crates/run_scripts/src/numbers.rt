@@ -14,6 +14,14 @@ pub fn number_of(word: &[u8]) -> Option<u64>
     (buffer.format(value).as_bytes() == word).then_some(value)
 }
 
+/// The number of a family, which is below `2^32`.
+pub fn family_number(word: &[u8]) -> Option<u32>
+    ensures { result ≡ model.family_number word.now }
+{
+    let number = number_of(word)?;
+    u32::try_from(number).ok()
+}
+
 /// The value of digits, if it is below `2^64`. A byte that isn't a digit is read as some value too: only printing the
 /// value again, as `number_of` does, shows that it isn't one.
 pub fn value_of_digits(word: &[u8]) -> Option<u64>

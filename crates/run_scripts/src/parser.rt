@@ -9,6 +9,8 @@
 //! - `commit` writes the batch, and after it there may be `sync`, `nolog` and `noslow`, any of them, in this order;
 //! - `get K` reads a key, `many K K ..` one key or more at one sequence, and `scan LO HI` the keys from LO on and
 //!   below HI;
+//! - `fput F K V`, `fdel F K`, `fsdel F K`, `fget F K`, `fmany F K F K ..` and `fscan F LO HI` are the same for keys of
+//!   the family with the number F, which is below 2^32. The others are about the default family, whose number is 0;
 //! - `stop` and `slow R` take the write controller's stop token and its delay token, at R bytes a second, and `unstop`
 //!   and `unslow` give them back.
 //!
@@ -142,7 +144,7 @@ pub fn add_said(
         Line::Section(number) => add_section(alloc, script, number),
         Line::Command(command) => add_command(script, command),
         Line::Many(keys) => {
-            let keys = keys.words();
+            let keys = keys.keys();
             add_command(script, CommandView::Many { keys })
         }
     }

@@ -41,7 +41,7 @@ kept_more client first mine how records kept k so_far flagged made some within =
 
 -- a refused commit leaves the entries as they were
 pub refused_entries : (settings : Settings) (v : Account) (records : List Record) (how : WriteOptions) (why : Refusal) (w : Account) → Refuses settings v records how why w → w.mine ≡ v.mine
-refused_entries settings v records how why w refuses = by_check (early_refusal settings.batch_bytes (holds_stop v.asked) records how) refuses
+refused_entries settings v records how why w refuses = by_check (early_refusal settings.families settings.batch_bytes (holds_stop v.asked) records how) refuses
   where
     by_check : (o : Option Refusal) → MatchOption o (IsRefusedLate v records how why w) (λ (early : Refusal). (why ≡ early) × Keeps v w) → w.mine ≡ v.mine
     by_check None (inl lacks) = lacks.1.mine

@@ -10,7 +10,7 @@ use Rattle.model_base.specs.Groups.{Group}
 use Rattle.model_base.specs.Calls as calls
 use Rattle.model_base.specs.LogContents.{GroupCall}
 use Rattle.model_base.specs.Map.{Pairs}
-use Rattle.model_base.specs.Outcomes.{IsLegalIn, outcome_of, entries_of_client}
+use Rattle.model_base.specs.Outcomes.{IsLegalIn, outcome_of, entries_of_client, read_faults_in}
 use Rattle.log_batch.specs.Contents.{Contents}
 use Rattle.run_batches.specs.declared.accepted.AcceptedBatch.{AcceptedBatch}
 use Rattle.run_outcome.specs.declared.reply.Reply.{Reply}
@@ -25,6 +25,7 @@ use Rattle.run_threads.specs.Jobs.{HaveReplied, HaveEntries}
 use Rattle.run_threads.specs.declared.run.ClientsEnd.TheVariants.{Told}
 use Rattle.run_threads.specs.Histories.{MakeUp}
 use Rattle.run_threads.specs.Runs.{HaveRun, ComesTo}
+use Rattle.run_threads.proofs.NoReadFaults.{no_read_faults}
 
 -- what is at this place of another list, and is related to the element
 record Beside {A B : Type 0} (R : A → B → Type 0) (x : A) (ys : List B) (i : ℕ) : Type 0 where
@@ -83,7 +84,7 @@ module _ {L : Type 0} (settings : Settings) (wrote : List GroupCall → L → Ty
 
   -- the clients' replies show a legal outcome of the trace, whether its values are at hand or not
   module _ (script : List (List calls.Command)) (replies : Vec (Vec Reply Global) Global) (told : HaveReplied settings script replies.items accounts)
-      (legal : (transcripts : List (List calls.Call)) (log_lens : List ℕ) → clients.HaveRun settings script transcripts accounts
+      (legal : (transcripts : List (List calls.Call)) (log_lens : List ℕ) → clients.HaveRun settings script transcripts accounts → read_faults_in transcripts ≡ []
       → IsLegalIn settings (faults log) script trace (all_attempts accounts) (outcome_of trace transcripts last log_lens (fault log)))
       (writes : WritesLog settings.group_bytes (λ calls. wrote calls log) trace (all_attempts accounts) (fault log)) where
     pub have_run : HaveRun settings script wrote fault faults log last
@@ -92,7 +93,7 @@ module _ {L : Type 0} (settings : Settings) (wrote : List GroupCall → L → Ty
       attempts = all_attempts accounts;
       transcripts = told.transcripts;
       writes = writes;
-      legal = λ log_lens. legal told.transcripts log_lens told.run;
+      legal = λ log_lens. legal told.transcripts log_lens told.run (no_read_faults replies.items told.transcripts told.show);
     }
 
     pub have_told : (shown : List (HistoryEntry Contents)) (state : Pairs) → ShowsEntries shown trace.entries → state ≡ history.map_over trace.opening trace.entries

@@ -1,9 +1,8 @@
 //! Additions to a client's batch.
 
-ghost use Rattle.std.specs.Prelude.{◌≡◌, ◌≤◌, [], ◌∷◌, None, IfOk, OnOk, IsOkUnless};
+ghost use Rattle.std.specs.Prelude.{◌≡◌, ◌≤◌, [], ◌∷◌, None, IfOk, OnOk};
 ghost use Rattle.model_base.specs.Trace.{Settings};
 ghost use Rattle.model_base.specs.Calls as calls;
-ghost use Rattle.log_batch.specs.Contents.{with_addition, size_with};
 ghost use Rattle.log_batch.specs.View.{record_of};
 ghost use Rattle.model_accounts.specs.Accounts.{Account};
 ghost use Rattle.run_threads.specs.Answers.{records_in, accepted_in, GoesOn, Answers, HasRoom, IsLeft};
@@ -12,7 +11,7 @@ ghost use Rattle.run_threads.specs.declared.batches.CurrentBatch.TheVariants.{No
 use crate::batches::{ClientBatches, CurrentBatch};
 use log_batch::{AddError, Batch, RecordView};
 use model_accounts::{commits_are_steps, earlier_sights};
-use model_base::{MAX_SIZE, NoMemory};
+use model_base::NoMemory;
 use run_batches::AcceptedBatch;
 use run_outcome::Reply;
 use std::alloc::Global;
@@ -34,7 +33,7 @@ pub fn add(
     commits_are_steps();
     earlier_sights();
     let mut batch = begin(alloc, batches)?;
-    let outcome = add_record(&mut batch, view);
+    let outcome = batch.add(view);
     batches.current = CurrentBatch::Pending(batch);
     match outcome {
         Ok(()) => Ok(None),
@@ -74,18 +73,5 @@ fn begin(alloc: Global, batches: &mut ClientBatches) -> Result<Batch, NoMemory>
             batch.clear();
             Ok(batch)
         }
-    }
-}
-
-/// Adds a record of any kind.
-fn add_record(batch: &mut Batch, view: RecordView<'_>) -> Result<(), AddError>
-    ensures ok { OnOk result (batch.new ≡ with_addition batch.old (record_of view.entry)) }
-    ensures fits { size_with batch.old (record_of view.entry) ≤ MAX_SIZE → IsOkUnless result AddError.NoMemory }
-{
-    match view {
-        RecordView::Value { key, value } => batch.put(key, value),
-        RecordView::Deletion { key } => batch.delete(key),
-        RecordView::SingleDeletion { key } => batch.single_delete(key),
-        RecordView::LogData { blob } => batch.log_data(blob),
     }
 }

@@ -40,10 +40,14 @@ pub fn answer<E: Engine, R: Wait + rt::Clock>(
         (E.account client.new).mine }
 {
     match command {
-        CommandView::Put { key, value } => add(alloc, batches, RecordView::Value { key, value }),
-        CommandView::Delete { key } => add(alloc, batches, RecordView::Deletion { key }),
-        CommandView::SingleDelete { key } => {
-            add(alloc, batches, RecordView::SingleDeletion { key })
+        CommandView::Put { family, key, value } => {
+            add(alloc, batches, RecordView::Value { family, key, value })
+        }
+        CommandView::Delete { family, key } => {
+            add(alloc, batches, RecordView::Deletion { family, key })
+        }
+        CommandView::SingleDelete { family, key } => {
+            add(alloc, batches, RecordView::SingleDeletion { family, key })
         }
         CommandView::Note { text } => add(alloc, batches, RecordView::LogData { blob: text }),
         CommandView::Clear => {
@@ -51,9 +55,9 @@ pub fn answer<E: Engine, R: Wait + rt::Clock>(
             Ok(None)
         }
         CommandView::Commit { options } => commit(rt, engine, client, batches, options),
-        CommandView::Get { key } => get(rt, engine, client, key),
+        CommandView::Get { family, key } => get(rt, engine, client, family, key),
         CommandView::Many { keys } => get_many(rt, alloc, engine, client, keys),
-        CommandView::Scan { lo, hi } => scan(rt, engine, client, lo, hi),
+        CommandView::Scan { family, lo, hi } => scan(rt, engine, client, family, lo, hi),
         CommandView::Stop => Ok(Some(stop(rt, engine, client))),
         CommandView::Unstop => Ok(Some(unstop(rt, engine, client))),
         CommandView::Slow { rate } => Ok(Some(slow(rt, engine, client, rate))),

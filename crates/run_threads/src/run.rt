@@ -12,7 +12,7 @@ use crate::batches::ClientBatches;
 use crate::clients::run_clients;
 use crate::history::{history_of, lists_of};
 use crate::state::state_of;
-use base_maps::ByteMap;
+use base_maps::FamilyMap;
 use engine_calls::{Clients, Closed, Engine, Gate};
 use model_accounts::closed_runs_are_legal;
 use model_base::NoMemory;
@@ -42,7 +42,7 @@ pub enum ClientsEnd<L> {
         last: u64,
         transcripts: Vec<Vec<Reply>>,
         history: History,
-        state: ByteMap,
+        state: FamilyMap,
     },
 }
 
@@ -55,7 +55,7 @@ pub fn run_engine<E: Engine + Sync, G: Gate + Sync, R: Threads + Wait + rt::Cloc
     alloc: Global,
     engine: E,
     clients: Clients<E::Client, E::Room>,
-    opening: ByteMap,
+    opening: FamilyMap,
     script: &[CommandList],
     gate: &G,
 ) -> ClientsEnd<E::Log>
@@ -94,9 +94,9 @@ where
 /// The history of all clients' batches, and the map that it makes of the map from before it.
 fn history_and_map(
     alloc: Global,
-    opening: ByteMap,
+    opening: FamilyMap,
     batches: Vec<ClientBatches>,
-) -> Result<(History, ByteMap), NoMemory>
+) -> Result<(History, FamilyMap), NoMemory>
     requires { length batches.items < 2 ^ 32 }
     ensures history { (start : ℕ) (entries : List model.Entry) → MakeUp start (map accepted_in batches.items) entries
         → IfOk result (λ made. ShowsEntries made.0 entries) }

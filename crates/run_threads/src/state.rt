@@ -4,13 +4,13 @@ ghost use Rattle.std.specs.Prelude.{◌≡◌, List, IfOk};
 ghost use Rattle.model_base.specs.History as model;
 ghost use Rattle.run_threads.specs.Answers.{ShowsEntries};
 
-use base_maps::ByteMap;
+use base_maps::FamilyMap;
 use log_batch::write_records;
 use model_base::NoMemory;
 use run_outcome::History;
 
 /// The map that a history makes of the map from before it.
-pub fn state_of(opening: ByteMap, history: &History) -> Result<ByteMap, NoMemory>
+pub fn state_of(opening: FamilyMap, history: &History) -> Result<FamilyMap, NoMemory>
     ensures { (entries : List model.Entry) → ShowsEntries history.now entries
         → IfOk result (λ state. state ≡ model.map_over opening entries) }
 {

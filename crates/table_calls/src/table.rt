@@ -2,6 +2,7 @@
 ghost use Rattle.std.specs.Prelude.{◌≡◌, ℕ, ◌<◌, ◌≤◌, ◌^◌, List, [], ◌∷◌, ◌++◌, None, Some, map, IfOk};
 ghost use Rattle.model_base.specs.Map.{rows_within};
 ghost use Rattle.base_bytes.specs.Answers.{found_value};
+ghost use Rattle.base_bytes.specs.declared.answers.Place.{Place};
 ghost use Rattle.table_rule.specs.declared.content.MemberVersions.{MemberVersions};
 ghost use Rattle.table_rule.specs.declared.view.Launched.{Launched};
 ghost use Rattle.table_rule.specs.declared.view.Stage.TheVariants.{Idle, Holding, Stored, Publishing};
@@ -13,7 +14,7 @@ ghost use Rattle.table_calls.specs.Account.{Account, Learns, Launches, Takes, St
 use crate::finished::Finished;
 use crate::group::GroupParts;
 use crate::seats::Seats;
-use base_bytes::{Bytes, Read, Reads, Rows};
+use base_bytes::{Place, Read, Reads, Rows};
 use model_base::NoMemory;
 use std::alloc::Global;
 use std::rt;
@@ -69,13 +70,14 @@ pub trait Table<NodeList: Versioned, GroupList: GroupParts<NodeList>> {
     fn locks(&self) -> u64
         ensures { result ≡ (opening self.now).shards };
 
-    /// The value of a key, with the published sequence as of which it was read. Want of memory leaves the table as it
-    /// was.
-    fn read<R: Wait + rt::Clock>(
+    /// The value of a family's key, with the published sequence as of which it was read. Want of memory leaves the
+    /// table as it was.
+    fn read_in<R: Wait + rt::Clock>(
         &self,
         alloc: Global,
         rt: &R,
         seat: &mut Self::Seat,
+        family: u32,
         key: &[u8],
     ) -> Result<Read, NoMemory>
         requires { ours self.now seat.old }
@@ -84,16 +86,16 @@ pub trait Table<NodeList: Versioned, GroupList: GroupParts<NodeList>> {
         ensures seen { Learns (opening self.now).start (account seat.old) (account seat.new) }
         ensures at { IfOk result (λ read. read.at ≡ last_of (opening self.now).start (account seat.new).seen) }
         // Versions above the sequence that is answered change nothing.
-        ensures value { IfOk result (λ read. found_value read.value
-            ≡ value_in (opening self.now).base key.now (account seat.new).seen) };
+        ensures value { IfOk result (λ read. found_value read.value ≡ value_in (opening self.now).base
+            (record { family = family; bytes = key.now }) (account seat.new).seen) };
 
-    /// The values of keys, all as of one published sequence.
-    fn read_many<R: Wait + rt::Clock>(
+    /// The values of keys in families, all as of one published sequence.
+    fn read_many_in<R: Wait + rt::Clock>(
         &self,
         alloc: Global,
         rt: &R,
         seat: &mut Self::Seat,
-        keys: &[Bytes],
+        places: &[Place],
     ) -> Result<Reads, NoMemory>
         requires { ours self.now seat.old }
         ensures ours { ours self.now seat.new }
@@ -101,14 +103,17 @@ pub trait Table<NodeList: Versioned, GroupList: GroupParts<NodeList>> {
         ensures at { IfOk result (λ reads. reads.at ≡ last_of (opening self.now).start (account seat.new).seen) }
         // All are values of one map, at one end of what is published.
         ensures values { IfOk result (λ reads. reads.values
-            ≡ map (λ key. value_in (opening self.now).base key (account seat.new).seen) keys.now) };
+            ≡ map (λ (p : Place). value_in (opening self.now).base
+            (record { family = p.family; bytes = p.key }) (account seat.new).seen) places.now) };
 
-    /// The keys from `lo` on and below `hi` with their values, all as of one published sequence, in byte order.
-    fn scan<R: Wait + rt::Clock>(
+    /// The keys of a family from `lo` on and below `hi` with their values, all as of one published sequence, in byte
+    /// order.
+    fn scan_in<R: Wait + rt::Clock>(
         &self,
         alloc: Global,
         rt: &R,
         seat: &mut Self::Seat,
+        family: u32,
         lo: &[u8],
         hi: &[u8],
     ) -> Result<Rows, NoMemory>
@@ -116,7 +121,7 @@ pub trait Table<NodeList: Versioned, GroupList: GroupParts<NodeList>> {
         ensures ours { ours self.now seat.new }
         ensures seen { Learns (opening self.now).start (account seat.old) (account seat.new) }
         ensures at { IfOk result (λ rows. rows.at ≡ last_of (opening self.now).start (account seat.new).seen) }
-        ensures rows { IfOk result (λ rows. rows.rows ≡ rows_within lo.now hi.now
+        ensures rows { IfOk result (λ rows. rows.rows ≡ rows_within family lo.now hi.now
             (map_after (opening self.now).base (account seat.new).seen)) };
 
     /// Launches a group, and hands each member its nodes: next, each member takes its own part, by its own seat. The

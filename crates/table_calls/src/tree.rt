@@ -45,16 +45,23 @@ pub trait VersionTree<Node: VersionNode>: Versioned {
             → v.sequence ≢ (Node.version node).sequence }
         ensures { Adds (Self.versions self.old) (Node.version node) (Self.versions self.new) };
 
-    /// The key's value as of a sequence: what it is in the map that the versions up to that sequence make.
-    fn lookup(&self, key: &[u8], at: u64) -> Option<&[u8]>
+    /// The value of a family's key as of a sequence: what it is in the map that the versions up to that sequence make.
+    fn lookup(&self, family: u32, key: &[u8], at: u64) -> Option<&[u8]>
         // It is said for each list of exactly the versions up to the sequence, in an order in which sequences don't
         // fall.
         ensures { (order : List Version) → IsOrderUpTo at (Self.versions self.now) order
-            → option_copied result ≡ value_at (map_of order) key.now };
+            → option_copied result ≡ value_at (map_of order) (record { family = family; bytes = key.now }) };
 
-    /// The keys from `lo` on and below `hi` with their values as of a sequence, in byte order.
-    fn range(&self, alloc: Global, lo: &[u8], hi: &[u8], at: u64) -> Result<Rows, NoMemory>
+    /// The keys of a family from `lo` on and below `hi` with their values as of a sequence, in byte order.
+    fn range(
+        &self,
+        alloc: Global,
+        family: u32,
+        lo: &[u8],
+        hi: &[u8],
+        at: u64,
+    ) -> Result<Rows, NoMemory>
         ensures at { IfOk result (λ rows. rows.at ≡ at) }
         ensures rows { IfOk result (λ rows. (order : List Version) → IsOrderUpTo at (Self.versions self.now) order
-            → rows.rows ≡ rows_within lo.now hi.now (map_of order)) };
+            → rows.rows ≡ rows_within family lo.now hi.now (map_of order)) };
 }

@@ -1,5 +1,5 @@
 -- A map's pairs that are put into the trees of their shards, one after another.
-use Rattle.std.proofs.Common.{◌≡◌, ◌≢◌, ◌⊎◌, ◌<◌, ℕ, zero, suc, List, [], ◌∷◌, ◌++◌, length, set, get_or, take, map, arith, refl, sym, ap, ◌∙◌, subst, inl, inr, ⊎_elim, length-set}
+use Rattle.std.proofs.Common.{◌≡◌, ◌≢◌, ◌⊎◌, ◌<◌, ℕ, zero, suc, List, [], ◌∷◌, ◌++◌, length, set, get_or, take, arith, refl, sym, ap, ◌∙◌, subst, inl, inr, ⊎_elim, length-set}
 use Rattle.std.proofs.lemmas.List.{map-append}
 use Rattle.std.proofs.lemmas.Cmp.{tied_itself}
 use Rattle.std.specs.List.{AllByRecursion}
@@ -9,16 +9,17 @@ use Rattle.std.specs.declared.cmp.Ordering.{Ordering}
 use Rattle.std.specs.declared.cmp.Ordering.TheVariants.{Less, Equal}
 use mathlib.Core.Option.{some, some-injective, some-ne-none}
 use lib.ListN.{get_elem?}
-use Rattle.model_base.specs.Map.{Pairs, byte_order}
+use Rattle.model_base.specs.declared.key.Key.{Key}
+use Rattle.model_base.specs.Map.{Pairs, key_order}
 use Rattle.table_rule.specs.declared.content.Version.{Version}
 use Rattle.table_rule.specs.Histories.{In, shard_of, versions_at}
 use Rattle.table_rule.specs.Steps.{Adds}
 use Rattle.table_rule.proofs.Histories.{in_left, in_right, in_split}
 use Rattle.table_rule.proofs.Bases.{version_at, pair_of}
-use Rattle.table_tree.specs.Shapes.{Shape, leaf, versions_in}
+use Rattle.table_tree.specs.Shapes.{Shape, versions_in}
 use Rattle.table_tree.specs.Versions.{IsNew}
 use Rattle.table_tree.proofs.Adding.{apart_new}
-use Rattle.table_tree.proofs.VersionOrder.{byte_total}
+use Rattle.table_rule.proofs.Keys.{key_total}
 use Rattle.table_steps.specs.Ends.{BearBase}
 use Rattle.table_memory.specs.Meaning.{AreLeaves}
 
@@ -55,30 +56,30 @@ none_put n trees leaves j tree v at =
     ((λ h. absurd (subst (In v) nothing h)), λ h. absurd h.0)
 
 -- a key is above those before it, in sorted pairs
-below_next : (front : Pairs) (p : List ℕ × List ℕ) (rest : Pairs) (q : List ℕ × List ℕ) → IsStrictlySortedBy byte_order (keys_of (front ++ p ∷ rest)) → In q front → byte_order q.0 p.0 ≡ Less
+below_next : (front : Pairs) (p : Key × List ℕ) (rest : Pairs) (q : Key × List ℕ) → IsStrictlySortedBy key_order (keys_of (front ++ p ∷ rest)) → In q front → key_order q.0 p.0 ≡ Less
 unfolding IsStrictlySortedBy
 below_next [] p rest q s h = absurd h
 below_next (x ∷ front) p rest q s h = ⊎_elim
-    (λ (e : x ≡ q). subst (λ (y : List ℕ × List ℕ). byte_order y.0 p.0 ≡ Less) e (at_middle (λ k. byte_order x.0 k ≡ Less) front s.0))
+    (λ (e : x ≡ q). subst (λ (y : Key × List ℕ). key_order y.0 p.0 ≡ Less) e (at_middle (λ k. key_order x.0 k ≡ Less) front s.0))
     (λ (t : In q front). below_next front p rest q s.1 t)
     h
   where
-    at_middle : (P : List ℕ → Type 0) (more : Pairs) → AllByRecursion P (keys_of (more ++ p ∷ rest)) → P p.0
+    at_middle : (P : Key → Type 0) (more : Pairs) → AllByRecursion P (keys_of (more ++ p ∷ rest)) → P p.0
     at_middle P [] a = a.0
     at_middle P (y ∷ more) a = at_middle P more a.1
 
 apart : (o : Ordering) → o ≡ Less → o ≡ Equal → ⊥
 apart o e f = cc
 
-module _ (n : ℕ) (front : Pairs) (p : List ℕ × List ℕ) (trees : List Shape) (bear : BearBase versions_in (versions_at n front) trees)
+module _ (n : ℕ) (front : Pairs) (p : Key × List ℕ) (trees : List Shape) (bear : BearBase versions_in (versions_at n front) trees)
     (j : ℕ) (old : Shape) (there : get_elem? trees j ≡ some old) where
   -- the next pair is new in its tree
-  pub next_new : (rest : Pairs) → IsStrictlySortedBy byte_order (keys_of (front ++ p ∷ rest)) → IsNew (version_at n p) (versions_in old)
+  pub next_new : (rest : Pairs) → IsStrictlySortedBy key_order (keys_of (front ++ p ∷ rest)) → IsNew (version_at n p) (versions_in old)
   next_new rest sorted = apart_new (version_at n p) (versions_in old) (λ x h same _.
       let q = pair_of n front x ((bear j old x there).0 h).0 in
       let less = below_next front p rest q.0 sorted q.1 in
       let key : q.0.0 ≡ p.0 = sym (ap (λ (w : Version). w.key) q.2) ∙ same in
-      apart (byte_order q.0.0 p.0) less (ap (λ k. byte_order k p.0) key ∙ tied_itself byte_total p.0))
+      apart (key_order q.0.0 p.0) less (ap (λ k. key_order k p.0) key ∙ tied_itself key_total p.0))
 
   -- and with it put in, the trees bear one more pair
   pub one_put : (new : Shape) (after : List Shape) → after ≡ set trees j new → Adds (versions_in old) (version_at n p) (versions_in new) → shard_of (length trees) (version_at n p) ≡ j

@@ -1,8 +1,8 @@
 -- Nodes that are moved from one list to another, and what a client has then done.
-use Rattle.std.proofs.Common.{◌≡◌, ℕ, ◌<◌, true, eqb, List, [], ◌∷◌, ◌++◌, reverse, Option, Some, None, sym, ap, ◌∙◌, subst, ⊎_elim, eqb-true, append_assoc}
+use Rattle.std.proofs.Common.{◌≡◌, ℕ, ◌<◌, true, false, eqb, List, [], ◌∷◌, ◌++◌, length, reverse, Option, Some, None, sym, ap, ◌∙◌, subst, ⊎_elim, eqb-true, eq-eqb, append_assoc, length-append, arith}
 use Rattle.std.specs.Option.{MatchOption, option_eq}
 use Rattle.std.proofs.lemmas.Bool.{false≢true}
-use Rattle.std.proofs.lemmas.List.{reverse-append}
+use Rattle.std.proofs.lemmas.List.{reverse-append, length-reverse}
 use Rattle.table_rule.specs.declared.content.Version.{Version}
 use Rattle.table_rule.specs.declared.view.Stage.{Stage}
 use Rattle.table_rule.specs.Histories.{In, shard_of}
@@ -19,6 +19,9 @@ module _ {A : Type 0} where
   moved_more x all turned after left rest are cut is =
       are ∙ ap (λ (l : List A). reverse turned ++ l) cut ∙ sym (append_assoc (reverse turned) (x ∷ []) rest) ∙ ap (λ (l : List A). l ++ rest) (sym (turned_more x turned after is))
 
+same_head : (v w : Version) (vs ws : List Version) → v ∷ vs ≡ w ∷ ws → v ≡ w
+same_head v w vs ws e = cc
+
 module _ (k shard : ℕ) where
   -- the first version of a list is of the shard that was found for it
   pub first_of : (found : Option ℕ) (left rest : List Version) (w : Version)
@@ -29,9 +32,21 @@ module _ (k shard : ℕ) where
       let first = f.1 in
       let same : first.0 ≡ w = same_head first.0 w first.1 rest (sym first.2 ∙ is) in
       ap (shard_of k) (sym same) ∙ first.3 ∙ eqb-true s shard (sym t)
-    where
-      same_head : (v w : Version) (vs ws : List Version) → v ∷ vs ≡ w ∷ ws → v ≡ w
-      same_head v w vs ws e = cc
+
+  -- where the first version of all is of the shard, and the first of those that are left is of no or another one, one
+  -- was taken at least
+  pub some_taken : (found : Option ℕ) (all turned left : List Version)
+      → MatchOption found (left ≡ []) (λ s. (s < k) × ((v : Version) × (more : List Version) × (left ≡ v ∷ more) × (shard_of k v ≡ s)))
+      → false ≡ option_eq eqb found (Some shard) → (v : Version) × (more : List Version) × (all ≡ v ∷ more) × (shard_of k v ≡ shard)
+      → all ≡ reverse turned ++ left → length left < length all
+  some_taken None all [] left none f first are = let e = sym first.2 ∙ are ∙ none in absurd (cc)
+  some_taken (Some s) all [] left found f first are =
+      let next = found.1 in
+      let same : first.0 ≡ next.0 = same_head first.0 next.0 first.1 next.1 (sym first.2 ∙ are ∙ next.2) in
+      let it : s ≡ shard = sym next.3 ∙ ap (shard_of k) (sym same) ∙ first.3 in
+      absurd (false≢true (f ∙ eq-eqb s shard it))
+  some_taken found all (x ∷ turned) left _ _ _ are =
+      omega (arith, ap length are, length-append (reverse (x ∷ turned)) left, length-reverse (x ∷ turned))
 
   pub run_more : (w : Version) (turned after : List Version) → after ≡ w ∷ turned → shard_of k w ≡ shard → AreOfShard k shard (reverse turned) → AreOfShard k shard (reverse after)
   run_more w turned after is of are v i =

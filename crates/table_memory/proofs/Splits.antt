@@ -4,8 +4,9 @@ use Rattle.std.specs.List.Sorted.{IsPermutation}
 use Rattle.std.proofs.lemmas.List.Sorted.{IsPermutation-refl, IsPermutation-cons, IsPermutation-sym, IsPermutation-trans, IsPermutation-middle, IsPermutation-append_left}
 use Rattle.std.proofs.lemmas.Bool.Decides.{nat_tests}
 use Rattle.model_base.specs.Checksum.{crc32c}
-use Rattle.model_base.specs.Map.{Pairs}
-use Rattle.table_rule.specs.Histories.{shard_of_key}
+use Rattle.model_base.specs.Map.{Rows}
+use Rattle.table_rule.specs.Histories.{shard_bytes, shard_of_key}
+use Rattle.table_tree.specs.Rows.{at_key}
 
 -- the third is true just where one of the first two is, and these exclude each other
 pub data Either : Bool → Bool → Bool → Type 0 where
@@ -55,21 +56,27 @@ below_more n j = go (nat_lt n j) (n == j) (nat_lt n (j + 1)) refl refl refl
     go false true false e f g = absurd (grind (arith, nat_tests))
     go false false true e f g = absurd (grind (arith, nat_tests))
 
--- The rows of the first j shards
+-- The rows of a family in the first j shards
 
-abbrev pub rows_below : ℕ → ℕ → Pairs → Pairs
-rows_below k j rows = filter (λ e. nat_lt (shard_of_key k e.0) j) rows
+abbrev pub rows_below : ℕ → ℕ → ℕ → Rows → Rows
+rows_below k family j rows = filter (λ e. nat_lt (shard_of_key k (at_key family e.0)) j) rows
 
-pub no_rows : (k : ℕ) (rows found : Pairs) → found ≡ [] → IsPermutation (rows_below k 0 rows) found
-no_rows k rows found none = subst (IsPermutation (rows_below k 0 rows)) (none_kept (λ (e : List ℕ × List ℕ). nat_lt (shard_of_key k e.0) 0) rows (λ e. below_zero (shard_of_key k e.0)) ∙ sym none) (IsPermutation-refl (rows_below k 0 rows))
+pub no_rows : (k family : ℕ) (rows found : Rows) → found ≡ [] → IsPermutation (rows_below k family 0 rows) found
+no_rows k family rows found none =
+    subst (IsPermutation (rows_below k family 0 rows)) (none_kept (λ (e : List ℕ × List ℕ). nat_lt (shard_of_key k (at_key family e.0)) 0) rows (λ e. below_zero (shard_of_key k (at_key family e.0))) ∙ sym none)
+    (IsPermutation-refl (rows_below k family 0 rows))
 
-pub more_rows : (k j : ℕ) (rows found more after : Pairs) → IsPermutation (rows_below k j rows) found → more ≡ filter (λ e. shard_of_key k e.0 == j) rows → after ≡ found ++ more → IsPermutation (rows_below k (j + 1) rows) after
-more_rows k j rows found more after so_far more_is after_is =
-    let here : Pairs = filter (λ (e : List ℕ × List ℕ). shard_of_key k e.0 == j) rows in
-    let both = IsPermutation-append_left here (rows_below k j rows) found so_far in
-    subst (IsPermutation (rows_below k (j + 1) rows)) (ap (λ (l : Pairs). found ++ l) (sym more_is) ∙ sym after_is)
-    (IsPermutation-trans (rows_below k (j + 1) rows) (rows_below k j rows ++ here) (found ++ here)
-    (split (λ (e : List ℕ × List ℕ). nat_lt (shard_of_key k e.0) j) (λ e. shard_of_key k e.0 == j) (λ e. nat_lt (shard_of_key k e.0) (j + 1)) (λ e. below_more (shard_of_key k e.0) j) rows) both)
+pub more_rows : (k family j : ℕ) (rows found more after : Rows) → IsPermutation (rows_below k family j rows) found → more ≡ filter (λ e. shard_of_key k (at_key family e.0) == j) rows → after ≡ found ++ more
+    → IsPermutation (rows_below k family (j + 1) rows) after
+more_rows k family j rows found more after so_far more_is after_is =
+    let shard : List ℕ × List ℕ → ℕ = λ e. shard_of_key k (at_key family e.0) in
+    let here : Rows = filter (λ (e : List ℕ × List ℕ). shard e == j) rows in
+    let both = IsPermutation-append_left here (rows_below k family j rows) found so_far in
+    subst (IsPermutation (rows_below k family (j + 1) rows)) (ap (λ (l : Rows). found ++ l) (sym more_is) ∙ sym after_is)
+    (IsPermutation-trans (rows_below k family (j + 1) rows) (rows_below k family j rows ++ here) (found ++ here)
+    (split (λ (e : List ℕ × List ℕ). nat_lt (shard e) j) (λ e. shard e == j) (λ e. nat_lt (shard e) (j + 1)) (λ e. below_more (shard e) j) rows) both)
 
-pub all_rows : (k j : ℕ) (rows : Pairs) → 0 < k → j ≡ k → rows_below k j rows ≡ rows
-all_rows k j rows some is = all_kept (λ (e : List ℕ × List ℕ). nat_lt (shard_of_key k e.0) j) rows (λ e. let low : shard_of_key k e.0 < k = mod-lt (crc32c e.0) some in grind (arith, nat_tests))
+pub all_rows : (k family j : ℕ) (rows : Rows) → 0 < k → j ≡ k → rows_below k family j rows ≡ rows
+all_rows k family j rows some is =
+    all_kept (λ (e : List ℕ × List ℕ). nat_lt (shard_of_key k (at_key family e.0)) j) rows
+    (λ e. let low : shard_of_key k (at_key family e.0) < k = mod-lt (crc32c (shard_bytes (at_key family e.0))) some in grind (arith, nat_tests))

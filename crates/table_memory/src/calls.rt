@@ -6,7 +6,7 @@ ghost use Rattle.table_steps.specs.Accounts.{history_of};
 ghost use Rattle.table_memory.specs.Meaning.{opening_of, account_of, IsOurs, MayLaunch};
 
 use crate::memory_table::MemoryTable;
-use base_bytes::{Bytes, Read, Reads, Rows};
+use base_bytes::{Place, Read, Reads, Rows};
 use model_base::NoMemory;
 use std::alloc::Global;
 use std::rt;
@@ -45,40 +45,42 @@ impl Table<Nodes, Parts> for MemoryTable {
         self.steps.shards()
     }
 
-    fn read<R: Wait + rt::Clock>(
+    fn read_in<R: Wait + rt::Clock>(
         &self,
         alloc: Global,
         rt: &R,
         seat: &mut TableSeat<Tree, Nodes>,
+        family: u32,
         key: &[u8],
     ) -> Result<Read, NoMemory> {
         let at = seat.last(&self.steps);
-        let value = self.value(alloc, rt, seat, key, at)?;
+        let value = self.value(alloc, rt, seat, family, key, at)?;
         Ok(Read { at, value })
     }
 
-    fn read_many<R: Wait + rt::Clock>(
+    fn read_many_in<R: Wait + rt::Clock>(
         &self,
         alloc: Global,
         rt: &R,
         seat: &mut TableSeat<Tree, Nodes>,
-        keys: &[Bytes],
+        places: &[Place],
     ) -> Result<Reads, NoMemory> {
         let at = seat.last(&self.steps);
-        let values = self.values(alloc, rt, seat, keys, at)?;
+        let values = self.values(alloc, rt, seat, places, at)?;
         Ok(Reads { at, values })
     }
 
-    fn scan<R: Wait + rt::Clock>(
+    fn scan_in<R: Wait + rt::Clock>(
         &self,
         alloc: Global,
         rt: &R,
         seat: &mut TableSeat<Tree, Nodes>,
+        family: u32,
         lo: &[u8],
         hi: &[u8],
     ) -> Result<Rows, NoMemory> {
         let at = seat.last(&self.steps);
-        self.rows(alloc, rt, seat, lo, hi, at)
+        self.rows(alloc, rt, seat, family, lo, hi, at)
     }
 
     fn launch(

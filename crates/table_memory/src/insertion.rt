@@ -42,8 +42,8 @@ impl MemoryTable {
             × ((v : Version) × (more : List Version) × (nodes.now ≡ v ∷ more)
             × (shard_of (opening_of self.now).shards v ≡ shard))) }
     {
-        let key = nodes.first_key()?;
-        Some(self.shard_of(key))
+        let (family, key) = nodes.first_key()?;
+        Some(self.shard_of(family, key))
     }
 
     // Takes out the nodes at the front that are of the first one's shard. With one shard, those are all nodes.

@@ -7,7 +7,7 @@ ghost use Rattle.table_memory.specs.Meaning.{opening_of, IsTurnAtStart, AreSeats
 
 use crate::memory_table::MemoryTable;
 use crate::reading::shard_of;
-use base_maps::ByteMap;
+use base_maps::FamilyMap;
 use model_base::NoMemory;
 use std::alloc::Global;
 use std::marker::Brand;
@@ -34,7 +34,7 @@ fn put_pairs(
     alloc: Global,
     trees: &mut [Tree],
     sequence: u64,
-    map: &ByteMap,
+    map: &FamilyMap,
 ) -> Result<(), NoMemory>
     requires some { 0 < length trees.old }
     requires empty { AreLeaves trees.old }
@@ -44,9 +44,9 @@ fn put_pairs(
     map.in_order();
     let shards = trees.len() as u64;
     // The trees have the pairs so far, each in the tree of its shard.
-    for (key, value) in map.iter() {
-        let node = Node::of_value(alloc, key, value, sequence)?;
-        trees[shard_of(key, shards) as usize].insert(node);
+    for (family, key, value) in map.iter() {
+        let node = Node::of_value(alloc, family, key, value, sequence)?;
+        trees[shard_of(family, key, shards) as usize].insert(node);
     }
     Ok(())
 }
@@ -55,7 +55,7 @@ fn put_pairs(
 fn base_of<Plan: VersionPlan>(
     alloc: Global,
     _sequence: u64,
-    _map: &ByteMap,
+    _map: &FamilyMap,
 ) -> Result<Base, NoMemory>
     ensures { IfOk result (λ base. base ≡ Plan.versions) }
 {
@@ -78,7 +78,7 @@ impl MemoryTable {
         NoMemory,
     >
         requires { 0 < shards }
-        // No versions, and this published sequence. A key's shard is its CRC-32C modulo the number of shards.
+        // No versions, and this published sequence. A key's shard is a CRC-32C modulo the number of shards.
         ensures table { IfOk result (λ opened. opening_of opened.0
             ≡ record { clients = clients; shards = shards; start = last; base = [] }) }
         ensures turn { IfOk result (λ opened. IsTurnAtStart opened.0 opened.1.turn) }
@@ -98,7 +98,7 @@ impl MemoryTable {
         last: u64,
         shards: u32,
         base_last: u64,
-        map: &ByteMap,
+        map: &FamilyMap,
     ) -> Result<
         (
             MemoryTable,

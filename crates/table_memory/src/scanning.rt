@@ -1,7 +1,8 @@
 //! The rows of all shards, in byte order.
 ghost use Rattle.std.specs.Prelude.{◌≡◌, IfOk};
 ghost use Rattle.std.specs.List.Sorted.{IsPermutation};
-ghost use Rattle.model_base.specs.Map.{Pairs, rows_within};
+ghost use Rattle.model_base.specs.Map as map;
+ghost use Rattle.model_base.specs.Map.{rows_within};
 ghost use Rattle.table_rule.specs.Histories.{IsHistory, last_of, map_after};
 ghost use Rattle.table_memory.specs.Meaning.{opening_of, account_of, IsOurs};
 ghost use Rattle.table_memory.specs.Rows.{AreRising};
@@ -17,20 +18,21 @@ use table_tree::{Nodes, Tree};
 
 /// Rows of different keys, sorted in the byte order of the keys.
 fn in_byte_order(mut rows: Vec<(Bytes, Bytes)>) -> PairList
-    ensures { (rising : Pairs) → AreRising rising → IsPermutation rising rows.items → result ≡ rising }
+    ensures { (rising : map.Rows) → AreRising rising → IsPermutation rising rows.items → result ≡ rising }
 {
     rows.sort_unstable_by(|a, b| a.0.as_slice().cmp(b.0.as_slice()));
     PairList::from_vec(rows)
 }
 
 impl MemoryTable {
-    /// The keys from `lo` on and below `hi` with their values, as of `at`, the end of what the seat has seen. A tree's
-    /// rows are in byte order, so those of a single shard needn't be sorted.
+    /// The keys of a family from `lo` on and below `hi` with their values, as of `at`, the end of what the seat has
+    /// seen. A tree's rows are in byte order, so those of a single shard needn't be sorted.
     pub(crate) fn rows<R: Wait + rt::Clock>(
         &self,
         alloc: Global,
         rt: &R,
         seat: &mut TableSeat<Tree, Nodes>,
+        family: u32,
         lo: &[u8],
         hi: &[u8],
         at: u64,
@@ -42,12 +44,12 @@ impl MemoryTable {
         ensures same { account_of seat.new ≡ account_of seat.old }
         ensures at { IfOk result (λ rows. rows.at ≡ at) }
         ensures rows { IfOk result (λ rows. rows.rows
-            ≡ rows_within lo.now hi.now (map_after (opening_of self.now).base (account_of seat.old).seen)) }
+            ≡ rows_within family lo.now hi.now (map_after (opening_of self.now).base (account_of seat.old).seen)) }
     {
         if self.steps.shards() == 1 {
-            return seat.find_rows(&self.steps, alloc, rt, 0, lo, hi, at);
+            return seat.find_rows(&self.steps, alloc, rt, 0, family, lo, hi, at);
         }
-        let found = self.gather(alloc, rt, seat, lo, hi, at)?;
+        let found = self.gather(alloc, rt, seat, family, lo, hi, at)?;
         let rows = in_byte_order(found);
         Ok(Rows { at, rows })
     }
@@ -58,6 +60,7 @@ impl MemoryTable {
         alloc: Global,
         rt: &R,
         seat: &mut TableSeat<Tree, Nodes>,
+        family: u32,
         lo: &[u8],
         hi: &[u8],
         at: u64,
@@ -68,14 +71,14 @@ impl MemoryTable {
         ensures ours { IsOurs self.now seat.new }
         ensures same { account_of seat.new ≡ account_of seat.old }
         ensures rows { IfOk result (λ rows. IsPermutation
-            (rows_within lo.now hi.now (map_after (opening_of self.now).base (account_of seat.old).seen))
+            (rows_within family lo.now hi.now (map_after (opening_of self.now).base (account_of seat.old).seen))
             rows.items) }
     {
         let mut rows = Vec::new(alloc);
         let shards = self.steps.shards();
         // `rows` has the rows of the shards below `shard`, in any order.
         for shard in 0..shards {
-            let found = seat.find_rows(&self.steps, alloc, rt, shard, lo, hi, at)?;
+            let found = seat.find_rows(&self.steps, alloc, rt, shard, family, lo, hi, at)?;
             let mut more = found.rows.into_vec();
             rows.append(&mut more)?;
         }

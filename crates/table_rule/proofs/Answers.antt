@@ -4,7 +4,7 @@ use Rattle.std.proofs.Math.Nat.{mod-one}
 use Rattle.model_base.specs.Checksum.{crc32c}
 use Rattle.table_rule.specs.declared.content.Version.{Version}
 use Rattle.table_rule.specs.declared.content.MemberVersions.{MemberVersions}
-use Rattle.table_rule.specs.Histories.{In, versions_of, standing, Runs, last_of, shard_of, of_shard, AreRising, IsOrderUpTo}
+use Rattle.table_rule.specs.Histories.{In, versions_of, standing, Runs, last_of, shard_bytes, shard_of, of_shard, AreRising, IsOrderUpTo}
 use Rattle.table_rule.specs.Steps.{Shows}
 use Rattle.table_rule.specs.declared.view.Opening.{Opening}
 use Rattle.table_rule.proofs.Histories.{in_run, in_split, standing_below}
@@ -65,4 +65,4 @@ seen_order z j seen vs runs shows =
 
 -- with one shard, those are all versions
 pub one_shard : (vs : List Version) → of_shard 1 0 vs ≡ vs
-one_shard vs = all_kept (λ v. eqb (shard_of 1 v) 0) vs (λ v. eq-eqb (shard_of 1 v) 0 (mod-one (crc32c v.key)))
+one_shard vs = all_kept (λ v. eqb (shard_of 1 v) 0) vs (λ v. eq-eqb (shard_of 1 v) 0 (mod-one (crc32c (shard_bytes v.key))))

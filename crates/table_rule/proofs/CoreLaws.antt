@@ -177,11 +177,11 @@ module _ (start : ℕ) (o : Options) (team : ℕ → List ℕ) where
       same_last true = refl
       same_last false = refl
 
-  pub reads_core : (s : State) (a b : TableNow) (found c : ℕ) → IsCoreOf start o team a s → IsRead start found a b → IsReading s c → (found ≡ s.last) × AreTaken start o team (core.Read c ∷ []) s b
+  pub reads_core : (s : State) (a b : TableNow) (found c : ℕ) → IsCoreOf start o team a s → IsRead start found a b → IsReading o s c → (found ≡ s.last) × AreTaken start o team (core.Read c ∷ []) s b
   reads_core s a b found c is finds (client, command, reply, here, idle, next, answer) =
       let t : State = with_client s c (after_reply (next_call client).client command reply) in
-      let may : step o s (core.Read c) ≡ Some t = ap (read s c) here ∙ (ap (λ b. if b then read_call s c (next_call client).client (next_call client).call else None) idle
-      ∙ (ap (read_call s c (next_call client).client) next ∙ ap (read_with s c (next_call client).client command) answer)) in
+      let may : step o s (core.Read c) ≡ Some t = ap (read o s c) here ∙ (ap (λ b. if b then read_call o s c (next_call client).client (next_call client).call else None) idle
+      ∙ (ap (read_call o s c (next_call client).client) next ∙ ap (read_with s c (next_call client).client command) answer)) in
       let now = stays_core s a b is finds.0 in
       (finds.1 ∙ sym is.0, (t, (t, may, refl), (now.0, moved b.mode now.1)))
     where

@@ -61,22 +61,22 @@ by_link o s t c came = by_client (client_at s c) came
     by_client None came = absurd (cc)
     by_client (Some client) came = by_idle client client.idle came
 
-by_read : (o : Options) (s t : State) (c : ℕ) → read s c (client_at s c) ≡ Some t → Leaves o s t
+by_read : (o : Options) (s t : State) (c : ℕ) → read o s c (client_at s c) ≡ Some t → Leaves o s t
 by_read o s t c came = by_client (client_at s c) came
   where
     by_reply : (client : Client) (command : Command) (reply : Option Reply) → read_with s c client command reply ≡ Some t → Leaves o s t
     by_reply client command (Some reply) came = let after : with_client s c (after_reply client command reply) ≡ t = cc in subst (Leaves o s) after (refl, refl, λ _. refl)
     by_reply client command None came = absurd (cc)
 
-    by_call : (client : Client) (call : Option Command) → read_call s c client call ≡ Some t → Leaves o s t
-    by_call client (Some command) came = by_reply client command (read_reply s command) came
+    by_call : (client : Client) (call : Option Command) → read_call o s c client call ≡ Some t → Leaves o s t
+    by_call client (Some command) came = by_reply client command (read_reply o s command) came
     by_call client None came = absurd (cc)
 
-    by_idle : (client : Client) (b : Bool) → (if b then read_call s c (next_call client).client (next_call client).call else None) ≡ Some t → Leaves o s t
+    by_idle : (client : Client) (b : Bool) → (if b then read_call o s c (next_call client).client (next_call client).call else None) ≡ Some t → Leaves o s t
     by_idle client true came = by_call (next_call client).client (next_call client).call came
     by_idle client false came = absurd (cc)
 
-    by_client : (client : Option Client) → read s c client ≡ Some t → Leaves o s t
+    by_client : (client : Option Client) → read o s c client ≡ Some t → Leaves o s t
     by_client None came = absurd (cc)
     by_client (Some client) came = by_idle client client.idle came
 

@@ -4,6 +4,7 @@ pub mod Moves
 pub mod Parts
 pub mod Fresh
 pub mod Additions
+pub mod Keys
 pub mod Bases
 pub mod Locks
 pub mod Handing

@@ -86,6 +86,6 @@ abbrev pub AreTaken : ℕ → Options → (ℕ → List ℕ) → List CoreEvent 
 AreTaken start o team events s now = (t : CoreState) × Come o events s t × IsCoreOf start o team now t
 
 -- the client is idle, and its next call is a read
-abbrev pub IsReading : CoreState → ℕ → Type 0
-IsReading s c = (client : Client) × (command : Command) × (reply : Reply) × (client_at s c ≡ Some client)
-    × (client.idle ≡ true) × ((next_call client).call ≡ Some command) × (read_reply s command ≡ Some reply)
+abbrev pub IsReading : Options → CoreState → ℕ → Type 0
+IsReading o s c = (client : Client) × (command : Command) × (reply : Reply) × (client_at s c ≡ Some client)
+    × (client.idle ≡ true) × ((next_call client).call ≡ Some command) × (read_reply o s command ≡ Some reply)

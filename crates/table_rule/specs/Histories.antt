@@ -1,9 +1,11 @@
 -- Versions, groups and histories as plain lists. A published group is a write group whose batches have been put into
 -- the memtable (RocksDB wiki, "MemTable").
-use Rattle.std.specs.Prelude.{◌≡◌, ◌≢◌, ◌⊎◌, ◌↔◌, ℕ, suc, ◌+◌, ◌%◌, ◌<◌, ◌≤◌, Option, Some, None, List, [], ◌∷◌, ◌++◌, ◌==◌, length, map, filter}
+use Rattle.std.specs.Prelude.{◌≡◌, ◌≢◌, ◌⊎◌, ◌↔◌, ℕ, suc, ◌+◌, ◌%◌, ◌<◌, ◌≤◌, Option, Some, None, List, [], ◌∷◌, ◌++◌, ◌==◌, if◌then◌else◌, length, map, filter}
+use Rattle.std.specs.Int.{w32, to_le_bytes}
 use Rattle.model_base.specs.Batch.{Record}
 use Rattle.model_base.specs.Batch as model
 use Rattle.model_base.specs.Checksum.{crc32c}
+use Rattle.model_base.specs.declared.key.Key.{Key}
 use Rattle.model_base.specs.Map.{Pairs, after_records, value_at}
 use Rattle.table_rule.specs.declared.content.Version.{Version}
 use Rattle.table_rule.specs.declared.content.MemberVersions.{MemberVersions}
@@ -54,9 +56,14 @@ AreSome (g ∷ gs) = (0 < length (versions_in g)) × AreSome gs
 abbrev pub IsHistory : ℕ → List (List MemberVersions) → Type 0
 IsHistory start gs = Runs start (versions_of gs) × AreSome gs
 
+-- The bytes that say in which shard a key is: its own, and in another family than the default one those of the family's
+-- number before them.
+abbrev pub shard_bytes : Key → List ℕ
+shard_bytes key = (if key.family == 0 then [] else to_le_bytes w32 key.family) ++ key.bytes
+
 -- the shard of a key, and of a version
-abbrev pub shard_of_key : ℕ → List ℕ → ℕ
-shard_of_key shards key = crc32c key % shards
+abbrev pub shard_of_key : ℕ → Key → ℕ
+shard_of_key shards key = crc32c (shard_bytes key) % shards
 
 abbrev pub shard_of : ℕ → Version → ℕ
 shard_of shards v = shard_of_key shards v.key
@@ -66,9 +73,9 @@ abbrev pub of_shard : ℕ → ℕ → List Version → List Version
 of_shard shards j vs = filter (λ v. shard_of shards v == j) vs
 
 -- the record that does to a map what the version does
-abbrev pub record_writing : List ℕ → Option (List ℕ) → Record
-record_writing key (Some v) = model.value key v
-record_writing key None = model.deletion key
+abbrev pub record_writing : Key → Option (List ℕ) → Record
+record_writing key (Some v) = model.value (Some key.family) key.bytes v
+record_writing key None = model.deletion (Some key.family) key.bytes
 
 abbrev pub record_of : Version → Record
 record_of v = record_writing v.key v.value
@@ -88,7 +95,7 @@ standing base gs = base ++ versions_of gs
 abbrev pub map_after : List Version → List (List MemberVersions) → Pairs
 map_after base gs = map_of (standing base gs)
 
-abbrev pub value_in : List Version → List ℕ → List (List MemberVersions) → Option (List ℕ)
+abbrev pub value_in : List Version → Key → List (List MemberVersions) → Option (List ℕ)
 value_in base key gs = value_at (map_after base gs) key
 
 -- no sequence is below one that comes before it

@@ -1,5 +1,6 @@
 //! What the slots of a table hold, and what is published.
 
+use model_base::Key;
 use std::collections::LinkedList;
 
 /// What lies in a slot. `ShardTree` is a tree of versions, and `NodeList` are a member's nodes.
@@ -16,7 +17,7 @@ pub enum Content<ShardTree, NodeList> {
 /// The value that a key has from a sequence on, or none where it is deleted. Contracts speak of versions, and no value
 /// of this type is made.
 pub struct Version {
-    pub key: LinkedList<u8>,
+    pub key: Key,
     pub value: Option<LinkedList<u8>>,
     pub sequence: u64,
 }

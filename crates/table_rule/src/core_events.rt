@@ -39,7 +39,7 @@ pub fn table_and_core()
         → IsCoreOf start o team a s → a.mode ≡ still → s.table ≡ is_published → leads c (table_group o s) ≡ true
         → AreTaken start o team (core.Exit c ∷ []) s a }
     ensures read { (start : ℕ) (o : Options) (team : ℕ → List ℕ) (s : State) (a b : TableNow) (found c : ℕ)
-        → IsCoreOf start o team a s → IsRead start found a b → IsReading s c
+        → IsCoreOf start o team a s → IsRead start found a b → IsReading o s c
         → (found ≡ s.last) × AreTaken start o team (core.Read c ∷ []) s b }
     ensures stays { (start : ℕ) (o : Options) (team : ℕ → List ℕ) (s : State) (a b : TableNow)
         → IsCoreOf start o team a s → Stays a b → IsCoreOf start o team b s }

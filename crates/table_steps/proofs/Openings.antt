@@ -13,7 +13,7 @@ use Rattle.table_rule.specs.declared.content.Version.{Version}
 use Rattle.table_rule.specs.declared.view.Opening.{Opening}
 use native.Mathlib.Nat.{mod-lt}
 use Rattle.model_base.specs.Checksum.{crc32c}
-use Rattle.table_rule.specs.Histories.{In, shard_of, IsBase}
+use Rattle.table_rule.specs.Histories.{In, shard_of, IsBase, shard_bytes}
 use Rattle.table_rule.specs.Rule.{IsConsistent, newcomers}
 use Rattle.table_rule.proofs.Seats.{Bears, opens}
 use Rattle.table_steps.specs.Ends.{BearBase}
@@ -91,7 +91,7 @@ module _ {ShardTree NodeList : Type 0} (held_by : ShardTree → List Version) (n
         let o = (bear j t.0 v t.1).0 (subst (λ (x : Option ShardTree). In v (in_tree x)) t.1 h) in
         (subst (λ (k : ℕ). shard_of k v ≡ j) count o.1, o.0)),
     (λ v h.
-        let low : shard_of z.shards v < z.shards = mod-lt (crc32c v.key) lo in
+        let low : shard_of z.shards v < z.shards = mod-lt (crc32c (shard_bytes v.key)) lo in
         let t = tree_at trees [] (shard_of z.shards v) (omega arith) in
         subst (λ (x : Option ShardTree). In v (in_tree x)) (sym t.1) ((bear (shard_of z.shards v) t.0 v t.1).1 (h, ap (λ (k : ℕ). shard_of k v) count))),
   )

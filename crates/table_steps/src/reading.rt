@@ -19,17 +19,18 @@ use std::sync::Wait;
 use table_calls::{VersionNode, VersionNodes, VersionTree};
 use table_rule::Learn;
 
-/// A copy of the value that a tree has for a key as of a sequence.
+/// A copy of the value that a tree has for a family's key as of a sequence.
 fn copied<Node: VersionNode, ShardTree: VersionTree<Node>>(
     alloc: Global,
     tree: &ShardTree,
+    family: u32,
     key: &[u8],
     at: u64,
 ) -> Result<Found, NoMemory>
     ensures { IfOk result (λ found. (order : List Version) → IsOrderUpTo at (ShardTree.versions tree.now) order
-        → found_value found ≡ value_at (map_of order) key.now) }
+        → found_value found ≡ value_at (map_of order) (record { family = family; bytes = key.now })) }
 {
-    match tree.lookup(key, at) {
+    match tree.lookup(family, key, at) {
         Some(value) => Ok(Found::Value(Bytes::copy(alloc, value)?)),
         None => Ok(Found::Absent),
     }
@@ -75,13 +76,14 @@ impl<ShardTree: VersionTree<NodeList::Node> + Drop, NodeList: VersionNodes + Dro
         unreachable!()
     }
 
-    /// The key's value in a shard, as of `at`, the end of what the seat has seen.
+    /// The value of a family's key in a shard, as of `at`, the end of what the seat has seen.
     pub fn find<R: Wait + rt::Clock>(
         &mut self,
         table: &SharedTable<ShardTree, NodeList>,
         alloc: Global,
         rt: &R,
         shard: u64,
+        family: u32,
         key: &[u8],
         at: u64,
     ) -> Result<Found, NoMemory>
@@ -93,12 +95,13 @@ impl<ShardTree: VersionTree<NodeList::Node> + Drop, NodeList: VersionNodes + Dro
         ensures same { account self.new ≡ account self.old }
         ensures value { IfOk result (λ found. found_value found
             ≡ value_at (map_of (of_shard (opening_of table.now).shards shard
-            (standing (opening_of table.now).base (account self.old).seen))) key.now) }
+            (standing (opening_of table.now).base (account self.old).seen)))
+            (record { family = family; bytes = key.now })) }
     {
         let backoff = Backoff::new();
         // Somebody had the shard's lock at each try so far, and the seat is as it was.
         for _ in rt.forever() {
-            if let Some(found) = self.try_find(table, alloc, shard, key, at) {
+            if let Some(found) = self.try_find(table, alloc, shard, family, key, at) {
                 return found;
             }
             backoff.snooze();
@@ -113,6 +116,7 @@ impl<ShardTree: VersionTree<NodeList::Node> + Drop, NodeList: VersionNodes + Dro
         table: &SharedTable<ShardTree, NodeList>,
         alloc: Global,
         shard: u64,
+        family: u32,
         key: &[u8],
         at: u64,
     ) -> Option<Result<Found, NoMemory>>
@@ -125,22 +129,24 @@ impl<ShardTree: VersionTree<NodeList::Node> + Drop, NodeList: VersionNodes + Dro
         ensures same { account self.new ≡ account self.old }
         ensures value { IfSome result (λ answer. IfOk answer (λ found. found_value found
             ≡ value_at (map_of (of_shard (opening_of table.now).shards shard
-            (standing (opening_of table.now).base (account self.old).seen))) key.now)) }
+            (standing (opening_of table.now).base (account self.old).seen)))
+            (record { family = family; bytes = key.now }))) }
     {
         let tree = table.try_lock(&mut self.client, shard)?;
-        let found = copied::<NodeList::Node, ShardTree>(alloc, &tree, key, at);
+        let found = copied::<NodeList::Node, ShardTree>(alloc, &tree, family, key, at);
         table.unlock(&mut self.client, shard, tree);
         Some(found)
     }
 
-    /// The keys of a shard from `lo` on and below `hi` with their values, as of `at`, the end of what the seat has
-    /// seen.
+    /// A family's keys of a shard from `lo` on and below `hi` with their values, as of `at`, the end of what the seat
+    /// has seen.
     pub fn find_rows<R: Wait + rt::Clock>(
         &mut self,
         table: &SharedTable<ShardTree, NodeList>,
         alloc: Global,
         rt: &R,
         shard: u64,
+        family: u32,
         lo: &[u8],
         hi: &[u8],
         at: u64,
@@ -152,14 +158,14 @@ impl<ShardTree: VersionTree<NodeList::Node> + Drop, NodeList: VersionNodes + Dro
         ensures ours { IsOurs table.now self.new }
         ensures same { account self.new ≡ account self.old }
         ensures at { IfOk result (λ rows. rows.at ≡ at) }
-        ensures rows { IfOk result (λ rows. rows.rows ≡ rows_within lo.now hi.now
+        ensures rows { IfOk result (λ rows. rows.rows ≡ rows_within family lo.now hi.now
             (map_of (of_shard (opening_of table.now).shards shard
             (standing (opening_of table.now).base (account self.old).seen)))) }
     {
         let backoff = Backoff::new();
         // Somebody had the shard's lock at each try so far, and the seat is as it was.
         for _ in rt.forever() {
-            if let Some(rows) = self.try_find_rows(table, alloc, shard, lo, hi, at) {
+            if let Some(rows) = self.try_find_rows(table, alloc, shard, family, lo, hi, at) {
                 return rows;
             }
             backoff.snooze();
@@ -174,6 +180,7 @@ impl<ShardTree: VersionTree<NodeList::Node> + Drop, NodeList: VersionNodes + Dro
         table: &SharedTable<ShardTree, NodeList>,
         alloc: Global,
         shard: u64,
+        family: u32,
         lo: &[u8],
         hi: &[u8],
         at: u64,
@@ -186,12 +193,12 @@ impl<ShardTree: VersionTree<NodeList::Node> + Drop, NodeList: VersionNodes + Dro
         ensures none { result ≡ None → self.new ≡ self.old }
         ensures same { account self.new ≡ account self.old }
         ensures at { IfSome result (λ answer. IfOk answer (λ rows. rows.at ≡ at)) }
-        ensures rows { IfSome result (λ answer. IfOk answer (λ rows. rows.rows ≡ rows_within lo.now hi.now
+        ensures rows { IfSome result (λ answer. IfOk answer (λ rows. rows.rows ≡ rows_within family lo.now hi.now
             (map_of (of_shard (opening_of table.now).shards shard
             (standing (opening_of table.now).base (account self.old).seen))))) }
     {
         let tree = table.try_lock(&mut self.client, shard)?;
-        let rows = tree.range(alloc, lo, hi, at);
+        let rows = tree.range(alloc, family, lo, hi, at);
         table.unlock(&mut self.client, shard, tree);
         Some(rows)
     }

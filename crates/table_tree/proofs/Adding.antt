@@ -4,20 +4,20 @@ use Rattle.std.specs.Ordering.{nat_cmp, match_ordering, ordering_then}
 use Rattle.std.specs.declared.cmp.Ordering.{Ordering}
 use Rattle.std.specs.declared.cmp.Ordering.TheVariants.{Less, Equal, Greater}
 use Rattle.std.proofs.lemmas.Cmp.{ranked}
-use Rattle.model_base.specs.Map.{byte_order}
+use Rattle.model_base.specs.Map.{key_order}
 use Rattle.table_rule.specs.declared.content.Version.{Version}
 use Rattle.table_rule.specs.Histories.{In}
 use Rattle.table_rule.specs.Steps.{Adds}
 use Rattle.table_tree.specs.Versions.{version_order, IsNew, insert_version}
 use Rattle.table_tree.proofs.Inserting.{both_equal}
-use Rattle.table_tree.proofs.VersionOrder.{equal_keys}
+use Rattle.table_rule.proofs.Keys.{equal_keys}
 
 -- a version whose sequence no other of its key has is new
 pub apart_new : (v : Version) (l : List Version) → ((x : Version) → In x l → x.key ≡ v.key → x.sequence ≢ v.sequence) → IsNew v l
 apart_new v [] apart = tt
 apart_new v (w ∷ l) apart = (
-  λ e. apart w (inl refl) (sym (equal_keys v.key w.key (first_equal (byte_order v.key w.key) (nat_cmp w.sequence v.sequence) e)))
-      (ranked w.sequence v.sequence Equal (sym (both_equal (byte_order v.key w.key) (nat_cmp w.sequence v.sequence) e))),
+  λ e. apart w (inl refl) (sym (equal_keys v.key w.key (first_equal (key_order v.key w.key) (nat_cmp w.sequence v.sequence) e)))
+      (ranked w.sequence v.sequence Equal (sym (both_equal (key_order v.key w.key) (nat_cmp w.sequence v.sequence) e))),
   apart_new v l (λ x i. apart x (inr i)),
 )
   where

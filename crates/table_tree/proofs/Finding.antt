@@ -6,16 +6,17 @@ use Rattle.std.specs.Ordering.{is_eq}
 use Rattle.std.specs.BTreeMap.{is_at}
 use Rattle.std.specs.declared.cmp.Ordering.{Ordering}
 use Rattle.std.specs.declared.cmp.Ordering.TheVariants.{Less, Equal, Greater}
-use Rattle.model_base.specs.Map.{byte_order}
+use Rattle.model_base.specs.declared.key.Key.{Key}
+use Rattle.model_base.specs.Map.{key_order}
 use Rattle.table_rule.specs.declared.content.Version.{Version}
 use Rattle.table_tree.specs.Chains.{Chain, key_of, chain_versions, versions_of, HasOneKey, chain_order, AreKeyed}
 use Rattle.table_tree.specs.Newest.{is_seen, newest, first_up_to, chain_at, says_at}
 use Rattle.table_tree.proofs.Order.{all_mapped}
 use Rattle.table_tree.proofs.Keyed.{first_sorted, others_keyed, all_keys}
-use Rattle.table_tree.proofs.VersionOrder.{byte_total}
+use Rattle.table_rule.proofs.Keys.{key_total}
 
-module _ (key : List ℕ) (at : ℕ) where
-  unseen_key : (v : Version) (o : Ordering) → byte_order key v.key ≡ o → o ≢ Equal → is_seen key at v ≡ false
+module _ (key : Key) (at : ℕ) where
+  unseen_key : (v : Version) (o : Ordering) → key_order key v.key ≡ o → o ≢ Equal → is_seen key at v ≡ false
   unseen_key v Less p n = and_left _ _ (ap is_eq p)
   unseen_key v Equal p n = absurd (n refl)
   unseen_key v Greater p n = and_left _ _ (ap is_eq p)
@@ -28,34 +29,34 @@ module _ (key : List ℕ) (at : ℕ) where
   newest_none [] a = refl
   newest_none (v ∷ l) a = ap (λ b. cond b (Some v.value) (newest key at l)) a.0 ∙ newest_none l a.1
 
-  newest_of_one : (l m : List Version) → AllByRecursion (λ (v : Version). is_at (byte_order key) v.key ≡ true) l → newest key at m ≡ None → newest key at (l ++ m) ≡ first_up_to at l
+  newest_of_one : (l m : List Version) → AllByRecursion (λ (v : Version). is_at (key_order key) v.key ≡ true) l → newest key at m ≡ None → newest key at (l ++ m) ≡ first_up_to at l
   newest_of_one [] m a n = n
   newest_of_one (v ∷ l) m a n =
       ap (λ b. cond (b && leb v.sequence at) (Some v.value) (newest key at (l ++ m))) a.0
       ∙ ap (cond (leb v.sequence at) (Some v.value)) (newest_of_one l m a.1 n)
 
   -- all versions of a chain have its key
-  all_of_chain : (P : List ℕ → Type 0) (c : Chain) → HasOneKey c → P (key_of c) → AllByRecursion (λ (v : Version). P v.key) (chain_versions c)
+  all_of_chain : (P : Key → Type 0) (c : Chain) → HasOneKey c → P (key_of c) → AllByRecursion (λ (v : Version). P v.key) (chain_versions c)
   all_of_chain P c one p = (p, all_mapped (λ (v : Version). v.key ≡ key_of c) (λ (v : Version). P v.key) (λ v e. Rattle.std.proofs.Common.subst P (sym e) p) c.older one)
 
-  other_chain : (c : Chain) (o : Ordering) → HasOneKey c → byte_order key (key_of c) ≡ o → o ≢ Equal → AllByRecursion (λ v. is_seen key at v ≡ false) (chain_versions c)
+  other_chain : (c : Chain) (o : Ordering) → HasOneKey c → key_order key (key_of c) ≡ o → o ≢ Equal → AllByRecursion (λ v. is_seen key at v ≡ false) (chain_versions c)
   other_chain c o one p n =
-      all_mapped (λ (v : Version). byte_order key v.key ≡ o) (λ v. is_seen key at v ≡ false) (λ v q. unseen_key v o q n) (chain_versions c)
-      (all_of_chain (λ k. byte_order key k ≡ o) c one p)
+      all_mapped (λ (v : Version). key_order key v.key ≡ o) (λ v. is_seen key at v ≡ false) (λ v q. unseen_key v o q n) (chain_versions c)
+      (all_of_chain (λ k. key_order key k ≡ o) c one p)
 
   pub newest_chain : (cs : List Chain) → AreKeyed cs → newest key at (versions_of cs) ≡ says_at at (chain_at key cs)
   newest_chain [] k = refl
-  newest_chain (c ∷ cs) k = go (byte_order key (key_of c)) refl (newest_chain cs (others_keyed c cs k))
+  newest_chain (c ∷ cs) k = go (key_order key (key_of c)) refl (newest_chain cs (others_keyed c cs k))
     where
-      back : (o : Ordering) → byte_order key (key_of c) ≡ o → says_at at (cond (is_eq o) (Some c) (chain_at key cs)) ≡ says_at at (chain_at key (c ∷ cs))
+      back : (o : Ordering) → key_order key (key_of c) ≡ o → says_at at (cond (is_eq o) (Some c) (chain_at key cs)) ≡ says_at at (chain_at key (c ∷ cs))
       back o p = ap (λ o. says_at at (cond (is_eq o) (Some c) (chain_at key cs))) (sym p)
 
-      go : (o : Ordering) → byte_order key (key_of c) ≡ o → newest key at (versions_of cs) ≡ says_at at (chain_at key cs)
+      go : (o : Ordering) → key_order key (key_of c) ≡ o → newest key at (versions_of cs) ≡ says_at at (chain_at key cs)
           → newest key at (chain_versions c ++ versions_of cs) ≡ says_at at (chain_at key (c ∷ cs))
       go Less p rest = newest_past (chain_versions c) (versions_of cs) (other_chain c Less k.each.0 p (λ e. cc)) ∙ rest ∙ back Less p
       go Equal p rest =
-          let later = all_mapped (λ d. chain_order c d ≡ Less) (λ d. byte_order key (key_of d) ≡ Less) (λ d q. byte_total.congr key (key_of c) (key_of d) p ∙ q) cs (first_sorted c cs k.sorted).0 in
-          let none = newest_none (versions_of cs) (all_mapped (λ (v : Version). byte_order key v.key ≡ Less) (λ v. is_seen key at v ≡ false) (λ v q. unseen_key v Less q (λ e. cc)) (versions_of cs)
-          (all_keys (λ q. byte_order key q ≡ Less) cs later k.each.1)) in
-          newest_of_one (chain_versions c) (versions_of cs) (all_of_chain (λ q. is_at (byte_order key) q ≡ true) c k.each.0 (ap is_eq p)) none ∙ back Equal p
+          let later = all_mapped (λ d. chain_order c d ≡ Less) (λ d. key_order key (key_of d) ≡ Less) (λ d q. key_total.congr key (key_of c) (key_of d) p ∙ q) cs (first_sorted c cs k.sorted).0 in
+          let none = newest_none (versions_of cs) (all_mapped (λ (v : Version). key_order key v.key ≡ Less) (λ v. is_seen key at v ≡ false) (λ v q. unseen_key v Less q (λ e. cc)) (versions_of cs)
+          (all_keys (λ q. key_order key q ≡ Less) cs later k.each.1)) in
+          newest_of_one (chain_versions c) (versions_of cs) (all_of_chain (λ q. is_at (key_order key) q ≡ true) c k.each.0 (ap is_eq p)) none ∙ back Equal p
       go Greater p rest = newest_past (chain_versions c) (versions_of cs) (other_chain c Greater k.each.0 p (λ e. cc)) ∙ rest ∙ back Greater p

@@ -7,14 +7,16 @@ use Rattle.std.specs.Ordering.{is_eq}
 use Rattle.std.specs.BTreeMap.{is_at}
 use Rattle.std.specs.declared.cmp.Ordering.{Ordering}
 use Rattle.std.specs.declared.cmp.Ordering.TheVariants.{Less, Equal, Greater}
-use Rattle.model_base.specs.Map.{Pairs, byte_order, after_record, after_records, value_at}
+use Rattle.model_base.specs.declared.key.Key.{Key}
+use Rattle.model_base.specs.Map.{Pairs, key_order, after_record, after_records, value_at}
 use Rattle.table_rule.specs.declared.content.Version.{Version}
 use Rattle.table_rule.specs.Histories.{In, AreRising, IsOrderUpTo, record_of, map_of}
 use Rattle.table_tree.specs.Versions.{version_order, AreOrdered}
 use Rattle.table_tree.specs.Shapes.{Shape, versions_in}
 use Rattle.table_tree.specs.Newest.{is_seen, newest}
 use Rattle.table_tree.proofs.Order.{sorted_past}
-use Rattle.table_tree.proofs.VersionOrder.{byte_total, before_cases}
+use Rattle.table_rule.proofs.Keys.{key_total}
+use Rattle.table_tree.proofs.VersionOrder.{before_cases}
 use Rattle.table_tree.proofs.Maps.{AreAscending, ascending_after, value_after}
 
 pub all_at : (P : Version → Type 0) (l : List Version) (v : Version) → AllByRecursion P l → In v l → P v
@@ -23,20 +25,20 @@ all_at P (w ∷ l) v a (inl e) = subst P e a.0
 all_at P (w ∷ l) v a (inr i) = all_at P l v a.1 i
 
 -- what the last version of a key says, or else d
-abbrev latest : List ℕ → Option (List ℕ) → List Version → Option (List ℕ)
+abbrev latest : Key → Option (List ℕ) → List Version → Option (List ℕ)
 latest key d [] = d
-latest key d (v ∷ l) = latest key (cond (is_at (byte_order key) v.key) v.value d) l
+latest key d (v ∷ l) = latest key (cond (is_at (key_order key) v.key) v.value d) l
 
-value_latest : (key : List ℕ) (l : List Version) (m : Pairs) → AreAscending m → value_at (after_records m (map record_of l)) key ≡ latest key (value_at m key) l
+value_latest : (key : Key) (l : List Version) (m : Pairs) → AreAscending m → value_at (after_records m (map record_of l)) key ≡ latest key (value_at m key) l
 value_latest key [] m s = refl
 value_latest key (v ∷ l) m s =
     value_latest key l (after_record m (record_of v)) (ascending_after m v s) ∙ ap (λ d. latest key d l) (value_after m v key s)
 
 -- whether a version is of the key
-abbrev of_key : List ℕ → Version → Bool
-of_key key v = is_at (byte_order key) v.key
+abbrev of_key : Key → Version → Bool
+of_key key v = is_at (key_order key) v.key
 
-module _ (key : List ℕ) where
+module _ (key : Key) where
   latest_none : (l : List Version) (d : Option (List ℕ)) → ((u : Version) → In u l → of_key key u ≡ false) → latest key d l ≡ d
   latest_none [] d n = refl
   latest_none (v ∷ l) d n = ap (λ b. latest key (cond b v.value d) l) (n v (inl refl)) ∙ latest_none l d (λ u i. n u (inr i))
@@ -84,9 +86,9 @@ module _ (key : List ℕ) where
     -- of two versions of the key, the one that comes first is newer
     newer : (v u : Version) → is_seen key at v ≡ true → is_seen key at u ≡ true → version_order v u ≡ Less → u.sequence < v.sequence
     newer v u sv su p =
-        let kv = eq_from (byte_order key v.key) (and_parts _ _ sv).0 in
-        let ku = eq_from (byte_order key u.key) (and_parts _ _ su).0 in
-        let same : byte_order v.key u.key ≡ Equal = sym (byte_total.congr key v.key u.key kv) ∙ ku in
+        let kv = eq_from (key_order key v.key) (and_parts _ _ sv).0 in
+        let ku = eq_from (key_order key u.key) (and_parts _ _ su).0 in
+        let same : key_order v.key u.key ≡ Equal = sym (key_total.congr key v.key u.key kv) ∙ ku in
         elim (before_cases v u p) [ inl less ↦ absurd (cc) | inr later ↦ later.1 ]
 
     find : (l : List Version) → AreOrdered l → ((w : Version) × IsNewestOf l w) ⊎ HasNone l
@@ -131,7 +133,7 @@ abbrev pub said : Option (Option (List ℕ)) → Option (List ℕ)
 said None = None
 said (Some o) = o
 
-pub value_is_newest : (key : List ℕ) (at : ℕ) (versions history : List Version) → AreOrdered versions → IsOrderUpTo at versions history → value_at (map_of history) key ≡ said (newest key at versions)
+pub value_is_newest : (key : Key) (at : ℕ) (versions history : List Version) → AreOrdered versions → IsOrderUpTo at versions history → value_at (map_of history) key ≡ said (newest key at versions)
 unfolding IsStrictlySortedBy
 value_is_newest key at versions history s h =
     value_latest key history [] tt ∙ elim (find key at versions s) [
@@ -153,7 +155,7 @@ value_is_newest key at versions history s h =
         go false y = refl
 
 -- the newest version of a key in a tree says what the key has in the map
-pub tree_value : (key : List ℕ) (at : ℕ) (s t : Shape) (history : List Version) → t ≡ s → AreOrdered (versions_in t) → IsOrderUpTo at (versions_in s) history
+pub tree_value : (key : Key) (at : ℕ) (s t : Shape) (history : List Version) → t ≡ s → AreOrdered (versions_in t) → IsOrderUpTo at (versions_in s) history
     → (o : Option (Option (List ℕ))) → o ≡ newest key at (versions_in t) → said o ≡ value_at (map_of history) key
 tree_value key at s t history is ordered h o found =
     ap said found ∙ sym (value_is_newest key at (versions_in t) history ordered (subst (λ x. IsOrderUpTo at (versions_in x) history) (sym is) h))

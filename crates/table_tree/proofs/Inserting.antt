@@ -9,7 +9,7 @@ use Rattle.std.specs.declared.cmp.Ordering.{Ordering}
 use Rattle.std.specs.declared.cmp.Ordering.TheVariants.{Less, Equal, Greater}
 use Rattle.std.specs.Ordering.{nat_cmp, ordering_then}
 use Rattle.std.proofs.lemmas.Cmp.{ranked}
-use Rattle.model_base.specs.Map.{byte_order}
+use Rattle.model_base.specs.Map.{key_order}
 use Rattle.table_rule.specs.declared.content.Version.{Version}
 use Rattle.table_tree.specs.Versions.{version_order, AreOrdered, IsNew, AreBelow, insert_version}
 use Rattle.table_tree.specs.Shapes.{Shape, height, versions_in, IsBalanced}
@@ -41,7 +41,7 @@ new_above v (w ∷ l) below = (apart, new_above v l below.1)
   where
     apart : version_order v w ≢ Equal
     apart e =
-        let parts = both_equal (byte_order v.key w.key) (nat_cmp w.sequence v.sequence) e in
+        let parts = both_equal (key_order v.key w.key) (nat_cmp w.sequence v.sequence) e in
         let same = ranked w.sequence v.sequence Equal (sym parts) in
         let less = below.0 in
         omega arith

@@ -8,6 +8,7 @@ pub mod Maps
 pub mod Folding
 pub mod Ranging
 pub mod Chains
+pub mod SameEntries
 pub mod SamePairs
 pub mod RangeRows
 pub mod Members

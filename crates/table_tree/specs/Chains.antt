@@ -5,14 +5,15 @@ use Rattle.std.specs.List.{AllByRecursion}
 use Rattle.std.specs.List.Sorted.{IsStrictlySortedBy}
 use Rattle.std.specs.Ordering.{match_ordering}
 use Rattle.std.specs.declared.cmp.Ordering.{Ordering}
-use Rattle.model_base.specs.Map.{byte_order}
+use Rattle.model_base.specs.declared.key.Key.{Key}
+use Rattle.model_base.specs.Map.{key_order}
 use Rattle.table_rule.specs.declared.content.Version.{Version}
 
 pub record Chain : Type 0 where
   pub newest : Version
   pub older : List Version
 
-abbrev pub key_of : Chain → List ℕ
+abbrev pub key_of : Chain → Key
 key_of chain = chain.newest.key
 
 abbrev pub chain_versions : Chain → List Version
@@ -26,9 +27,9 @@ versions_of (chain ∷ chains) = chain.newest ∷ (chain.older ++ versions_of ch
 abbrev pub HasOneKey : Chain → Type 0
 HasOneKey chain = AllByRecursion (λ (v : Version). v.key ≡ key_of chain) chain.older
 
--- chains in the byte order of their keys
+-- chains in the order of their keys
 abbrev pub chain_order : Chain → Chain → Ordering
-chain_order chain other = byte_order (key_of chain) (key_of other)
+chain_order chain other = key_order (key_of chain) (key_of other)
 
 abbrev pub AreSorted : List Chain → Type 0
 AreSorted chains = IsStrictlySortedBy chain_order chains
@@ -56,5 +57,5 @@ alone v = record { newest = v; older = [] }
 abbrev pub insert_in_chains : List Chain → Version → List Chain
 insert_in_chains [] v = alone v ∷ []
 insert_in_chains (chain ∷ chains) v =
-    match_ordering (byte_order v.key (key_of chain)) (alone v ∷ chain ∷ chains) (with_version chain v ∷ chains)
+    match_ordering (key_order v.key (key_of chain)) (alone v ∷ chain ∷ chains) (with_version chain v ∷ chains)
     (chain ∷ insert_in_chains chains v)

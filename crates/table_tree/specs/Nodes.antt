@@ -1,6 +1,7 @@
 -- What contracts see of the tree's nodes.
 use Rattle.std.specs.Prelude.{◌≡◌, ℕ, ◌+◌, ◌-◌, ◌≤◌, max, List, [], ◌∷◌, Option, Some, None, Box}
 use Rattle.std.specs.declared.alloc.Global.{Global}
+use Rattle.model_base.specs.declared.key.Key.{Key}
 use Rattle.table_rule.specs.declared.content.Version.{Version}
 use Rattle.table_tree.specs.Chains.{Chain}
 use Rattle.table_tree.specs.Shapes.{Shape, leaf, fork, height, IsBalanced}
@@ -8,9 +9,13 @@ use Rattle.table_tree.specs.declared.node.Balance.{Balance}
 use Rattle.table_tree.specs.declared.node.Balance.TheVariants.{Left, Even, Right}
 use Rattle.table_tree.specs.declared.node.Node.{Node}
 
+-- a node's key, in its family
+abbrev pub own_key : Node → Key
+own_key n = record { family = n.family; bytes = n.key }
+
 -- the version that a node is
 abbrev pub version_of : Node → Version
-version_of n = record { key = n.key; value = n.value; sequence = n.sequence }
+version_of n = record { key = own_key n; value = n.value; sequence = n.sequence }
 
 -- its versions, while it is in a tree: its own is the newest, and its list has the older ones
 abbrev pub chain_of : Node → Chain

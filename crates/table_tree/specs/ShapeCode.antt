@@ -3,6 +3,7 @@ use Rattle.std.specs.Prelude.{◌≡◌, ℕ, List, [], ◌∷◌, ◌++◌, Opt
 use Rattle.std.specs.Coded.{Coded, code_by, coded×, coded_ℕ, coded_list, coded_option}
 use Rattle.std.proofs.Common.{ap, sym, ◌∙◌, append_assoc}
 use Rattle.std.proofs.lemmas.List.{append-nil}
+use Rattle.model_base.specs.declared.key.Key.{Key}
 use Rattle.table_rule.specs.declared.content.Version.{Version}
 use Rattle.table_tree.specs.Chains.{Chain}
 use Rattle.table_tree.specs.Shapes.{Shape, leaf, fork}
@@ -11,9 +12,14 @@ use Rattle.table_tree.specs.Shapes.{Shape, leaf, fork}
 abbrev pub Saying : Type 0
 Saying = Option (List ℕ) × ℕ
 
+abbrev pub key_code : Coded Key
+key_code =
+    code_by (ℕ × List ℕ) (coded× coded_ℕ (coded_list coded_ℕ)) (λ (k : Key). (k.family, k.bytes))
+    (λ p. record { family = p.0; bytes = p.1 }) (λ _. refl)
+
 abbrev pub version_code : Coded Version
 version_code =
-    code_by (List ℕ × Saying) (coded× (coded_list coded_ℕ) (coded× (coded_option (coded_list coded_ℕ)) coded_ℕ))
+    code_by (Key × Saying) (coded× key_code (coded× (coded_option (coded_list coded_ℕ)) coded_ℕ))
     (λ (v : Version). (v.key, (v.value, v.sequence))) (λ p. record { key = p.0; value = p.1.0; sequence = p.1.1 })
     (λ _. refl)
 

@@ -7,12 +7,12 @@ use Rattle.std.specs.Ordering.{nat_cmp, ordering_then}
 use Rattle.std.specs.declared.cmp.Ordering.{Ordering}
 use Rattle.std.specs.declared.cmp.Ordering.TheVariants.{Equal}
 use Rattle.std.specs.BTreeSet.{insert_key}
-use Rattle.model_base.specs.Map.{byte_order}
+use Rattle.model_base.specs.Map.{key_order}
 use Rattle.table_rule.specs.declared.content.Version.{Version}
 
 -- by key, and of one key the newer first
 abbrev pub version_order : Version → Version → Ordering
-version_order v w = ordering_then (byte_order v.key w.key) (nat_cmp w.sequence v.sequence)
+version_order v w = ordering_then (key_order v.key w.key) (nat_cmp w.sequence v.sequence)
 
 -- in this order, and no two of one key and one sequence
 abbrev pub AreOrdered : List Version → Type 0

@@ -47,12 +47,19 @@ impl VersionTree<Box<Node>> for Tree {
         self.insert(node);
     }
 
-    fn lookup(&self, key: &[u8], at: u64) -> Option<&[u8]> {
-        self.lookup(key, at)
+    fn lookup(&self, family: u32, key: &[u8], at: u64) -> Option<&[u8]> {
+        self.lookup(family, key, at)
     }
 
-    fn range(&self, alloc: Global, lo: &[u8], hi: &[u8], at: u64) -> Result<Rows, NoMemory> {
-        self.range(alloc, lo, hi, at)
+    fn range(
+        &self,
+        alloc: Global,
+        family: u32,
+        lo: &[u8],
+        hi: &[u8],
+        at: u64,
+    ) -> Result<Rows, NoMemory> {
+        self.range(alloc, family, lo, hi, at)
     }
 }
 

@@ -3,17 +3,29 @@
 ghost use Rattle.std.specs.Prelude.{◌≡◌, ◌+◌, if◌then◌else◌};
 ghost use Rattle.table_tree.specs.Chains.{AreSorted, with_version, insert_in_chains};
 ghost use Rattle.table_tree.specs.Shapes.{height, chains_in, IsBalanced};
-ghost use Rattle.table_tree.specs.Nodes.{version_of, chain_of, shape_of, IsKept};
+ghost use Rattle.model_base.specs.Map.{key_order};
+ghost use Rattle.table_tree.specs.Nodes.{own_key, version_of, chain_of, shape_of, IsKept};
 
 use crate::node::{Node, Subtree};
 use std::cmp::Ordering;
 use std::mem;
 
 impl Node {
+    /// How its key compares with another node's.
+    fn order(&self, other: &Node) -> Ordering
+        ensures { result ≡ key_order (own_key self.now) (own_key other.now) }
+    {
+        match self.family.cmp(&other.family) {
+            Ordering::Less => Ordering::Less,
+            Ordering::Equal => self.key.order(&other.key),
+            Ordering::Greater => Ordering::Greater,
+        }
+    }
+
     /// Puts another version of its key into its chain. One that is newer than the newest changes places with it, so
     /// that the tree isn't touched.
     fn add_version(&mut self, mut other: Box<Node>)
-        requires { other.value.key ≡ self.old.key }
+        requires { own_key other.value ≡ own_key self.old }
         ensures chain { chain_of self.new ≡ with_version (chain_of self.old) (version_of other.value) }
         ensures left { self.new.left ≡ self.old.left }
         ensures right { self.new.right ≡ self.old.right }
@@ -81,7 +93,7 @@ impl Subtree {
             *root = Subtree::single(node).root;
             return true;
         };
-        match node.key.order(&top.key) {
+        match node.order(top) {
             Ordering::Less => top.insert_left(node) && Subtree::left_grown(root),
             Ordering::Equal => {
                 top.add_version(node);

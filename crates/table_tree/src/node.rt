@@ -18,7 +18,7 @@ pub(crate) enum Balance {
     Right,
 }
 
-/// A version of a key: the value that it gets, or none where it is deleted, and the sequence.
+/// A version of a key of a column family: the value that it gets, or none where it is deleted, and the sequence.
 ///
 /// It has in it the links of the tree and of a list, so that it takes no memory to insert it or to put it into a list.
 /// The fields that a search reads come first, so that they lie together. A key of at most 16 bytes and a value of at
@@ -30,6 +30,7 @@ pub struct Node {
     pub(crate) left: Subtree,
     pub(crate) right: Subtree,
     pub(crate) balance: Balance,
+    pub(crate) family: u32,
     pub(crate) sequence: u64,
     pub(crate) value: Option<Value>,
     /// The nodes after it: in a tree the older versions of its key, in a list the nodes that follow.

@@ -4,6 +4,7 @@ ghost use Rattle.std.specs.Prelude.{◌≡◌, List, ◌∷◌, ◌++◌, ◌+�
 ghost use Rattle.std.specs.Option.{option_copied, option_map, option_to_list};
 ghost use Rattle.log_batch.specs.View.{record_of};
 ghost use Rattle.table_tree.specs.Nodes.{version_of};
+ghost use Rattle.table_tree.specs.Rows.{at_key};
 ghost use Rattle.table_tree.specs.Batches.{new_versions, number_from};
 ghost use Rattle.table_rule.specs.declared.content.Version.{Version};
 ghost use Rattle.table_tree.specs.Chains.{insert_older};
@@ -61,13 +62,13 @@ impl Nodes {
         Some(node)
     }
 
-    /// The key of the first node.
-    pub fn first_key(&self) -> Option<&[u8]>
+    /// The family and the key of the first node.
+    pub fn first_key(&self) -> Option<(u32, &[u8])>
         ensures { MatchOption result (self.now ≡ []) (λ key. (v : Version) × (more : List Version)
-            × (self.now ≡ v ∷ more) × (v.key ≡ key.now)) }
+            × (self.now ≡ v ∷ more) × (v.key ≡ at_key key.0 key.1.now)) }
     {
         match &self.first {
-            Some(node) => Some(node.key.as_slice()),
+            Some(node) => Some((node.family, node.key.as_slice())),
             None => None,
         }
     }
@@ -151,14 +152,15 @@ impl Nodes {
 }
 
 impl Node {
-    /// A node of a key, with its value, or none where it is deleted, and with the sequence 0.
+    /// A node of a family's key, with its value, or none where it is deleted, and with the sequence 0.
     pub(crate) fn new(
         alloc: Global,
+        family: u32,
         key: &[u8],
         value: Option<&[u8]>,
     ) -> Result<Box<Node>, NoMemory>
         ensures { IfOk result (λ node. version_of node.value
-            ≡ record { key = key.now; value = option_copied value.entry; sequence = 0 }) }
+            ≡ record { key = at_key family key.now; value = option_copied value.entry; sequence = 0 }) }
     {
         let value = match value {
             Some(value) => Some(Value::copy(alloc, value)?),
@@ -171,6 +173,7 @@ impl Node {
                 left: Subtree::new(),
                 right: Subtree::new(),
                 balance: Balance::Even,
+                family,
                 sequence: 0,
                 value,
                 next: Nodes::new(),
@@ -178,17 +181,18 @@ impl Node {
         )?)
     }
 
-    /// A node of a key with its value at a sequence.
+    /// A node of a family's key with its value at a sequence.
     pub fn of_value(
         alloc: Global,
+        family: u32,
         key: &[u8],
         value: &[u8],
         sequence: u64,
     ) -> Result<Box<Node>, NoMemory>
         ensures { IfOk result (λ node. version_of node.value
-            ≡ record { key = key.now; value = Some value.now; sequence = sequence }) }
+            ≡ record { key = at_key family key.now; value = Some value.now; sequence = sequence }) }
     {
-        let mut node = Node::new(alloc, key, Some(value))?;
+        let mut node = Node::new(alloc, family, key, Some(value))?;
         node.sequence = sequence;
         Ok(node)
     }
@@ -199,9 +203,15 @@ impl Node {
             ≡ new_versions (record_of view.entry ∷ [])) }
     {
         match view {
-            RecordView::Value { key, value } => Ok(Some(Node::new(alloc, key, Some(value))?)),
-            RecordView::Deletion { key } | RecordView::SingleDeletion { key } => {
-                Ok(Some(Node::new(alloc, key, None)?))
+            RecordView::Value { family, key, value } => {
+                let family = family.unwrap_or(0);
+                Ok(Some(Node::new(alloc, family, key, Some(value))?))
+            }
+            RecordView::Deletion { family, key } => {
+                Ok(Some(Node::new(alloc, family.unwrap_or(0), key, None)?))
+            }
+            RecordView::SingleDeletion { family, key } => {
+                Ok(Some(Node::new(alloc, family.unwrap_or(0), key, None)?))
             }
             RecordView::LogData { .. } => Ok(None),
         }

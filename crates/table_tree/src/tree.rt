@@ -9,6 +9,7 @@ ghost use Rattle.table_tree.specs.Versions.{IsNew, insert_version, AreOrdered};
 ghost use Rattle.table_tree.specs.Shapes.{leaf, chains_in, versions_in, IsBalanced};
 ghost use Rattle.table_tree.specs.Chains.{AreKeyed};
 ghost use Rattle.table_tree.specs.Nodes.{version_of};
+ghost use Rattle.table_tree.specs.Rows.{at_key};
 
 use crate::node::{Node, Subtree};
 use crate::range::Range;
@@ -62,27 +63,34 @@ impl Tree {
         self.root.insert(node);
     }
 
-    /// The value of a key at a sequence, if it has one there: what the key's newest version up to the
+    /// The value of a family's key at a sequence, if it has one there: what the key's newest version up to the
     /// sequence says.
-    pub fn lookup(&self, key: &[u8], at: u64) -> Option<&[u8]>
+    pub fn lookup(&self, family: u32, key: &[u8], at: u64) -> Option<&[u8]>
         ensures { (history : List Version) → IsOrderUpTo at (versions_in self.now) history
-            → option_copied result ≡ value_at (map_of history) key.now }
+            → option_copied result ≡ value_at (map_of history) (at_key family key.now) }
     {
-        match self.root.newest(key, at) {
+        match self.root.newest(family, key, at) {
             Some(Some(value)) => Some(value.as_slice()),
             Some(None) => None,
             None => None,
         }
     }
 
-    /// The keys from `lo` on and below `hi` that have a value at a sequence, with that value, in the byte order of the
-    /// keys.
-    pub fn range(&self, alloc: Global, lo: &[u8], hi: &[u8], at: u64) -> Result<Rows, NoMemory>
+    /// The keys of a family from `lo` on and below `hi` that have a value at a sequence, with that value, in the byte
+    /// order of the keys.
+    pub fn range(
+        &self,
+        alloc: Global,
+        family: u32,
+        lo: &[u8],
+        hi: &[u8],
+        at: u64,
+    ) -> Result<Rows, NoMemory>
         ensures at { IfOk result (λ rows. rows.at ≡ at) }
         ensures rows { IfOk result (λ rows. (history : List Version) → IsOrderUpTo at (versions_in self.now) history
-            → rows.rows ≡ rows_within lo.now hi.now (map_of history)) }
+            → rows.rows ≡ rows_within family lo.now hi.now (map_of history)) }
     {
-        let range = Range { lo, hi, at };
+        let range = Range { family, lo, hi, at };
         // Room for a row of each key at once.
         let room = self.root.count_within(range);
         let mut rows = PairList::from_vec(Vec::with_capacity(alloc, room)?);

@@ -2,12 +2,14 @@
 use Rattle.std.specs.Prelude.{ℕ, []}
 use Rattle.model_base.specs.Trace.{Settings}
 
--- for `clients` clients, with batches of up to `batch_bytes` bytes
-abbrev pub settings_for : ℕ → ℕ → Settings
-settings_for clients batch_bytes = record {
+-- for `clients` clients and `families` families, with batches of up to `batch_bytes` bytes
+abbrev pub settings_for : ℕ → ℕ → ℕ → Settings
+settings_for clients families batch_bytes = record {
   start = 0;
   opening = [];
+  kept = [];
   clients = clients;
+  families = families;
   group_bytes = 0;
   batch_bytes = batch_bytes;
   opened = 0;

@@ -2,7 +2,7 @@
 
 ghost use Rattle.std.specs.Prelude.{◌≤◌};
 
-use base_maps::ByteMap;
+use base_maps::FamilyMap;
 use model_base::{MAX_CLIENTS, NoMemory};
 use run_generator::{generate, sum_of};
 use run_scripts::parse_schedule;
@@ -84,11 +84,11 @@ const SUMS: [(usize, Option<u128>); 3] = [
     (5, None),
 ];
 
-// The first `count` values, each at a key that is equal to it.
-fn first_values(alloc: Global, count: usize) -> Result<ByteMap, NoMemory> {
-    let mut map = ByteMap::new(alloc);
-    for value in VALUES.iter().take(count) {
-        map.insert(value, value)?;
+// The first `count` values, each at a key that is equal to it, in two families.
+fn first_values(alloc: Global, count: usize) -> Result<FamilyMap, NoMemory> {
+    let mut map = FamilyMap::new(alloc);
+    for (at, value) in VALUES.iter().take(count).enumerate() {
+        map.insert(if at < 2 { 0 } else { 5 }, value, value)?;
     }
     Ok(map)
 }

@@ -62,7 +62,11 @@ fn first_commands(alloc: Global) -> Result<CommandList, NoMemory>
     let mut commands = CommandList::new(alloc);
     let (key, value) = (b"a".as_slice(), b"1".as_slice());
     commands.push(CommandView::Commit { options: PLAIN })?;
-    commands.push(CommandView::Put { key, value })?;
+    commands.push(CommandView::Put {
+        family: Some(2),
+        key,
+        value,
+    })?;
     commands.push(CommandView::Commit { options: PLAIN })?;
     commands.push(CommandView::Clear)?;
     Ok(commands)
@@ -75,7 +79,8 @@ fn second_commands(alloc: Global) -> Result<CommandList, NoMemory>
     let key = b"a".as_slice();
     commands.push(CommandView::Unstop)?;
     commands.push(CommandView::Clear)?;
-    commands.push(CommandView::Get { key })?;
+    commands.push(CommandView::Get { family: 3, key })?;
+    commands.push(CommandView::Get { family: 2, key })?;
     commands.push(CommandView::Unslow)?;
     Ok(commands)
 }
@@ -99,7 +104,16 @@ fn check_replies(rt: &impl Abort, replies: &[Vec<Reply>]) -> Result<(), Fail> {
             [Reply::Refused(Refusal::Empty), Reply::NoMemory]
         )
     );
-    assert!(rt; matches!(second.as_slice(), [Reply::NotHeld, Reply::NoMemory]));
+    assert!(rt;
+        matches!(
+            second.as_slice(),
+            [
+                Reply::NotHeld,
+                Reply::Refused(Refusal::NoFamily { family: 3 }),
+                Reply::NoMemory
+            ]
+        )
+    );
     Ok(())
 }
 
@@ -118,6 +132,7 @@ fn check_batches(rt: &impl Abort, batches: &[ClientBatches]) -> Result<(), Fail>
 fn clients_stop_for_want_of_memory_and_are_ended(rt: HostRuntime) -> Result<(), Fail> {
     let engine = Mute {
         clients: 2,
+        families: 3,
         batch_bytes: 1000,
         ended: AtomicU64::new(0),
     };
@@ -135,6 +150,6 @@ fn clients_stop_for_want_of_memory_and_are_ended(rt: HostRuntime) -> Result<(), 
         gate.started.load(SeqCst),
         gate.answered.load(SeqCst),
     );
-    assert_eq!(rt; counts, (2, 2, 6));
+    assert_eq!(rt; counts, (2, 2, 7));
     Ok(())
 }

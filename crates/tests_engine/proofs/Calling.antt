@@ -18,7 +18,7 @@ use Rattle.tests_engine.specs.Callers.{Path, Member, Members, MayCall, IsCaller,
 
 -- a client that is refused keeps its number
 pub refused_number : (s : Settings) (v : Account) (rs : List Record) (how : WriteOptions) (why : Refusal) (w : Account) → Refuses s v rs how why w → w.number ≡ v.number
-refused_number s v rs how why w = by_early (early_refusal s.batch_bytes (holds_stop v.asked) rs how)
+refused_number s v rs how why w = by_early (early_refusal s.families s.batch_bytes (holds_stop v.asked) rs how)
   where
     by_early : (early : Option Refusal) → MatchOption early (IsRefusedLate v rs how why w) (λ (e : Refusal). (why ≡ e) × Keeps v w) → w.number ≡ v.number
     by_early None late = elim late [ inl kept ↦ kept.1.number | inr refused ↦ refused.number ]

@@ -11,11 +11,22 @@ pub enum Step {
         rows: &'static [(&'static [u8], &'static [u8])],
         options: WriteOptions,
     },
+    /// The same of keys of a family.
+    WriteIn {
+        family: u32,
+        rows: &'static [(&'static [u8], &'static [u8])],
+        options: WriteOptions,
+    },
     /// The batch that the last refused write gave back.
     Again {
         options: WriteOptions,
     },
     Read {
+        key: &'static [u8],
+    },
+    /// A read of a family's key.
+    ReadIn {
+        family: u32,
         key: &'static [u8],
     },
     Stop,
@@ -52,6 +63,10 @@ pub enum StepAnswer {
     },
     /// A read had no memory.
     NoMemory,
+    /// A read was refused, since there is no such family.
+    NoFamily {
+        family: u32,
+    },
     /// A token was taken or given back.
     Done,
     /// The client already holds such a token.

@@ -88,9 +88,9 @@ fn noted(rt: &impl Abort, alloc: Global, shared: Vec<Notes>) -> Vec<Vec<StepAnsw
     notes
 }
 
-// Opens an engine over a table of `shards` shards, in one stage or two, with a client for each script, lets all
-// clients play at once, and closes it. The disk has much room, and its calls with the numbers in `fails` fail. The
-// first batch is written after the sequence `start`.
+// Opens an engine with three families over a table of `shards` shards, in one stage or two, with a client for each
+// script, lets all clients play at once, and closes it. The disk has much room, and its calls with the numbers in
+// `fails` fail. The first batch is written after the sequence `start`.
 fn ended<R: Threads + Wait + rt::Clock + Abort + Sync>(
     rt: &R,
     alloc: Global,
@@ -107,6 +107,7 @@ fn ended<R: Threads + Wait + rt::Clock + Abort + Sync>(
         last: start,
         group_bytes: 1048576,
         batch_bytes: MAX_SIZE,
+        families: 3,
     };
     let count = scripts.len();
     assert!(rt; 0 < count && count <= 16);

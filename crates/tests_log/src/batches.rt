@@ -1,7 +1,9 @@
 //! Batches: the bytes that their additions make, the limit on their size, and batches read from bytes.
 
 use crate::checks::check;
-use crate::logs::{NOTE, PUT, WITH_LONG_VARINT, WITH_TAG_2, WITHOUT_VALUE, add_all, batch_bytes};
+use crate::logs::{
+    NOTE, PUT, WITH_LONG_FAMILY, WITH_LONG_VARINT, WITH_TAG_2, WITHOUT_VALUE, add_all, batch_bytes,
+};
 use log_batch::RecordView::{Deletion, LogData, SingleDeletion, Value};
 use log_batch::{AddError, Batch, BatchView, RecordView, read_batch};
 use model_base::{BatchError, MAX_SIZE};
@@ -30,36 +32,76 @@ const A_SINGLE_DELETION: [u8; 15] = [
     7, 1, b'a', // single-delete a
 ];
 
+const IN_FAMILIES: [u8; 36] = [
+    1, 0, 0, 0, 0, 0, 0, 0, // sequence 1
+    4, 0, 0, 0, // count 4
+    5, 0xac, 0x02, 1, b'a', 1, b'1', // put a 1 in the family 300
+    4, 1, 1, b'a', // delete a in the family 1
+    8, 0xff, 0xff, 0xff, 0xff, 0x0f, 1, b'a', // single-delete a in the greatest family
+    5, 0, 1, b'a', 0, // put a and no bytes in the family 0, which is named
+];
+
 const PUTS: [RecordView<'static>; 3] = [
     Value {
+        family: None,
         key: b"a",
         value: b"1",
     },
     Value {
+        family: None,
         key: b"a",
         value: b"2",
     },
-    Deletion { key: b"a" },
+    Deletion {
+        family: None,
+        key: b"a",
+    },
 ];
 
 const NOTED: [RecordView<'static>; 2] = [
     LogData { blob: b"x" },
     Value {
+        family: None,
         key: b"a",
         value: b"1",
     },
 ];
 
-const DELETED: [RecordView<'static>; 1] = [SingleDeletion { key: b"a" }];
+const DELETED: [RecordView<'static>; 1] = [SingleDeletion {
+    family: None,
+    key: b"a",
+}];
+
+const NAMED: [RecordView<'static>; 4] = [
+    Value {
+        family: Some(300),
+        key: b"a",
+        value: b"1",
+    },
+    Deletion {
+        family: Some(1),
+        key: b"a",
+    },
+    SingleDeletion {
+        family: Some(4_294_967_295),
+        key: b"a",
+    },
+    Value {
+        family: Some(0),
+        key: b"a",
+        value: b"",
+    },
+];
 
 // A batch's bytes, its sequence, how many of its additions count, and its size.
 type Facts<'a> = (&'a [u8], u64, u32, u64);
 
 // Additions, and the facts of the batch that has them. Log data isn't counted.
-const MADE: [(&[RecordView<'static>], Facts<'static>); 3] = [
+const MADE: [(&[RecordView<'static>], Facts<'static>); 4] = [
     (&PUTS, (&TWO_PUTS_AND_A_DELETION, 1, 3, 25)),
     (&DELETED, (&A_SINGLE_DELETION, 3, 1, 15)),
     (&NOTED, (&LOG_DATA_AND_A_PUT, 1, 1, 20)),
+    (&NAMED, (&IN_FAMILIES, 1, 4, 36)),
 ];
 
 fn facts(batch: &Batch) -> Facts<'_> {
@@ -77,6 +119,28 @@ fn has_the_bytes_of_its_additions(rt: HostRuntime) -> Result<(), Fail> {
         batch.set_sequence(wanted.1);
         check(&rt, row, &facts(&batch), wanted);
         batch.clear();
+    }
+    Ok(())
+}
+
+// Keys of a family are added by its number, which is named unless it is the default one's.
+#[test]
+fn names_the_families_that_are_not_the_default_one(rt: HostRuntime) -> Result<(), Fail> {
+    let mut batch = Batch::new(rt.alloc())?;
+    batch.put_in(0, b"a", b"1")?;
+    batch.put_in(0, b"a", b"2")?;
+    batch.delete_in(0, b"a")?;
+    batch.set_sequence(1);
+    check(&rt, 0, &facts(&batch), &MADE[0].1);
+    batch.clear();
+    batch.put_in(300, b"a", b"1")?;
+    batch.delete_in(1, b"a")?;
+    batch.single_delete_in(4_294_967_295, b"a")?;
+    let (found, named) = (batch.records().count(), batch.bytes().len());
+    check(&rt, 1, &(found, named, batch.count()), &(3, 31, 3));
+    let mut wanted = NAMED.iter();
+    for record in batch.records() {
+        check(&rt, 2, &Some(&record), &wanted.next());
     }
     Ok(())
 }
@@ -150,12 +214,19 @@ fn takes_all_records_of_another_or_none(rt: HostRuntime) -> Result<(), Fail> {
 
 const READ: [RecordView<'static>; 4] = [
     Value {
+        family: None,
         key: b"a",
         value: b"1",
     },
     LogData { blob: b"x" },
-    Deletion { key: b"b" },
-    SingleDeletion { key: b"c" },
+    Deletion {
+        family: None,
+        key: b"b",
+    },
+    SingleDeletion {
+        family: None,
+        key: b"c",
+    },
 ];
 
 fn check_read(rt: &impl Abort, view: &BatchView<'_>) {
@@ -165,6 +236,17 @@ fn check_read(rt: &impl Abort, view: &BatchView<'_>) {
     for record in view.records() {
         check(rt, 1, &Some(&record), &wanted.next());
     }
+}
+
+#[test]
+fn reads_families(rt: HostRuntime) -> Result<(), Fail> {
+    let view = read_batch(&IN_FAMILIES)?;
+    let mut wanted = NAMED.iter();
+    for record in view.records() {
+        check(&rt, 0, &Some(&record), &wanted.next());
+    }
+    check(&rt, 1, &(view.count(), wanted.next()), &(4, None));
+    Ok(())
 }
 
 #[test]
@@ -191,8 +273,13 @@ const WITH_VARINT_OF_33_BITS: [u8; 6] = [1, 0xff, 0xff, 0xff, 0xff, 0x1f];
 // A tag that no record has, followed by half a varint.
 const WITH_TAG_255: [u8; 2] = [0xff, 0x80];
 
+// A put in a family whose number has 33 bits, and one that ends after its family.
+const WITH_FAMILY_OF_33_BITS: [u8; 6] = [5, 0xff, 0xff, 0xff, 0xff, 0x1f];
+
+const WITHOUT_KEY: [u8; 3] = [5, 0xac, 0x02];
+
 // The count in the header, the records, and why they are no batch.
-const NO_BATCHES: [(u32, &[u8], BatchError); 8] = [
+const NO_BATCHES: [(u32, &[u8], BatchError); 12] = [
     (1, &WITH_TAG_2, BatchError::Tag(2)),
     (2, &PUT, BatchError::Count { said: 2, found: 1 }),
     (0, &PUT, BatchError::Count { said: 0, found: 1 }),
@@ -201,6 +288,10 @@ const NO_BATCHES: [(u32, &[u8], BatchError); 8] = [
     (1, &WITH_LONG_VARINT, BatchError::BadVarint),
     (1, &WITH_VARINT_OF_33_BITS, BatchError::BadVarint),
     (9, &WITH_TAG_255, BatchError::Tag(255)),
+    (1, &WITH_LONG_FAMILY, BatchError::BadVarint),
+    (1, &WITH_FAMILY_OF_33_BITS, BatchError::BadVarint),
+    (1, &WITHOUT_KEY, BatchError::Short),
+    (1, &[8], BatchError::Short),
 ];
 
 #[test]

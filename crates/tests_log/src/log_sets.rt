@@ -53,7 +53,7 @@ const DONE: Result<(), Fault> = Ok(());
 // What is told where no call fails.
 const ALL_WRITTEN: Told = (([DONE; 3], 72), None);
 
-const PAIRS: [(&[u8], &[u8]); 3] = [(b"a", b"1"), (b"b", b"2"), (b"c", b"3")];
+const PAIRS: [(u32, &[u8], &[u8]); 3] = [(0, b"a", b"1"), (0, b"b", b"2"), (0, b"c", b"3")];
 
 // The first log was synced before the second one was begun.
 #[test]
@@ -74,8 +74,8 @@ const FAULT: Result<(), Fault> = Err(Fault { count: 1 });
 
 const SECOND: Result<(), Fault> = Err(Fault { count: 2 });
 
-// The calls of the first disk are a look at the length, an append, and the sync before the second log is begun. Those of
-// the second one are two looks at the length, and an append for each group. A fault has the count of both disks.
+// The calls of the first disk are a look at the length, an append, and the sync before the second log is begun. Those
+// of the second one are two looks at the length, and an append for each group. A fault has the count of both disks.
 const STOPPED: [(Fails, Told, &[u64]); 5] = [
     ((&[2], &[]), (([FAULT; 3], 0), Some(1)), &[0]),
     ((&[3], &[]), (([DONE, FAULT, FAULT], 24), Some(1)), &[24]),

@@ -3,8 +3,7 @@
 use crate::changes::{cut_at, put_zeros};
 use crate::checks::check;
 use base_devices::MemDisk;
-use base_maps::ByteMap;
-use log_batch::RecordView::{Deletion, LogData, SingleDeletion, Value};
+use base_maps::FamilyMap;
 use log_batch::{AddError, Batch, RecordView};
 use log_block::{BLOCK_LEN, Fragmenter, header, max_part_len};
 use log_recovery::{End, RecoverError, recover};
@@ -15,6 +14,9 @@ use std::test::Fail;
 
 /// The record `put a 1`.
 pub(crate) const PUT: [u8; 5] = [1, 1, b'a', 1, b'1'];
+
+/// The record `put a 2` in the family 300.
+pub(crate) const PUT_IN_300: [u8; 7] = [5, 0xac, 0x02, 1, b'a', 1, b'2'];
 
 /// The log data `x`, which isn't counted.
 pub(crate) const NOTE: [u8; 3] = [3, 1, b'x'];
@@ -27,6 +29,9 @@ pub(crate) const WITHOUT_VALUE: [u8; 4] = [1, 1, b'a', 5];
 
 /// A put with an empty key, whose length 0 is a varint of two bytes.
 pub(crate) const WITH_LONG_VARINT: [u8; 3] = [1, 0x80, 0];
+
+/// A deletion of an empty key in the family 0, whose number is a varint of two bytes.
+pub(crate) const WITH_LONG_FAMILY: [u8; 4] = [4, 0x80, 0, 0];
 
 /// The fragment of an empty record. The checksum was computed by another program.
 pub(crate) const EMPTY: [u8; 7] = [0x05, 0x2b, 0x28, 0x43, 0x00, 0x00, 0x01];
@@ -102,20 +107,10 @@ pub(crate) fn batch_bytes(
     Ok(bytes)
 }
 
-/// Adds a record to a batch.
-fn add(batch: &mut Batch, record: RecordView<'_>) -> Result<(), AddError> {
-    match record {
-        Value { key, value } => batch.put(key, value),
-        Deletion { key } => batch.delete(key),
-        SingleDeletion { key } => batch.single_delete(key),
-        LogData { blob } => batch.log_data(blob),
-    }
-}
-
 /// Adds records to a batch.
 pub(crate) fn add_all(batch: &mut Batch, records: &[RecordView<'_>]) -> Result<(), AddError> {
     for record in records {
-        add(batch, *record)?;
+        batch.add(*record)?;
     }
     Ok(())
 }
@@ -154,8 +149,8 @@ pub(crate) fn check_cuts(
     Ok(())
 }
 
-/// Compares the pairs of a map.
-pub(crate) fn check_map(rt: &impl Abort, map: &ByteMap, pairs: &[(&[u8], &[u8])]) {
+/// Compares the pairs of a map, each with its family.
+pub(crate) fn check_map(rt: &impl Abort, map: &FamilyMap, pairs: &[(u32, &[u8], &[u8])]) {
     check(rt, 0, &map.len(), &pairs.len());
     let mut wanted = pairs.iter();
     for pair in map.iter() {

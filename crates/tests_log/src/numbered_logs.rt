@@ -133,7 +133,7 @@ fn recovers_what_was_written_over_another_log(rt: HostRuntime) -> Result<(), Fai
         return Err(Fail::from("the log is not recovered"));
     };
     check(&rt, 0, &found.groups.as_slice(), &[NOTE_OF_8].as_slice());
-    check_map(&rt, &found.map, &[(b"c", b"3")]);
+    check_map(&rt, &found.map, &[(0, b"c", b"3")]);
     Ok(())
 }
 

@@ -4,11 +4,11 @@
 use crate::changes::cut_at;
 use crate::checks::check;
 use crate::logs::{
-    LOG, NOTE, PUT, SECOND_AT, Summary, WITH_LONG_VARINT, WITH_TAG_2, WITHOUT_VALUE, add_all,
-    batch_bytes, check_cuts, check_map, put_record, recovered,
+    LOG, NOTE, PUT, PUT_IN_300, SECOND_AT, Summary, WITH_LONG_FAMILY, WITH_LONG_VARINT, WITH_TAG_2,
+    WITHOUT_VALUE, add_all, batch_bytes, check_cuts, check_map, put_record, recovered,
 };
 use base_devices::MemDisk;
-use base_maps::ByteMap;
+use base_maps::FamilyMap;
 use log_batch::RecordView::{Deletion, LogData, SingleDeletion, Value};
 use log_batch::{Batch, RecordView};
 use log_recovery::{GroupNote, RecoverError, recover};
@@ -36,29 +36,42 @@ fn put_batch(
 }
 
 const SECOND_BATCH: [RecordView<'static>; 4] = [
-    Deletion { key: b"a" },
+    Deletion {
+        family: None,
+        key: b"a",
+    },
     LogData { blob: b"x" },
     Value {
+        family: None,
         key: b"c",
         value: b"3",
     },
-    SingleDeletion { key: b"d" },
+    SingleDeletion {
+        family: None,
+        key: b"d",
+    },
 ];
 
 // The log of two batches. The first puts this value of 40,000 bytes, and so lies in two fragments.
 fn log_of_two(alloc: Global, value: &[u8]) -> Result<Vec<u8>, Fail> {
     let small = Value {
+        family: None,
         key: b"a",
         value: b"1",
     };
     let mut log = Vec::new(alloc);
-    put_batch(alloc, &mut log, 1, &[small, Value { key: b"b", value }])?;
+    let large = Value {
+        family: None,
+        key: b"b",
+        value,
+    };
+    put_batch(alloc, &mut log, 1, &[small, large])?;
     put_batch(alloc, &mut log, 3, &SECOND_BATCH)?;
     Ok(log)
 }
 
 // The groups that a log recovers, and its map.
-fn whole(alloc: Global, log: &[u8]) -> Result<(Vec<GroupNote>, ByteMap), RecoverError> {
+fn whole(alloc: Global, log: &[u8]) -> Result<(Vec<GroupNote>, FamilyMap), RecoverError> {
     let mut disk = MemDisk::new(alloc, log.len(), log, &[])?;
     let found = recover(alloc, &mut disk, None)?;
     Ok((found.groups, found.map))
@@ -77,13 +90,57 @@ const SMALL_NOTES: [GroupNote; 2] = [
     },
 ];
 
-const SMALL_PAIRS: [(&[u8], &[u8]); 2] = [(b"a", b"1"), (b"b", b"2")];
+const SMALL_PAIRS: [(u32, &[u8], &[u8]); 2] = [(0, b"a", b"1"), (0, b"b", b"2")];
 
 #[test]
 fn recovers_a_small_log(rt: HostRuntime) -> Result<(), Fail> {
     let (notes, map) = whole(rt.alloc(), &LOG)?;
     check(&rt, 0, &notes.as_slice(), &SMALL_NOTES.as_slice());
     check_map(&rt, &map, &SMALL_PAIRS);
+    Ok(())
+}
+
+// The same key in three families, of which one is deleted again, and a key of the default family by its number.
+const FAMILIES: [RecordView<'static>; 5] = [
+    Value {
+        family: Some(300),
+        key: b"a",
+        value: b"1",
+    },
+    Value {
+        family: Some(2),
+        key: b"a",
+        value: b"2",
+    },
+    Value {
+        family: Some(0),
+        key: b"b",
+        value: b"3",
+    },
+    Value {
+        family: None,
+        key: b"a",
+        value: b"4",
+    },
+    SingleDeletion {
+        family: Some(2),
+        key: b"a",
+    },
+];
+
+const FAMILY_PAIRS: [(u32, &[u8], &[u8]); 3] = [
+    (0, b"a", b"4"),
+    (0, b"b", b"3"),
+    (300, b"a", b"1"),
+];
+
+#[test]
+fn recovers_families(rt: HostRuntime) -> Result<(), Fail> {
+    let mut log = Vec::new(rt.alloc());
+    put_batch(rt.alloc(), &mut log, 1, &FAMILIES)?;
+    let (_, map) = whole(rt.alloc(), &log)?;
+    check_map(&rt, &map, &FAMILY_PAIRS);
+    check(&rt, 0, &map.greatest_family(), &300);
     Ok(())
 }
 
@@ -106,7 +163,7 @@ fn recovers_a_record_in_parts(rt: HostRuntime) -> Result<(), Fail> {
     let log = log_of_two(rt.alloc(), &value)?;
     let (notes, map) = whole(rt.alloc(), &log)?;
     check(&rt, 0, &notes.as_slice(), &LARGE_NOTES.as_slice());
-    check_map(&rt, &map, &[(b"b", &value), (b"c", b"3")]);
+    check_map(&rt, &map, &[(0, b"b", &value), (0, b"c", b"3")]);
     Ok(())
 }
 
@@ -133,11 +190,12 @@ const MAX_SEQUENCE: u64 = 72_057_594_037_927_935;
 const TWO_DELETIONS: [u8; 4] = [0, 0, 0, 0];
 
 // A record that may not follow: its first sequence, the count in its header, its records, and why it isn't kept.
-const STOPPED: [(u64, u32, &[u8], EndReason); 6] = [
+const STOPPED: [(u64, u32, &[u8], EndReason); 7] = [
     (2, 1, &WITH_TAG_2, EndReason::Tag(2)),
     (2, 2, &PUT, EndReason::Count { said: 2, found: 1 }),
     (2, 1, &WITHOUT_VALUE, EndReason::Short),
     (2, 1, &WITH_LONG_VARINT, EndReason::BadVarint),
+    (2, 1, &WITH_LONG_FAMILY, EndReason::BadVarint),
     (1, 1, &PUT, EndReason::Order { first: 1, last: 1 }),
     (
         MAX_SEQUENCE,
@@ -168,7 +226,7 @@ fn stops_at_a_first_record_that_goes_too_high(rt: HostRuntime) -> Result<(), Fai
 }
 
 // A record that may follow, and what is recovered then.
-const KEPT: [(u64, u32, &[u8], Summary); 2] = [
+const KEPT: [(u64, u32, &[u8], Summary); 3] = [
     (
         MAX_SEQUENCE,
         1,
@@ -176,6 +234,7 @@ const KEPT: [(u64, u32, &[u8], Summary); 2] = [
         (2, MAX_SEQUENCE, 48, 48, EndReason::Clean),
     ),
     (1, 0, &NOTE, (2, 1, 46, 46, EndReason::Clean)),
+    (2, 1, &PUT_IN_300, (2, 2, 50, 50, EndReason::Clean)),
 ];
 
 // The log's first record, with this one after it.

@@ -27,8 +27,8 @@ pub(crate) const NEXT: [u8; 48] = [
     0x01, 0x01, b'c', 0x01, b'3', // put c 3
 ];
 
-/// What logs recover: how many groups, the last sequence, the log in which recovery ends, how many bytes of it are kept,
-/// where recovery ends, and why.
+/// What logs recover: how many groups, the last sequence, the log in which recovery ends, how many bytes of it are
+/// kept, where recovery ends, and why.
 pub(crate) type Summary = (usize, u64, u64, u64, u64, EndReason);
 
 /// The end of a whole log.
@@ -167,8 +167,8 @@ fn goes_on_after_an_empty_log(rt: HostRuntime) -> Result<(), Fail> {
     Ok(())
 }
 
-// What two logs recover, and how many calls of the second disk have failed. Of the first log so many bytes are left; its
-// disk is asked for the length once before. These calls of the two disks fail.
+// What two logs recover, and how many calls of the second disk have failed. Of the first log so many bytes are left;
+// its disk is asked for the length once before. These calls of the two disks fail.
 fn failing(
     alloc: Global,
     len: usize,

@@ -20,10 +20,17 @@ fn commands_of(rt: &impl Abort, alloc: Global, keys: &[&[u8]]) -> Result<Command
     // The batch has the keys so far.
     for key in keys {
         assert!(rt; key.len() <= 8);
-        commands.push(CommandView::Put { key, value: b"1" })?;
+        commands.push(CommandView::Put {
+            family: None,
+            key,
+            value: b"1",
+        })?;
     }
     commands.push(CommandView::Commit { options: PLAIN })?;
-    commands.push(CommandView::Get { key: b"a" })?;
+    commands.push(CommandView::Get {
+        family: 0,
+        key: b"a",
+    })?;
     Ok(commands)
 }
 
@@ -41,7 +48,7 @@ pub(crate) fn clients_of(
     Ok(clients)
 }
 
-/// A core in a single stage for clients with these commands.
+/// A core with three families, in a single stage, for clients with these commands.
 pub(crate) fn opened<'a>(
     rt: &impl Abort,
     alloc: Global,
@@ -55,6 +62,7 @@ pub(crate) fn opened<'a>(
     }
     let options = CoreOptions {
         pipelined: false,
+        families: 3,
         group_bytes: 1048576,
         batch_bytes: MAX_SIZE,
         last,

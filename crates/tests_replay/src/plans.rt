@@ -13,10 +13,11 @@ const SYNCED: WriteOptions = WriteOptions {
     ..PLAIN
 };
 
-/// A client puts `a`, adds log data, commits, and stops writes.
+/// A client puts `a` of the family 2, adds log data, commits, and stops writes.
 fn commands_of(alloc: Global) -> Result<CommandList, NoMemory> {
     let mut commands = CommandList::new(alloc);
     commands.push(CommandView::Put {
+        family: Some(2),
         key: b"a",
         value: b"1",
     })?;
@@ -31,11 +32,16 @@ fn finds_the_next_call(rt: HostRuntime) -> Result<(), Fail> {
     let commands = commands_of(rt.alloc())?;
     let plan = ClientPlan::of(rt.alloc(), &commands)?;
     let ahead = look_ahead(&plan, 0, 0);
-    let batch = measure_batch(&plan, Lines { from: 0, to: 2 });
-    let measure = Measure { size: 20, count: 1 };
+    let batch = measure_batch(&plan, Lines { from: 0, to: 2 }, 3);
+    let missing = measure_batch(&plan, Lines { from: 0, to: 2 }, 2).missing;
+    let measure = Measure {
+        size: 21,
+        count: 1,
+        missing: None,
+    };
     assert_eq!(rt;
-        (ahead.from, ahead.call, ahead.next, batch),
-        (0, 2, 3, measure)
+        (ahead.from, ahead.call, ahead.next, batch, missing),
+        (0, 2, 3, measure, Some(2))
     );
     assert_eq!(rt; (plan.len(), plan.lines().len()), (4, 4));
     assert_eq!(rt; plan.line(3).kind(), CommandKind::Token);

@@ -1,7 +1,7 @@
 //! Texts that no call of the program gives.
 
 use base_bytes::Bytes;
-use base_maps::ByteMap;
+use base_maps::FamilyMap;
 use model_base::{NoMemory, Refusal};
 use program_text::{outcome_text, summary_text};
 use run_batches::BatchList;
@@ -10,18 +10,23 @@ use std::alloc::Global;
 use std::process::Abort;
 use std::test::Fail;
 
-/// The log's fault refuses a commit, one read finds nothing, and another finds no memory.
-fn one_fault(alloc: Global) -> Result<Outcome<ByteMap>, NoMemory> {
+/// The log's fault refuses a commit, one read finds nothing, one is of a family that there isn't, and another finds no
+/// memory. The map has a key of the default family and one of another.
+fn one_fault(alloc: Global) -> Result<Outcome<FamilyMap>, NoMemory> {
+    let mut state = FamilyMap::new(alloc);
+    state.insert(12, b"a", b"1")?;
+    state.insert(0, b"b", b"2")?;
     let replies = vec![in alloc;
         Reply::Refused(Refusal::LogFault { count: 1 }),
         Reply::Found { at: 0, value: None },
+        Reply::Refused(Refusal::NoFamily { family: 7 }),
         Reply::NoMemory,
     ]?;
     Ok(Outcome {
         transcripts: vec![in alloc; replies]?,
         history: History::of_one(BatchList::new(alloc)),
         last: 0,
-        state: ByteMap::new(alloc),
+        state,
         full_lens: Vec::new(alloc),
         log_len: 0,
         fault: Some(1),
@@ -43,9 +48,9 @@ fn summary(alloc: Global) -> Result<Bytes, NoMemory> {
 }
 
 const OUTCOME: &str =
-    "client 1\nno logfault 1\nnil 0\nno memory\nhistory 0\nstate 0 0\nlog 0 fault 1\n";
+    "client 1\nno logfault 1\nnil 0\nno family 7\nno memory\nhistory 0\nstate 0 2\nb 2\n12 a 1\nlog 0 fault 1\n";
 
-const SUMMARY: &str = "clients 1\nbatches 0\nrecords 0\nlast 0\nkeys 0\nsum 18446744073709551616\n";
+const SUMMARY: &str = "clients 1\nbatches 0\nrecords 0\nlast 0\nkeys 2\nsum 18446744073709551616\n";
 
 #[test]
 fn prints_what_no_call_comes_to(rt: HostRuntime) -> Result<(), Fail> {

@@ -64,8 +64,10 @@ fn a_write_is_read_from_its_sequence_on(rt: HostRuntime) -> Result<(), Fail> {
     let mut read = MapUpTo::new(rt.alloc());
     // The reads so far found what they should.
     for (at, want) in READS {
-        let found = read.value(&state, b"a", at)?;
+        let found = read.value(&state, 0, b"a", at)?;
         assert_eq!(rt; value_in(&found), want, "at {at}");
+        let other = read.value(&state, 1, b"a", at)?;
+        assert_eq!(rt; value_in(&other), None, "of another family, at {at}");
     }
     Ok(())
 }

@@ -4,8 +4,9 @@ ghost use Rattle.std.specs.Prelude.{◌≡◌, [], ◌∷◌, ◌++◌};
 ghost use Rattle.table_tree.specs.Parts.{with_part, group_of};
 ghost use Rattle.tests_table.specs.Examples.{versions_from, three_at, of_member};
 
-/// Each batch has a record of each kind. Log data makes no version, and a single deletion makes the same version as a
-/// deletion. A member's second batch comes after its first one, not after another member's.
+/// Each batch has a record of each kind, and one of these names a family. Log data makes no version, and a single
+/// deletion makes the same version as a deletion. A member's second batch comes after its first one, not after another
+/// member's.
 pub fn parts_of_a_group()
     ensures { group_of (with_part (with_part (with_part [] 2 (versions_from 7)) 1 (versions_from 20)) 2
         (versions_from 30))

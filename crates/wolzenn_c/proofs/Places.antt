@@ -25,25 +25,39 @@ is_at : (bytes front s rest : List ℕ) (start place : ℕ) → bytes ≡ front 
     → place ≡ start + length (varint (length s)) → IsAt bytes start place (length s) s
 is_at bytes front s rest start place is at after = rw (is, at) (is_after front s rest start (sym at ∙ after))
 
--- the key of a record of one string, which ends where the record ends
-pub key_alone : (front key rest : List ℕ) (tag end place : ℕ) → end ≡ length (front ++ (tag ∷ (varstring key ++ []))) → place + length key ≡ end
-    → IsAt (front ++ (tag ∷ (varstring key ++ [])) ++ rest) (length front + 1) place (length key) key
-key_alone front key rest tag end place is at =
+-- the key of a record of one string, which ends where the record ends; the bytes of the family's number come after the
+-- tag, if there is one
+pub key_alone : (front family key rest : List ℕ) (tag end place : ℕ) → end ≡ length (front ++ (tag ∷ (family ++ (varstring key ++ []))))
+    → place + length key ≡ end
+    → IsAt (front ++ (tag ∷ (family ++ (varstring key ++ []))) ++ rest) (length front + 1 + length family) place (length key) key
+key_alone front family key rest tag end place is at =
     let v = varint (length key) in
-    let bytes = front ++ (tag ∷ (varstring key ++ [])) ++ rest in
-    let split : bytes ≡ (front ++ (tag ∷ v)) ++ (key ++ rest) = simp (append_assoc, append-nil) refl in
-    let place_is : place ≡ length (front ++ (tag ∷ v)) =
-    omega (arith, length-append front (tag ∷ (varstring key ++ [])), length-append front (tag ∷ v), length-append (varstring key) [], length-append v key) in
-    is_at bytes (front ++ (tag ∷ v)) key rest (length front + 1) place split place_is (omega (arith, place_is, length-append front (tag ∷ v)))
-
--- how far a record of two strings reaches
-pair_end : (front key s : List ℕ) (tag end : ℕ) → end ≡ length (front ++ (tag ∷ (varstring key ++ (varstring s ++ []))))
-    → end ≡ length front + 1 + length (varint (length key)) + length key + length (varint (length s)) + length s
-pair_end front key s tag end is =
+    let before = front ++ (tag ∷ (family ++ v)) in
+    let bytes = front ++ (tag ∷ (family ++ (varstring key ++ []))) ++ rest in
+    let split : bytes ≡ before ++ (key ++ rest) = simp (append_assoc, append-nil) refl in
+    let before_long = length-append front (tag ∷ (family ++ v)) in
+    let place_is : place ≡ length before =
     omega (
       arith,
       is,
-      length-append front (tag ∷ (varstring key ++ (varstring s ++ []))),
+      before_long,
+      length-append family v,
+      length-append front (tag ∷ (family ++ (varstring key ++ []))),
+      length-append family (varstring key ++ []),
+      length-append (varstring key) [],
+      length-append v key,
+    ) in
+    is_at bytes before key rest (length front + 1 + length family) place split place_is (omega (arith, place_is, before_long, length-append family v))
+
+-- how far a record of two strings reaches
+pair_end : (front family key s : List ℕ) (tag end : ℕ) → end ≡ length (front ++ (tag ∷ (family ++ (varstring key ++ (varstring s ++ [])))))
+    → end ≡ length front + 1 + length family + length (varint (length key)) + length key + length (varint (length s)) + length s
+pair_end front family key s tag end is =
+    omega (
+      arith,
+      is,
+      length-append front (tag ∷ (family ++ (varstring key ++ (varstring s ++ [])))),
+      length-append family (varstring key ++ (varstring s ++ [])),
       length-append (varstring key) (varstring s ++ []),
       length-append (varstring s) [],
       length-append (varint (length key)) key,
@@ -51,28 +65,37 @@ pair_end front key s tag end is =
     )
 
 -- the key of a record of two strings
-pub key_before : (front key s rest : List ℕ) (tag end place : ℕ) → end ≡ length (front ++ (tag ∷ (varstring key ++ (varstring s ++ []))))
+pub key_before : (front family key s rest : List ℕ) (tag end place : ℕ) → end ≡ length (front ++ (tag ∷ (family ++ (varstring key ++ (varstring s ++ [])))))
     → place ≡ end - length s - length (varint (length s)) - length key
-    → IsAt (front ++ (tag ∷ (varstring key ++ (varstring s ++ []))) ++ rest) (length front + 1) place (length key) key
-key_before front key s rest tag end place is at =
+    → IsAt (front ++ (tag ∷ (family ++ (varstring key ++ (varstring s ++ [])))) ++ rest) (length front + 1 + length family) place (length key) key
+key_before front family key s rest tag end place is at =
     let v = varint (length key) in
-    let bytes = front ++ (tag ∷ (varstring key ++ (varstring s ++ []))) ++ rest in
-    let all = pair_end front key s tag end is in
-    let split : bytes ≡ (front ++ (tag ∷ v)) ++ (key ++ ((varstring s ++ []) ++ rest)) = simp (append_assoc, append-nil) refl in
-    let place_is : place ≡ length (front ++ (tag ∷ v)) = omega (arith, all, at, length-append front (tag ∷ v)) in
-    is_at bytes (front ++ (tag ∷ v)) key ((varstring s ++ []) ++ rest) (length front + 1) place split place_is (omega (arith, all, at))
+    let before = front ++ (tag ∷ (family ++ v)) in
+    let bytes = front ++ (tag ∷ (family ++ (varstring key ++ (varstring s ++ [])))) ++ rest in
+    let all = pair_end front family key s tag end is in
+    let split : bytes ≡ before ++ (key ++ ((varstring s ++ []) ++ rest)) = simp (append_assoc, append-nil) refl in
+    let place_is : place ≡ length before = omega (arith, all, at, length-append front (tag ∷ (family ++ v)), length-append family v) in
+    is_at bytes before key ((varstring s ++ []) ++ rest) (length front + 1 + length family) place split place_is (omega (arith, all, at))
 
 -- and its value
-pub value_behind : (front key s rest : List ℕ) (tag end start place : ℕ) → end ≡ length (front ++ (tag ∷ (varstring key ++ (varstring s ++ []))))
+pub value_behind : (front family key s rest : List ℕ) (tag end start place : ℕ) → end ≡ length (front ++ (tag ∷ (family ++ (varstring key ++ (varstring s ++ [])))))
     → place ≡ end - length s → start ≡ end - length s - length (varint (length s)) - length key + length key
-    → IsAt (front ++ (tag ∷ (varstring key ++ (varstring s ++ []))) ++ rest) start place (length s) s
-value_behind front key s rest tag end start place is at begins =
-    let before = front ++ (tag ∷ (varstring key ++ varint (length s))) in
-    let bytes = front ++ (tag ∷ (varstring key ++ (varstring s ++ []))) ++ rest in
-    let all = pair_end front key s tag end is in
+    → IsAt (front ++ (tag ∷ (family ++ (varstring key ++ (varstring s ++ [])))) ++ rest) start place (length s) s
+value_behind front family key s rest tag end start place is at begins =
+    let before = front ++ (tag ∷ (family ++ (varstring key ++ varint (length s)))) in
+    let bytes = front ++ (tag ∷ (family ++ (varstring key ++ (varstring s ++ [])))) ++ rest in
+    let all = pair_end front family key s tag end is in
     let split : bytes ≡ before ++ (s ++ rest) = simp (append_assoc, append-nil) refl in
     let place_is : place ≡ length before =
-    omega (arith, all, at, length-append front (tag ∷ (varstring key ++ varint (length s))), length-append (varstring key) (varint (length s)), length-append (varint (length key)) key) in
+    omega (
+      arith,
+      all,
+      at,
+      length-append front (tag ∷ (family ++ (varstring key ++ varint (length s)))),
+      length-append family (varstring key ++ varint (length s)),
+      length-append (varstring key) (varint (length s)),
+      length-append (varint (length key)) key,
+    ) in
     is_at bytes before s rest start place split place_is (omega (arith, all, at, begins))
 
 -- The record that the bytes begin with, from a place on, is the next one, and its operation shows it.

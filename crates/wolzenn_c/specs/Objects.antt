@@ -17,7 +17,7 @@ as_reader (Some (object.Batch b)) = None
 abbrev pub as_recovery : Option Object → Option Pairs
 as_recovery None = None
 as_recovery (Some (object.Reader r)) = None
-as_recovery (Some (object.Recovery r)) = Some r.pairs
+as_recovery (Some (object.Recovery r)) = Some r.pairs.items
 as_recovery (Some (object.Batch b)) = None
 
 -- the batch that it holds, if it holds one

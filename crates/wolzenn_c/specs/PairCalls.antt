@@ -1,9 +1,15 @@
 -- What the functions for a recovery's pairs give to C.
 use Rattle.std.specs.Prelude.{◌≡◌, ◌⊎◌, ℕ, ◌<◌, ◌≤◌, List, length, is_some, if◌then◌else◌}
+use Rattle.model_base.specs.declared.key.Key.{Key}
 use Rattle.model_base.specs.Map.{Pairs, value_at}
 use Rattle.wolzenn_c.specs.declared.codes.TheConstants.{DONE, SMALL, END}
 use Rattle.wolzenn_c.specs.Buffers.{begun_with}
 use Rattle.wolzenn_c.specs.InOrder.{keys_before}
+use Rattle.wolzenn_c.specs.declared.pairs.WzPairLens.{WzPairLens}
+
+-- the family of a pair's key, and how many bytes its key and its value have
+abbrev pub lens_of : Key × List ℕ → WzPairLens
+lens_of p = record { family = p.0.family; key_len = length p.0.bytes; value_len = length p.1 }
 
 -- key and value are copied to the starts of two buffers, if both buffers have room
 pub record CopiesPair (pair old : List ℕ × List ℕ) (code : ℕ) (new : List ℕ × List ℕ) : Type 0 where
@@ -12,6 +18,6 @@ pub record CopiesPair (pair old : List ℕ × List ℕ) (code : ℕ) (new : List
   pub small : (length old.0 < length pair.0) ⊎ (length old.1 < length pair.1) → (code ≡ SMALL) × (new ≡ old)
 
 -- where a key is found or would be, and whether it is there
-abbrev pub Finds : Pairs → List ℕ → ℕ → ℕ → Type 0
+abbrev pub Finds : Pairs → Key → ℕ → ℕ → Type 0
 Finds pairs key code index =
     (code ≡ (if is_some (value_at pairs key) then DONE else END)) × (index ≡ keys_before pairs key)

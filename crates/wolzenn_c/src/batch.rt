@@ -1,11 +1,12 @@
 //! Building a batch.
 //!
-//! The five calls that add are one function, `add`, called with what each of them adds. Where the handle holds no
+//! The calls that add are one function, `add`, called with what each of them adds. Where the handle holds no
 //! batch, each call here but `wz_batch_new` answers `CLOSED`, and the handle holds what it held. Of these calls only
 //! `wz_batch_append` looks at its bytes first.
 
 ghost use Rattle.std.specs.Prelude.{◌≡◌, ◌≢◌, ◌<◌, ◌≤◌, ◌^◌, ◌-◌, ℕ, List, [], ◌∷◌, length, min, OnOk, OnErr, IsOkUnless, None, MatchOption};
 ghost use Rattle.model_base.specs.Batch as model;
+ghost use Rattle.model_base.specs.Map.{named as named_family};
 ghost use Rattle.log_batch.specs.Contents.{empty, with_additions, size_with_all};
 ghost use Rattle.wolzenn_c.specs.Objects.{as_batch};
 ghost use Rattle.wolzenn_c.specs.Batches.{holding, bytes_of, AddsTo, Adds, Changes};
@@ -17,7 +18,7 @@ use crate::buffer::copy_to;
 use crate::codes::{CLOSED, DONE, NO_BATCH, NO_MEMORY, TOO_LARGE};
 use crate::handle::WzHandle;
 use crate::object::Object;
-use log_batch::{AddError, Batch, BatchView, RecordView, read_batch};
+use log_batch::{AddError, Batch, BatchView, RecordView, named, read_batch};
 use model_base::{BatchError, MAX_SIZE};
 use std::alloc::Global;
 
@@ -62,27 +63,88 @@ pub extern "C" fn wz_batch_put(
 ) -> u32
     // `TOO_LARGE` always comes where the batch would have more than `MAX_SIZE` bytes. Where it would not, the records
     // are added, or there is no memory.
-    ensures { Adds handle.old.held.object (model.value key.now value.now ∷ []) result handle.new.held.object }
+    ensures { Adds handle.old.held.object (model.value None key.now value.now ∷ []) result handle.new.held.object }
 {
-    let view = RecordView::Value { key, value };
+    let view = RecordView::Value {
+        family: None,
+        key,
+        value,
+    };
+    add(alloc, handle, Addition::Record(view))
+}
+
+/// Adds a key of a column family with its value after the other records. The default family is 0, and the record names
+/// no family then: it is that of `wz_batch_put`. It answers like `wz_batch_put`.
+#[unsafe(no_mangle)]
+pub extern "C" fn wz_batch_put_cf(
+    alloc: Global,
+    handle: &mut WzHandle,
+    family: u32,
+    key: &[u8],
+    value: &[u8],
+) -> u32
+    ensures { Adds handle.old.held.object (model.value (named_family family) key.now value.now ∷ [])
+        result handle.new.held.object }
+{
+    let view = RecordView::Value {
+        family: named(family),
+        key,
+        value,
+    };
     add(alloc, handle, Addition::Record(view))
 }
 
 /// Adds a deletion of a key after the other records. It answers like `wz_batch_put`.
 #[unsafe(no_mangle)]
 pub extern "C" fn wz_batch_delete(alloc: Global, handle: &mut WzHandle, key: &[u8]) -> u32
-    ensures { Adds handle.old.held.object (model.deletion key.now ∷ []) result handle.new.held.object }
+    ensures { Adds handle.old.held.object (model.deletion None key.now ∷ []) result handle.new.held.object }
 {
-    let view = RecordView::Deletion { key };
+    let view = RecordView::Deletion { family: None, key };
+    add(alloc, handle, Addition::Record(view))
+}
+
+/// Adds a deletion of a key of a column family after the other records, as `wz_batch_put_cf` adds a value.
+#[unsafe(no_mangle)]
+pub extern "C" fn wz_batch_delete_cf(
+    alloc: Global,
+    handle: &mut WzHandle,
+    family: u32,
+    key: &[u8],
+) -> u32
+    ensures { Adds handle.old.held.object (model.deletion (named_family family) key.now ∷ [])
+        result handle.new.held.object }
+{
+    let view = RecordView::Deletion {
+        family: named(family),
+        key,
+    };
     add(alloc, handle, Addition::Record(view))
 }
 
 /// Adds a single deletion of a key after the other records. It answers like `wz_batch_put`.
 #[unsafe(no_mangle)]
 pub extern "C" fn wz_batch_single_delete(alloc: Global, handle: &mut WzHandle, key: &[u8]) -> u32
-    ensures { Adds handle.old.held.object (model.single_deletion key.now ∷ []) result handle.new.held.object }
+    ensures { Adds handle.old.held.object (model.single_deletion None key.now ∷ []) result handle.new.held.object }
 {
-    let view = RecordView::SingleDeletion { key };
+    let view = RecordView::SingleDeletion { family: None, key };
+    add(alloc, handle, Addition::Record(view))
+}
+
+/// Adds a single deletion of a key of a column family after the other records, as `wz_batch_put_cf` adds a value.
+#[unsafe(no_mangle)]
+pub extern "C" fn wz_batch_single_delete_cf(
+    alloc: Global,
+    handle: &mut WzHandle,
+    family: u32,
+    key: &[u8],
+) -> u32
+    ensures { Adds handle.old.held.object (model.single_deletion (named_family family) key.now ∷ [])
+        result handle.new.held.object }
+{
+    let view = RecordView::SingleDeletion {
+        family: named(family),
+        key,
+    };
     add(alloc, handle, Addition::Record(view))
 }
 
@@ -157,10 +219,7 @@ fn put_behind(batch: &mut Batch, addition: Addition<'_>) -> Result<(), AddError>
         → IsOkUnless result AddError.NoMemory }
 {
     match addition {
-        Addition::Record(RecordView::Value { key, value }) => batch.put(key, value),
-        Addition::Record(RecordView::Deletion { key }) => batch.delete(key),
-        Addition::Record(RecordView::SingleDeletion { key }) => batch.single_delete(key),
-        Addition::Record(RecordView::LogData { blob }) => batch.log_data(blob),
+        Addition::Record(view) => batch.add(view),
         Addition::Batch(other) => batch.append(&other),
     }
 }

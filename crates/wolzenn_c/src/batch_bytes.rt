@@ -1,7 +1,7 @@
 //! Reading the bytes of a batch. Nothing is copied, and no memory is taken.
 
 ghost use Rattle.std.specs.Prelude.{◌≡◌, ◌≢◌, ◌≤◌, ◌<◌, ◌+◌, ◌++◌, ◌⊎◌, ◌↔◌, ℕ, List, length, drop};
-ghost use Rattle.model_base.specs.Batch.{Record, IsBatch, IsBatchError, IsReadable, NoRecord, record_bytes, count_of};
+ghost use Rattle.model_base.specs.Batch.{Record, IsBatch, IsBatchError, IsReadable, NoRecord, record_bytes, tag_of, count_of};
 ghost use Rattle.log_batch.specs.View.{record_of};
 ghost use Rattle.wolzenn_c.specs.BatchBytes.{reason_of as log_reason, Shows, IsRecordBetween};
 ghost use Rattle.wolzenn_c.specs.Reasons.{end_of as end_in_numbers};
@@ -20,8 +20,17 @@ const VALUE: u32 = 1;
 /// It is in the log only.
 const LOG_DATA: u32 = 3;
 
+/// It takes a key of a family out that it names.
+const DELETION_CF: u32 = 4;
+
+/// It gives a key of a family that it names a value.
+const VALUE_CF: u32 = 5;
+
 /// It takes a key out that was set at most once.
 const SINGLE_DELETION: u32 = 7;
+
+/// It takes a key of a family out that it names, and that was set at most once.
+const SINGLE_DELETION_CF: u32 = 8;
 
 /// A batch's sequence, and how many of its records count.
 #[repr(C)]
@@ -31,11 +40,13 @@ pub struct WzBatchHead {
     pub count: u32,
 }
 
-/// A record of a batch: what it does, and where in the batch's bytes its key and its value are.
+/// A record of a batch: what it does, the column family that it names, and where in the batch's bytes its key and its
+/// value are. The family is 0, which is the default one, where the record names none.
 #[repr(C)]
 #[derive(Clone, Copy, Debug)]
 pub struct WzOp {
     pub kind: u32,
+    pub family: u32,
     pub key_at: usize,
     pub key_len: usize,
     pub value_at: usize,
@@ -129,34 +140,53 @@ fn op_of(view: RecordView<'_>, end: usize) -> WzOp
         (front rest : List ℕ) → end ≡ length (front ++ spelling)
         → Shows (front ++ spelling ++ rest) (length front) result (record_of view.entry) }
 {
+    let (kind, family) = (kind_of(view), view.family().unwrap_or(0));
     match view {
-        RecordView::Value { key, value } => {
+        RecordView::Value { key, value, .. } => {
             let value_at = end - value.len();
             let key_end = value_at - varint32_len(value.len() as u64) as usize;
             WzOp {
-                kind: VALUE,
+                kind,
+                family,
                 key_at: key_end - key.len(),
                 key_len: key.len(),
                 value_at,
                 value_len: value.len(),
             }
         }
-        RecordView::Deletion { key } => op_of_key(DELETION, key, end),
-        RecordView::SingleDeletion { key } => op_of_key(SINGLE_DELETION, key, end),
-        RecordView::LogData { blob } => op_of_key(LOG_DATA, blob, end),
+        RecordView::Deletion { key, .. } => op_of_key(kind, family, key, end),
+        RecordView::SingleDeletion { key, .. } => op_of_key(kind, family, key, end),
+        RecordView::LogData { blob } => op_of_key(kind, family, blob, end),
+    }
+}
+
+/// What a record does: its tag, which says too whether it names a family.
+fn kind_of(view: RecordView<'_>) -> u32
+    ensures { result ≡ tag_of (record_of view.entry) }
+{
+    match view {
+        RecordView::Value { family: None, .. } => VALUE,
+        RecordView::Value { .. } => VALUE_CF,
+        RecordView::Deletion { family: None, .. } => DELETION,
+        RecordView::Deletion { .. } => DELETION_CF,
+        RecordView::SingleDeletion { family: None, .. } => SINGLE_DELETION,
+        RecordView::SingleDeletion { .. } => SINGLE_DELETION_CF,
+        RecordView::LogData { .. } => LOG_DATA,
     }
 }
 
 /// The same for a record of one string.
-fn op_of_key(kind: u32, key: &[u8], end: usize) -> WzOp
+fn op_of_key(kind: u32, family: u32, key: &[u8], end: usize) -> WzOp
     requires { length key.now ≤ end }
     ensures kind { result.kind ≡ kind }
+    ensures family { result.family ≡ family }
     ensures key_at { result.key_at + length key.now ≡ end }
     ensures key_len { result.key_len ≡ length key.now }
     ensures no_value { (result.value_at ≡ 0) × (result.value_len ≡ 0) }
 {
     WzOp {
         kind,
+        family,
         key_at: end - key.len(),
         key_len: key.len(),
         value_at: 0,

@@ -32,7 +32,7 @@ impl Object {
 
     /// The recovery, if it is one.
     pub fn recovery(&self) -> Option<&RecoveryPairs>
-        ensures { option_map (λ r. r.now.pairs) result ≡ as_recovery (Some self.now) }
+        ensures { option_map (λ r. r.now.pairs.items) result ≡ as_recovery (Some self.now) }
     {
         match self {
             Object::Recovery(recovery) => Some(recovery),

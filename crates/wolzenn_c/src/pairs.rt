@@ -1,25 +1,27 @@
 //! The pairs of a recovery.
 
-ghost use Rattle.std.specs.Prelude.{◌≡◌, length, slice_get, MatchOption};
+ghost use Rattle.std.specs.Prelude.{◌≡◌, slice_get, MatchOption};
+ghost use Rattle.model_base.specs.Map.{key_at};
 ghost use Rattle.wolzenn_c.specs.Objects.{as_recovery};
-ghost use Rattle.wolzenn_c.specs.PairCalls.{CopiesPair, Finds};
+ghost use Rattle.wolzenn_c.specs.PairCalls.{CopiesPair, Finds, lens_of};
 
 use crate::buffer::put;
 use crate::codes::{CLOSED, DONE, END, SMALL};
 use crate::handle::WzHandle;
-use crate::recovery_pairs::RecoveryPairs;
+use crate::recovery_pairs::{RecoveryPairs, order};
 use std::alloc::Global;
 
-/// How many bytes the key and the value of a pair have.
+/// The column family of a pair's key, and how many bytes its key and its value have.
 #[repr(C)]
 #[derive(Clone, Copy, Debug, Drop)]
 pub struct WzPairLens {
+    pub family: u32,
     pub key_len: usize,
     pub value_len: usize,
 }
 
-/// How many bytes the key and the value of the pair with this index have. The indexes are from 0 on, in the byte order
-/// of the keys.
+/// The column family of the key of the pair with this index, and how many bytes its key and its value have. The indexes
+/// are from 0 on, by family, and in each family in the byte order of the keys.
 ///
 /// `DONE`: `lens` says it. `END`: there is no such pair. `CLOSED`: the handle holds no recovery. With these two `lens`
 /// stays as it was. The handle holds what it held.
@@ -33,7 +35,7 @@ pub extern "C" fn wz_pair_len(
     ensures same { handle.new.held.object ≡ handle.old.held.object }
     ensures lens { MatchOption (as_recovery handle.old.held.object) ((result ≡ CLOSED) × (lens.new ≡ lens.old))
         (λ pairs. MatchOption (slice_get pairs index) ((result ≡ END) × (lens.new ≡ lens.old))
-        (λ p. (result ≡ DONE) × (lens.new ≡ record { key_len = length p.0; value_len = length p.1 }))) }
+        (λ p. (result ≡ DONE) × (lens.new ≡ lens_of p))) }
 {
     let Some(object) = handle.take(alloc) else {
         return CLOSED;
@@ -46,14 +48,15 @@ pub extern "C" fn wz_pair_len(
     code
 }
 
-/// Tells how many bytes a pair has.
+/// Tells the family of a pair, and how many bytes it has.
 fn tell_lens(recovery: &RecoveryPairs, index: usize, lens: &mut WzPairLens) -> u32
-    ensures { MatchOption (slice_get recovery.now.pairs index) ((result ≡ END) × (lens.new ≡ lens.old))
-        (λ p. (result ≡ DONE) × (lens.new ≡ record { key_len = length p.0; value_len = length p.1 })) }
+    ensures { MatchOption (slice_get recovery.now.pairs.items index) ((result ≡ END) × (lens.new ≡ lens.old))
+        (λ p. (result ≡ DONE) × (lens.new ≡ lens_of p)) }
 {
     match recovery.get(index) {
-        Some((key, value)) => {
+        Some((family, key, value)) => {
             *lens = WzPairLens {
+                family,
                 key_len: key.len(),
                 value_len: value.len(),
             };
@@ -81,7 +84,7 @@ pub extern "C" fn wz_pair(
         ((result ≡ CLOSED) × (key.new ≡ key.old) × (value.new ≡ value.old))
         (λ pairs. MatchOption (slice_get pairs index)
         ((result ≡ END) × (key.new ≡ key.old) × (value.new ≡ value.old))
-        (λ p. CopiesPair p (key.old, value.old) result (key.new, value.new))) }
+        (λ p. CopiesPair (p.0.bytes, p.1) (key.old, value.old) result (key.new, value.new))) }
 {
     let Some(object) = handle.take(alloc) else {
         return CLOSED;
@@ -101,11 +104,12 @@ fn copy_pair(
     key_buffer: &mut [u8],
     value_buffer: &mut [u8],
 ) -> u32
-    ensures { MatchOption (slice_get recovery.now.pairs index)
+    ensures { MatchOption (slice_get recovery.now.pairs.items index)
         ((result ≡ END) × (key_buffer.new ≡ key_buffer.old) × (value_buffer.new ≡ value_buffer.old))
-        (λ p. CopiesPair p (key_buffer.old, value_buffer.old) result (key_buffer.new, value_buffer.new)) }
+        (λ p. CopiesPair (p.0.bytes, p.1) (key_buffer.old, value_buffer.old)
+        result (key_buffer.new, value_buffer.new)) }
 {
-    let Some((key, value)) = recovery.get(index) else {
+    let Some((_, key, value)) = recovery.get(index) else {
         return END;
     };
     if key_buffer.len() < key.len() || value_buffer.len() < value.len() {
@@ -116,8 +120,8 @@ fn copy_pair(
     DONE
 }
 
-/// How many pairs have a key before this one, in byte order: that is the index of the key's own pair, if it has one,
-/// and otherwise the index where its pair would be.
+/// How many pairs have a key before this one of this column family, by family and in a family in byte order: that is
+/// the index of the key's own pair, if it has one, and otherwise the index where its pair would be.
 ///
 /// `DONE`: the key has a pair, and `index` is its index. `END`: it has none, and `index` is that of the next key's
 /// pair, or how many pairs there are. `CLOSED`: the handle holds no recovery, and `index` stays as it was. The handle
@@ -126,18 +130,19 @@ fn copy_pair(
 pub extern "C" fn wz_pair_find(
     alloc: Global,
     handle: &mut WzHandle,
+    family: u32,
     key: &[u8],
     index: &mut usize,
 ) -> u32
     ensures same { handle.new.held.object ≡ handle.old.held.object }
     ensures found { MatchOption (as_recovery handle.old.held.object) ((result ≡ CLOSED) × (index.new ≡ index.old))
-        (λ pairs. Finds pairs key.now result index.new) }
+        (λ pairs. Finds pairs (key_at family key.now) result index.new) }
 {
     let Some(object) = handle.take(alloc) else {
         return CLOSED;
     };
     let code = match object.recovery() {
-        Some(recovery) => find(recovery, key, index),
+        Some(recovery) => find(recovery, family, key, index),
         None => CLOSED,
     };
     handle.put(alloc, object);
@@ -145,12 +150,12 @@ pub extern "C" fn wz_pair_find(
 }
 
 /// Looks for a key.
-fn find(recovery: &RecoveryPairs, key: &[u8], index: &mut usize) -> u32
-    ensures { Finds recovery.now.pairs key.now result index.new }
+fn find(recovery: &RecoveryPairs, family: u32, key: &[u8], index: &mut usize) -> u32
+    ensures { Finds recovery.now.pairs.items (key_at family key.now) result index.new }
 {
-    *index = recovery.index_of(key);
+    *index = recovery.index_of(family, key);
     match recovery.get(*index) {
-        Some((found, _)) if key.cmp(found).is_eq() => DONE,
+        Some((of, found, _)) if order(family, key, of, found).is_eq() => DONE,
         _ => END,
     }
 }

@@ -1,11 +1,10 @@
 //! Reading the records of a log.
 
-ghost use Rattle.std.specs.Prelude.{◌≡◌, ◌≢◌, ◌⊎◌, ℕ, length, None, MatchOption};
+ghost use Rattle.std.specs.Prelude.{◌≡◌, ◌≢◌, ◌⊎◌, ℕ, None, MatchOption};
 ghost use Rattle.log_reader.specs.declared.reader.Next.TheVariants.{Fault};
 ghost use Rattle.wolzenn_c.specs.Buffers.{Copies};
 ghost use Rattle.wolzenn_c.specs.Objects.{as_reader};
 ghost use Rattle.wolzenn_c.specs.ReaderCalls.{IsOpened, Tells, IsNext, record_of};
-ghost use Rattle.wolzenn_c.specs.Readings.{ReadsOn};
 
 use crate::buffer::copy_to;
 use crate::codes::{CLOSED, DONE, END, NO_MEMORY, WzEnd, end_of};

@@ -1,11 +1,11 @@
 //! Recovery of a log.
 
-ghost use Rattle.std.specs.Prelude.{◌≡◌, ◌≢◌, ℕ, length, Err, None, IfOk, IfErr, MatchOption};
+ghost use Rattle.std.specs.Prelude.{◌≡◌, ◌≢◌, ℕ, Err, None, IfOk, IfErr, MatchOption};
 ghost use Rattle.log_recovery.specs.declared.recovery.RecoverError.TheVariants.{Fault};
 ghost use Rattle.log_recovery.specs.Modes.{TellsDamage};
 ghost use Rattle.wolzenn_c.specs.Objects.{as_recovery};
 ghost use Rattle.wolzenn_c.specs.Readings.{number_of};
-ghost use Rattle.wolzenn_c.specs.Recoveries.{mode_of as mode_with, damage_of, IsRecovery, Recovers};
+ghost use Rattle.wolzenn_c.specs.Recoveries.{mode_of as mode_with, IsRecovery, Recovers};
 
 use crate::codes::{DAMAGE, DONE, NO_MEMORY, RANGE, WzEnd, end_of};
 use crate::handle::WzHandle;
@@ -99,7 +99,7 @@ fn recovered(
     mode: Mode,
     log: &[u8],
 ) -> Result<(RecoveryPairs, WzRecovered), RecoverError>
-    ensures ok { IfOk result (λ r. IsRecovery number mode log.now r.0.pairs r.1) }
+    ensures ok { IfOk result (λ r. IsRecovery number mode log.now r.0.pairs.items r.1) }
     ensures err { IfErr result (TellsDamage number mode log.now) }
     ensures no_fault { (count : ℕ) → result ≢ Err (Fault count) }
 {

@@ -2,8 +2,8 @@
 //!
 //!     print_log LOG [NUMBER]
 //!
-//! NUMBER is the log's own, where its fragments have one. Keys and values are printed in hexadecimal, `-` for none.
-//! The last line says where reading ended, and why.
+//! NUMBER is the log's own, where its fragments have one. Keys and values are printed in hexadecimal, `-` for none,
+//! after the number of the column family that an operation names. The last line says where reading ended, and why.
 
 use std::error::Error;
 use std::num::NonZeroU32;
@@ -25,6 +25,9 @@ fn print_batch(bytes: &[u8]) -> Result<(), wolzenn::Error> {
             Op::Put(key, value) => println!("  put {} {}", hex(key), hex(value)),
             Op::Delete(key) => println!("  del {}", hex(key)),
             Op::SingleDelete(key) => println!("  sdel {}", hex(key)),
+            Op::PutCf(family, key, value) => println!("  put {family} {} {}", hex(key), hex(value)),
+            Op::DeleteCf(family, key) => println!("  del {family} {}", hex(key)),
+            Op::SingleDeleteCf(family, key) => println!("  sdel {family} {}", hex(key)),
             Op::LogData(blob) => println!("  note {}", hex(blob)),
         }
     }

@@ -33,8 +33,10 @@ fn main() -> Result<ExitCode, Box<dyn std::error::Error>> {
         other => other?,
     };
     println!("groups {}\nstate {} {}", recovery.groups(), recovery.last(), recovery.len());
-    for (key, value) in &recovery {
-        println!("{} {}", hex(&key), hex(&value));
+    for pair in &recovery {
+        // The default family isn't named.
+        let family = if pair.family == 0 { String::new() } else { format!("{} ", pair.family) };
+        println!("{family}{} {}", hex(&pair.key), hex(&pair.value));
     }
     println!("end {}", recovery.end());
     Ok(ExitCode::SUCCESS)

@@ -40,6 +40,22 @@ impl Batch {
         self.held.single_delete(key)
     }
 
+    /// Adds a key of a column family with its value, as [`put`](Batch::put) adds one of the default family. The record
+    /// names the family, unless that is the default one, whose number is 0.
+    pub fn put_cf(&mut self, family: u32, key: &[u8], value: &[u8]) -> Result<(), Error> {
+        self.held.put_cf(family, key, value)
+    }
+
+    /// Adds a deletion of a key of a column family, as [`put_cf`](Batch::put_cf) adds a value.
+    pub fn delete_cf(&mut self, family: u32, key: &[u8]) -> Result<(), Error> {
+        self.held.delete_cf(family, key)
+    }
+
+    /// Adds a single deletion of a key of a column family, as [`put_cf`](Batch::put_cf) adds a value.
+    pub fn single_delete_cf(&mut self, family: u32, key: &[u8]) -> Result<(), Error> {
+        self.held.single_delete_cf(family, key)
+    }
+
     /// Adds bytes that are only in the log, and take no sequence.
     pub fn log_data(&mut self, blob: &[u8]) -> Result<(), Error> {
         self.held.log_data(blob)
@@ -86,7 +102,8 @@ pub fn read_batch(bytes: &[u8]) -> Result<BatchHead, Error> {
     raw::read_batch(bytes)
 }
 
-/// A record of a batch.
+/// A record of a batch. Those with `Cf` name the column family of their key; the others are about the default one,
+/// whose number is 0.
 #[derive(Clone, Copy, Debug, PartialEq, Eq)]
 pub enum Op<'a> {
     /// Gives a key a value.
@@ -95,6 +112,12 @@ pub enum Op<'a> {
     Delete(&'a [u8]),
     /// Takes a key out that was set at most once.
     SingleDelete(&'a [u8]),
+    /// Gives a key of a family a value.
+    PutCf(u32, &'a [u8], &'a [u8]),
+    /// Takes a key of a family out.
+    DeleteCf(u32, &'a [u8]),
+    /// Takes a key of a family out that was set at most once.
+    SingleDeleteCf(u32, &'a [u8]),
     /// Bytes that are only in the log.
     LogData(&'a [u8]),
 }

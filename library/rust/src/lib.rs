@@ -9,8 +9,8 @@
 //!
 //! let log = std::fs::read("000012.log")?;
 //! let recovery = recover(&log, None, Mode::Point)?;
-//! for (key, value) in recovery.pairs() {
-//!     println!("{key:?} {value:?}");
+//! for pair in recovery.pairs() {
+//!     println!("{} {:?} {:?}", pair.family, pair.key, pair.value);
 //! }
 //! println!("ended at {}: {}", recovery.end().at, recovery.end().why);
 //! # Ok::<(), Box<dyn std::error::Error>>(())
@@ -37,7 +37,7 @@ pub use batch::{read_batch, Batch, BatchHead, BatchRecords, Op};
 pub use checksum::{crc32c, crc32c_extend, crc32c_mask};
 pub use error::{End, Error, Why};
 pub use reading::{Record, Records};
-pub use recovery::{recover, Mode, Pairs, Recovery};
+pub use recovery::{recover, Mode, Pair, Pairs, Recovery};
 pub use writing::LogWriter;
 
 /// The bytes of a log's block.

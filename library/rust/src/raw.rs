@@ -18,7 +18,10 @@ const RANGE: u32 = 8;
 const DELETION: u32 = 0;
 const VALUE: u32 = 1;
 const LOG_DATA: u32 = 3;
+const DELETION_CF: u32 = 4;
+const VALUE_CF: u32 = 5;
 const SINGLE_DELETION: u32 = 7;
+const SINGLE_DELETION_CF: u32 = 8;
 
 #[repr(C)]
 struct RawHandle {
@@ -56,6 +59,7 @@ struct RawRecovered {
 #[repr(C)]
 #[derive(Default)]
 struct RawPairLens {
+    family: u32,
     key_len: usize,
     value_len: usize,
 }
@@ -71,6 +75,7 @@ struct RawBatchHead {
 #[derive(Default)]
 struct RawOp {
     kind: u32,
+    family: u32,
     key_at: usize,
     key_len: usize,
     value_at: usize,
@@ -108,12 +113,28 @@ extern "C" {
         value: *mut u8,
         value_len: usize,
     ) -> u32;
-    fn wz_pair_find(handle: *mut RawHandle, key: *const u8, key_len: usize, index: *mut usize) -> u32;
+    fn wz_pair_find(
+        handle: *mut RawHandle,
+        family: u32,
+        key: *const u8,
+        key_len: usize,
+        index: *mut usize,
+    ) -> u32;
     fn wz_batch_new(handle: *mut RawHandle) -> u32;
     fn wz_batch_put(handle: *mut RawHandle, key: *const u8, key_len: usize, value: *const u8, value_len: usize)
         -> u32;
     fn wz_batch_delete(handle: *mut RawHandle, key: *const u8, key_len: usize) -> u32;
     fn wz_batch_single_delete(handle: *mut RawHandle, key: *const u8, key_len: usize) -> u32;
+    fn wz_batch_put_cf(
+        handle: *mut RawHandle,
+        family: u32,
+        key: *const u8,
+        key_len: usize,
+        value: *const u8,
+        value_len: usize,
+    ) -> u32;
+    fn wz_batch_delete_cf(handle: *mut RawHandle, family: u32, key: *const u8, key_len: usize) -> u32;
+    fn wz_batch_single_delete_cf(handle: *mut RawHandle, family: u32, key: *const u8, key_len: usize) -> u32;
     fn wz_batch_log_data(handle: *mut RawHandle, blob: *const u8, blob_len: usize) -> u32;
     fn wz_batch_append(handle: *mut RawHandle, bytes: *const u8, len: usize) -> u32;
     fn wz_batch_clear(handle: *mut RawHandle) -> u32;
@@ -263,8 +284,8 @@ impl Handle {
         Ok((handle, Summary { groups, pairs, last, kept, end: end_of(&end) }))
     }
 
-    /// How many bytes the key and the value of a pair have, if it is there.
-    pub fn pair_len(&self, index: usize) -> Option<(usize, usize)> {
+    /// The family of a pair's key, and how many bytes its key and its value have, if it is there.
+    pub fn pair_len(&self, index: usize) -> Option<(u32, usize, usize)> {
         let mut lens = RawPairLens::default();
         // SAFETY: the handle is used by this call alone.
         let code = unsafe { wz_pair_len(self.raw.get(), index, &mut lens) };
@@ -272,7 +293,7 @@ impl Handle {
             return None;
         }
         wanted(code, DONE);
-        Some((lens.key_len, lens.value_len))
+        Some((lens.family, lens.key_len, lens.value_len))
     }
 
     /// Copies a pair, which has as many bytes as the buffers.
@@ -283,10 +304,10 @@ impl Handle {
         wanted(code, DONE);
     }
 
-    pub fn find(&self, key: &[u8]) -> Result<usize, usize> {
+    pub fn find(&self, family: u32, key: &[u8]) -> Result<usize, usize> {
         let mut index = 0;
         // SAFETY: the handle is used by this call alone.
-        let code = unsafe { wz_pair_find(self.raw.get(), key.as_ptr(), key.len(), &mut index) };
+        let code = unsafe { wz_pair_find(self.raw.get(), family, key.as_ptr(), key.len(), &mut index) };
         if code == END {
             return Err(index);
         }
@@ -314,6 +335,23 @@ impl Handle {
     pub fn single_delete(&mut self, key: &[u8]) -> Result<(), Error> {
         // SAFETY: the handle is ours alone.
         done(unsafe { wz_batch_single_delete(self.raw.get(), key.as_ptr(), key.len()) })
+    }
+
+    pub fn put_cf(&mut self, family: u32, key: &[u8], value: &[u8]) -> Result<(), Error> {
+        // SAFETY: the handle is ours alone.
+        done(unsafe {
+            wz_batch_put_cf(self.raw.get(), family, key.as_ptr(), key.len(), value.as_ptr(), value.len())
+        })
+    }
+
+    pub fn delete_cf(&mut self, family: u32, key: &[u8]) -> Result<(), Error> {
+        // SAFETY: the handle is ours alone.
+        done(unsafe { wz_batch_delete_cf(self.raw.get(), family, key.as_ptr(), key.len()) })
+    }
+
+    pub fn single_delete_cf(&mut self, family: u32, key: &[u8]) -> Result<(), Error> {
+        // SAFETY: the handle is ours alone.
+        done(unsafe { wz_batch_single_delete_cf(self.raw.get(), family, key.as_ptr(), key.len()) })
     }
 
     pub fn log_data(&mut self, blob: &[u8]) -> Result<(), Error> {
@@ -409,11 +447,15 @@ pub(crate) fn next_op(bytes: &[u8], mut at: usize) -> Step<'_> {
         code => wanted(code, DONE),
     }
     let key = &bytes[op.key_at..op.key_at + op.key_len];
+    let value = &bytes[op.value_at..op.value_at + op.value_len];
     let op = match op.kind {
         DELETION => Op::Delete(key),
-        VALUE => Op::Put(key, &bytes[op.value_at..op.value_at + op.value_len]),
+        DELETION_CF => Op::DeleteCf(op.family, key),
+        VALUE => Op::Put(key, value),
+        VALUE_CF => Op::PutCf(op.family, key, value),
         LOG_DATA => Op::LogData(key),
         SINGLE_DELETION => Op::SingleDelete(key),
+        SINGLE_DELETION_CF => Op::SingleDeleteCf(op.family, key),
         kind => unreachable!("the kind {kind} of the library"),
     };
     Step::Op(op, at)

@@ -16,6 +16,17 @@ pub enum Mode {
     Absolute,
 }
 
+/// A key that a log recovers, with its column family, whose number is 0 for the default one, and its value.
+#[derive(Clone, Debug, PartialEq, Eq)]
+pub struct Pair {
+    /// The key's column family.
+    pub family: u32,
+    /// The key.
+    pub key: Vec<u8>,
+    /// Its value.
+    pub value: Vec<u8>,
+}
+
 /// What a log recovers: the pairs of key and value that its batches leave.
 #[derive(Debug)]
 pub struct Recovery {
@@ -62,40 +73,45 @@ impl Recovery {
         self.len() == 0
     }
 
-    /// The key and the value of the pair with this index, from 0 on, in the byte order of the keys.
-    pub fn pair(&self, index: usize) -> Option<(Vec<u8>, Vec<u8>)> {
-        let (key_len, value_len) = self.held.pair_len(index)?;
+    /// The pair with this index, from 0 on, by family and in a family in the byte order of the keys.
+    pub fn pair(&self, index: usize) -> Option<Pair> {
+        let (family, key_len, value_len) = self.held.pair_len(index)?;
         let (mut key, mut value) = (vec![0; key_len], vec![0; value_len]);
         self.held.pair(index, &mut key, &mut value);
-        Some((key, value))
+        Some(Pair { family, key, value })
     }
 
-    /// The index of this key's pair. Where the key has none, the error is the index of the next key's pair, or
-    /// [`len`](Recovery::len) where there is none.
-    pub fn find(&self, key: &[u8]) -> Result<usize, usize> {
-        self.held.find(key)
+    /// The index of the pair of this key of a family. Where the key has none, the error is the index of the next key's
+    /// pair, or [`len`](Recovery::len) where there is none.
+    pub fn find(&self, family: u32, key: &[u8]) -> Result<usize, usize> {
+        self.held.find(family, key)
     }
 
-    /// The value of a key, if it has one.
+    /// The value of a key of the default family, if it has one.
     pub fn get(&self, key: &[u8]) -> Option<Vec<u8>> {
-        let index = self.find(key).ok()?;
-        self.pair(index).map(|(_, value)| value)
+        self.get_cf(0, key)
     }
 
-    /// All pairs, in the byte order of the keys.
+    /// The value of a key of a family, if it has one.
+    pub fn get_cf(&self, family: u32, key: &[u8]) -> Option<Vec<u8>> {
+        let index = self.find(family, key).ok()?;
+        self.pair(index).map(|pair| pair.value)
+    }
+
+    /// All pairs, by family and in a family in the byte order of the keys.
     pub fn pairs(&self) -> Pairs<'_> {
         Pairs { recovery: self, front: 0, back: self.len() }
     }
 
-    /// The pairs from this key on.
-    pub fn pairs_from(&self, key: &[u8]) -> Pairs<'_> {
-        let front = self.find(key).unwrap_or_else(|next| next);
+    /// The pairs from this key of a family on. Those of the families after it come too.
+    pub fn pairs_from(&self, family: u32, key: &[u8]) -> Pairs<'_> {
+        let front = self.find(family, key).unwrap_or_else(|next| next);
         Pairs { recovery: self, front, back: self.len() }
     }
 }
 
 impl<'a> IntoIterator for &'a Recovery {
-    type Item = (Vec<u8>, Vec<u8>);
+    type Item = Pair;
     type IntoIter = Pairs<'a>;
 
     fn into_iter(self) -> Pairs<'a> {
@@ -103,7 +119,7 @@ impl<'a> IntoIterator for &'a Recovery {
     }
 }
 
-/// The pairs of a recovery in the byte order of their keys.
+/// The pairs of a recovery, by family and in a family in the byte order of their keys.
 #[derive(Clone, Debug)]
 pub struct Pairs<'a> {
     recovery: &'a Recovery,
@@ -112,7 +128,7 @@ pub struct Pairs<'a> {
 }
 
 impl Iterator for Pairs<'_> {
-    type Item = (Vec<u8>, Vec<u8>);
+    type Item = Pair;
 
     fn next(&mut self) -> Option<Self::Item> {
         if self.front >= self.back {

@@ -93,12 +93,12 @@ fn a_recovery() {
     let recovery = recover(&log, None, Mode::Point).unwrap();
     assert_eq!((recovery.groups(), recovery.len(), recovery.last(), recovery.kept()), (3, 3, 3, kept));
     assert_eq!(recovery.end(), End { at: kept, why: Why::ShortHeader });
-    let keys = |pairs: Pairs| pairs.map(|(key, _)| key[0]).collect::<Vec<_>>();
+    let keys = |pairs: Pairs| pairs.map(|pair| pair.key[0]).collect::<Vec<_>>();
     assert_eq!(keys(recovery.pairs()), b"abc");
-    assert_eq!(keys(recovery.pairs_from(b"aa")), b"bc");
-    assert_eq!(recovery.pairs().rev().map(|(_, value)| value[0]).collect::<Vec<_>>(), b"321");
+    assert_eq!(keys(recovery.pairs_from(0, b"aa")), b"bc");
+    assert_eq!(recovery.pairs().rev().map(|pair| pair.value[0]).collect::<Vec<_>>(), b"321");
     assert_eq!(recovery.get(b"b").as_deref(), Some(&b"2"[..]));
-    assert_eq!((recovery.get(b"bb"), recovery.find(b"bb"), recovery.find(b"d")), (None, Err(2), Err(3)));
+    assert_eq!((recovery.get(b"bb"), recovery.find(0, b"bb"), recovery.find(0, b"d")), (None, Err(2), Err(3)));
     let refused = recover(&log, None, Mode::Absolute).unwrap_err();
     assert_eq!(refused, Error::Damage(recovery.end()));
     assert_eq!(io::Error::from(refused).kind(), io::ErrorKind::InvalidData);
@@ -108,6 +108,33 @@ fn a_recovery() {
     batch.set_sequence(recovery.last() + 1);
     log.append(&batch.bytes()).unwrap();
     assert_eq!(recover(&log.into_inner(), None, Mode::Absolute).unwrap().groups(), 4);
+}
+
+#[test]
+fn a_recovery_with_families() {
+    let mut batch = Batch::new().unwrap();
+    batch.put_cf(300, b"a", b"1").unwrap();
+    batch.put_cf(2, b"b", b"2").unwrap();
+    batch.put_cf(0, b"c", b"3").unwrap();
+    batch.put_cf(2, b"d", b"4").unwrap();
+    batch.delete_cf(2, b"d").unwrap();
+    batch.single_delete_cf(3, b"e").unwrap();
+    batch.set_sequence(1);
+    let bytes = batch.bytes();
+    let ops: Vec<Op> = BatchRecords::new(&bytes).collect::<Result<_, _>>().unwrap();
+    assert_eq!(ops[0], Op::PutCf(300, b"a", b"1"));
+    // A record of the default family names none.
+    assert_eq!(ops[2..], [
+        Op::Put(b"c", b"3"),
+        Op::PutCf(2, b"d", b"4"),
+        Op::DeleteCf(2, b"d"),
+        Op::SingleDeleteCf(3, b"e")
+    ]);
+    let recovery = recover(&log_of(&[&bytes], None), None, Mode::Absolute).unwrap();
+    let pairs: Vec<_> = recovery.pairs().map(|pair| (pair.family, pair.key[0], pair.value[0])).collect();
+    assert_eq!(pairs, [(0, b'c', b'3'), (2, b'b', b'2'), (300, b'a', b'1')]);
+    assert_eq!((recovery.get(b"b"), recovery.get_cf(2, b"b").as_deref()), (None, Some(&b"2"[..])));
+    assert_eq!((recovery.find(1, b""), recovery.find(300, b"a"), recovery.find(301, b"")), (Err(1), Ok(2), Err(3)));
 }
 
 /// A sink that takes this number of bytes, and no more.

@@ -46,7 +46,7 @@ struct Row {
     start: &'static [u8],
 }
 
-const ROWS: [Row; 4] = [
+const ROWS: [Row; 5] = [
     // The disk's third call, the second append, fails. The log keeps its length, and recovery finds the first record.
     Row {
         last: 0,
@@ -113,6 +113,48 @@ const ROWS: [Row; 4] = [
             StepAnswer::Done,
             StepAnswer::NotHeld,
             FIRST,
+        ],
+        fault: None,
+        start: AT_FIRST,
+    },
+    // There are three families. A write and a read of another one are refused, and the same key in another family is
+    // another key.
+    Row {
+        last: 0,
+        fails: &[],
+        steps: &[
+            Step::WriteIn {
+                family: 3,
+                rows: &[(b"a", b"9")],
+                options: PLAIN,
+            },
+            Step::ReadIn {
+                family: 4_294_967_295,
+                key: b"a",
+            },
+            Step::ReadIn {
+                family: 2,
+                key: b"a",
+            },
+            PUT_A,
+            Step::ReadIn {
+                family: 1,
+                key: b"a",
+            },
+            Step::ReadIn {
+                family: 0,
+                key: b"a",
+            },
+        ],
+        notes: &[
+            StepAnswer::Refused(Refusal::NoFamily { family: 3 }),
+            StepAnswer::NoFamily {
+                family: 4_294_967_295,
+            },
+            StepAnswer::SawNone { at: 0 },
+            FIRST,
+            StepAnswer::SawNone { at: 1 },
+            StepAnswer::Saw { at: 1, byte: b'1' },
         ],
         fault: None,
         start: AT_FIRST,

@@ -8,14 +8,14 @@ ghost use Rattle.tests_engine.specs.Callers.{number_of, MayCall, IsCaller, AllMa
 use crate::script::{Step, StepAnswer};
 use base_bytes::{Found, Read};
 use base_devices::{MemDisk, SteppedClock};
-use base_maps::ByteMap;
+use base_maps::FamilyMap;
 use engine_calls::{Clients, Closed, OpenGate, Receipt};
 use engine_groups::{ClosingRoom, EngineClient, GroupEngine};
 use engine_memory::open_engine;
 use engine_parts::OpenLog;
 use log_batch::Batch;
 use log_writer::LogWriter;
-use model_base::{MAX_CLIENTS, MAX_SIZE, Options, WriteOptions};
+use model_base::{MAX_CLIENTS, MAX_SIZE, Options, ReadRefused, WriteOptions};
 use std::alloc::Global;
 use std::process::Abort;
 use std::sync::{Mutex, Wait};
@@ -62,7 +62,7 @@ pub(super) fn opened(
         SteppedClock::new(1000),
         clients,
         0,
-        &ByteMap::new(alloc),
+        &FamilyMap::new(alloc),
         OpenGate,
         options,
         shards,
@@ -73,11 +73,11 @@ pub(super) fn opened(
     }
 }
 
-// The batch that puts each of the values at the key before it.
-fn batch_of(rt: &impl Abort, alloc: Global, rows: &[(&[u8], &[u8])]) -> Batch {
+// The batch that puts each of the values at the key before it, in a family.
+fn batch_of(rt: &impl Abort, alloc: Global, family: u32, rows: &[(&[u8], &[u8])]) -> Batch {
     let mut batch = Batch::new(alloc).expect(rt, "memory");
     for (key, value) in rows {
-        batch.put(key, value).expect(rt, "room");
+        batch.put_in(family, key, value).expect(rt, "room");
     }
     batch
 }
@@ -134,6 +134,23 @@ fn read<R: Wait + rt::Clock>(rt: &R, engine: &Path, client: &mut Member, key: &[
     }
 }
 
+fn read_in<R: Wait + rt::Clock>(
+    rt: &R,
+    engine: &Path,
+    client: &mut Member,
+    family: u32,
+    key: &[u8],
+) -> StepAnswer
+    requires { MayCall engine.now client.old }
+    ensures { MayCall engine.now client.new × (number_of client.new ≡ number_of client.old) }
+{
+    match engine.get_in(rt, client, family, key) {
+        Ok(read) => saw(&read),
+        Err(ReadRefused::NoMemory) => StepAnswer::NoMemory,
+        Err(ReadRefused::NoFamily { family }) => StepAnswer::NoFamily { family },
+    }
+}
+
 fn stop<R: Wait + rt::Clock>(rt: &R, engine: &Path, client: &mut Member) -> StepAnswer
     requires { MayCall engine.now client.old }
     ensures { MayCall engine.now client.new × (number_of client.new ≡ number_of client.old) }
@@ -187,7 +204,15 @@ fn step<R: Wait + rt::Clock + Abort>(
 {
     match step {
         Step::Write { rows, options } => {
-            let batch = batch_of(rt, alloc, rows);
+            let batch = batch_of(rt, alloc, 0, rows);
+            write(rt, engine, client, batch, options, back)
+        }
+        Step::WriteIn {
+            family,
+            rows,
+            options,
+        } => {
+            let batch = batch_of(rt, alloc, family, rows);
             write(rt, engine, client, batch, options, back)
         }
         Step::Again { options } => {
@@ -195,6 +220,7 @@ fn step<R: Wait + rt::Clock + Abort>(
             write(rt, engine, client, batch, options, back)
         }
         Step::Read { key } => read(rt, engine, client, key),
+        Step::ReadIn { family, key } => read_in(rt, engine, client, family, key),
         Step::Stop => stop(rt, engine, client),
         Step::Unstop => unstop(rt, engine, client),
         Step::Slow { rate } => slow(rt, engine, client, rate),

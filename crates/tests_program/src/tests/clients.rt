@@ -40,6 +40,22 @@ const BOTH_OR_NEITHER: [&str; 6] = [
         history 2\n1 2 2 1 log *\n3 4 1 1 log *\nstate 4 2\na 1\nb 1\nlog *\n",
 ];
 
+/// The same of a key in two families.
+const IN_BOTH_FAMILIES: [&str; 6] = [
+    "client 1\nok 1 2\nclient 2\nok 3 4\nclient 3\nmany 0 2 - -\n\
+        history 2\n1 2 1 1 log *\n3 4 2 1 log *\nstate 4 2\na 2\n1 a 2\nlog *\n",
+    "client 1\nok 1 2\nclient 2\nok 3 4\nclient 3\nmany 2 2 =1 =1\n\
+        history 2\n1 2 1 1 log *\n3 4 2 1 log *\nstate 4 2\na 2\n1 a 2\nlog *\n",
+    "client 1\nok 1 2\nclient 2\nok 3 4\nclient 3\nmany 4 2 =2 =2\n\
+        history 2\n1 2 1 1 log *\n3 4 2 1 log *\nstate 4 2\na 2\n1 a 2\nlog *\n",
+    "client 1\nok 3 4\nclient 2\nok 1 2\nclient 3\nmany 0 2 - -\n\
+        history 2\n1 2 2 1 log *\n3 4 1 1 log *\nstate 4 2\na 1\n1 a 1\nlog *\n",
+    "client 1\nok 3 4\nclient 2\nok 1 2\nclient 3\nmany 2 2 =2 =2\n\
+        history 2\n1 2 2 1 log *\n3 4 1 1 log *\nstate 4 2\na 1\n1 a 1\nlog *\n",
+    "client 1\nok 3 4\nclient 2\nok 1 2\nclient 3\nmany 4 2 =1 =1\n\
+        history 2\n1 2 2 1 log *\n3 4 1 1 log *\nstate 4 2\na 1\n1 a 1\nlog *\n",
+];
+
 /// Each client reads what it wrote last. Each batch is a group of its own, so the log always has the same length.
 const OWN: [&str; 1] = [
     "client 1\nok *\nmany * 2 =1 =1\nscan * 2 a1 1 a2 1\nclient 2\nok *\nval * 2\nok *\nnil *\n\
@@ -48,11 +64,17 @@ const OWN: [&str; 1] = [
 ];
 
 /// Words and a script, and what may be printed.
-const SCRIPTS: [(&str, &[u8], &[&str]); 2] = [
+const SCRIPTS: [(&str, &[u8], &[&str]); 3] = [
     (
         "run",
         b"client 1\nput a 1\nput b 1\ncommit\nclient 2\nput a 2\nput b 2\ncommit\nclient 3\nmany a b\n",
         &BOTH_OR_NEITHER,
+    ),
+    (
+        "run --families 2",
+        b"client 1\nput a 1\nfput 1 a 1\ncommit\nclient 2\nput a 2\nfput 1 a 2\ncommit\n\
+            client 3\nfmany 0 a 1 a\n",
+        &IN_BOTH_FAMILIES,
     ),
     (
         "run --group-bytes 1",

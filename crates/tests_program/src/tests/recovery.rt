@@ -36,7 +36,7 @@ fn check_recovery_by<R: Threads + Wait + rt::Clock + Abort + Sync>(
     assert_eq!(rt; disk.content(), content);
 }
 
-const RECOVERED: [(&[u8], &str); 7] = [
+const RECOVERED: [(&[u8], &str); 8] = [
     (RECORD, "groups 1\n1 1 17\nstate 1 1\n61 31\nend 24 clean\n"),
     (b"", "groups 0\nstate 0 0\nend 0 clean\n"),
     (
@@ -58,6 +58,13 @@ const RECOVERED: [(&[u8], &str); 7] = [
     (
         b"\xbe\xad\x38\xff\x0f\x00\x01\x01\x00\x00\x00\x00\x00\x00\x00\x01\x00\x00\x00\x01\x80\x00",
         "groups 0\nstate 0 0\nend 0 badvarint\n",
+    ),
+    // Keys of three families, as many as there may be in a log. Their numbers stand before them, except for that of
+    // the default one.
+    (
+        b"\xa4\xd9\xc0\xee\x1e\x00\x01\x01\x00\x00\x00\x00\x00\x00\x00\x03\x00\x00\x00\x01\x01a\x011\
+            \x05\x02\x01a\x012\x05\xac\x02\x01b\x013",
+        "groups 1\n1 3 30\nstate 3 3\n61 31\n2 61 32\n300 62 33\nend 37 clean\n",
     ),
 ];
 

@@ -3,7 +3,7 @@
 use super::{ONE_TREE, Row, check_rows};
 use std::rt::HostRuntime;
 
-const REPLAYED: [Row; 13] = [
+const REPLAYED: [Row; 15] = [
     // One group of two.
     (
         "replay",
@@ -128,6 +128,27 @@ const REPLAYED: [Row; 13] = [
         "events 14 skipped 0\nclient 1\nok 1 3\nclient 2\nok 4 4\n\
             history 2\n1 3 1 1 log 010000000000000003000000010161013101016201320101630133\n\
             4 4 2 1 log 0400000000000000010000000101640134\nstate 4 4\na 1\nb 2\nc 3\nd 4\ngroups 1\n",
+    ),
+    // Families: a batch in two of them, and reads of them, of which some are of a family that there isn't.
+    (
+        "replay --families 2",
+        b"client 1\nput a 1\nfput 1 a 2\ncommit\nclient 2\nfget 1 a\nfget 2 a\nfmany 1 a 0 a\nfmany 0 a 7 a\n\
+            fscan 1 a b\n\
+            schedule\nread 2\nlink 1\nelect 1\nbuild 1\nlog 1\nlaunch 1\ninsert 1\nread 2\nfinish 1\n\
+            publish 1\nread 2\nread 2\nread 2\nexit 1\ncomplete 1\n",
+        "events 15 skipped 0\nclient 1\nok 1 2\nclient 2\nnil 0\nno family 2\nmany 2 2 =2 =1\nno family 7\n\
+            scan 2 1 a 2\n\
+            history 1\n1 2 1 1 log 0100000000000000020000000101610131050101610132\nstate 2 2\na 1\n1 a 2\n\
+            groups 1\n",
+    ),
+    // A commit of a family that there isn't is refused before its batch is queued.
+    (
+        "replay",
+        b"client 1\nfput 1 a 1\ncommit\nclear\nput a 1\ncommit\n\
+            schedule\nlink 1\nlink 1\nelect 1\nbuild 1\nlog 1\nlaunch 1\ninsert 1\nfinish 1\npublish 1\n\
+            exit 1\ncomplete 1\n",
+        "events 11 skipped 0\nclient 1\nno family 1\nok 1 1\n\
+            history 1\n1 1 1 1 log 0100000000000000010000000101610131\nstate 1 1\na 1\ngroups 1\n",
     ),
     // Two sequences are left, so the first batch has no run and isn't inserted. The second batch has one.
     (

@@ -49,6 +49,22 @@ const B_RECORD: &[u8] =
 const EIGHT: &[u8] =
     b"\x13\x6d\x32\x7d\x11\x00\x05\x08\x00\x00\x00\x01\x00\x00\x00\x00\x00\x00\x00\x01\x00\x00\x00\x01\x01c\x013";
 
+/// A record of a batch that puts `a` in the default family and in the family 2, and one that puts `b` in the latter.
+const TWO_FAMILIES: &[u8] =
+    b"\x3a\x37\xfd\xf5\x17\x00\x01\x01\x00\x00\x00\x00\x00\x00\x00\x02\x00\x00\x00\x01\x01a\x011\x05\x02\x01a\x012\
+    \x48\xea\xbf\x9a\x12\x00\x01\x03\x00\x00\x00\x00\x00\x00\x00\x01\x00\x00\x00\x05\x02\x01b\x013";
+
+const IN_FAMILIES: &str = "client 1\nval 2 2\nnil 2\nno family 3\nok 3 3\n\
+    history 1\n3 3 1 1 log 030000000000000001000000050201620133\nstate 3 3\na 1\n2 a 2\n2 b 3\nlog 55\n";
+
+/// A record of a batch that puts `a` in the family 16.
+const HIGH_FAMILY: &[u8] =
+    b"\xd6\x15\x12\x8f\x12\x00\x01\x01\x00\x00\x00\x00\x00\x00\x00\x01\x00\x00\x00\x05\x10\x01a\x011";
+
+/// A record of a batch that puts `a` in the default family, and deletes it in the family 16.
+const HIGH_DELETED: &[u8] =
+    b"\xdd\x9a\x93\xa7\x15\x00\x01\x01\x00\x00\x00\x00\x00\x00\x00\x02\x00\x00\x00\x01\x01a\x011\x04\x10\x01a";
+
 /// Words, a script, bytes and how many of them the disk holds, all that is printed, and what the disk holds then.
 type GoneOn = (
     &'static str,
@@ -58,7 +74,7 @@ type GoneOn = (
     &'static [u8],
 );
 
-const GONE_ON: [GoneOn; 12] = [
+const GONE_ON: [GoneOn; 14] = [
     // The second record was cut in its middle. What is left of it is cut off.
     ("run --resume", PUT_B, (TWO_RECORDS, 40), B_PUT, TWO_RECORDS),
     ("run --resume", PUT_B, (RECORD, 24), B_PUT, TWO_RECORDS),
@@ -88,6 +104,22 @@ const GONE_ON: [GoneOn; 12] = [
     ("run --resume", PUT_B, (b"", 0), B_ALONE, B_RECORD),
     ("run --resume", PUT_B, (RECORD, 23), B_ALONE, B_RECORD),
     ("run --resume", PUT_B, (SEVEN, 56), B_ALONE, B_RECORD),
+    // A run has the families of the keys that it goes on from, also where it isn't asked for them, but not that of a
+    // key that is gone.
+    (
+        "run --resume",
+        b"client 1\nfget 2 a\nfget 1 a\nfget 3 a\nfput 2 b 3\ncommit\n",
+        (TWO_FAMILIES, 30),
+        IN_FAMILIES,
+        TWO_FAMILIES,
+    ),
+    (
+        "run --resume --families 2",
+        b"client 1\nget a\nfget 1 a\nfget 2 a\n",
+        (HIGH_DELETED, 28),
+        "client 1\nval 2 1\nnil 2\nno family 2\nhistory 0\nstate 2 1\na 1\nlog 28\n",
+        HIGH_DELETED,
+    ),
     // With a number: logs that are alone on the disk, and one that was written over another log.
     (
         "run --resume --number 7",
@@ -277,4 +309,26 @@ fn a_log_that_does_not_go_on_is_left_alone(rt: HostRuntime) {
         let disk = ended(&rt, rt.alloc(), given, status, want);
         assert_eq!(&rt; disk.content(), content, "for {words}");
     }
+}
+
+// No run has the family of a key that the log recovers. The log is left as it is, in each mode.
+#[test]
+fn a_log_with_a_high_family_is_left_alone(rt: HostRuntime) {
+    // All rows so far were as wanted.
+    for words in ["run --resume", "run --resume --families 16 --mode absolute"] {
+        let given = Given {
+            words,
+            text: PUT_B,
+            content: HIGH_FAMILY,
+            ..PLAIN
+        };
+        let disk = ended(&rt, rt.alloc(), given, 9, "family 16\n");
+        assert_eq!(&rt; disk.content(), HIGH_FAMILY, "for {words}");
+    }
+    check_recovery(
+        &rt,
+        rt.alloc(),
+        HIGH_FAMILY,
+        "groups 1\n1 1 18\nstate 1 1\n16 61 31\nend 25 clean\n",
+    );
 }

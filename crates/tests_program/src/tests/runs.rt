@@ -14,15 +14,18 @@ use std::sync::Wait;
 use std::thread::Threads;
 
 /// `tests/real_file` tries more words.
-const WORDS: [Row; 5] = [
+const WORDS: [Row; 8] = [
     ("", SCRIPT, "usage\n"),
     ("walk", SCRIPT, "usage\n"),
     ("--help", SCRIPT, "usage\n"),
     ("--version", SCRIPT, "usage\n"),
     ("run --last -1", SCRIPT, "usage\n"),
+    ("run --families 0", SCRIPT, "usage\n"),
+    ("run --families 17", SCRIPT, "usage\n"),
+    ("recover --families 1", SCRIPT, "usage\n"),
 ];
 
-const FAULTY: [Row; 13] = [
+const FAULTY: [Row; 18] = [
     ("run", b"", "script 0 none\n"),
     ("run", b"put a 1\n", "script 1 client\n"),
     ("run", b"client 1\npot a 1\n", "script 2 word\n"),
@@ -32,6 +35,11 @@ const FAULTY: [Row; 13] = [
     ("run", b"client 1\nmany\n", "script 2 form\n"),
     ("run", b"client 1\nscan a\n", "script 2 form\n"),
     ("run", b"client 1\nslow 01\n", "script 2 form\n"),
+    ("run", b"client 1\nfput 1 a\n", "script 2 form\n"),
+    ("run", b"client 1\nfdel 01 a\n", "script 2 form\n"),
+    ("run", b"client 1\nfget 4294967296 a\n", "script 2 form\n"),
+    ("run", b"client 1\nfmany 1 a 2\n", "script 2 form\n"),
+    ("run", b"client 1\nfscan x a b\n", "script 2 form\n"),
     ("run", b"client 1\nunstop 1\n", "script 2 form\n"),
     ("run", b"client 1\ncommit noslow sync\n", "script 2 form\n"),
     ("run", b"client 1\n\n# x\nclient 3\n", "script 4 client\n"),
@@ -64,7 +72,7 @@ fn words_and_scripts_are_refused(rt: HostRuntime) {
     ended(&rt, alloc, given, 2, "script 0 long\n");
 }
 
-pub(super) const OUTCOMES: [Row; 13] = [
+pub(super) const OUTCOMES: [Row; 19] = [
     ("run", b"# x\nclient 1\nput a 1\ncommit\nget a\n", OUTCOME),
     (
         "run",
@@ -143,6 +151,45 @@ pub(super) const OUTCOMES: [Row; 13] = [
     ),
     // A leader is in its own group, however large its batch is.
     ("run --group-bytes 1", SCRIPT, OUTCOME),
+    // The default family is that of the lines that name none.
+    ("run", b"client 1\nfput 0 a 1\ncommit\nfget 0 a\n", OUTCOME),
+    // One batch with keys of three families. Each family has keys of its own.
+    (
+        "run --families 3",
+        b"client 1\nput a 1\nfput 2 a 2\nfput 1 b 3\ncommit\nfget 2 a\nget a\nfget 1 a\nfscan 2 a z\n\
+            fmany 2 a 0 a 1 b\nmany a b\n",
+        "client 1\nok 1 3\nval 3 2\nval 3 1\nnil 3\nscan 3 1 a 2\nmany 3 3 =2 =1 =3\nmany 3 2 =1 -\n\
+            history 1\n1 3 1 1 log 0100000000000000030000000101610131050201610132050101620133\n\
+            state 3 3\na 1\n1 b 3\n2 a 2\nlog 36\n",
+    ),
+    (
+        "run --families 2",
+        b"client 1\nput a 1\nfput 1 a 2\ncommit\nfget 1 a\nget a\nfscan 1 a b\nfput 2 a 3\ncommit\n",
+        "client 1\nok 1 2\nval 2 2\nval 2 1\nscan 2 1 a 2\nno family 2\n\
+            history 1\n1 2 1 1 log 0100000000000000020000000101610131050101610132\nstate 2 2\na 1\n1 a 2\nlog 30\n",
+    ),
+    (
+        "run --families 2",
+        b"client 1\nfput 1 a 2\nfdel 1 a\nfsdel 1 a\ncommit\nfget 1 a\n",
+        "client 1\nok 1 3\nnil 3\n\
+            history 1\n1 3 1 1 log 0100000000000000030000000501016101320401016108010161\nstate 3 0\nlog 33\n",
+    ),
+    // A deletion in a family leaves the same key of the default one.
+    (
+        "run --families 16",
+        b"client 1\nput a 1\nfput 15 a 2\ncommit\nclear\nfdel 15 a\nfsdel 15 b\ncommit\nfget 15 a\nget a\n",
+        "client 1\nok 1 2\nok 3 4\nnil 4\nval 4 1\n\
+            history 2\n1 2 1 1 log 0100000000000000020000000101610131050f01610132\n\
+            3 4 1 2 log 030000000000000002000000040f0161080f0162\nstate 4 1\na 1\nlog 57\n",
+    ),
+    // A commit and reads of a family that there isn't are refused. The batch is kept.
+    (
+        "run",
+        b"client 1\nput a 1\nfput 1 a 2\ncommit\ncommit sync nolog\nfget 1 a\nfmany 0 a 7 b\nfscan 3 a z\n\
+            clear\nput a 1\ncommit\nfget 0 a\n",
+        "client 1\nno family 1\nno syncwithoutlog\nno family 1\nno family 7\nno family 3\nok 1 1\nval 1 1\n\
+            history 1\n1 1 1 1 log 0100000000000000010000000101610131\nstate 1 1\na 1\nlog 24\n",
+    ),
 ];
 
 const SMALL_SUMMARY: &str = "clients 1\nbatches 2\nrecords 3\nlast 3\nkeys 2\nsum 1445\n";

@@ -10,7 +10,7 @@ ghost use Rattle.tests_table.specs.Clients.{IsIdle, IsForFour, MayPlay};
 use super::nodes::node_of;
 use super::rows::{keys_of, value_of};
 use super::tables::{MemSeat, MemTurn, complete, taken};
-use base_bytes::{Bytes, Found};
+use base_bytes::{Found, Place};
 use std::alloc::Global;
 use std::process::Abort;
 use std::sync::Wait;
@@ -53,9 +53,9 @@ fn three_parts(rt: &impl Abort, alloc: Global) -> Parts
     ensures first { (part : MemberVersions) × In part (group_of result.parts) × (part.member ≡ 1) }
 {
     let mut parts = Parts::new(alloc, 4).expect(rt, "memory");
-    parts.add(1, node_of(rt, alloc, b"c", Some(b"1"), 8));
-    parts.add(2, node_of(rt, alloc, b"b", Some(b"2"), 9));
-    parts.add(3, node_of(rt, alloc, b"d", Some(b"3"), 10));
+    parts.add(1, node_of(rt, alloc, 0, b"c", Some(b"1"), 8));
+    parts.add(2, node_of(rt, alloc, 0, b"b", Some(b"2"), 9));
+    parts.add(3, node_of(rt, alloc, 0, b"d", Some(b"3"), 10));
     parts
 }
 
@@ -96,12 +96,14 @@ fn read_all<R: Wait + rt::Clock + Abort>(
     alloc: Global,
     table: &MemoryTable,
     seat: &mut MemSeat,
-    keys: &[Bytes],
+    keys: &[Place],
 ) -> (u64, usize)
     requires { IsOurs table.now seat.old }
     ensures { IsOurs table.now seat.new }
 {
-    let reads = Table::<Nodes, Parts>::read_many(table, alloc, rt, seat, keys).expect(rt, "memory");
+    let reads = Table::<Nodes, Parts>::read_many_in(table, alloc, rt, seat, keys).expect(
+        rt, "memory",
+    );
     (reads.at, count_values(reads.values.as_slice()))
 }
 
@@ -115,7 +117,9 @@ fn scan_all<R: Wait + rt::Clock + Abort>(
     requires { IsOurs table.now seat.old }
     ensures { IsOurs table.now seat.new }
 {
-    let rows = Table::<Nodes, Parts>::scan(table, alloc, rt, seat, b"a", b"z").expect(rt, "memory");
+    let rows = Table::<Nodes, Parts>::scan_in(table, alloc, rt, seat, 0, b"a", b"z").expect(
+        rt, "memory",
+    );
     let at = rows.at;
     (at, rows.rows.as_slice().len())
 }
@@ -135,7 +139,7 @@ fn watch<R: Wait + rt::Clock + Abort>(
 )
     requires { IsOurs table.now seat.old }
 {
-    let keys = keys_of(rt, alloc, &[b"b", b"c", b"d"]);
+    let keys = keys_of(rt, alloc, 0, &[b"b", b"c", b"d"]);
     for _ in rt.forever() {
         check_whole(rt, scan_all(rt, alloc, table, seat));
         let read = read_all(rt, alloc, table, seat, keys.as_slice());

@@ -1,6 +1,6 @@
 //! Rows, each a key and its value, and comparisons of what was found with them.
 
-use base_bytes::{Bytes, Found, PairList};
+use base_bytes::{Bytes, Found, PairList, Place};
 use std::alloc::Global;
 use std::process::Abort;
 
@@ -40,24 +40,24 @@ pub(super) fn value_of(found: &Found) -> Option<&[u8]> {
 }
 
 // Whether this was found for the keys, in their order.
-pub(super) fn are_found(rows: &[(&[u8], &[u8])], keys: &[Bytes], found: &[Found]) -> bool {
+pub(super) fn are_found(rows: &[(&[u8], &[u8])], keys: &[Place], found: &[Found]) -> bool {
     if found.len() != keys.len() {
         return false;
     }
     for i in 0..keys.len() {
-        if !is_found(rows, keys[i].as_slice(), value_of(&found[i])) {
+        if !is_found(rows, keys[i].key.as_slice(), value_of(&found[i])) {
             return false;
         }
     }
     true
 }
 
-// Keys in the form that a read of several takes.
-pub(super) fn keys_of(rt: &impl Abort, alloc: Global, keys: &[&[u8]]) -> Vec<Bytes> {
+// Keys of a family in the form that a read of several takes.
+pub(super) fn keys_of(rt: &impl Abort, alloc: Global, family: u32, keys: &[&[u8]]) -> Vec<Place> {
     let mut copies = Vec::with_capacity(alloc, keys.len()).expect(rt, "memory");
     for i in 0..keys.len() {
         let key = Bytes::copy(alloc, keys[i]).expect(rt, "memory");
-        copies.push(key).expect(rt, "memory");
+        copies.push(Place { family, key }).expect(rt, "memory");
     }
     copies
 }

@@ -11,7 +11,7 @@ ghost use Rattle.tests_table.specs.Clients.{IsIdle};
 
 use super::nodes::nodes_behind;
 use super::rows::{are_found, are_rows, is_found, keys_of, value_of};
-use base_bytes::Bytes;
+use base_bytes::Place;
 use std::alloc::Global;
 use std::process::Abort;
 use std::rt;
@@ -26,35 +26,42 @@ pub(super) type MemSeat = TableSeat<Tree, Nodes>;
 
 pub(super) type MemTurn = Turn<Tree, Nodes>;
 
-// A group of one client, and what the table has after it.
+// A group of one client, and what a family has after it.
 #[derive(Drop, Clone, Copy)]
 pub(super) struct Round {
-    // Keys, each with the value that it gets, or none where it is deleted.
+    pub(super) family: u32,
+    // Keys of the family, each with the value that it gets, or none where it is deleted.
     pub(super) writes: &'static [(&'static [u8], Option<&'static [u8]>)],
-    // The keys that have a value then, with it, in byte order.
+    // The keys of the family that have a value then, with it, in byte order.
     pub(super) rows: &'static [(&'static [u8], &'static [u8])],
 }
 
 // `a` gets two values and is deleted, `b` gets one, and then four keys get one each in one group. In a table of three
-// shards, the last two of these four keys share one shard, and the other two have one each.
-pub(super) const ROUNDS: [Round; 5] = [
+// shards, the last two of these four keys share one shard, and the other two have one each. The same keys of another
+// family are others: they get values of their own, and none where these keys are deleted.
+pub(super) const ROUNDS: [Round; 9] = [
     Round {
+        family: 0,
         writes: &[(b"a", Some(b"1"))],
         rows: &[(b"a", b"1")],
     },
     Round {
+        family: 0,
         writes: &[(b"a", Some(b"2"))],
         rows: &[(b"a", b"2")],
     },
     Round {
+        family: 0,
         writes: &[(b"a", None)],
         rows: &[],
     },
     Round {
+        family: 0,
         writes: &[(b"b", Some(b"x"))],
         rows: &[(b"b", b"x")],
     },
     Round {
+        family: 0,
         writes: &[
             (b"c", Some(b"1")),
             (b"b", Some(b"2")),
@@ -62,6 +69,26 @@ pub(super) const ROUNDS: [Round; 5] = [
             (b"a", Some(b"4")),
         ],
         rows: &[(b"a", b"4"), (b"b", b"2"), (b"c", b"1"), (b"d", b"3")],
+    },
+    Round {
+        family: 7,
+        writes: &[(b"d", Some(b"9")), (b"b", None)],
+        rows: &[(b"d", b"9")],
+    },
+    Round {
+        family: 0,
+        writes: &[(b"d", None)],
+        rows: &[(b"a", b"4"), (b"b", b"2"), (b"c", b"1")],
+    },
+    Round {
+        family: 4_294_967_295,
+        writes: &[(b"a", Some(b"z"))],
+        rows: &[(b"a", b"z")],
+    },
+    Round {
+        family: 7,
+        writes: &[(b"a", Some(b"8"))],
+        rows: &[(b"a", b"8"), (b"d", b"9")],
     },
 ];
 
@@ -169,7 +196,7 @@ fn check_each<R: Wait + rt::Clock + Abort>(
     alloc: Global,
     table: &MemoryTable,
     seat: &mut MemSeat,
-    keys: &[Bytes],
+    keys: &[Place],
     rows: &[(&[u8], &[u8])],
     at: u64,
 )
@@ -177,32 +204,35 @@ fn check_each<R: Wait + rt::Clock + Abort>(
     ensures { IsIdle table.now seat.new }
 {
     for i in 0..keys.len() {
-        let key = keys[i].as_slice();
-        let read = Table::<Nodes, Parts>::read(table, alloc, rt, seat, key).expect(rt, "memory");
+        let (family, key) = (keys[i].family, keys[i].key.as_slice());
+        let read = Table::<Nodes, Parts>::read_in(table, alloc, rt, seat, family, key).expect(
+            rt, "memory",
+        );
         let same = is_found(rows, key, value_of(&read.value));
-        assert_eq!(rt; (read.at, same), (at, true), "key {i} at {at}");
+        assert_eq!(rt; (read.at, same), (at, true), "key {i} of {family} at {at}");
     }
 }
 
-// Whether they are read together, scanned from `a` up to `z`, or read alone, the keys have what their rows say, as of
-// this sequence. `e` has no row.
+// Whether they are read together, scanned from `a` up to `z`, or read alone, the keys of a family have what their rows
+// say, as of this sequence. `e` has no row.
 pub(super) fn check<R: Wait + rt::Clock + Abort>(
     rt: &R,
     alloc: Global,
     table: &MemoryTable,
     seat: &mut MemSeat,
+    family: u32,
     rows: &[(&[u8], &[u8])],
     at: u64,
 )
     requires { IsIdle table.now seat.old }
     ensures { IsIdle table.now seat.new }
 {
-    let keys = keys_of(rt, alloc, &[b"a", b"b", b"c", b"d", b"e"]);
+    let keys = keys_of(rt, alloc, family, &[b"a", b"b", b"c", b"d", b"e"]);
     check_each(rt, alloc, table, seat, keys.as_slice(), rows, at);
-    let scanned = Table::<Nodes, Parts>::scan(table, alloc, rt, seat, b"a", b"z").expect(
+    let scanned = Table::<Nodes, Parts>::scan_in(table, alloc, rt, seat, family, b"a", b"z").expect(
         rt, "memory",
     );
-    let many = Table::<Nodes, Parts>::read_many(table, alloc, rt, seat, keys.as_slice()).expect(
+    let many = Table::<Nodes, Parts>::read_many_in(table, alloc, rt, seat, keys.as_slice()).expect(
         rt, "memory",
     );
     let last = Table::<Nodes, Parts>::last(table, seat);
@@ -212,7 +242,7 @@ pub(super) fn check<R: Wait + rt::Clock + Abort>(
     assert_eq!(rt;
         (scanned_at, scan_is_right, many_at, reads_are_right, last),
         (at, true, at, true, at),
-        "at {at}"
+        "{family} at {at}"
     );
 }
 
@@ -239,10 +269,10 @@ pub(super) fn play<R: Wait + rt::Clock + Abort>(
     let mut last = start;
     for i in 0..rounds.len() {
         let round = rounds[i];
-        let (nodes, count) = nodes_behind(rt, alloc, last, round.writes);
+        let (nodes, count) = nodes_behind(rt, alloc, last, round.family, round.writes);
         turn = write(rt, alloc, table, leader, member, turn, last, nodes, count);
         last += count;
-        check(rt, alloc, table, member, round.rows, last);
+        check(rt, alloc, table, member, round.family, round.rows, last);
     }
     turn
 }

@@ -26,6 +26,7 @@ fn put(
     alloc: Global,
     tree: &mut Tree,
     sequence: u64,
+    family: u32,
     key: &[u8],
     value: Option<&[u8]>,
 )
@@ -33,43 +34,57 @@ fn put(
     requires sequence { sequence < 2 ^ 56 }
     ensures { AreBelow (sequence + 1) (versions_in tree.new) }
 {
-    let mut nodes = node_of(rt, alloc, key, value, sequence);
+    let mut nodes = node_of(rt, alloc, family, key, value, sequence);
     let Some(node) = nodes.pop() else {
         panic!(rt; "no node")
     };
     tree.insert(node);
 }
 
-// A tree of these versions, with sequences from 1 on.
-fn tree_of(rt: &impl Abort, alloc: Global, versions: &[(&[u8], Option<&[u8]>)]) -> Tree
+// A tree of these versions of families' keys, with sequences from 1 on.
+fn tree_of(rt: &impl Abort, alloc: Global, versions: &[(u32, &[u8], Option<&[u8]>)]) -> Tree
     requires { length versions.now ≤ 1000 }
 {
     let mut tree = Tree::new();
     for i in 0..versions.len() {
-        let (key, value) = versions[i];
-        put(rt, alloc, &mut tree, i as u64 + 1, key, value);
+        let (family, key, value) = versions[i];
+        put(rt, alloc, &mut tree, i as u64 + 1, family, key, value);
     }
     tree
 }
 
-// As of this sequence these are the rows from `a` on and below `c`, and look-ups of `a` and `b` find what they say.
-fn check_tree(rt: &impl Abort, alloc: Global, tree: &Tree, at: u64, rows: &[(&[u8], &[u8])]) {
-    let range = tree.range(alloc, b"a", b"c", at).expect(rt, "memory");
+// As of this sequence these are the rows of a family from `a` on and below `c`, and look-ups of `a` and `b` find what
+// they say.
+fn check_tree(
+    rt: &impl Abort,
+    alloc: Global,
+    tree: &Tree,
+    at: u64,
+    family: u32,
+    rows: &[(&[u8], &[u8])],
+) {
+    let range = tree
+        .range(alloc, family, b"a", b"c", at)
+        .expect(rt, "memory");
     let range_at = range.at;
     let same = are_rows(&range.rows, rows);
-    let a = is_found(rows, b"a", tree.lookup(b"a", at));
-    let b = is_found(rows, b"b", tree.lookup(b"b", at));
-    assert_eq!(rt; (range_at, same, a, b), (at, true, true, true), "at {at}");
+    let a = is_found(rows, b"a", tree.lookup(family, b"a", at));
+    let b = is_found(rows, b"b", tree.lookup(family, b"b", at));
+    assert_eq!(rt;
+        (range_at, same, a, b),
+        (at, true, true, true),
+        "{family} at {at}"
+    );
 }
 
 #[test]
 fn reads_what_was_there_at_a_sequence(rt: HostRuntime) {
     let alloc = rt.alloc();
-    let versions: [(&[u8], Option<&[u8]>); 4] = [
-        (b"a", Some(b"1")),
-        (b"a", Some(b"2")),
-        (b"a", None),
-        (b"b", Some(b"x")),
+    let versions: [(u32, &[u8], Option<&[u8]>); 4] = [
+        (0, b"a", Some(b"1")),
+        (0, b"a", Some(b"2")),
+        (0, b"a", None),
+        (0, b"b", Some(b"x")),
     ];
     let tree = tree_of(&rt, alloc, &versions);
     let wanted: [(u64, &[(&[u8], &[u8])]); 6] = [
@@ -81,7 +96,34 @@ fn reads_what_was_there_at_a_sequence(rt: HostRuntime) {
         (5, &[(b"b", b"x")]),
     ];
     for (at, rows) in wanted {
-        check_tree(&rt, alloc, &tree, at, rows);
+        check_tree(&rt, alloc, &tree, at, 0, rows);
+    }
+}
+
+#[test]
+fn families_have_keys_of_their_own(rt: HostRuntime) {
+    let alloc = rt.alloc();
+    let versions: [(u32, &[u8], Option<&[u8]>); 6] = [
+        (2, b"a", Some(b"1")),
+        (0, b"b", Some(b"2")),
+        (1, b"a", Some(b"3")),
+        (2, b"a", None),
+        (2, b"b", Some(b"5")),
+        (1, b"", Some(b"6")),
+    ];
+    let tree = tree_of(&rt, alloc, &versions);
+    let wanted: [(u64, u32, &[(&[u8], &[u8])]); 8] = [
+        (1, 2, &[(b"a", b"1")]),
+        (1, 0, &[]),
+        (3, 0, &[(b"b", b"2")]),
+        (3, 1, &[(b"a", b"3")]),
+        (4, 2, &[]),
+        (6, 0, &[(b"b", b"2")]),
+        (6, 1, &[(b"a", b"3")]),
+        (6, 2, &[(b"b", b"5")]),
+    ];
+    for (at, family, rows) in wanted {
+        check_tree(&rt, alloc, &tree, at, family, rows);
     }
 }
 
@@ -119,7 +161,7 @@ fn fill(rt: &impl Abort, alloc: Global, tree: &mut Tree) -> Vec<(u16, Option<u8>
         } else {
             None
         };
-        put(rt, alloc, tree, sequence, &key.to_be_bytes(), bytes);
+        put(rt, alloc, tree, sequence, 0, &key.to_be_bytes(), bytes);
         history.push((key, value)).expect(rt, "memory");
     }
     history
@@ -127,7 +169,10 @@ fn fill(rt: &impl Abort, alloc: Global, tree: &mut Tree) -> Vec<(u16, Option<u8>
 
 // Whether a look-up of a key finds what the history says of it.
 fn finds_last(tree: &Tree, history: &[(u16, Option<u8>)], key: u16, at: u64) -> bool {
-    match (tree.lookup(&key.to_be_bytes(), at), last_of(history, key)) {
+    match (
+        tree.lookup(0, &key.to_be_bytes(), at),
+        last_of(history, key),
+    ) {
         (Some(found), Some(value)) => found == [value].as_slice(),
         (None, None) => true,
         _ => false,
@@ -165,7 +210,7 @@ fn agrees_with_a_plain_list(rt: HostRuntime) {
             assert!(rt; finds_last(&tree, seen, key, at as u64), "{key} at {at}");
         }
         let rows = tree
-            .range(alloc, &[0, 0], &KEYS.to_be_bytes(), at as u64)
+            .range(alloc, 0, &[0, 0], &KEYS.to_be_bytes(), at as u64)
             .expect(&rt, "memory");
         assert!(rt; are_rows_of(&rows, seen), "at {at}");
     }
@@ -179,24 +224,30 @@ fn nodes_of_each_kind(rt: &impl Abort, alloc: Global, first: u64) -> Nodes
     let mut batch = Batch::new(alloc).expect(rt, "memory");
     batch.log_data(b"note").expect(rt, "room");
     batch.put(b"a", b"1").expect(rt, "room");
-    batch.delete(b"b").expect(rt, "room");
+    batch.delete_in(7, b"b").expect(rt, "room");
     batch.single_delete(b"c").expect(rt, "room");
     let mut nodes = Nodes::make(alloc, &batch).expect(rt, "memory");
     nodes.number(first, 3);
     nodes
 }
 
-// Whether the next node has this key, and, alone in a tree, gives it this value from the sequence on, and nothing
-// before.
-fn is_next(nodes: &mut Nodes, key: &[u8], value: Option<&[u8]>, sequence: u64) -> bool {
-    let is_key = nodes.first_key() == Some(key);
+// Whether the next node has this key of a family, and, alone in a tree, gives it this value from the sequence on, and
+// nothing before.
+fn is_next(
+    nodes: &mut Nodes,
+    family: u32,
+    key: &[u8],
+    value: Option<&[u8]>,
+    sequence: u64,
+) -> bool {
+    let is_key = nodes.first_key() == Some((family, key));
     let Some(node) = nodes.pop() else {
         return false;
     };
     let mut tree = Tree::new();
     tree.insert(node);
-    let before = tree.lookup(key, sequence.saturating_sub(1));
-    is_key && before.is_none() && tree.lookup(key, sequence) == value
+    let before = tree.lookup(family, key, sequence.saturating_sub(1));
+    is_key && before.is_none() && tree.lookup(family, key, sequence) == value
 }
 
 // The part is this member's, and has the nodes of such batches, with these first sequences, and no others.
@@ -204,9 +255,9 @@ fn check_part(rt: &impl Abort, part: Option<MemberNodes>, member: u32, firsts: &
     let part = part.expect(rt, "a part");
     let mut nodes = part.nodes.into_nodes();
     for first in firsts {
-        let put = is_next(&mut nodes, b"a", Some(b"1"), *first);
-        let deleted = is_next(&mut nodes, b"b", None, first.wrapping_add(1));
-        let single = is_next(&mut nodes, b"c", None, first.wrapping_add(2));
+        let put = is_next(&mut nodes, 0, b"a", Some(b"1"), *first);
+        let deleted = is_next(&mut nodes, 7, b"b", None, first.wrapping_add(1));
+        let single = is_next(&mut nodes, 0, b"c", None, first.wrapping_add(2));
         assert_eq!(rt; (put, deleted, single), (true, true, true), "from {first}");
     }
     assert_eq!(rt; (part.member, nodes.first_key()), (member, None));

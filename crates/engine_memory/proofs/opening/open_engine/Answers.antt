@@ -22,7 +22,7 @@ returns-in-Ok-open-clause-engine g c =
     let opened = c.in-Ok.ensures.table in let made = c.in-Ok-open.ensures.engine in
     let n = c.args.base_last in let map = c.args.map.now in
     let same = over (opening_of c.in-Ok.table) (versions_at n map) map (ap (λ (o : Opening). o.base) opened) (c.maps_as_bases.ensures.map n map c.in_order.ensures) in
-    (made.1, made.2 ∙ (λ i. settings_with c.args.options (same i) (opened i).clients (g.Device.GroupLog.faults c.args.log.log)))
+    (made.1, made.2 ∙ (λ i. settings_with c.args.options (same i) (opened i).clients (g.Log.GroupLog.faults c.args.log.log)))
 
 pub returns-in-Ok-open-clause-new : goal.returns-in-Ok-open-clause-new
 returns-in-Ok-open-clause-new g c i client at =

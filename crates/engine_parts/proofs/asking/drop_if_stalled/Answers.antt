@@ -1,8 +1,7 @@
-use Rattle.std.proofs.Common.{◌≡◌, ◌∙◌, ap, subst, sym, ℕ, true, false, List, Err, Some}
-use mathlib.Core.List.{IsPrefix}
+use Rattle.std.proofs.Common.{◌∙◌, ap, subst, sym, ℕ, List, Err, Some}
 use Rattle.model_base.specs.Controller.{ControllerCall, ShowTokens, look}
 use Rattle.engine_controller.specs.Looks.{look_of}
-use Rattle.engine_controller.specs.Passes.{client_of, seen_by, seen_by_note, EndsWith}
+use Rattle.engine_controller.specs.Passes.{client_of, seen_by, EndsWith}
 use Rattle.engine_controller.proofs.Account.{goes_begins}
 use Rattle.engine_parts.specs.declared.requests.Answer.{Answer}
 use Rattle.engine_parts.specs.declared.requests.Request.{Request}

@@ -1,9 +1,8 @@
-use Rattle.std.proofs.Common.{◌≡◌, ◌≢◌, ◌⊎◌, ◌∙◌, ◌||◌, ◌==◌, ap, arith, inl, inr, not, refl, subst, sym, ℕ, Bool, true, false, true≢false, Err, Some}
-use Rattle.std.proofs.lemmas.Bool.Decides.{nat_tests}
+use Rattle.std.proofs.Common.{◌≢◌, ◌∙◌, ap, arith, inl, inr, subst, sym, ℕ, Err, Some}
 use Rattle.model_base.specs.Controller.{look, ShowTokens}
 use Rattle.model_base.proofs.Prefixes.{prefix_self}
 use Rattle.engine_controller.specs.Looks.{look_of}
-use Rattle.engine_controller.specs.Passes.{client_of, seen_by, EndsWith}
+use Rattle.engine_controller.specs.Passes.{seen_by, EndsWith}
 use Rattle.engine_controller.proofs.Account.{ends_last}
 use Rattle.engine_parts.specs.declared.requests.Answer.{Answer}
 use Rattle.engine_parts.specs.Handled.{held_up_with}

@@ -1,5 +1,5 @@
-use Rattle.std.proofs.Common.{◌≡◌, ◌+◌, ◌<◌, [], ◌∷◌, length, ap, sym, ◌∙◌, subst, arith, rules, length-append, flat_map}
-use Rattle.model_base.specs.Batch.{count_of, strings_of, varstring}
+use Rattle.std.proofs.Common.{◌≡◌, ◌+◌, ◌<◌, [], ◌∷◌, ◌++◌, length, ap, sym, ◌∙◌, subst, arith, rules, length-append, flat_map}
+use Rattle.model_base.specs.Batch.{count_of, named_by, family_bytes, strings_of, varstring}
 use Rattle.log_batch.specs.View.{record_of}
 use Rattle.log_batch.proofs.Additions.{counts_once}
 use Rattle.log_batch.proofs.OneReading.{Walks, walks_more, walked_all}
@@ -11,7 +11,7 @@ loop-rest-preserved c =
     let rest = c.loop-rest.rest.now in
     let behind = c.in_ok-record.behind.now in
     let first = c.in_ok-record.ensures.spelled in
-    let shorter : length behind < length rest = omega (arith, ap length first, length-append (flat_map varstring (strings_of (record_of c.in_ok-record.record))) behind) in
+    let shorter : length behind < length rest = omega (arith, ap length first, length-append (family_bytes (named_by (record_of c.in_ok-record.record)) ++ flat_map varstring (strings_of (record_of c.in_ok-record.record))) behind) in
     let more = walks_more c.args.bytes.now rest c.loop-rest.found (record_of c.in_ok-record.record) behind now.walked c.in_ok-record.ensures.readable first in
     let count : c.from-found.result ≡ count_of (record_of c.in_ok-record.record ∷ []) = c.from-found.ensures ∙ c.sequences_of.ensures in
     record {

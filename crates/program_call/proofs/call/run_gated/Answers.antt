@@ -27,10 +27,10 @@ returns-in_default-clause-run g c = λ options start mode ask.
     (untouched_alone g.D.Disk laws.only_now options start mode disk) refl)
 
 pub returns-in_default-clause-generate : goal.returns-in_default-clause-generate
-returns-in_default-clause-generate g c = λ seed clients batches ask.
+returns-in_default-clause-generate g c = λ seed clients batches families ask.
     let laws = g.met.D.Disk g.world.𝓛 g.world.𝓜 g.world.𝓡 ((λ s x. x), (λ x. x), (λ x. x), λ x. x) in
     let end = c.end_with in
-    rw end.ensures.disk (refl, none_generated g.D.Disk g.K.Sink c.args.sink.now end.result.status end.ensures.status laws.only_now c.args.disk seed clients batches)
+    rw end.ensures.disk (refl, none_generated g.D.Disk g.K.Sink c.args.sink.now end.result.status end.ensures.status laws.only_now c.args.disk families seed clients batches)
 
 pub returns-in_default-clause-recover : goal.returns-in_default-clause-recover
 returns-in_default-clause-recover g c = λ number mode ask.
@@ -82,14 +82,14 @@ returns-clause-run g c = λ options start mode ask.
     (c.run_many_gated-status.ensures.run options start mode (subst (λ m. AskToRun c.args.words.now m options start mode) (sym one) ask))
 
 pub returns-clause-generate : goal.returns-clause-generate
-returns-clause-generate g c = λ seed clients batches ask.
+returns-clause-generate g c = λ seed clients batches families ask.
     let olds = c.push_reserved.new.self.items in
     let news = c.run_many_gated-status.result.disks.items in
     let ended = c.take_last-disk.result in
     let was = c.push_reserved.ensures.items ∙ ap (λ xs. xs ++ c.args.disk ∷ []) c.in-Ok.ensures.items in
     let is = only_one news c.take_last-disk.new.self.items ended c.take_last-disk.ensures.items (c.run_many_gated-status.ensures.number ∙ ap length was) in
-    of_first olds news c.args.disk ended was is (λ x y. AnswersGenerate g.S.Source g.K.Sink c.args.source.now c.run_many_gated-status.new.source c.args.sink.now c.run_many_gated-status.new.sink (log_of_generated g.D.Disk x y) seed clients batches c.run_many_gated-status.result.status)
-    (c.run_many_gated-status.ensures.generate seed clients batches ask)
+    of_first olds news c.args.disk ended was is (λ x y. AnswersGenerate g.S.Source g.K.Sink c.args.source.now c.run_many_gated-status.new.source c.args.sink.now c.run_many_gated-status.new.sink (log_of_generated g.D.Disk families x y) seed clients batches c.run_many_gated-status.result.status)
+    (c.run_many_gated-status.ensures.generate seed clients batches families ask)
 
 pub returns-clause-recover : goal.returns-clause-recover
 returns-clause-recover g c = λ number mode ask.

@@ -1,6 +1,6 @@
 -- The run's promises, for the script that the seed makes. It has as many clients as are asked for, and its outcome's
 -- summary is that of all legal outcomes.
-use Rattle.std.proofs.Common.{◌≡◌, ◌⊎◌, inl, inr, ℕ, [], length, refl, ap, subst, ◌∙◌, arith}
+use Rattle.std.proofs.Common.{◌≡◌, ◌⊎◌, inl, inr, ◌≤◌, ℕ, max, [], length, refl, ap, subst, ◌∙◌, arith}
 use Rattle.std.proofs.lemmas.List.{length-map}
 use Rattle.std.proofs.lemmas.List.FromFn.{length-range_with_len}
 use Rattle.std.specs.List.{range_with_len}
@@ -10,6 +10,7 @@ use Rattle.model_base.specs.Calls.{Outcome}
 use Rattle.model_base.specs.Script.{Script as Said}
 use Rattle.model_base.specs.Outcomes.{IsLegal}
 use Rattle.model_base.specs.Settings.{settings_of}
+use Rattle.model_base.specs.declared.options.Options.{Options}
 use Rattle.run_laws.specs.Summaries.{summary_of}
 use Rattle.run_scripts.specs.declared.script.Script.{Script}
 use Rattle.run_scripts.specs.Scripts.{commands_of}
@@ -18,7 +19,7 @@ use Rattle.run_execution.specs.Ends.{options_behind}
 use Rattle.run_outcome.specs.declared.log_start.LogStart.TheVariants.{New}
 use Rattle.log_recovery.specs.declared.modes.Mode.TheVariants.{Point}
 use Rattle.program_call.specs.declared.report.Form.TheVariants as form
-use Rattle.program_call.specs.Answers.{MeetsNoDamage, RunsScript}
+use Rattle.program_call.specs.Answers.{MeetsNoDamage, MeetsNoHighFamily, RunsScript}
 use Rattle.program_call.specs.Asking.{usual_options}
 use Rattle.program_call.specs.OneLog.{log_of_generated}
 use Rattle.program_call.specs.Outcomes.{IsGenerated, IsScript, Observation, observation_of}
@@ -32,22 +33,28 @@ has_clients : (script : Script) (seed clients batches : ℕ) → commands_of scr
 has_clients script seed clients batches e =
     ap length e ∙ length-map (range_with_len 1 clients) (λ client. batches_drawn batches client (first_state seed client)) ∙ length-range_with_len 1 clients
 
--- the outcome of this script, by a run that goes on from nothing
-from_nothing : (opened ended : ℕ) (script this : Said) (before : Before) (o : Outcome) → before ≡ nothing → script ≡ this
-    → IsLegal (settings_of (options_behind usual_options before) before.map (length script) opened) ended script o
-    → IsLegal (settings_of usual_options [] (length this) opened) ended this o
-from_nothing opened ended script this before o none same legal =
-    subst (λ b. IsLegal (settings_of (options_behind usual_options b) b.map (length this) opened) ended this o) none
-    (subst (λ s. IsLegal (settings_of (options_behind usual_options before) before.map (length s) opened) ended s o) same legal)
+-- a run that goes on from nothing has as many families as its options say
+as_many : (families : ℕ) → 1 ≤ families → options_behind (usual_options families) nothing ≡ usual_options families
+as_many families some = let most : max families 1 ≡ families = omega (arith, some) in ap usual_options most
 
--- a new log doesn't go on, so no end of a recovery is refused
-undamaged : (seen : Observation) (n : ℕ) → RunsScript seen n → MeetsNoDamage seen.logs → HasRunStatus n → (n ≡ 0) ⊎ (n ≡ 3) ⊎ (n ≡ 5) ⊎ (n ≡ 6) ⊎ (n ≡ 7)
-undamaged seen n runs none (inl e) = inl e
-undamaged seen n runs none (inr (inl e)) = inr (inl e)
-undamaged seen n runs none (inr (inr (inl e))) = inr (inr (inl e))
-undamaged seen n runs none (inr (inr (inr (inl e)))) = inr (inr (inr (inl e)))
-undamaged seen n runs none (inr (inr (inr (inr (inl e))))) = inr (inr (inr (inr e)))
-undamaged seen n runs none (inr (inr (inr (inr (inr e))))) = absurd (let met = runs.damaged e in none met.at met.why met.damaged)
+-- the outcome of this script, by a run that goes on from nothing
+from_nothing : (families : ℕ) → 1 ≤ families → (opened ended : ℕ) (script this : Said) (before : Before) (o : Outcome) → before ≡ nothing → script ≡ this
+    → IsLegal (settings_of (options_behind (usual_options families) before) before.map (length script) opened) ended script o
+    → IsLegal (settings_of (usual_options families) [] (length this) opened) ended this o
+from_nothing families some opened ended script this before o none same legal =
+    subst (λ (options : Options). IsLegal (settings_of options [] (length this) opened) ended this o) (as_many families some)
+    (subst (λ b. IsLegal (settings_of (options_behind (usual_options families) b) b.map (length this) opened) ended this o) none
+    (subst (λ s. IsLegal (settings_of (options_behind (usual_options families) before) before.map (length s) opened) ended s o) same legal))
+
+-- a new log doesn't go on, so no end of a recovery is refused, and no family that one needs
+undamaged : (seen : Observation) (n : ℕ) → RunsScript seen n → MeetsNoDamage seen.logs → MeetsNoHighFamily seen.logs → HasRunStatus n → (n ≡ 0) ⊎ (n ≡ 3) ⊎ (n ≡ 5) ⊎ (n ≡ 6) ⊎ (n ≡ 7)
+undamaged seen n runs none few (inl e) = inl e
+undamaged seen n runs none few (inr (inl e)) = inr (inl e)
+undamaged seen n runs none few (inr (inr (inl e))) = inr (inr (inl e))
+undamaged seen n runs none few (inr (inr (inr (inl e)))) = inr (inr (inr (inl e)))
+undamaged seen n runs none few (inr (inr (inr (inr (inl e))))) = inr (inr (inr (inr e)))
+undamaged seen n runs none few (inr (inr (inr (inr (inr (inl e)))))) = absurd (let met = runs.damaged e in none met.at met.why met.damaged)
+undamaged seen n runs none few (inr (inr (inr (inr (inr (inr e)))))) = absurd (let met = runs.high_family e in few met.family met.high)
 
 pub run_and_tell-requires-clause-clients : goal.run_and_tell-requires-clause-clients
 run_and_tell-requires-clause-clients g c κs within =
@@ -59,19 +66,20 @@ pub returns-in_default : goal.returns-in_default
 returns-in_default g c =
     let disk = c.args.disk in
     let laws = g.met.D.Disk g.world.𝓛 g.world.𝓜 g.world.𝓡 ((λ s x. x), (λ x. x), (λ x. x), λ x. x) in
-    rw c.end_with.ensures.disk (none_generated g.D.Disk g.K.Sink c.args.sink.now _ c.end_with.ensures.status laws.only_now disk c.args.seed c.args.clients c.args.batches)
+    rw c.end_with.ensures.disk (none_generated g.D.Disk g.K.Sink c.args.sink.now _ c.end_with.ensures.status laws.only_now disk c.args.families c.args.seed c.args.clients c.args.batches)
 
 pub returns : goal.returns
 returns g c =
     let seed = c.args.seed in
     let clients = c.args.clients in
     let batches = c.args.batches in
+    let families = c.args.families in
     let was = c.args.disk in
     let disk = c.run_and_tell.result.disk in
     let before = c.args.sink.now in
     let after = c.run_and_tell.new.sink in
     let n = c.run_and_tell.result.status in
-    let log = log_of_generated g.D.Disk was disk in
+    let log = log_of_generated g.D.Disk families was disk in
     let seen = observation_of g.K.Sink (IsGenerated seed clients batches) form.Summary log before after in
     let runs : RunsScript seen n = runs_retold (observation_of g.K.Sink (IsScript (commands_of c.in-Ok.script)) form.Summary log before after) (IsGenerated seed clients batches) (λ s is. is ∙ c.in-Ok.ensures.ok) n c.run_and_tell.ensures.runs in
     let summary : n ≡ 0 → Appends (g.K.Sink.taken before) (g.K.Sink.taken after) (summary_of (script_of_seed seed clients batches)) = λ zero.
@@ -81,15 +89,15 @@ returns g c =
     let ended = g.D.Disk.faults disk in
     let ran = whole.ran.ran in
     let run = ran.is_outcome.run in
-    let legal = from_nothing opened ended whole.ran.script (script_of_seed seed clients batches) ran.before o ran.goes_on whole.ran.said
+    let legal = from_nothing families c.requires.families opened ended whole.ran.script (script_of_seed seed clients batches) ran.before o ran.goes_on whole.ran.said
     (record { trace = run.trace; attempts = run.attempts; legal = run.legal }) in
-    let one = c.summaries_are_one.ensures.one_summary seed clients batches ended (settings_of usual_options [] (length (script_of_seed seed clients batches)) opened) o
-    (omega arith) (omega arith) refl refl refl legal whole.no_fault whole.whole in
+    let one = c.summaries_are_one.ensures.one_summary seed clients batches ended (settings_of (usual_options families) [] (length (script_of_seed seed clients batches)) opened) o
+    (omega arith) (omega arith) refl refl refl c.requires.families legal whole.no_fault whole.whole in
     subst (λ text. Appends (g.K.Sink.taken before) (g.K.Sink.taken after) text) one whole.printed in
     record {
-      one = undamaged seen n runs (λ at why damage. damage.is_damaged) c.run_and_tell.ensures.status;
+      one = undamaged seen n runs (λ at why damage. damage.is_damaged) (λ family high. high.is_high) c.run_and_tell.ensures.status;
       runs = runs;
-      completes = λ sink_stood disk_stood told fit. completes seen n runs c.run_and_tell.ensures.status sink_stood disk_stood (λ at why damage. damage.is_damaged)
-          (λ len bytes. no_bytes g.D.Disk usual_options New Point was disk len bytes told fit);
+      completes = λ sink_stood disk_stood told fit. completes seen n runs c.run_and_tell.ensures.status sink_stood disk_stood (λ at why damage. damage.is_damaged) (λ family high. high.is_high)
+          (λ len bytes. no_bytes g.D.Disk (usual_options families) New Point was disk len bytes told fit);
       one_summary = summary;
     }

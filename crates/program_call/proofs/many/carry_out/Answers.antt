@@ -43,6 +43,9 @@ recovers_several source disk sink had before after olds news n number mode None 
 recovers_several source disk sink had before after olds news n number mode (Some m) given used asked more number_is over =
     (λ one. absurd (omega (arith, asked, more, one)), λ some. subst (λ u. RecoversSeveral source disk sink had had before after olds news n mode u) number_is ((refl, over.0), over.1))
 
+abbrev options_of : ℕ → ℕ → ℕ → ℕ → Options
+options_of last group_bytes batch_bytes families = record { last = last; group_bytes = group_bytes; batch_bytes = batch_bytes; families = families }
+
 pub returns-then-used-gt1-clause-answers : goal.returns-then-used-gt1-clause-answers
 returns-then-used-gt1-clause-answers g c =
     let given = c.in-Run in
@@ -50,10 +53,11 @@ returns-then-used-gt1-clause-answers g c =
     let number = c.used_of-used.ensures ∙ ap (used_of given.logs) (c.len.ensures ∙ disks.ok.0) in
     let more = c.if-used-gt1.true in
     let end = c.run_logs.result in
+    let options = c.setup_of-setup.ensures.options ∙ ap (options_of given.last given.group_bytes given.batch_bytes) c.families_of.ensures in
     rw given.is (
       λ one. absurd (omega (arith, one, number, more)),
       λ several.
-          subst (λ options. RunsSeveral g.S.Source g.D.Disk g.K.Sink c.args.source.now c.run_logs.new.source c.args.sink.now c.run_logs.new.sink disks.items end.disks.items end.status options given.log_bytes (used_of given.logs (length disks.items))) c.setup_of-setup.ensures.options
+          subst (λ options. RunsSeveral g.S.Source g.D.Disk g.K.Sink c.args.source.now c.run_logs.new.source c.args.sink.now c.run_logs.new.sink disks.items end.disks.items end.status options given.log_bytes (used_of given.logs (length disks.items))) options
           (subst (λ used. RunsSeveral g.S.Source g.D.Disk g.K.Sink c.args.source.now c.run_logs.new.source c.args.sink.now c.run_logs.new.sink disks.items end.disks.items end.status c.setup_of-setup.result.options given.log_bytes used) number c.run_logs.ensures.runs),
     )
 
@@ -64,12 +68,13 @@ returns-else-used-gt1-clause-answers g c =
     let number = c.used_of-used.ensures ∙ ap (used_of given.logs) (c.len.ensures ∙ disks.ok.0) in
     let few = c.if-used-gt1.false in
     let setup = c.setup_of-setup in
+    let options = setup.ensures.options ∙ ap (options_of given.last given.group_bytes given.batch_bytes) c.families_of.ensures in
     let first = c.first_of-first in
     let ran = c.run_script in
     rw given.is (
       λ one.
           runs_first g.S.Source g.D.Disk g.K.Sink c.args.source.now ran.new.source c.args.sink.now ran.new.sink disks.items c.with_others.result.disks.items first.result.0 ran.result.disk first.result.1.items c.with_others.result.status ran.result.status
-          _ setup.result.options _ setup.result.start _ setup.result.mode first.ensures.items c.with_others.ensures.disks c.with_others.ensures.status setup.ensures.options (setup.ensures.start ∙ c.log_start-start.ensures) setup.ensures.mode ran.ensures,
+          _ setup.result.options _ setup.result.start _ setup.result.mode first.ensures.items c.with_others.ensures.disks c.with_others.ensures.status options (setup.ensures.start ∙ c.log_start-start.ensures) setup.ensures.mode ran.ensures,
       λ more. absurd (omega (arith, more, number, few)),
     )
 
@@ -77,7 +82,7 @@ pub returns-in-Generate-clause-answers : goal.returns-in-Generate-clause-answers
 returns-in-Generate-clause-answers g c =
     let given = c.in-Generate in
     let ended = c.run_generated-ended.result in
-    rw (given.is, c.with_others-in-Generate.ensures.status) (over_first c.args.disks.items c.with_others-in-Generate.result.disks.items c.first_of-first-in-Generate.result.0 ended.disk c.first_of-first-in-Generate.result.1.items _
+    rw (given.is, c.with_others-in-Generate.ensures.status, sym c.families_of-families.ensures) (over_first c.args.disks.items c.with_others-in-Generate.result.disks.items c.first_of-first-in-Generate.result.0 ended.disk c.first_of-first-in-Generate.result.1.items _
     c.first_of-first-in-Generate.ensures.items c.with_others-in-Generate.ensures.disks (refl, c.run_generated-ended.ensures))
 
 pub returns-then-unwrap_or-gt1-clause-answers : goal.returns-then-unwrap_or-gt1-clause-answers
@@ -102,7 +107,7 @@ returns-else-unwrap_or-gt1-clause-answers g c =
 pub returns-in-Replay-clause-answers : goal.returns-in-Replay-clause-answers
 returns-in-Replay-clause-answers g c =
     let does = c.replay-status.ensures in
-    rw c.in-Replay.is (record {
+    rw (c.in-Replay.is, sym c.families_of-in-Replay.ensures) (record {
       one = does.status;
       disk_untouched = ap (λ v. v.items) does.disk;
       schedule = does.schedule;

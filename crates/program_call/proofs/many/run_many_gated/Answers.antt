@@ -18,9 +18,9 @@ returns-in-Ok-clause-run_logs g c = λ options used limit ask.
     (of_asked _ c.in-Ok.asked (λ asked. IsToRunLogs asked (length c.args.disks.items) options used limit) c.in-Ok.ensures.ok ask)
 
 pub returns-in-Ok-clause-generate : goal.returns-in-Ok-clause-generate
-returns-in-Ok-clause-generate g c = λ seed clients batches ask.
-    asked_generate _ _ _ _ _ _ _ _ _ _ c.in-Ok.asked c.carry_out.ensures.answers seed clients batches
-    (of_asked _ c.in-Ok.asked (λ asked. IsToGenerate asked seed clients batches) c.in-Ok.ensures.ok ask)
+returns-in-Ok-clause-generate g c = λ seed clients batches families ask.
+    asked_generate _ _ _ _ _ _ _ _ _ _ c.in-Ok.asked c.carry_out.ensures.answers seed clients batches families
+    (of_asked _ c.in-Ok.asked (λ asked. IsToGenerate asked seed clients batches families) c.in-Ok.ensures.ok ask)
 
 pub returns-in-Ok-clause-recover : goal.returns-in-Ok-clause-recover
 returns-in-Ok-clause-recover g c = λ number mode ask.
@@ -44,7 +44,7 @@ pub returns-in-Err-Usage-clause-run_logs : goal.returns-in-Err-Usage-clause-run_
 returns-in-Err-Usage-clause-run_logs g c = λ options used limit ask. absurd (nothing_else _ _ ((rw c.in-Err-Usage.field-0-is at c.in-Err-Usage.ensures.usage) refl) ask)
 
 pub returns-in-Err-Usage-clause-generate : goal.returns-in-Err-Usage-clause-generate
-returns-in-Err-Usage-clause-generate g c = λ seed clients batches ask. absurd (nothing_else _ _ ((rw c.in-Err-Usage.field-0-is at c.in-Err-Usage.ensures.usage) refl) ask)
+returns-in-Err-Usage-clause-generate g c = λ seed clients batches families ask. absurd (nothing_else _ _ ((rw c.in-Err-Usage.field-0-is at c.in-Err-Usage.ensures.usage) refl) ask)
 
 pub returns-in-Err-Usage-clause-recover : goal.returns-in-Err-Usage-clause-recover
 returns-in-Err-Usage-clause-recover g c = λ number mode ask. absurd (nothing_else _ _ ((rw c.in-Err-Usage.field-0-is at c.in-Err-Usage.ensures.usage) refl) ask)
@@ -71,11 +71,11 @@ returns-clause-run_logs g c = λ options used limit ask.
     rw end.ensures.disks (asked_run_logs _ _ _ _ _ _ _ _ _ _ ask.0 none options used limit ask.2)
 
 pub returns-clause-generate : goal.returns-clause-generate
-returns-clause-generate g c = λ seed clients batches ask.
+returns-clause-generate g c = λ seed clients batches families ask.
     let laws = g.met.D.Disk g.world.𝓛 g.world.𝓜 g.world.𝓡 ((λ s x. x), (λ x. x), (λ x. x), λ x. x) in
     let end = c.end_many-in-Err-NoMemory in
     let none = none_asked g.S.Source g.D.Disk g.K.Sink c.args.source.now c.args.sink.now end.result.status end.ensures.status laws.only_now c.args.disks.items c.requires.0 ask.0 in
-    rw end.ensures.disks (asked_generate _ _ _ _ _ _ _ _ _ _ ask.0 none seed clients batches ask.2)
+    rw end.ensures.disks (asked_generate _ _ _ _ _ _ _ _ _ _ ask.0 none seed clients batches families ask.2)
 
 pub returns-clause-recover : goal.returns-clause-recover
 returns-clause-recover g c = λ number mode ask.

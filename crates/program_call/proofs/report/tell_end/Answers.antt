@@ -11,3 +11,6 @@ returns-in-NotEmpty g c = rw c.in-NotEmpty.is (refuses _ _ _ _ _ _ _ _ c.log_not
 
 pub returns-in-Damage : goal.returns-in-Damage
 returns-in-Damage g c = rw c.in-Damage.is (refuses _ _ _ _ _ _ _ _ c.log_damage.ensures c.refuse_with-in-Damage.ensures.made c.refuse_with-in-Damage.ensures.none)
+
+pub returns-in-Family : goal.returns-in-Family
+returns-in-Family g c = rw c.in-Family.is (refuses _ _ _ _ _ _ _ _ c.high_family.ensures c.refuse_with-in-Family.ensures.made c.refuse_with-in-Family.ensures.none)

@@ -19,7 +19,7 @@ returns-clause-status g c =
     let seen = observation_of g.K.Sink (IsScript script) c.args.form (log_of_run g.D.Disk setup.options setup.start setup.mode was disk) c.args.sink.now c.tell_end.new.sink in
     let law : Law g.D.Disk setup.options setup.start setup.mode was disk script =
     λ from o legal client calls how reply no_fault to checks room free. c.commits_are_accepted.ensures.accepted (settings_of (options_behind setup.options from) from.map (length script) (g.D.Disk.faults was)) (g.D.Disk.faults disk) script o client calls how reply legal no_fault to checks room free in
-    let ends = one_ends g.D.Disk setup.options setup.start setup.mode was disk script law c.execute-disk.result.1 c.execute-disk.ensures.end c.execute-disk.ensures.accepted in
+    let ends = one_ends g.D.Disk setup.options setup.start setup.mode was disk script law c.execute-disk.result.1 c.execute-disk.ensures.end (λ ran. (c.execute-disk.ensures.accepted ran, c.execute-disk.ensures.families ran)) in
     rw c.end_with.ensures.status (ended_status seen script c.execute-disk.result.1 c.tell_end.result ends c.tell_end.ensures)
 
 pub returns-clause-runs : goal.returns-clause-runs
@@ -31,5 +31,5 @@ returns-clause-runs g c =
     let seen = observation_of g.K.Sink (IsScript script) c.args.form (log_of_run g.D.Disk setup.options setup.start setup.mode was disk) c.args.sink.now c.tell_end.new.sink in
     let law : Law g.D.Disk setup.options setup.start setup.mode was disk script =
     λ from o legal client calls how reply no_fault to checks room free. c.commits_are_accepted.ensures.accepted (settings_of (options_behind setup.options from) from.map (length script) (g.D.Disk.faults was)) (g.D.Disk.faults disk) script o client calls how reply legal no_fault to checks room free in
-    let ends = one_ends g.D.Disk setup.options setup.start setup.mode was disk script law c.execute-disk.result.1 c.execute-disk.ensures.end c.execute-disk.ensures.accepted in
+    let ends = one_ends g.D.Disk setup.options setup.start setup.mode was disk script law c.execute-disk.result.1 c.execute-disk.ensures.end (λ ran. (c.execute-disk.ensures.accepted ran, c.execute-disk.ensures.families ran)) in
     rw (c.end_with.ensures.status, c.end_with.ensures.disk) (runs_script seen _ (ended_so seen script refl c.execute-disk.result.1 c.tell_end.result ends c.tell_end.ensures))

@@ -4,5 +4,5 @@ use Rattle.program_text.specs.ShownText.{pair_line}
 use Rattle.program_text.proofs.recovered_state.put_recovered_map.Given as goal
 
 -- with the lines of the pairs that are left, the lines of all pairs would be appended to the text
-abbrev pub invariant-loop-key : goal.invariant-loop-key
-invariant-loop-key l = l.text ++ flat_map (pair_line hex_word) l.key-iterator ≡ l.initial.text ++ flat_map (pair_line hex_word) l.map
+abbrev pub invariant-loop-family : goal.invariant-loop-family
+invariant-loop-family l = l.text ++ flat_map (pair_line hex_word) l.family-iterator ≡ l.initial.text ++ flat_map (pair_line hex_word) l.map

@@ -3,5 +3,5 @@ use Rattle.program_text.specs.ShownText.{plain, pair_line}
 use Rattle.program_text.proofs.states.put_map.Given as goal
 
 -- with the lines of the pairs that are left, the lines of all pairs would be appended to the text
-abbrev pub invariant-loop-key : goal.invariant-loop-key
-invariant-loop-key l = l.text ++ flat_map (pair_line plain) l.key-iterator ≡ l.initial.text ++ flat_map (pair_line plain) l.map
+abbrev pub invariant-loop-family : goal.invariant-loop-family
+invariant-loop-family l = l.text ++ flat_map (pair_line plain) l.family-iterator ≡ l.initial.text ++ flat_map (pair_line plain) l.map

@@ -1,5 +1,6 @@
 use Rattle.std.proofs.Common.{◌≡◌, ◌<◌, ◌≤◌, ◌^◌, length}
 use Rattle.model_base.specs.Batch.{count_of, size_of_batch}
+use Rattle.model_base.specs.Progress.{families_in, first_missing}
 use Rattle.replay_plans.specs.Plans.{added_between}
 use Rattle.replay_plans.proofs.measure.measure_batch.Given as goal
 
@@ -7,3 +8,4 @@ use Rattle.replay_plans.proofs.measure.measure_batch.Given as goal
 abbrev pub invariant-loop-place : goal.invariant-loop-place
 invariant-loop-place l = l.fn.batch.from ≤ l.fn.batch.to → l.fn.batch.to ≤ length l.plan → size_of_batch (added_between l.fn.batch.from l.place l.plan) < 2 ^ 64
     → (l.measure.size ≡ size_of_batch (added_between l.fn.batch.from l.place l.plan)) × (l.measure.count ≡ count_of (added_between l.fn.batch.from l.place l.plan)) × (l.measure.count ≤ l.measure.size)
+    × (l.measure.missing ≡ first_missing l.families (families_in (added_between l.fn.batch.from l.place l.plan)))

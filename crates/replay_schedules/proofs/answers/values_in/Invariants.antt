@@ -3,5 +3,5 @@ use Rattle.model_base.specs.Map.{value_at}
 use Rattle.replay_schedules.proofs.answers.values_in.Given as goal
 
 -- the values so far, with those of the keys that are left, are the values of all keys
-abbrev pub invariant-loop-key : goal.invariant-loop-key
-invariant-loop-key l = l.values ++ map (value_at l.pairs) l.key-iterator ≡ map (value_at l.pairs) l.fn.keys
+abbrev pub invariant-loop-family : goal.invariant-loop-family
+invariant-loop-family l = l.values ++ map (value_at l.pairs) l.family-iterator ≡ map (value_at l.pairs) l.fn.keys

@@ -37,23 +37,3 @@ returns-in_err-text-in-4 c = search rules
 pub returns-in_ok-text-in-4 : goal.returns-in_ok-text-in-4
 unfolding one_word
 returns-in_ok-text-in-4 c = search rules
-
-pub returns-in_err-key-in-7 : goal.returns-in_err-key-in-7
-unfolding one_word
-returns-in_err-key-in-7 c = search rules
-
-pub returns-in_ok-key-in-7 : goal.returns-in_ok-key-in-7
-unfolding one_word
-returns-in_ok-key-in-7 c = search rules
-
-pub returns-in_err-lo-in-9 : goal.returns-in_err-lo-in-9
-unfolding two_words
-returns-in_err-lo-in-9 c = search rules
-
-pub returns-in_err-hi-in-9 : goal.returns-in_err-hi-in-9
-unfolding two_words
-returns-in_err-hi-in-9 c = search rules
-
-pub returns-in_ok-hi-in-9 : goal.returns-in_ok-hi-in-9
-unfolding two_words
-returns-in_ok-hi-in-9 c = search rules

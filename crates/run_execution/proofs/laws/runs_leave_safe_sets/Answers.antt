@@ -21,7 +21,7 @@ returns g c =
       certain = recovers.certain;
     } in
     record {
-      ends = λ disks opened options limit script ran end has limit_is few bounded comes told.
-          is_set_end laws g.met.D.Disk.only_now disks opened options limit script has limit_is few bounded ran comes end told;
+      ends = λ disks opened options limit script ran end has limit_is few bounded families comes told.
+          is_set_end laws g.met.D.Disk.only_now disks opened options limit script has limit_is few bounded families ran comes end told;
       time = λ opened calls set wrote. set_further g.D.Disk opened calls set wrote;
     }

@@ -1,9 +1,9 @@
-use Rattle.std.proofs.Common.{sym, subst, refl, rules}
+use Rattle.std.proofs.Common.{◌+◌, ap, sym, subst, refl, rules, arith}
 use Rattle.run_outcome.specs.declared.log_start.LogStart.TheVariants.{Behind}
 use Rattle.run_execution.specs.declared.end.RunEnd.{RunEnd}
 use Rattle.run_execution.specs.Ends.{IsRefused}
 use Rattle.run_execution.proofs.Openings.{leaves_looked}
-use Rattle.run_execution.proofs.Resumed.{accepted_end, before_of, goes_behind, opened_behind, refused_behind}
+use Rattle.run_execution.proofs.Resumed.{accepted_end, before_of, few_families, goes_behind, high_family, opened_behind, refused_behind}
 use Rattle.run_execution.proofs.opening.open_behind.Goals as goal
 
 pub returns-in-Ok-resume-clause-ok : goal.returns-in-Ok-resume-clause-ok
@@ -20,6 +20,7 @@ returns-in-Ok-resume-clause-ok g c =
       map = refl;
       last = refl;
       none = found.numbered.none;
+      families = ap (λ n. n + 1) c.greatest_family-family.ensures;
     }
 
 pub returns-in-Err-Fault-clause-err : goal.returns-in-Err-Fault-clause-err
@@ -45,10 +46,25 @@ returns-clause-err g c =
     let found = c.in-Ok.ensures in
     let reads = c.recover_mode.ensures.disk in
     let accepted = accepted_end c.args.number c.args.mode (g.D.Disk.told c.args.disk) c.in-Ok.recovered found.recovered found.accepted in
+    let in_range = few_families c.args.number (g.D.Disk.told c.args.disk) c.in-Ok.recovered found.recovered c.greatest_family-family.result c.greatest_family-family.ensures (omega (arith, c.if-family-ge-MAX_FAMILIES.false)) in
     subst (λ (end : RunEnd). IsRefused g.D.Disk (Behind c.args.number) c.args.mode c.args.disk c.in-Err.disk end) (sym c.from.ensures)
-    (refused_behind c.args.number c.in-Ok.recovered g.D.Disk c.args.disk c.recover_mode.new.disk reads.same reads.time found.worked found.recovered c.in-Err.disk c.args.mode c.in-Err.why (g.met.D.Disk.only_now c.args.disk) accepted c.in-Err.ensures.err)
+    (refused_behind c.args.number c.in-Ok.recovered g.D.Disk c.args.disk c.recover_mode.new.disk reads.same reads.time found.worked found.recovered c.in-Err.disk c.args.mode c.in-Err.why (g.met.D.Disk.only_now c.args.disk) accepted in_range c.in-Err.ensures.err)
 
 pub returns-in-Ok-resume-clause-accepted : goal.returns-in-Ok-resume-clause-accepted
 returns-in-Ok-resume-clause-accepted g c =
     let found = c.in-Ok.ensures in
     accepted_end c.args.number c.args.mode (g.D.Disk.told c.args.disk) c.in-Ok.recovered found.recovered found.accepted
+
+-- the greatest family of what is recovered is too high for a run
+pub returns-then-family-ge-MAX_FAMILIES-clause-err : goal.returns-then-family-ge-MAX_FAMILIES-clause-err
+returns-then-family-ge-MAX_FAMILIES-clause-err g c =
+    let found = c.in-Ok.ensures in
+    let reads = c.recover_mode.ensures.disk in
+    let crash = leaves_looked g.D.Disk c.args.disk c.recover_mode.new.disk (g.met.D.Disk.only_now c.args.disk) reads.same reads.time in
+    let high = high_family c.args.number c.args.mode (g.D.Disk.told c.args.disk) c.in-Ok.recovered found.recovered found.accepted c.greatest_family-family.result c.greatest_family-family.ensures (omega (arith, c.if-family-ge-MAX_FAMILIES.true)) in
+    (high, reads.same, found.worked, crash)
+
+pub returns-in-Ok-resume-clause-families : goal.returns-in-Ok-resume-clause-families
+returns-in-Ok-resume-clause-families g c =
+    let found = c.in-Ok.ensures in
+    few_families c.args.number (g.D.Disk.told c.args.disk) c.in-Ok.recovered found.recovered c.greatest_family-family.result c.greatest_family-family.ensures (omega (arith, c.if-family-ge-MAX_FAMILIES.false))

@@ -1,4 +1,4 @@
-use Rattle.std.proofs.Common.{◌≤◌, length, ap, refl, arith}
+use Rattle.std.proofs.Common.{◌<◌, ◌≤◌, ◌^◌, length, ap, refl, arith}
 use Rattle.model_base.specs.Map.{Pairs}
 use Rattle.model_base.specs.Settings.{settings_of}
 use Rattle.run_scripts.specs.Scripts.{commands_of}
@@ -21,10 +21,11 @@ returns-in-Ok-clause-end g c =
     let options = c.args.setup.options in
     let script = commands_of c.args.script.now in
     let ran = c.run_on-ran.result in
+    let families : options.families < 2 ^ 32 = omega arith in
     let settings = ap (λ (map : Pairs). settings_of options map (length script) (count_in (logs_of set))) c.new-map.ensures in
     let comes = comes_to fault_in _ ran _ _ script script (WroteSet set) (WroteSet set) settings refl refl c.run_on-ran.ensures in
     rw c.end_set_run.ensures.disks
-    (c.runs_leave_safe_sets.ensures.ends c.args.disks.items set options c.args.limit script ran c.end_set_run.result.1 c.in-Ok.ensures.ok c.in-Ok.ensures.limit (omega (arith, c.requires.clients)) c.requires.options.1 comes c.end_set_run.ensures.end)
+    (c.runs_leave_safe_sets.ensures.ends c.args.disks.items set options c.args.limit script ran c.end_set_run.result.1 c.in-Ok.ensures.ok c.in-Ok.ensures.limit (omega (arith, c.requires.clients)) c.requires.options.1 families comes c.end_set_run.ensures.end)
 
 pub returns-in-Ok-clause-later : goal.returns-in-Ok-clause-later
 returns-in-Ok-clause-later g c =

@@ -1,5 +1,3 @@
-use Rattle.run_scripts.specs.Languages.{IsCommandOf}
-use Rattle.run_scripts.specs.ScriptLines.{MayBeSaid}
 use Rattle.run_scripts.proofs.parser.add_said.Goals as goal
 
 pub returns-in-Command-clause-commands : goal.returns-in-Command-clause-commands
@@ -8,4 +6,4 @@ returns-in-Command-clause-commands c =
 
 pub returns-in-Many-clause-commands : goal.returns-in-Many-clause-commands
 returns-in-Many-clause-commands c =
-    λ has. c.add_command-in-Many.ensures.commands c.args.language has (rw (c.in-Many.is, ← c.words-keys.ensures) at c.in_ok-number.ensures.command)
+    λ has. c.add_command-in-Many.ensures.commands c.args.language has (rw (c.in-Many.is, ← c.keys-keys.ensures) at c.in_ok-number.ensures.command)

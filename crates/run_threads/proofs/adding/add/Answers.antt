@@ -11,7 +11,7 @@ pub returns-in-Ok-clause-answers : goal.returns-in-Ok-clause-answers
 returns-in-Ok-clause-answers c = λ settings a.
     let pending = records_in c.args.batches.now.current in
     let more = record_of c.args.view in
-    let same : c.add_record-outcome.new.batch.records ≡ pending ++ more ∷ [] =
+    let same : c.add-outcome.new.self.records ≡ pending ++ more ∷ [] =
     ap (λ (b : Contents). b.records) c.in-Ok.ensures.ok ∙ ap (λ (l : List Record). l ++ more ∷ []) c.in_ok-batch.ensures.records in
     record { reply = calls.quiet; shows = refl; goes = rw same (c.commits_are_steps.ensures.added settings a pending more) }
 

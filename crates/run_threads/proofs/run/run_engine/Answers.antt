@@ -1,8 +1,9 @@
-use Rattle.std.proofs.Common.{◌≡◌, ◌∙◌, ℕ, sym, ap, map, List, arith}
+use Rattle.std.proofs.Common.{◌≡◌, ◌∙◌, ℕ, sym, ap, subst, map, List, [], arith}
 use Rattle.std.proofs.lemmas.List.{length-map}
 use Rattle.model_base.specs.Map.{Pairs}
 use Rattle.model_base.specs.History.{map_over}
 use Rattle.model_base.specs.Calls.{Call}
+use Rattle.model_base.specs.Outcomes.{AreOwnFaults, read_faults_in}
 use Rattle.model_accounts.specs.ClientRuns.{HaveRun}
 use Rattle.model_accounts.specs.Closing.{AreOurs}
 use Rattle.run_threads.specs.Jobs.{AreNew}
@@ -34,8 +35,8 @@ returns g c =
     let trace = closed.0 in
     let make = makes_up settings (E.wrote engine) E.fault E.faults log trace closed.1 accounts last closed.2 c.in-Ok.batches.items c.in-Ok.ensures.accepted (length-map own E.account ∙ ours.number_of)
     (number_at (E.belongs engine) E.account settings.clients own ours) in
-    let legal = λ (transcripts : List (List Call)) (log_lens : List ℕ) (run : HaveRun settings script transcripts accounts).
-    c.closed_runs_are_legal.ensures.legal settings (E.faults log) script transcripts accounts trace closed.1 last log_lens (E.fault log) (sym c.requires.script) run closed.2 in
+    let legal = λ (transcripts : List (List Call)) (log_lens : List ℕ) (run : HaveRun settings script transcripts accounts) (none : read_faults_in transcripts ≡ []).
+    c.closed_runs_are_legal.ensures.legal settings (E.faults log) script transcripts accounts trace closed.1 last log_lens (E.fault log) (sym c.requires.script) run (subst (AreOwnFaults (E.faults log) (E.fault log)) (sym none) tt) closed.2 in
     have_told settings (E.wrote engine) E.fault E.faults log trace closed.1 accounts last closed.2 script c.in-Ok.transcripts c.in-Ok.ensures.run legal closed.3
     c.in-Ok-history_and_map.history c.in-Ok-history_and_map.state (c.in-Ok-history_and_map.ensures.history trace.start trace.entries make)
     (c.in-Ok-history_and_map.ensures.state trace.start trace.entries make ∙ ap (λ (m : Pairs). map_over m trace.entries) (c.requires.opening ∙ sym closed.2.is_trace.opening))
@@ -52,8 +53,8 @@ returns-in_default-history_and_map g c =
     let script = c.args.script.now in
     let closed = c.close-log.ensures in
     let trace = closed.0 in
-    let legal = λ (transcripts : List (List Call)) (log_lens : List ℕ) (run : HaveRun settings script transcripts accounts).
-    c.closed_runs_are_legal.ensures.legal settings (E.faults log) script transcripts accounts trace closed.1 last log_lens (E.fault log) (sym c.requires.script) run closed.2 in
+    let legal = λ (transcripts : List (List Call)) (log_lens : List ℕ) (run : HaveRun settings script transcripts accounts) (none : read_faults_in transcripts ≡ []).
+    c.closed_runs_are_legal.ensures.legal settings (E.faults log) script transcripts accounts trace closed.1 last log_lens (E.fault log) (sym c.requires.script) run (subst (AreOwnFaults (E.faults log) (E.fault log)) (sym none) tt) closed.2 in
     have_run settings (E.wrote engine) E.fault E.faults log trace closed.1 accounts last closed.2 script c.in-Ok.transcripts c.in-Ok.ensures.run legal closed.3
 
 -- the clients are as they came

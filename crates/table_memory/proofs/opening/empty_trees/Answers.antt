@@ -1,4 +1,4 @@
-use Rattle.std.proofs.Common.{◌≡◌, ◌+◌, ◌∷◌, [], length, sym, ap, ◌∙◌, subst, ⊎_elim, arith, length-append}
+use Rattle.std.proofs.Common.{◌∷◌, [], length, sym, ap, ◌∙◌, subst, ⊎_elim, arith, length-append}
 use Rattle.table_rule.specs.Histories.{In}
 use Rattle.table_rule.proofs.Histories.{in_split}
 use Rattle.table_memory.proofs.opening.empty_trees.Goals as goal

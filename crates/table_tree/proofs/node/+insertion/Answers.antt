@@ -1,12 +1,12 @@
 -- The node goes down to the side where its key has its place, and the other side stays as it is.
 use Rattle.std.proofs.Common.{◌≡◌, ◌++◌, ◌∷◌, List, sym, ap, ◌∙◌, rules}
 use Rattle.std.specs.declared.cmp.Ordering.TheVariants.{Less, Equal, Greater}
-use Rattle.model_base.specs.Map.{byte_order}
+use Rattle.model_base.specs.Map.{key_order}
 use Rattle.table_tree.specs.Chains.{Chain}
 use Rattle.table_tree.specs.Shapes.{fork, chains_in}
-use Rattle.table_tree.specs.Nodes.{version_of, chain_of, shape_of}
+use Rattle.table_tree.specs.Nodes.{own_key, version_of, chain_of, shape_of}
 use Rattle.table_tree.specs.declared.node.Node.{Node}
-use Rattle.table_tree.proofs.VersionOrder.{equal_keys}
+use Rattle.table_rule.proofs.Keys.{equal_keys}
 use Rattle.table_tree.proofs.Searching.{left_smaller, right_smaller, left_sorted, right_sorted, went_left, went_right, stayed}
 use Rattle.table_tree.proofs.node.+insertion.Goals as goal
 
@@ -32,14 +32,14 @@ Subtree::insert_below-insert_right-requires t c =
 
 pub Subtree::insert_below-add_version-requires : goal.Subtree::insert_below-add_version-requires
 Subtree::insert_below-add_version-requires t c =
-    let same : byte_order c.args.node.value.key c.in-Some.top.value.key ≡ Equal = search rules in
-    equal_keys c.args.node.value.key c.in-Some.top.value.key same ∙ sym (ap (λ (n : Node). n.key) c.deref_mut-in-Equal.ensures.value)
+    let same : key_order (own_key c.args.node.value) (own_key c.in-Some.top.value) ≡ Equal = search rules in
+    equal_keys (own_key c.args.node.value) (own_key c.in-Some.top.value) same ∙ sym (ap own_key c.deref_mut-in-Equal.ensures.value)
 
 pub Subtree::insert_below-returns-then-insert_left-clause-chains : goal.Subtree::insert_below-returns-then-insert_left-clause-chains
 Subtree::insert_below-returns-then-insert_left-clause-chains t c =
     let n = c.in-Some.top.value in
     let is : shape_of c.args.root.now ≡ fork n.left (chain_of n) n.right = ap shape_of c.in-Some.is in
-    let less : byte_order c.args.node.value.key n.key ≡ Less = search rules in
+    let less : key_order (own_key c.args.node.value) (own_key n) ≡ Less = search rules in
     let went = went_left (shape_of c.args.root.now) n.left n.right (chain_of n) is c.requires.sorted (version_of c.args.node.value) less in
     let now : c.deref_mut.result.now ≡ n = c.deref_mut.ensures.value in
     c.left_grown.ensures.chains ∙ ap chains_of_node c.insert_left.ensures.others
@@ -50,7 +50,7 @@ pub Subtree::insert_below-returns-else-insert_left-clause-chains : goal.Subtree:
 Subtree::insert_below-returns-else-insert_left-clause-chains t c =
     let n = c.in-Some.top.value in
     let is : shape_of c.args.root.now ≡ fork n.left (chain_of n) n.right = ap shape_of c.in-Some.is in
-    let less : byte_order c.args.node.value.key n.key ≡ Less = search rules in
+    let less : key_order (own_key c.args.node.value) (own_key n) ≡ Less = search rules in
     let went = went_left (shape_of c.args.root.now) n.left n.right (chain_of n) is c.requires.sorted (version_of c.args.node.value) less in
     let now : c.deref_mut.result.now ≡ n = c.deref_mut.ensures.value in
     ap chains_of_node c.insert_left.ensures.others
@@ -61,7 +61,7 @@ pub Subtree::insert_below-returns-in-Equal-clause-chains : goal.Subtree::insert_
 Subtree::insert_below-returns-in-Equal-clause-chains t c =
     let n = c.in-Some.top.value in
     let is : shape_of c.args.root.now ≡ fork n.left (chain_of n) n.right = ap shape_of c.in-Some.is in
-    let same : byte_order c.args.node.value.key n.key ≡ Equal = search rules in
+    let same : key_order (own_key c.args.node.value) (own_key n) ≡ Equal = search rules in
     let there = stayed (shape_of c.args.root.now) n.left n.right (chain_of n) is c.requires.sorted (version_of c.args.node.value) same in
     let now = c.deref_mut-in-Equal.ensures.value in
     ap (λ s. chains_in s ++ chain_of c.add_version.new.self ∷ chains_in c.add_version.new.self.right) c.add_version.ensures.left
@@ -73,7 +73,7 @@ pub Subtree::insert_below-returns-then-insert_right-clause-chains : goal.Subtree
 Subtree::insert_below-returns-then-insert_right-clause-chains t c =
     let n = c.in-Some.top.value in
     let is : shape_of c.args.root.now ≡ fork n.left (chain_of n) n.right = ap shape_of c.in-Some.is in
-    let greater : byte_order c.args.node.value.key n.key ≡ Greater = search rules in
+    let greater : key_order (own_key c.args.node.value) (own_key n) ≡ Greater = search rules in
     let went = went_right (shape_of c.args.root.now) n.left n.right (chain_of n) is c.requires.sorted (version_of c.args.node.value) greater in
     let now = c.deref_mut-in-Greater.ensures.value in
     c.right_grown.ensures.chains ∙ ap chains_of_node c.insert_right.ensures.others
@@ -84,7 +84,7 @@ pub Subtree::insert_below-returns-else-insert_right-clause-chains : goal.Subtree
 Subtree::insert_below-returns-else-insert_right-clause-chains t c =
     let n = c.in-Some.top.value in
     let is : shape_of c.args.root.now ≡ fork n.left (chain_of n) n.right = ap shape_of c.in-Some.is in
-    let greater : byte_order c.args.node.value.key n.key ≡ Greater = search rules in
+    let greater : key_order (own_key c.args.node.value) (own_key n) ≡ Greater = search rules in
     let went = went_right (shape_of c.args.root.now) n.left n.right (chain_of n) is c.requires.sorted (version_of c.args.node.value) greater in
     let now = c.deref_mut-in-Greater.ensures.value in
     ap chains_of_node c.insert_right.ensures.others

@@ -90,7 +90,7 @@ returns g c =
     let seen = subst (λ (ss : List _). IsTableClosing start published (map meaning.account ss)) c.part_all.ensures.seats c.close.ensures in
     let ended = c.end_controller.ensures in let calls = ended.0 in
     let whole = subst (λ (ps : List _). IsHistoryOf ps calls) c.part_all.ensures.passes ended.1 in
-    let rose = (g.met.Device.GroupLog.cause (opened_log e).log leadership.held.value.path.log.log stands.calls set.no_fault stands.wrote).rose in
+    let rose = (g.met.Log.GroupLog.cause (opened_log e).log leadership.held.value.path.log.log stands.calls set.no_fault stands.wrote).rose in
     let number = accounts_number meaning e cs all in
     let own = parts meaning e cs all calls whole L.0 published merged seen in
     let standing : Standing = record {
@@ -104,8 +104,8 @@ returns g c =
     let theirs : AreAccountsOf settings standing calls accounts = record { all = number; each = own } in
     let closed = c.closings.ensures.closing settings (faults_of (leadership.held.value.path.log)) standing calls accounts stands.consistent theirs whole.legal (are_calls meaning e cs all calls whole) ended.2 rose in
     let wrote = c.closings.ensures.log settings standing calls accounts stands.consistent theirs in subst (λ (h : Held _ _ _). HasOneTrace settings (faults_of (h.path.log)) accounts h.path.last (fault_of h.path.log) (λ made. Wrote (opened_log e) made h.path.log)) (sym c.into_inner-log.ensures) (
-      trace_of start (map_at_opening meaning e.table) commits calls,
+      trace_of start (map_at_opening meaning e.table) commits stands.consistent.written.parts.parts calls,
       closed.0,
       closed.1,
-      written_by (bound_of e.list) (λ made. Wrote (opened_log e) made leadership.held.value.path.log) stands.calls (trace_of start (map_at_opening meaning e.table) commits calls) (all_attempts accounts) fault stands.wrote wrote,
+      written_by (bound_of e.list) (λ made. Wrote (opened_log e) made leadership.held.value.path.log) stands.calls (trace_of start (map_at_opening meaning e.table) commits stands.consistent.written.parts.parts calls) (all_attempts accounts) fault stands.wrote wrote,
     )

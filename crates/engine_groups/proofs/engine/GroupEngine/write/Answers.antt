@@ -22,7 +22,7 @@ returns-in-Some-clause-err g c =
     let v = c.args.client.now in let e = c.args.self.now in let settings = settings_of g.Versions.Table e in
     let how = c.args.options in let records = c.args.batch.records in
     let stops = c.is_stopping-stopping.ensures ∙ ap holds_stop (same_tokens g.Versions.Table e v c.requires) in
-    let at_once = sym (ap (λ (b : Bool). early_refusal settings.batch_bytes b records how) stops) ∙ sym (c.refusal_at_once.ensures records c.of-measure.ensures.value) in
+    let at_once = sym (ap (λ (b : Bool). early_refusal settings.families settings.batch_bytes b records how) stops) ∙ sym (c.refusal_at_once.ensures e.families records c.of-measure.ensures.value) in
     refuses_early settings (account_in g.Versions.Table v) records how c.in-Some.why (at_once ∙ c.in-Some.is)
 
 pub returns-then-stopping-clause-belongs : goal.returns-then-stopping-clause-belongs
@@ -37,13 +37,13 @@ returns-then-stopping-clause-err g c =
     let settings = settings_of g.Versions.Table e in
     let how = c.args.options in let records = c.args.batch.records in
     let stops = c.is_stopping-stopping.ensures ∙ ap holds_stop (same_tokens g.Versions.Table e v c.requires) in
-    let at_once = sym (ap (λ (b : Bool). early_refusal settings.batch_bytes b records how) stops) ∙ sym (c.refusal_at_once.ensures records c.of-measure.ensures.value) in
+    let at_once = sym (ap (λ (b : Bool). early_refusal settings.families settings.batch_bytes b records how) stops) ∙ sym (c.refusal_at_once.ensures e.families records c.of-measure.ensures.value) in
     let passed = at_once ∙ none_is c.refusal_at_once.result c.in_default.not-Some in
     let stopping : c.is_stopping-stopping.result ≡ true = c.if-stopping.true in
     let held : holds_stop (tokens_of v.number (seen_by v.pass)) ≡ true = sym stops ∙ stopping in
     let L = c.look-look.ensures in let some = L.stopped (sym c.is_stopping-stopping.ensures ∙ stopping) in
     let ends = subst (λ k. EndsWith k (seen_by v.pass) look (Some (look_of c.look-look.result)) (seen_by c.look-look.new.pass)) S.pass_number L.asked in
-    let impatient = impatient_if settings.batch_bytes records how (subst (λ (b : Bool). early_refusal settings.batch_bytes b records how ≡ None) held passed) in
+    let impatient = impatient_if settings.families settings.batch_bytes records how (subst (λ (b : Bool). early_refusal settings.families settings.batch_bytes b records how ≡ None) held passed) in
     let seen = (g.Versions.Table.account v.seat).seen in
     let refused = refused_looked v.start (map_at_opening g.Versions.Table v.table.value) v.number (own_commits v.number (answers_told v.writer)) records how seen seen (seen_by v.pass) (seen_by c.look-look.new.pass) (look_of c.look-look.result) (begins_self seen) held ends impatient (inl some) in
     subst (λ (r : Refused). Refuses settings (account_in g.Versions.Table v) records how r.why (account_of v.start (map_at_opening g.Versions.Table v.table.value) v.number (own_commits v.number (answers_told v.writer)) seen (seen_by c.look-look.new.pass))) (sym c.refused_by.ensures)
@@ -71,7 +71,7 @@ returns g c =
     let S = c.requires.idle.seated in let v = c.args.client.now in let e = c.args.self.now in
     let batch_bytes = e.batch_bytes in let how = c.args.options in let records = c.args.batch.records in
     let stops = c.is_stopping-stopping.ensures ∙ ap holds_stop (same_tokens g.Versions.Table e v c.requires) in
-    let at_once = sym (ap (λ (b : Bool). early_refusal batch_bytes b records how) stops) ∙ sym (c.refusal_at_once.ensures records c.of-measure.ensures.value) in
+    let at_once = sym (ap (λ (b : Bool). early_refusal e.families batch_bytes b records how) stops) ∙ sym (c.refusal_at_once.ensures e.families records c.of-measure.ensures.value) in
     let passed = at_once ∙ none_is c.refusal_at_once.result c.in_default.not-Some in
     let free : holds_stop (tokens_of v.number (seen_by v.pass)) ≡ false = sym stops ∙ c.if-stopping.false in
     let p = c.open-told.result.0 in let L = c.last-shown in

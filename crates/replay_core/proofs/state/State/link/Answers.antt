@@ -7,7 +7,6 @@ use Rattle.model_base.specs.declared.limits.TheConstants.{MAX_SIZE}
 use Rattle.model_base.specs.declared.group.Item.{Item}
 use Rattle.model_base.specs.declared.write.WriteOptions.{WriteOptions}
 use Rattle.model_base.specs.Batch.{Record, count_of, size_of_batch}
-use Rattle.model_base.specs.Progress.{early_refusal}
 use Rattle.model_base.specs.Calls.{commit, refused}
 use Rattle.log_batch.specs.declared.checks.Measure.{Measure}
 use Rattle.log_batch.specs.Measures.{measure_of}
@@ -172,11 +171,10 @@ returns-then-not-may_link-clause-steps c = λ o s is_core m.
     let within : a.call ≤ length plan4 = omega (arith, next.1.within, ap length again_plan) in
     let same_size : size_of_batch (added_between a.from a.call plan4) ≡ size_of_batch added = ap size_of_batch records_are in
     let fits : size_of_batch (added_between a.from a.call plan4) < 2 ^ 64 = omega (arith, same_size, small) in
-    let measured : c.measure_batch-measured.result ≡ measure_of added = c.measure_batch-measured.ensures next.1.begun within fits ∙ ap measure_of records_are in
+    let measured : c.measure_batch-measured.result ≡ measure_of r.options.families added = c.measure_batch-measured.ensures next.1.begun within fits ∙ ap (measure_of r.options.families) records_are in
     let size : c.measure_batch-measured.result.size ≡ size_of_batch added = ap (λ (k : Measure). k.size) measured in
     let count : c.measure_batch-measured.result.count ≡ count_of added = ap (λ (k : Measure). k.count) measured in
-    let same_most : r.options.batch_bytes ≡ o.batch_bytes = ap (λ (p : core.Options). p.batch_bytes) m.options in
-    let refusal : core.refusal_of o how added ≡ c.refusal_at_once-early.result = ap (λ n. early_refusal n false added how) (sym same_most) ∙ sym (c.refusal_at_once-early.ensures added measured) in
+    let refusal : core.refusal_of o how added ≡ c.refusal_at_once-early.result = ap (λ (p : core.Options). core.refusal_of p how added) (sym m.options) ∙ sym (c.refusal_at_once-early.ensures r.options.families added measured) in
     let refused_by : Option Refusal = c.refusal_in-refusal.result in
     let decided : refusal_at how (core.refusal_of o how added) r.log ≡ refused_by = ap (λ x. refusal_at how x r.log) refusal ∙ sym c.refusal_in-refusal.ensures in
     let begins : event.link o s d (core.client_at s d) ≡ event.when (may_link_at refused_by r.log) (event.link_with o s d ahead.client how refused_by) =
@@ -240,11 +238,10 @@ returns-in-Some-refusal-clause-steps c = λ o s is_core m.
     let within : a.call ≤ length plan4 = omega (arith, next.1.within, ap length again_plan) in
     let same_size : size_of_batch (added_between a.from a.call plan4) ≡ size_of_batch added = ap size_of_batch records_are in
     let fits : size_of_batch (added_between a.from a.call plan4) < 2 ^ 64 = omega (arith, same_size, small) in
-    let measured : c.measure_batch-measured.result ≡ measure_of added = c.measure_batch-measured.ensures next.1.begun within fits ∙ ap measure_of records_are in
+    let measured : c.measure_batch-measured.result ≡ measure_of r.options.families added = c.measure_batch-measured.ensures next.1.begun within fits ∙ ap (measure_of r.options.families) records_are in
     let size : c.measure_batch-measured.result.size ≡ size_of_batch added = ap (λ (k : Measure). k.size) measured in
     let count : c.measure_batch-measured.result.count ≡ count_of added = ap (λ (k : Measure). k.count) measured in
-    let same_most : r.options.batch_bytes ≡ o.batch_bytes = ap (λ (p : core.Options). p.batch_bytes) m.options in
-    let refusal : core.refusal_of o how added ≡ c.refusal_at_once-early.result = ap (λ n. early_refusal n false added how) (sym same_most) ∙ sym (c.refusal_at_once-early.ensures added measured) in
+    let refusal : core.refusal_of o how added ≡ c.refusal_at_once-early.result = ap (λ (p : core.Options). core.refusal_of p how added) (sym m.options) ∙ sym (c.refusal_at_once-early.ensures r.options.families added measured) in
     let refused_by : Option Refusal = c.refusal_in-refusal.result in
     let decided : refusal_at how (core.refusal_of o how added) r.log ≡ refused_by = ap (λ x. refusal_at how x r.log) refusal ∙ sym c.refusal_in-refusal.ensures in
     let begins : event.link o s d (core.client_at s d) ≡ event.when (may_link_at refused_by r.log) (event.link_with o s d ahead.client how refused_by) =
@@ -323,11 +320,10 @@ returns-in-None-clause-steps c = λ o s is_core m.
     let within : a.call ≤ length plan4 = omega (arith, next.1.within, ap length again_plan) in
     let same_size : size_of_batch (added_between a.from a.call plan4) ≡ size_of_batch added = ap size_of_batch records_are in
     let fits : size_of_batch (added_between a.from a.call plan4) < 2 ^ 64 = omega (arith, same_size, small) in
-    let measured : c.measure_batch-measured.result ≡ measure_of added = c.measure_batch-measured.ensures next.1.begun within fits ∙ ap measure_of records_are in
+    let measured : c.measure_batch-measured.result ≡ measure_of r.options.families added = c.measure_batch-measured.ensures next.1.begun within fits ∙ ap (measure_of r.options.families) records_are in
     let size : c.measure_batch-measured.result.size ≡ size_of_batch added = ap (λ (k : Measure). k.size) measured in
     let count : c.measure_batch-measured.result.count ≡ count_of added = ap (λ (k : Measure). k.count) measured in
-    let same_most : r.options.batch_bytes ≡ o.batch_bytes = ap (λ (p : core.Options). p.batch_bytes) m.options in
-    let refusal : core.refusal_of o how added ≡ c.refusal_at_once-early.result = ap (λ n. early_refusal n false added how) (sym same_most) ∙ sym (c.refusal_at_once-early.ensures added measured) in
+    let refusal : core.refusal_of o how added ≡ c.refusal_at_once-early.result = ap (λ (p : core.Options). core.refusal_of p how added) (sym m.options) ∙ sym (c.refusal_at_once-early.ensures r.options.families added measured) in
     let refused_by : Option Refusal = c.refusal_in-refusal.result in
     let decided : refusal_at how (core.refusal_of o how added) r.log ≡ refused_by = ap (λ x. refusal_at how x r.log) refusal ∙ sym c.refusal_in-refusal.ensures in
     let begins : event.link o s d (core.client_at s d) ≡ event.when (may_link_at refused_by r.log) (event.link_with o s d ahead.client how refused_by) =

@@ -1,4 +1,4 @@
-use Rattle.std.proofs.Common.{◌≡◌, ℕ, ◌+◌, ◌-◌, ◌<◌, ◌≤◌, false, Some, None, length, vec_len, slice_get, slice_set, refl, sym, ap, ◌∙◌, subst, arith}
+use Rattle.std.proofs.Common.{◌≡◌, ℕ, ◌+◌, ◌-◌, ◌<◌, ◌≤◌, false, Option, Some, None, [], length, vec_len, slice_get, slice_set, refl, sym, ap, ◌∙◌, subst, arith}
 use Rattle.std.specs.Option.{option_map_or}
 use Rattle.std.proofs.lemmas.Option.{slice_get_read, slice_get_within}
 use Rattle.model_core.specs.Core as core
@@ -6,7 +6,11 @@ use Rattle.model_core.specs.Step as event
 use Rattle.replay_plans.specs.declared.plan.ClientPlan.{ClientPlan}
 use Rattle.replay_core.specs.declared.state.Seat.{Seat}
 use Rattle.replay_core.specs.Mirrors.{IsClient, AreClients, lines_left}
-use Rattle.replay_plans.specs.Ahead.{IsAhead, is_read}
+use Rattle.model_base.specs.Progress.{first_missing}
+use Rattle.model_base.specs.Calls.{Command}
+use Rattle.replay_core.specs.declared.writer.CoreReply.{CoreReply}
+use Rattle.replay_core.specs.Replies.{IsReply, reply_at}
+use Rattle.replay_plans.specs.Ahead.{IsAhead, is_read, read_families}
 use Rattle.replay_core.proofs.Events.{cannot_come, has_come}
 use Rattle.replay_core.proofs.ClientLemmas.{clients_set, get_some, client_of}
 use Rattle.replay_core.proofs.ReadEvents.{from_any, nobody_at, read_waits, read_passed, read_answered, fewer_left, lines_after, more_room}
@@ -17,7 +21,7 @@ pub returns-in_default-clause-steps : goal.returns-in_default-clause-steps
 returns-in_default-clause-steps c = λ o s is_core m.
     let r = c.args.self.now in
     let none : core.client_at s c.args.client ≡ None = nobody_at s (vec_len r.plans) c.args.client (omega (arith, m.clients.plan_each, r.plans.ok.0)) c.in_default.ensures in
-    cannot_come _ o s r (ap (event.read s c.args.client) none) m
+    cannot_come _ o s r (ap (event.read o s c.args.client) none) m
 
 pub returns-in_default-clause-unchanged : goal.returns-in_default-clause-unchanged
 returns-in_default-clause-unchanged c = λ e. refl
@@ -46,7 +50,7 @@ returns-in_default-next_call-clause-steps c = λ o s is_core m.
     let plan_there : slice_get plans place ≡ Some plan = slice_get_read plans (vec_len r.plans) place plan r.plans.ok.0 (omega (arith, c.in-Some.ensures)) c.index.ensures in
     let seat_there : slice_get r.seats.items place ≡ Some seat = slice_get_read r.seats.items (vec_len r.seats) place seat r.seats.ok.0 (omega (arith, c.in-Some.ensures, r.one_seat_each)) c.index-2.ensures in
     let busy : at.0.idle ≡ false = c.in_default-next_call.ensures at.0 (m.clients.each place plan seat at.0 plan_there seat_there at.1) in
-    cannot_come _ o s _ (read_waits s d at.0 there busy) (record { options = m.options; clients = m.clients; line = m.line; writers = m.writers; table = m.table; leaving = m.leaving; entries = m.entries; groups = m.groups; assigned = m.assigned; log_failed = m.log_failed; last = m.last; room = record { linked = m.room.linked; items = m.room.items; second = m.room.second; entries = m.room.entries; groups = m.room.groups; group_room = m.room.group_room } })
+    cannot_come _ o s _ (read_waits o s d at.0 there busy) (record { options = m.options; clients = m.clients; line = m.line; writers = m.writers; table = m.table; leaving = m.leaving; entries = m.entries; groups = m.groups; assigned = m.assigned; log_failed = m.log_failed; last = m.last; room = record { linked = m.room.linked; items = m.room.items; second = m.room.second; entries = m.room.entries; groups = m.room.groups; group_room = m.room.group_room } })
 
 pub returns-in_default-next_call-clause-plans : goal.returns-in_default-next_call-clause-plans
 returns-in_default-next_call-clause-plans c = refl
@@ -90,7 +94,7 @@ returns-then-not-is_read-clause-steps c = λ o s is_core m.
     let plan3_there : slice_get plans place ≡ Some plan3 = slice_get_read plans (vec_len r.plans) place plan3 r.plans.ok.0 (omega (arith, c.in-Some.ensures)) c.index-3.ensures in
     let same_plan : plan3 ≡ plan = cc (plan_there, plan3_there) in
     let test : option_map_or is_read (slice_get plan a.call) false ≡ c.is_read.result = ap (λ (p : ClientPlan). option_map_or is_read (slice_get p a.call) false) (sym same_plan) ∙ sym c.is_read.ensures in
-    cannot_come _ o s _ (read_passed s d client (slice_get plan a.call) there next.0 next.1.call (test ∙ c.if-not-is_read.true)) (record {
+    cannot_come _ o s _ (read_passed o s d client (slice_get plan a.call) there next.0 next.1.call (test ∙ c.if-not-is_read.true)) (record {
       options = m.options;
       clients = m.clients;
       line = m.line;
@@ -139,8 +143,17 @@ returns-clause-steps c = λ o s is_core m.
     let Q : Seat → Type 0 = λ x. IsClient plan x client in
     let R : Seat → Type 0 = λ x. IsAhead plan x.next a client.calls client (core.next_call client) in
     let back : d - 1 ≡ place = omega (arith, number) in
-    from_any (read_answered s d r.last client plan c.answer.new.seat (slice_get plan a.call) (test ∙ c.if-not-is_read.false) m.last there next.0 next.1.call
-    (λ command reply line at loud. c.answer.ensures plan client command reply (subst Q same_seat is) next.0 (subst R same_seat next.1) (slice_get_within plan a.call command line) at loud)) (λ did.
+    let plan4 = c.index-4.result.now in
+    let plan4_there : slice_get plans place ≡ Some plan4 = slice_get_read plans (vec_len r.plans) place plan4 r.plans.ok.0 (omega (arith, c.in-Some.ensures)) c.index-4.ensures in
+    let again_plan : plan4 ≡ plan = cc (plan_there, plan4_there) in
+    let families : r.options.families ≡ o.families = ap (λ (p : core.Options). p.families) m.options in
+    let replied = λ (command : Command) (line : slice_get plan a.call ≡ Some command).
+    c.read_reply-reply.ensures
+    ∙ ap (λ (p : ClientPlan). reply_at r.last (first_missing r.options.families (option_map_or read_families (slice_get p a.call) []))) again_plan
+    ∙ ap (λ (l : Option Command). reply_at r.last (first_missing r.options.families (option_map_or read_families l []))) line
+    ∙ ap (λ (n : ℕ). reply_at r.last (first_missing n (read_families command))) families in
+    from_any (read_answered o s d r.last client plan c.answer.new.seat (slice_get plan a.call) (test ∙ c.if-not-is_read.false) m.last there next.0 next.1.call
+    (λ command reply line at loud. c.answer.ensures plan client command reply (subst Q same_seat is) next.0 (subst R same_seat next.1) (slice_get_within plan a.call command line) (subst (λ (x : CoreReply). IsReply x reply) (sym (replied command line)) at) loud)) (λ did.
     let all : AreClients plans (slice_set r.seats.items place c.answer.new.seat) (slice_set s.clients place did.new) = clients_set plans r.seats.items s.clients place plan c.answer.new.seat did.new m.clients known plan_there did.is in
     let P : ℕ → Type 0 = λ k. AreClients plans (slice_set r.seats.items place c.answer.new.seat) (slice_set s.clients k did.new) in
     let line_there : a.call < length plan = slice_get_within plan a.call did.command did.there in

@@ -1,5 +1,5 @@
 -- The trees have the map's pairs.
-use Rattle.std.proofs.Common.{◌≡◌, ℕ, ◌∙◌, List, length, take, drop, ◌++◌, sym, ap, subst}
+use Rattle.std.proofs.Common.{◌≡◌, ◌∙◌, List, length, take, drop, ◌++◌, sym, ap, subst}
 use Rattle.table_rule.specs.Histories.{IsBase, versions_at}
 use Rattle.table_rule.proofs.Bases.{base_at}
 use Rattle.table_tree.specs.Shapes.{Shape, versions_in}

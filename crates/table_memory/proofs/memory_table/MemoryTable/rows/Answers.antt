@@ -14,10 +14,10 @@ returns-then-shards-eq1-clause-rows g c =
     let vs : List Version = standing (opening_of c.args.self.now).base (account_of c.args.seat.now).seen in
     let one : (opening_of c.args.self.now).shards ≡ 1 = sym c.shards.ensures ∙ c.if-shards-eq1.true in
     let all : of_shard (opening_of c.args.self.now).shards 0 vs ≡ vs = ap (λ (k : ℕ). of_shard k 0 vs) one ∙ one_shard vs in
-    IfOk-weaker c.find_rows.result _ _ (λ rows h. h ∙ ap (λ (l : List Version). rows_within c.args.lo.now c.args.hi.now (map_of l)) all) c.find_rows.ensures.rows
+    IfOk-weaker c.find_rows.result _ _ (λ rows h. h ∙ ap (λ (l : List Version). rows_within c.args.family c.args.lo.now c.args.hi.now (map_of l)) all) c.find_rows.ensures.rows
 
 pub returns-clause-rows : goal.returns-clause-rows
 returns-clause-rows g c =
     let base = (opening_of c.args.self.now).base in
     let seen = (account_of c.args.seat.now).seen in
-    c.in_byte_order-rows.ensures (rows_within c.args.lo.now c.args.hi.now (map_after base seen)) (rising_rows c.args.lo.now c.args.hi.now (standing base seen)) c.in_ok-found.ensures.rows
+    c.in_byte_order-rows.ensures (rows_within c.args.family c.args.lo.now c.args.hi.now (map_after base seen)) (rising_rows c.args.family c.args.lo.now c.args.hi.now (standing base seen)) c.in_ok-found.ensures.rows

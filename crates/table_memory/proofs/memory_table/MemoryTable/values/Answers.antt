@@ -1,6 +1,8 @@
 use Rattle.std.proofs.Common.{◌≡◌, ℕ, List, [], ◌∷◌, ◌++◌, map, get_or, Option, sym, ap, ◌∙◌, subst, arith}
 use Rattle.std.proofs.lemmas.List.{map_more, take_all}
+use Rattle.base_bytes.specs.declared.answers.Place.{Place}
 use Rattle.table_rule.specs.Histories.{value_in, last_of, IsHistory}
+use Rattle.table_tree.specs.Rows.{at_key}
 use Rattle.table_calls.specs.Account.{Account}
 use Rattle.table_memory.specs.Meaning.{opening_of, account_of}
 use Rattle.table_memory.proofs.memory_table.MemoryTable.values.Goals as goal
@@ -14,16 +16,18 @@ value-requires-clause-at g c = let v = c.loop-i.invariant in c.requires.at ∙ a
 pub loop-i-preserved : goal.loop-i-preserved
 loop-i-preserved g c =
     let v = c.loop-i.invariant in
-    let of_key : List ℕ → Option (List ℕ) = λ key. value_in (opening_of c.args.self.now).base key (account_of c.args.seat.now).seen in
+    let of_place : Place → Option (List ℕ) = λ p. value_in (opening_of c.args.self.now).base (at_key p.family p.key) (account_of c.args.seat.now).seen in
     let found = c.in_ok-found.ensures.value in
-    let key_is : c.as_slice.result.now ≡ get_or c.args.keys.now c.loop-i.i c.index-keys-i.result = c.as_slice.ensures ∙ c.index-keys-i.is in
-    let read = found ∙ ap (λ (a : Account). value_in (opening_of c.args.self.now).base c.as_slice.result.now a.seen) v.1 in (
+    let place : Place = c.index-places-i.result in
+    let there : place ≡ get_or c.args.places.now c.loop-i.i place = c.index-places-i.is in
+    let read = found ∙ ap (λ (a : Account). value_in (opening_of c.args.self.now).base (at_key place.family c.as_slice.result.now) a.seen) v.1
+    ∙ ap (λ (key : List ℕ). value_in (opening_of c.args.self.now).base (at_key place.family key) (account_of c.args.seat.now).seen) c.as_slice.ensures in (
       c.value.ensures.ours,
       c.value.ensures.same ∙ v.1,
-      c.in_ok-push.ensures.ok ∙ ((λ i. v.2 i ++ (read ∙ ap of_key key_is) i ∷ []) ∙ sym (map_more of_key c.args.keys.now c.loop-i.i c.index-keys-i.result c.loop-i-test.true)),
+      c.in_ok-push.ensures.ok ∙ ((λ i. v.2 i ++ (read ∙ ap of_place there) i ∷ []) ∙ sym (map_more of_place c.args.places.now c.loop-i.i place c.loop-i-test.true)),
     )
 
 pub returns-clause-values : goal.returns-clause-values
 returns-clause-values g c =
     let v = c.loop-i.invariant in let stop = c.loop-i-test.false in
-    v.2 ∙ ap (map (λ (key : List ℕ). value_in (opening_of c.args.self.now).base key (account_of c.args.seat.now).seen)) (take_all c.loop-i.i c.args.keys.now (omega arith))
+    v.2 ∙ ap (map (λ (p : Place). value_in (opening_of c.args.self.now).base (at_key p.family p.key) (account_of c.args.seat.now).seen)) (take_all c.loop-i.i c.args.places.now (omega arith))

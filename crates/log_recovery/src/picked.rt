@@ -1,0 +1,92 @@
+//! The records that are picked from a sequence on.
+
+ghost use Rattle.std.specs.Prelude.{◌≡◌, ◌≢◌, ◌+◌, ◌-◌, ◌≤◌, ℕ, List, [], IfOk, MatchOption};
+ghost use Rattle.model_base.specs.History.{max_sequence};
+ghost use Rattle.model_base.specs.Since.{is_since};
+ghost use Rattle.log_recovery.specs.Keeping.{Refuses};
+ghost use Rattle.log_recovery.specs.Updating.{Picks};
+
+use crate::kept::{end_of, last_after, run_end};
+use crate::recovery::End;
+use base_bytes::Bytes;
+use log_batch::read_batch;
+use model_base::{EndReason, NoMemory};
+use std::alloc::Global;
+
+/// The records of a log from a sequence on and up to another one, and where and why reading ended.
+#[derive(Drop)]
+pub struct Updates {
+    pub records: Vec<Bytes>,
+    pub end: End,
+}
+
+/// What the records that are read so far give.
+#[derive(Drop)]
+pub struct Picked {
+    /// Those of them that are asked for.
+    pub records: Vec<Bytes>,
+    /// The last sequence, 0 before the first.
+    pub last: u64,
+    /// The offset after these records.
+    pub end: u64,
+}
+
+impl Picked {
+    /// Nothing is read yet. This takes no memory.
+    pub fn new(alloc: Global) -> Picked
+        ensures records { result.records.items ≡ [] }
+        ensures last { result.last ≡ 0 }
+        ensures end { result.end ≡ 0 }
+    {
+        Picked {
+            records: Vec::new(alloc),
+            last: 0,
+            end: 0,
+        }
+    }
+
+    /// Picks the record of these bytes, which ends at the offset `end`, if it is one of those from `since` on and up to
+    /// `upto`. Or says why recovery wouldn't keep it.
+    pub fn pick(
+        &mut self,
+        alloc: Global,
+        since: u64,
+        upto: u64,
+        bytes: &[u8],
+        end: u64,
+    ) -> Result<Option<EndReason>, NoMemory>
+        ensures { IfOk result (λ r. MatchOption r
+            (Picks since upto self.old self.new bytes.now end)
+            (λ why. (self.new ≡ self.old) × Refuses self.old.last bytes.now why)) }
+    {
+        let batch = match read_batch(bytes) {
+            Ok(batch) => batch,
+            Err(error) => return Ok(Some(end_of(error))),
+        };
+        let first = batch.sequence();
+        let count = batch.count();
+        if let Some(why) = run_end(self.last, first, count) {
+            return Ok(Some(why));
+        }
+        let last = last_after(self.last, first, count);
+        if is_picked(first, count, since, upto) {
+            let record = Bytes::copy(alloc, bytes)?;
+            self.records.push(record)?;
+        }
+        self.last = last;
+        self.end = end;
+        Ok(None)
+    }
+}
+
+/// Whether a record of `count` sequences from `first` on is one of those from `since` on and up to `upto`.
+fn is_picked(first: u64, count: u32, since: u64, upto: u64) -> bool
+    requires { count ≢ 0 → first + count - 1 ≤ max_sequence }
+    ensures { (bytes : List ℕ) → result ≡ is_since since upto (record { first = first; count = count; bytes = bytes }) }
+{
+    if count == 0 {
+        return false;
+    }
+    let last = first + u64::from(count - 1);
+    since <= last && last <= upto
+}
