@@ -108,7 +108,8 @@ static void print_batch(const uint8_t *at, size_t len) {
     printf("batch %" PRIu32 " %" PRIu64 " %" PRIu32 " ", code, head.sequence, head.count);
     print_end(why);
     while ((code = wz_batch_next(at, len, &place, &op, &why)) == WZ_DONE) {
-        printf("op %" PRIu32 " %zu %zu %zu %zu\n", op.kind, op.key_at, op.key_len, op.value_at, op.value_len);
+        printf("op %" PRIu32 " %" PRIu32 " %zu %zu ", op.kind, op.family, op.key_at, op.key_len);
+        printf("%zu %zu\n", op.value_at, op.value_len);
     }
     printf("ops %" PRIu32 " %zu ", code, place);
     print_end(why);
@@ -157,8 +158,8 @@ static void answer_log(uint32_t number, uint32_t mode, bytes log) {
         if (value.len > 0) WANTED(wz_pair(&handle, i, key.at, key.len, value.at, value.len - 1) == WZ_SMALL);
         WANTED((key.len == 0 || key.at[0] == MARK) && (value.len == 0 || value.at[0] == MARK));
         WANTED(wz_pair(&handle, i, key.at, key.len, value.at, value.len) == WZ_DONE);
-        WANTED(wz_pair_find(&handle, key.at, key.len, &index) == WZ_DONE && index == i);
-        printf("pair ");
+        WANTED(wz_pair_find(&handle, lens.family, key.at, key.len, &index) == WZ_DONE && index == i);
+        printf("pair %" PRIu32 " ", lens.family);
         print_hex(key.at, key.len);
         printf(" ");
         print_hex(value.at, value.len);
@@ -166,7 +167,7 @@ static void answer_log(uint32_t number, uint32_t mode, bytes log) {
         bytes next = room_for(key.len + 1);
         memcpy(next.at, key.at, key.len);
         next.at[key.len] = 0;
-        code = wz_pair_find(&handle, next.at, next.len, &index);
+        code = wz_pair_find(&handle, lens.family, next.at, next.len, &index);
         WANTED((code == WZ_DONE || code == WZ_END) && index == i + 1);
         printf(" %" PRIu32 "\n", code);
         done_with(next);
@@ -197,9 +198,13 @@ static bytes bytes_of_batch(wz_handle *batch) {
     return found;
 }
 
-static void answer_batch(wz_handle *batch, const char *word, const char *one, const char *two) {
-    bytes key = bytes_of_hex(one), value = bytes_of_hex(two);
-    uint32_t code = 99;
+static void answer_batch(wz_handle *batch, const char *word, const char *one, const char *two, const char *three) {
+    int has_family = !strncmp(word, "cf", 2);
+    bytes key = bytes_of_hex(has_family ? two : one), value = bytes_of_hex(has_family ? three : two);
+    uint32_t code = 99, family = (uint32_t)strtoul(one, NULL, 10);
+    if (!strcmp(word, "cfput")) code = wz_batch_put_cf(batch, family, key.at, key.len, value.at, value.len);
+    if (!strcmp(word, "cfdel")) code = wz_batch_delete_cf(batch, family, key.at, key.len);
+    if (!strcmp(word, "cfsdel")) code = wz_batch_single_delete_cf(batch, family, key.at, key.len);
     if (!strcmp(word, "put")) code = wz_batch_put(batch, key.at, key.len, value.at, value.len);
     if (!strcmp(word, "del")) code = wz_batch_delete(batch, key.at, key.len);
     if (!strcmp(word, "sdel")) code = wz_batch_single_delete(batch, key.at, key.len);
@@ -251,7 +256,7 @@ static int answer(void) {
         } else if (!strcmp(words[0], "batch")) {
             WANTED(wz_batch_new(&batch) == WZ_DONE);
         } else {
-            answer_batch(&batch, words[0], words[1], words[2]);
+            answer_batch(&batch, words[0], words[1], words[2], words[3]);
         }
     }
     wz_close(&batch);
@@ -265,7 +270,7 @@ static void check_other_kinds(wz_handle *handle, int is_reader, int is_recovery,
     uint8_t byte = MARK, other = MARK;
     wz_record record = {1, 2, 3};
     wz_end end = {1, 2, 3, 4};
-    wz_pair_lens lens = {5, 6};
+    wz_pair_lens lens = {4, 5, 6};
     wz_batch_head head = {7, 8};
     size_t number = 9;
     if (!is_reader) {
@@ -275,12 +280,15 @@ static void check_other_kinds(wz_handle *handle, int is_reader, int is_recovery,
     if (!is_recovery) {
         WANTED(wz_pair_len(handle, 0, &lens) == WZ_CLOSED);
         WANTED(wz_pair(handle, 0, &byte, 1, &other, 1) == WZ_CLOSED);
-        WANTED(wz_pair_find(handle, &byte, 1, &number) == WZ_CLOSED);
+        WANTED(wz_pair_find(handle, 1, &byte, 1, &number) == WZ_CLOSED);
     }
     if (!is_batch) {
         WANTED(wz_batch_put(handle, &byte, 1, &byte, 1) == WZ_CLOSED);
         WANTED(wz_batch_delete(handle, &byte, 1) == WZ_CLOSED);
         WANTED(wz_batch_single_delete(handle, &byte, 1) == WZ_CLOSED);
+        WANTED(wz_batch_put_cf(handle, 1, &byte, 1, &byte, 1) == WZ_CLOSED);
+        WANTED(wz_batch_delete_cf(handle, 1, &byte, 1) == WZ_CLOSED);
+        WANTED(wz_batch_single_delete_cf(handle, 1, &byte, 1) == WZ_CLOSED);
         WANTED(wz_batch_log_data(handle, &byte, 1) == WZ_CLOSED);
         WANTED(wz_batch_clear(handle) == WZ_CLOSED);
         WANTED(wz_batch_set_sequence(handle, 1) == WZ_CLOSED);
@@ -292,12 +300,12 @@ static void check_other_kinds(wz_handle *handle, int is_reader, int is_recovery,
     }
     WANTED(byte == MARK && other == MARK && number == 9);
     WANTED(record.start == 1 && record.end == 2 && record.len == 3 && end.at == 1 && end.why == 2);
-    WANTED(lens.key_len == 5 && lens.value_len == 6 && head.sequence == 7 && head.count == 8);
+    WANTED(lens.family == 4 && lens.key_len == 5 && lens.value_len == 6 && head.sequence == 7 && head.count == 8);
 }
 
 static void check_no_pair(wz_handle *recovery, size_t pairs) {
     uint8_t byte = MARK, other = MARK;
-    wz_pair_lens lens = {5, 6};
+    wz_pair_lens lens = {4, 5, 6};
     size_t index = 9;
     for (int i = 0; i < 2; i++) {
         size_t past = i == 0 ? pairs : SIZE_MAX;
@@ -305,7 +313,7 @@ static void check_no_pair(wz_handle *recovery, size_t pairs) {
         WANTED(wz_pair(recovery, past, &byte, 1, &other, 1) == WZ_END && byte == MARK && other == MARK);
     }
     uint8_t last[] = {255, 255, 255};
-    WANTED(wz_pair_find(recovery, last, sizeof last, &index) == WZ_END && index == pairs);
+    WANTED(wz_pair_find(recovery, UINT32_MAX, last, sizeof last, &index) == WZ_END && index == pairs);
 }
 
 // A batch takes no more bytes than it may, and stays as it is.
@@ -384,7 +392,7 @@ static int calls(void) {
     check_other_kinds(&handle, 1, 0, 0);
     wz_close(&handle);
 
-    wz_op op = {1, 2, 3, 4, 5};
+    wz_op op = {1, 7, 2, 3, 4, 5};
     size_t at = sizeof batch + 1;
     end.at = 55;
     WANTED(wz_batch_next(batch, sizeof batch, &at, &op, &end) == WZ_RANGE && at == sizeof batch + 1);
@@ -392,7 +400,7 @@ static int calls(void) {
     WANTED(wz_batch_next(batch, sizeof batch, &at, &op, &end) == WZ_RANGE && at == SIZE_MAX);
     at = sizeof batch;
     WANTED(wz_batch_next(batch, sizeof batch, &at, &op, &end) == WZ_END && at == sizeof batch);
-    WANTED(op.kind == 1 && op.key_at == 2 && op.value_len == 5 && end.at == 55);
+    WANTED(op.kind == 1 && op.family == 7 && op.key_at == 2 && op.value_len == 5 && end.at == 55);
 
     WANTED(wz_log_record_len(0, 0, SIZE_MAX) == SIZE_MAX && wz_log_record_len(0, 0, SIZE_MAX - 7) == SIZE_MAX);
     WANTED(wz_log_record_len(7, UINT64_MAX, 0) == 12 && wz_log_record_len(0, UINT64_MAX, 0) == 8);

@@ -140,33 +140,49 @@ static wz_end read_plainly(void) {
 
 // The plain batch.
 
-// A string after its length, at a place, which then moves past it. Answers 0, or the reason why there is none.
-static uint32_t string_at(const uint8_t *at, size_t len, size_t *place, size_t *string, size_t *string_len) {
-    uint64_t found = 0;
+// A number at a place, which then moves past it. Answers 0, or the reason why there is none.
+static uint32_t number_at(const uint8_t *at, size_t len, size_t *place, uint64_t *found) {
+    *found = 0;
     for (int used = 0;; used++) {
         if (*place + used == len) return WZ_SHORT;
         uint8_t byte = at[*place + used];
-        found |= (uint64_t)(byte & 127) << 7 * used;
+        *found |= (uint64_t)(byte & 127) << 7 * used;
         if ((used == 4 && byte > 15) || (used > 0 && byte == 0)) return WZ_BAD_VARINT;
         if (byte >= 128) continue;
-        *string = *place + used + 1;
-        if (found > len - *string) return WZ_SHORT;
-        *string_len = found;
-        *place = *string + found;
+        *place += used + 1;
         return 0;
     }
+}
+
+// A string after its length, at a place, which then moves past it. Answers 0, or the reason why there is none.
+static uint32_t string_at(const uint8_t *at, size_t len, size_t *place, size_t *string, size_t *string_len) {
+    uint64_t found;
+    uint32_t reason = number_at(at, len, place, &found);
+    if (reason != 0) return reason;
+    if (found > len - *place) return WZ_SHORT;
+    *string = *place;
+    *string_len = found;
+    *place += found;
+    return 0;
+}
+
+static int is_value(wz_op op) {
+    return op.kind == 1 || op.kind == 5;
 }
 
 // The operation at a place, which then moves past it; or why there is none.
 static int op_at(const uint8_t *at, size_t len, size_t *place, wz_op *op, wz_end *why) {
     size_t next = *place + 1;
-    wz_op found = {at[*place], 0, 0, 0, 0};
+    wz_op found = {at[*place], 0, 0, 0, 0, 0};
     uint32_t reason = 0;
-    if (found.kind != 0 && found.kind != 1 && found.kind != 3 && found.kind != 7) {
+    uint64_t family = 0;
+    if (found.kind > 8 || found.kind == 2 || found.kind == 6) {
         return *why = end_at(*place, WZ_TAG, found.kind, 0), 0;
     }
-    reason = string_at(at, len, &next, &found.key_at, &found.key_len);
-    if (reason == 0 && found.kind == 1) reason = string_at(at, len, &next, &found.value_at, &found.value_len);
+    if (found.kind == 4 || found.kind == 5 || found.kind == 8) reason = number_at(at, len, &next, &family);
+    found.family = (uint32_t)family;
+    if (reason == 0) reason = string_at(at, len, &next, &found.key_at, &found.key_len);
+    if (reason == 0 && is_value(found)) reason = string_at(at, len, &next, &found.value_at, &found.value_len);
     if (reason != 0) return *why = end_at(*place, reason, 0, 0), 0;
     *op = found;
     *place = next;
@@ -188,10 +204,11 @@ static int batch_of(const uint8_t *at, size_t len, wz_batch_head *head, wz_end *
     return 1;
 }
 
-// The plain map, in the order of its keys.
+// The plain map, by family, and in a family in the order of its keys.
 typedef struct {
     const uint8_t *key, *value;
     size_t key_len, value_len;
+    uint32_t family;
 } row;
 enum { ROWS = 1 << 16 };
 static row rows[ROWS];
@@ -205,18 +222,20 @@ static int order_of(const uint8_t *one, size_t one_len, const uint8_t *two, size
 static void change_map(const uint8_t *at, wz_op op) {
     size_t place = 0;
     int order = 1;
-    while (place < row_count &&
-           (order = order_of(rows[place].key, rows[place].key_len, at + op.key_at, op.key_len)) < 0) {
-        place++;
+    for (; place < row_count; place++) {
+        row *it = rows + place;
+        order = (it->family > op.family) - (it->family < op.family);
+        if (order == 0) order = order_of(it->key, it->key_len, at + op.key_at, op.key_len);
+        if (order >= 0) break;
     }
     int is_there = place < row_count && order == 0;
     if (op.kind == 3) return;
-    if (op.kind != 1) {
+    if (!is_value(op)) {
         if (is_there) memmove(rows + place, rows + place + 1, (--row_count - place) * sizeof(row));
         return;
     }
     if (!is_there) memmove(rows + place + 1, rows + place, (row_count++ - place) * sizeof(row));
-    row made = {at + op.key_at, at + op.value_at, op.key_len, op.value_len};
+    row made = {at + op.key_at, at + op.value_at, op.key_len, op.value_len, op.family};
     rows[place] = made;
 }
 
@@ -265,7 +284,7 @@ static int is_same_end(wz_end one, wz_end two) {
 static void compare_batch(const uint8_t *at, size_t len) {
     wz_batch_head head = {0, 0}, plain = {0, 0};
     wz_end why = {0, 0, 0, 0}, plain_why = {0, 0, 0, 0};
-    wz_op op = {0, 0, 0, 0, 0}, plain_op = {0, 0, 0, 0, 0};
+    wz_op op = {0, 0, 0, 0, 0, 0}, plain_op = {0, 0, 0, 0, 0, 0};
     size_t place = 12, plain_place = 12;
     int is_batch = batch_of(at, len, &plain, &plain_why);
     SAME(wz_batch_read(at, len, &head, &why) == (is_batch ? WZ_DONE : WZ_NO_BATCH), "whether a record is a batch");
@@ -276,6 +295,7 @@ static void compare_batch(const uint8_t *at, size_t len) {
     }
     while (plain_place < len && op_at(at, len, &plain_place, &plain_op, &plain_why)) {
         SAME(wz_batch_next(at, len, &place, &op, &why) == WZ_DONE && place == plain_place, "a record of a batch");
+        SAME(op.family == plain_op.family, "a family");
         SAME(op.kind == plain_op.kind && op.key_at == plain_op.key_at && op.key_len == plain_op.key_len, "a key");
         SAME(op.value_at == plain_op.value_at && op.value_len == plain_op.value_len, "a value");
     }
@@ -321,7 +341,10 @@ static void compare(void) {
             size_t index = SIZE_MAX;
             SAME(wz_pair(&handle, i, buffer, it->key_len, value, it->value_len) == WZ_DONE, "a pair");
             SAME(!memcmp(buffer, it->key, it->key_len) && !memcmp(value, it->value, it->value_len), "a pair's bytes");
-            SAME(wz_pair_find(&handle, it->key, it->key_len, &index) == WZ_DONE && index == i, "where a key is found");
+            wz_pair_lens lens;
+            SAME(wz_pair_len(&handle, i, &lens) == WZ_DONE && lens.family == it->family, "a pair's family");
+            code = wz_pair_find(&handle, it->family, it->key, it->key_len, &index);
+            SAME(code == WZ_DONE && index == i, "where a key is found");
         }
     }
     wz_close(&handle);

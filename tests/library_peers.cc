@@ -1,6 +1,6 @@
 // Has RocksDB or LevelDB write a log, for `library` in this folder, and prints what is written, in the form in which
-// the example print_log prints it. With RocksDB it also makes many batches by draws, and compares their bytes with
-// those that the library makes.
+// the example print_log prints it. With RocksDB it also makes many batches by draws, some of keys in four column
+// families, and compares their bytes with those that the library makes.
 //
 //     library_peers FOLDER
 //
@@ -11,6 +11,7 @@
 #include <random>
 #include <stdexcept>
 #include <string>
+#include <vector>
 
 #include "wolzenn.h"
 
@@ -47,9 +48,38 @@ static const uint8_t* bytes(const std::string& text) {
     return reinterpret_cast<const uint8_t*>(text.data());
 }
 
+#ifdef ROCKSDB_MAJOR
+// The column families of the database, by their numbers.
+static std::vector<PEER::ColumnFamilyHandle*> families;
+
+// Adds an operation on a key of this family to both batches, and answers it in the form in which print_log prints it.
+// The default family isn't named.
+static std::string add_in(uint32_t family, PEER::WriteBatch& theirs, wz_handle* ours) {
+    std::string key = text(), value = text(), name = family == 0 ? "" : std::to_string(family) + " ";
+    auto kind = draws() % 4;
+    if (kind == 0) {
+        theirs.Delete(families[family], key);
+        check(wz_batch_delete_cf(ours, family, bytes(key), key.size()) == WZ_DONE, "a deletion in a family");
+        return "  del " + name + hex(key) + "\n";
+    }
+    if (kind == 1) {
+        theirs.SingleDelete(families[family], key);
+        check(wz_batch_single_delete_cf(ours, family, bytes(key), key.size()) == WZ_DONE, "a single one in a family");
+        return "  sdel " + name + hex(key) + "\n";
+    }
+    theirs.Put(families[family], key, value);
+    auto code = wz_batch_put_cf(ours, family, bytes(key), key.size(), bytes(value), value.size());
+    check(code == WZ_DONE, "a value in a family");
+    return "  put " + name + hex(key) + " " + hex(value) + "\n";
+}
+#endif
+
 // Adds an operation to both batches, and answers it in the form in which print_log prints it.
 template <class Batch>
 static std::string add(Batch& theirs, wz_handle* ours) {
+#ifdef ROCKSDB_MAJOR
+    if (auto family = draws() % (2 * families.size()); family < families.size()) return add_in(family, theirs, ours);
+#endif
     std::string key = text(), value = text();
     uint32_t code = WZ_DONE;
     std::string line;
@@ -95,7 +125,14 @@ int main(int argc, char** argv) {
     PEER::Options options;
     options.create_if_missing = true;
     PEER::DB* opened = nullptr;
+#ifdef ROCKSDB_MAJOR
+    options.create_missing_column_families = true;
+    std::vector<PEER::ColumnFamilyDescriptor> wanted = {{PEER::kDefaultColumnFamilyName, options}};
+    for (int family = 1; family < 4; family++) wanted.emplace_back("f" + std::to_string(family), options);
+    check(PEER::DB::Open(options, argv[1], wanted, &families, &opened).ok(), "an opening");
+#else
     check(PEER::DB::Open(options, argv[1], &opened).ok(), "an opening");
+#endif
     std::unique_ptr<PEER::DB> database(opened);
     wz_handle ours = WZ_HANDLE_INIT;
     for (int turn = 0; turn < 400; turn++) {
@@ -111,5 +148,8 @@ int main(int argc, char** argv) {
         std::fputs(lines.c_str(), stdout);
     }
     wz_close(&ours);
+#ifdef ROCKSDB_MAJOR
+    for (auto* family : families) database->DestroyColumnFamilyHandle(family);
+#endif
     return 0;
 }

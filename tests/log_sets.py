@@ -42,10 +42,12 @@ def bytes_before(script):
     return most
 
 
-def script_to_rotate(draw, count=None):
-    """A script of this many clients, or of several, in which one client has two batches for the log."""
+def script_to_rotate(draw, count=None, families=1):
+    """A script of this many clients, or of several, with keys of this many families, in which one client has two batches
+    for the log.
+    """
     while True:
-        script = script_of(draw, is_named=True, count=count)
+        script = script_of(draw, is_named=True, count=count, families=families)
         if bytes_before(script):
             return script
 
@@ -157,11 +159,11 @@ def check_set_images(contents, safe, draw, recovered):
         wanted(left[: len(kept)] == kept, f"all records of what is safe, {safe}")
 
 
-def check_printed_set(script, text, contents, limit):
+def check_printed_set(script, text, contents, limit, families=1):
     """Checks an outcome and the logs that it is about, of which one may have failed. Gives back the history, whether
     one has failed, the records of each log, and what each has up to its printed length.
     """
-    batches, rest = check_outcome(script, text)
+    batches, rest = check_outcome(script, text, families=families)
     lens, fault = logs_in(rest)
     found, _ = check_filled(contents, limit)
     count = len(lens)
@@ -177,11 +179,11 @@ def check_printed_set(script, text, contents, limit):
     return batches, fault is not None, found, [*contents[: count - 1], last[: lens[-1]]]
 
 
-def check_set_run(script, status, text, contents, limit, notes, recovered):
+def check_set_run(script, status, text, contents, limit, notes, recovered, families=1):
     """Checks a run that has ended by itself, and gives back whether one of its logs has failed. What was acknowledged
     with a sync is safe.
     """
-    batches, has_failed, found, kept = check_printed_set(script, text, contents, limit)
+    batches, has_failed, found, kept = check_printed_set(script, text, contents, limit, families)
     wanted(status == (3 if has_failed else 0), f"a status that fits {text[-40:]!r}, not {status}")
     check_recovery(batches, recovered(kept))
     check_recovery_of_logs(contents, recovered)
@@ -193,14 +195,14 @@ def check_set_run(script, status, text, contents, limit, notes, recovered):
     return has_failed
 
 
-def check_set_left(script, status, text, contents, limit, notes, draw, recovered):
+def check_set_left(script, status, text, contents, limit, notes, draw, recovered, families=1):
     """Checks what a run has left that has ended well, with the status 0 and this text, or was killed."""
     found, why = check_filled(contents, limit)
     records = [record for own in found for record in own]
     wanted(why.split(" ")[0] in (CUT_OFF if status else CUT_OFF[:1]), f"logs that are whole, or cut off, and not {why}")
     synced = check_records(script, records)
     if status == 0:
-        batches, rest = check_outcome(script, text)
+        batches, rest = check_outcome(script, text, families=families)
         lens = [length for length in lens_of(contents) if length]
         wanted(logs_in(rest) == (lens, None), f"the lengths {lens}: {rest}")
         wanted(len(lens) > 1, f"a second log of {lens}, where {limit} bytes are the limit")

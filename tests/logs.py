@@ -13,11 +13,11 @@ What may be left where the machine crashes too must be a front of the records, w
 
 from typing import NamedTuple
 
-from outcomes import TAGS, count_of, flag_of, record_bytes, wanted
-from plain_log import FULL, LAST, End, batch_of, fragments_of, header_len, records_of, recover_into, recovery_of
+from outcomes import TAGS, TAGS_OF_FAMILIES, adds, count_of, flag_of, record_bytes, wanted
+from plain_log import FULL, LAST, NAMING, End, batch_of, fragments_of, header_len, records_of, recover_into, recovery_of
 
 # The first word of a line that adds to a batch, by the tag of what it adds.
-WORDS = {tag[0]: word for word, tag in TAGS.items()}
+WORDS = {tag[0]: word for word, tag in TAGS.items()} | {tag[0]: "f" + word for word, tag in TAGS_OF_FAMILIES.items()}
 
 
 class Record(NamedTuple):
@@ -27,6 +27,11 @@ class Record(NamedTuple):
     first: int
     count: int
     lines: list
+
+
+def line_of(tag, strings, family):
+    """The line that adds what a change has."""
+    return [WORDS[tag], *([str(family)] if tag in NAMING else []), *(string.decode() for string in strings)]
 
 
 def read_log(content, number=None):
@@ -40,7 +45,7 @@ def read_log(content, number=None):
     try:
         for end, (_, record) in zip(ends, records_of(content, number)):
             first, count, changes = batch_of(record)
-            lines = [[WORDS[tag], *(string.decode() for string in strings)] for tag, strings in changes]
+            lines = [line_of(*change) for change in changes]
             records.append(Record(end, first, count, lines))
     except End as end:
         why = end.args[1]
@@ -57,7 +62,7 @@ def recovered_of(content, number=None):
     """The last sequence and the map that a log, whose keys and values are text, recovers."""
     pairs = {}
     last, _, _ = recover_into([], pairs, content, number)
-    return last, {key.decode(): value.decode() for key, value in pairs.items()}
+    return last, {(family, key.decode()): value.decode() for (family, key), value in pairs.items()}
 
 
 def batches_of(script):
@@ -69,7 +74,7 @@ def batches_of(script):
             if words[0] == "commit":
                 batches.append((flag_of(words), pending))
                 pending = []
-            elif words[0] in TAGS:
+            elif adds(words):
                 pending.append(words)
         clients.append(batches)
     return clients

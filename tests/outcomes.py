@@ -8,6 +8,7 @@ says what is wrong with it. Of an outcome these must hold:
 - each read is that of a plain map at its sequence, which is the end of a batch; the sequence is not below what the
   client has seen before, its own batches included;
 - the printed state is the map at the published sequence;
+- a commit and a read of a column family that there isn't are refused by the first such family;
 - where a log has failed, each client is refused by that fault from some commit on, and at least one client is;
 - a client that finds no memory learns it in its last line, and its call is not in the history;
 - a token's line is answered by the client's own tokens. Where the client holds a stop token, each of its commits is
@@ -63,12 +64,50 @@ def string_bytes(text):
     return varint(len(text)) + text.encode()
 
 
-# The tag of each record.
+# The tag of each record that names no family, and of those that name one.
 TAGS = {"del": b"\x00", "put": b"\x01", "note": b"\x03", "sdel": b"\x07"}
+TAGS_OF_FAMILIES = {"del": b"\x04", "put": b"\x05", "sdel": b"\x08"}
+
+
+def adds(words):
+    """Whether a line adds a record."""
+    return words[0] in TAGS or words[0] in ("fput", "fdel", "fsdel")
+
+
+def plain_of(words):
+    """The family of a line, which is 0 where it names none, and the words of the line that names none."""
+    if words[0] in ("fput", "fdel", "fsdel", "fget", "fscan"):
+        return int(words[1]), [words[0][1:], *words[2:]]
+    return 0, words
+
+
+def places_of(words):
+    """The keys of a read of several, each after its family."""
+    if words[0] == "fmany":
+        return [(int(family), key) for family, key in zip(words[1::2], words[2::2])]
+    return [(0, key) for key in words[1:]]
+
+
+def is_read(words):
+    return words[0] in ("get", "many", "scan", "fget", "fmany", "fscan")
+
+
+def families_of(words):
+    """The families of the keys that a line names, in its order."""
+    if words[0] in ("many", "fmany"):
+        return [family for family, _ in places_of(words)]
+    return [] if words[0] == "note" else [plain_of(words)[0]]
+
+
+def first_missing(lines, families):
+    """The first family of some lines that there isn't, or None."""
+    return next((of for words in lines for of in families_of(words) if of >= families), None)
 
 
 def record_bytes(words):
-    return TAGS[words[0]] + b"".join(string_bytes(text) for text in words[1:])
+    family, (word, *texts) = plain_of(words)
+    tag = TAGS[word] if family == 0 else TAGS_OF_FAMILIES[word] + varint(family)
+    return tag + b"".join(string_bytes(text) for text in texts)
 
 
 def count_of(records):
@@ -77,25 +116,33 @@ def count_of(records):
 
 
 def changed(pairs, records):
-    """The map after some records."""
+    """The map after some records. Its keys are pairs of a family and a key in it."""
     pairs = dict(pairs)
     for words in records:
-        if words[0] == "put":
-            pairs[words[1]] = words[2]
-        elif words[0] != "note":
-            pairs.pop(words[1], None)
+        family, (word, *texts) = plain_of(words)
+        if word == "put":
+            pairs[family, texts[0]] = texts[1]
+        elif word != "note":
+            pairs.pop((family, texts[0]), None)
     return pairs
 
 
 def read_of(words, at, pairs):
     """What a read prints of a map."""
-    if words[0] == "get":
-        return f"val {at} {pairs[words[1]]}" if words[1] in pairs else f"nil {at}"
-    if words[0] == "many":
-        found = [f" ={pairs[key]}" if key in pairs else " -" for key in words[1:]]
+    if words[0] in ("many", "fmany"):
+        found = [f" ={pairs[place]}" if place in pairs else " -" for place in places_of(words)]
         return f"many {at} {len(found)}" + "".join(found)
-    rows = [(key, pairs[key]) for key in sorted(pairs) if words[1] <= key < words[2]]
+    family, (word, *keys) = plain_of(words)
+    if word == "get":
+        place = (family, keys[0])
+        return f"val {at} {pairs[place]}" if place in pairs else f"nil {at}"
+    rows = [(key, pairs[of, key]) for of, key in sorted(pairs) if of == family and keys[0] <= key < keys[1]]
     return f"scan {at} {len(rows)}" + "".join(f" {key} {value}" for key, value in rows)
+
+
+def rows_of(pairs):
+    """The lines of a map, by family and in a family by key. The default family isn't named."""
+    return [f"{of} " * (of > 0) + f"{key} {pairs[of, key]}" for of, key in sorted(pairs)]
 
 
 def sections_of(text, clients):
@@ -163,28 +210,33 @@ def tokens_in(script):
     return {kind: sum(any(words[0] == kind for words in lines) for lines in script) for kind in kinds}
 
 
-def calls_of(commands, replies, whole, fault, tokens, may_stall):
+def calls_of(commands, replies, whole, fault, tokens, may_stall, families):
     """A client's accepted batches by its replies, the one whose answer it waits for, its reads with what it had seen
     before each, and whether a commit was refused by the log's fault, if there is one.
 
     Where the run is not whole, the replies may end early. They may too where the last one is that there was no memory;
     then the client waits for nothing. In a schedule in which leaders stall writes (`may_stall`), a commit that may not
-    wait may be refused.
+    wait may be refused. A commit with a record, and a read, of a family that isn't one of the first `families` is
+    refused by the first such family.
     """
     replies, ended = list(replies), lacks_memory(replies)
     if ended:
         replies.pop()
     pending, accepted, reads, seen, is_refused, held = [], [], [], 0, False, set()
     for words in commands:
-        if words[0] in TAGS:
+        if adds(words):
             pending.append(words)
             continue
+        lines = pending if words[0] == "commit" else [words] if is_read(words) else []
+        missing = first_missing(lines, families)
         if not replies and (ended or not whole):
             waits = (flag_of(words), pending) if words[0] == "commit" and not ended else None
             return accepted, waits, reads, is_refused
         wanted(replies, f"a reply to {' '.join(words)}")
         reply = replies.pop(0).split(" ")
-        if words[0] in ("stop", "unstop", "slow", "unslow"):
+        if missing is not None:
+            wanted(reply == ["no", "family", str(missing)], f"no family {missing}, not {' '.join(reply)}")
+        elif words[0] in ("stop", "unstop", "slow", "unslow"):
             answer = token_reply(words, held)
             wanted(reply == [answer], f"{answer}, not {' '.join(reply)}")
         elif words[0] == "commit":
@@ -221,18 +273,19 @@ def history_line(client, ordinal, first, flag, records):
     return f"{first} {first + count - 1} {client} {ordinal} {flag} {batch.hex()}"
 
 
-def check_outcome(script, text, whole=True, before=(0, {}), may_stall=False):
+def check_outcome(script, text, whole=True, before=(0, {}), may_stall=False, families=1):
     """Checks an outcome up to its state, and gives back the batches of its history, and the lines after the state.
 
     Where the run is not whole, the history may have one more batch of each client, whose answer the client hasn't got
     yet. `before` is the last sequence and the map that the run went on from. `may_stall` is for a schedule in which
-    leaders stall writes.
+    leaders stall writes. `families` is how many column families there are.
     """
     replies, rest = sections_of(text, len(script))
     fault = fault_of(rest)
     batches, waits, reads, are_refused, tokens = [], {}, [], False, tokens_in(script)
     for client, (commands, own) in enumerate(zip(script, replies), 1):
-        accepted, waiting, own_reads, is_refused = calls_of(commands, own, whole, fault, tokens, may_stall)
+        found = calls_of(commands, own, whole, fault, tokens, may_stall, families)
+        accepted, waiting, own_reads, is_refused = found
         are_refused = are_refused or is_refused
         for ordinal, (first, last, flag, records) in enumerate(accepted, 1):
             batches.append((first, last, history_line(client, ordinal, first, flag, records), records))
@@ -262,8 +315,8 @@ def check_outcome(script, text, whole=True, before=(0, {}), may_stall=False):
     state, at, count = rest.pop(0).split(" ")
     wanted(state == "state" and int(at) in maps and (not whole or int(at) == end), f"the state at a batch's end: {at}")
     wanted(int(count) == len(maps[int(at)]), f"the state's length {count}")
-    for key in sorted(maps[int(at)]):
-        wanted(rest.pop(0) == f"{key} {maps[int(at)][key]}", f"the state of {key}")
+    for row in rows_of(maps[int(at)]):
+        wanted(rest.pop(0) == row, f"the state's line {row}")
     return batches, rest
 
 

@@ -1,11 +1,16 @@
 // Runs a script on RocksDB itself, and prints each reply as the program would, for a refusal its first word alone. The
-// log of the database at PATH is left as it was written.
+// log of the database at PATH is left as it was written. It has FAMILIES column families, one if left out: the default
+// one, and those with the names f1, f2 and so on, which have these numbers.
 //
-//     peers script PATH < SCRIPT
+//     peers script PATH [FAMILIES] < SCRIPT
 //
-// Or lets several threads write at once, so that RocksDB makes groups of their batches.
+// Or lets several threads write at once, to all these families, so that RocksDB makes groups of their batches.
 //
-//     peers threads PATH
+//     peers threads PATH [FAMILIES]
+//
+// Or makes a database with no keys in these families.
+//
+//     peers empty PATH FAMILIES
 //
 // Or writes logs over older ones, by the option `recycle_log_file_num`, and copies each into the folder COPIES as it
 // is before its database begins another log. The copy has the log's own name.
@@ -26,29 +31,116 @@
 #include <rocksdb/transaction_log.h>
 #include <rocksdb/write_batch.h>
 
+#include <algorithm>
+#include <cstdlib>
 #include <filesystem>
 #include <iostream>
 #include <memory>
 #include <sstream>
 #include <string>
 #include <thread>
+#include <utility>
 #include <vector>
 
-static void run_script(rocksdb::DB& db) {
+// A database, and its column families by their numbers.
+struct Families {
+    std::unique_ptr<rocksdb::DB> db;
+    std::vector<rocksdb::ColumnFamilyHandle*> all;
+
+    Families() = default;
+    Families(const Families&) = delete;
+    ~Families() { close(); }
+
+    bool close() {
+        for (auto* one : all) db->DestroyColumnFamilyHandle(one);
+        all.clear();
+        return db == nullptr || db->Close().ok();
+    }
+};
+
+static bool open(rocksdb::Options options, const std::string& path, int count, Families& families) {
+    options.create_missing_column_families = true;
+    std::vector<rocksdb::ColumnFamilyDescriptor> wanted = {{rocksdb::kDefaultColumnFamilyName, options}};
+    for (int family = 1; family < count; family++) wanted.emplace_back("f" + std::to_string(family), options);
+    rocksdb::DB* opened = nullptr;
+    if (!rocksdb::DB::Open(options, path, wanted, &families.all, &opened).ok()) return false;
+    families.db.reset(opened);
+    for (int family = 0; family < count; family++)
+        if (families.all[family]->GetID() != static_cast<uint32_t>(family)) return false;
+    return true;
+}
+
+// The keys of a line `many A B`, or `fmany F A G B`, each with its family.
+static std::vector<std::pair<size_t, std::string>> places_of(std::istringstream& words, bool has_families) {
+    std::vector<std::pair<size_t, std::string>> places;
+    size_t family = 0;
+    std::string key;
+    while ((!has_families || words >> family) && words >> key) places.emplace_back(family, key);
+    return places;
+}
+
+static void tell_many(Families& families, const std::vector<std::pair<size_t, std::string>>& places) {
+    std::cout << "many " << families.db->GetLatestSequenceNumber() << " " << places.size();
+    for (const auto& [family, key] : places) {
+        std::string found;
+        bool there = families.db->Get(rocksdb::ReadOptions(), families.all[family], key, &found).ok();
+        std::cout << (there ? " =" + found : " -");
+    }
+    std::cout << "\n";
+}
+
+static void tell_rows(Families& families, size_t family, const std::string& low, const std::string& high) {
+    std::unique_ptr<rocksdb::Iterator> rows(families.db->NewIterator(rocksdb::ReadOptions(), families.all[family]));
+    std::string found;
+    int count = 0;
+    for (rows->Seek(low); rows->Valid() && rows->key().compare(high) < 0; rows->Next(), count++)
+        found += " " + rows->key().ToString() + " " + rows->value().ToString();
+    std::cout << "scan " << families.db->GetLatestSequenceNumber() << " " << count << found << "\n";
+}
+
+static void run_script(Families& families) {
+    rocksdb::DB& db = *families.db;
     rocksdb::WriteBatch batch;
+    // Whether a record of the batch is of a family that there isn't.
+    bool lacks_family = false;
     std::string line;
     while (std::getline(std::cin, line)) {
         std::istringstream words(line);
         std::string command, key, value;
-        words >> command >> key >> value;
-        if (command == "put") batch.Put(key, value);
-        if (command == "del") batch.Delete(key);
-        if (command == "sdel") batch.SingleDelete(key);
+        words >> command;
+        if (command == "many" || command == "fmany") {
+            auto places = places_of(words, command == "fmany");
+            bool there = true;
+            for (const auto& [family, one] : places) there = there && family < families.all.size();
+            if (there) tell_many(families, places);
+            else std::cout << "no\n";
+            continue;
+        }
+        size_t family = 0;
+        bool names_family = command.size() > 1 && command[0] == 'f';
+        if (names_family) {
+            words >> family;
+            command.erase(0, 1);
+        }
+        words >> key >> value;
+        if (family >= families.all.size()) {
+            if (command == "get" || command == "scan") std::cout << "no\n";
+            else lacks_family = true;
+            continue;
+        }
+        auto* own = families.all[family];
+        if (command == "put") batch.Put(own, key, value);
+        if (command == "del") batch.Delete(own, key);
+        if (command == "sdel") batch.SingleDelete(own, key);
         if (command == "note") batch.PutLogData(key);
-        if (command == "clear") batch.Clear();
+        if (command == "clear") {
+            batch.Clear();
+            lacks_family = false;
+        }
+        if (command == "scan") tell_rows(families, family, key, value);
         if (command == "get") {
             std::string found;
-            bool there = db.Get(rocksdb::ReadOptions(), key, &found).ok();
+            bool there = db.Get(rocksdb::ReadOptions(), own, key, &found).ok();
             std::cout << (there ? "val " : "nil ") << db.GetLatestSequenceNumber() << (there ? " " + found : "") << "\n";
         }
         if (command == "commit") {
@@ -56,7 +148,7 @@ static void run_script(rocksdb::DB& db) {
             how.sync = key == "sync";
             how.disableWAL = key == "nolog" || value == "nolog";
             // RocksDB writes an empty batch too, which takes no sequence.
-            if (batch.Count() > 0 && db.Write(how, &batch).ok()) {
+            if (batch.Count() > 0 && !lacks_family && db.Write(how, &batch).ok()) {
                 auto last = db.GetLatestSequenceNumber();
                 std::cout << "ok " << last - batch.Count() + 1 << " " << last << "\n";
                 batch.Clear();
@@ -67,18 +159,22 @@ static void run_script(rocksdb::DB& db) {
     }
 }
 
-static void run_threads(rocksdb::DB& db) {
+// Each batch writes to two families, where there are several, and the same keys are in all of them.
+static void run_threads(Families& families) {
     std::vector<std::thread> threads;
     for (int client = 0; client < 8; client++) {
-        threads.emplace_back([&db, client] {
+        threads.emplace_back([&families, client] {
             rocksdb::WriteOptions how;
             how.sync = true;
             for (int turn = 0; turn < 50; turn++) {
+                auto* one = families.all[turn % families.all.size()];
+                auto* other = families.all[(turn / 3 + client) % families.all.size()];
                 rocksdb::WriteBatch batch;
-                batch.Put("key" + std::to_string(turn % 7), std::to_string(100 * client + turn));
+                batch.Put(one, "key" + std::to_string(turn % 7), std::to_string(100 * client + turn));
                 batch.PutLogData("by " + std::to_string(client));
-                batch.Delete("key" + std::to_string((turn + client) % 11));
-                db.Write(how, &batch);
+                batch.Delete(other, "key" + std::to_string((turn + client) % 11));
+                if (turn % 5 == 4) batch.Put(other, "own" + std::to_string(client), "");
+                families.db->Write(how, &batch);
             }
         });
     }
@@ -180,12 +276,16 @@ int main(int count, char** words) {
     }
     // Otherwise what stays out of the log would be flushed to a table at the end.
     options.avoid_flush_during_shutdown = true;
-    rocksdb::DB* opened = nullptr;
-    if ((count != 3 && !recycles) || !rocksdb::DB::Open(options, words[2], &opened).ok()) return 1;
-    std::unique_ptr<rocksdb::DB> db(opened);
-    if (words[1] == std::string("script")) run_script(*db);
-    if (words[1] == std::string("threads")) run_threads(*db);
-    if (recycles && !write_over(*db, words[2], words[3])) return 1;
-    if (has_several && !write_several(*db)) return 1;
-    return db->Close().ok() ? 0 : 1;
+    const std::vector<std::string> of_families = {"script", "threads", "empty"};
+    bool has_families = std::find(of_families.begin(), of_families.end(), count > 1 ? words[1] : "") != of_families.end();
+    Families families;
+    int number = has_families && count == 4 ? std::atoi(words[3]) : 1;
+    if ((count != 3 && !recycles && !(has_families && count == 4)) || number < 1) return 1;
+    if (!open(options, words[2], number, families)) return 1;
+    rocksdb::DB& db = *families.db;
+    if (words[1] == std::string("script")) run_script(families);
+    if (words[1] == std::string("threads")) run_threads(families);
+    if (recycles && !write_over(db, words[2], words[3])) return 1;
+    if (has_several && !write_several(db)) return 1;
+    return families.close() ? 0 : 1;
 }

@@ -5,7 +5,7 @@ docs/FORMATS.md, and nothing of the program's own. Clients are numbered from 1, 
 words.
 """
 
-from outcomes import changed, count_of, flag_of, history_line, read_of, record_bytes
+from outcomes import changed, count_of, first_missing, flag_of, history_line, is_read, read_of, record_bytes, rows_of
 
 # The greatest sequence.
 GREATEST = 2**56 - 1
@@ -48,7 +48,7 @@ class Client:
 
     def next_call(self):
         """Its next commit or read, if there is one. Lines before it that add to its batch, or empty it, are done."""
-        while self.left and self.left[0][0] not in ("commit", "get", "many", "scan"):
+        while self.left and self.left[0][0] != "commit" and not is_read(self.left[0]):
             words = self.left.pop(0)
             self.pending = [] if words[0] == "clear" else [*self.pending, words]
         return self.left[0] if self.left else None
@@ -93,8 +93,9 @@ class Core:
     `handed`. The table is `still`, `launched` or `published`.
     """
 
-    def __init__(self, script, is_pipelined=False, group_bytes=2**20, batch_bytes=2**24, last=0):
+    def __init__(self, script, is_pipelined=False, group_bytes=2**20, batch_bytes=2**24, last=0, families=1):
         self.is_pipelined, self.group_bytes, self.batch_bytes = is_pipelined, group_bytes, batch_bytes
+        self.families = families
         self.clients = [Client(lines) for lines in script]
         self.queue, self.log, self.in_hand, self.log_failed = [], "free", [], False
         self.second, self.table, self.inserted, self.finished = [], "still", [], []
@@ -130,7 +131,14 @@ class Core:
             return "no empty"
         if writer.size > self.batch_bytes:
             return f"no large {writer.size}"
-        return "no syncwithoutlog" if {"sync", "nolog"} <= writer.flags else None
+        if {"sync", "nolog"} <= writer.flags:
+            return "no syncwithoutlog"
+        return self.no_family(writer.records)
+
+    def no_family(self, lines):
+        """The refusal of lines of which one is about a family that there isn't."""
+        missing = first_missing(lines, self.families)
+        return None if missing is None else f"no family {missing}"
 
     def complete(self, number):
         for writer in self.leaving:
@@ -147,7 +155,7 @@ class Core:
         call = client.next_call() if client.is_idle else None
         if call is None or call[0] == "commit":
             return False
-        client.is_told(read_of(call, self.published, self.published_map()))
+        client.is_told(self.no_family([call]) or read_of(call, self.published, self.published_map()))
         return True
 
     # The log.
@@ -315,5 +323,5 @@ class Core:
         for number, client in enumerate(self.clients, 1):
             lines += [f"client {number}", *client.replies]
         lines += [f"history {len(self.entries)}", *(line for _, _, line, _ in self.entries)]
-        lines += [f"state {self.published} {len(pairs)}", *(f"{key} {pairs[key]}" for key in sorted(pairs))]
+        lines += [f"state {self.published} {len(pairs)}", *rows_of(pairs)]
         return "".join(line + "\n" for line in [*lines, f"groups {self.groups}"])

@@ -15,9 +15,11 @@ FULL, FIRST, MIDDLE, LAST = 1, 2, 3, 4
 # The greatest sequence.
 GREATEST = 2**56 - 1
 
-# How many strings come after a tag: that of a deletion, a value, log data and a single deletion.
-STRINGS = {0: 1, 1: 2, 3: 1, 7: 1}
-VALUE, NOTE = 1, 3
+# How many strings come after a tag: that of a deletion, a value, log data, a single deletion, and those three that name
+# a family, whose number comes before the strings.
+STRINGS = {0: 1, 1: 2, 3: 1, 4: 1, 5: 2, 7: 1, 8: 1}
+NAMING = (4, 5, 8)
+VALUE, NOTE, VALUE_IN = 1, 3, 5
 
 MASK = 0xA282EAD8
 
@@ -138,30 +140,32 @@ def length_at(record, place):
 
 
 def batch_of(record):
-    """The sequence and the count of a batch, and its changes, each a tag and its strings."""
+    """The sequence and the count of a batch, and its changes, each a tag, its strings and its family."""
     if len(record) < 12:
         raise NoBatch("short")
     said, changes, place = number_of(record[8:12]), [], 12
     while place < len(record):
-        tag, strings, place = record[place], [], place + 1
+        tag, strings, family, place = record[place], [], 0, place + 1
         if tag not in STRINGS:
             raise NoBatch(f"tag {tag}")
+        if tag in NAMING:
+            family, place = length_at(record, place)
         for _ in range(STRINGS[tag]):
             length, place = length_at(record, place)
             if place + length > len(record):
                 raise NoBatch("short")
             strings.append(record[place : place + length])
             place += length
-        changes.append((tag, strings))
-    count = sum(tag != NOTE for tag, _ in changes)
+        changes.append((tag, strings, family))
+    count = sum(tag != NOTE for tag, *_ in changes)
     if said != count:
         raise NoBatch(f"count {said} {count}")
     return number_of(record[:8]), count, changes
 
 
 def recover_into(groups, pairs, log, number, last=0):
-    """Reads a log, which comes after this sequence, into its groups and its map: the last sequence, and where and why
-    reading ends.
+    """Reads a log, which comes after this sequence, into its groups and its map, whose keys are pairs of a family and a
+    key in it: the last sequence, and where and why reading ends.
     """
     at = 0
     try:
@@ -173,11 +177,11 @@ def recover_into(groups, pairs, log, number, last=0):
                 return last, at, f"high {first} {count}"
             groups.append(f"{first} {count} {len(record)}")
             last = first + count - 1 if count > 0 else last
-            for tag, strings in changes:
-                if tag == VALUE:
-                    pairs[strings[0]] = strings[1]
+            for tag, strings, family in changes:
+                if tag in (VALUE, VALUE_IN):
+                    pairs[family, strings[0]] = strings[1]
                 elif tag != NOTE:
-                    pairs.pop(strings[0], None)
+                    pairs.pop((family, strings[0]), None)
     except NoBatch as why:
         return last, at, why.args[0]
     except End as end:
@@ -209,9 +213,14 @@ def kept_of(log, count, number=None):
     return ends[count]
 
 
+def place_of(family, key):
+    """A key as it is printed: after its family's number, unless that is the default one."""
+    return f"{family} " * (family > 0) + (key.hex() or "-")
+
+
 def text_of_recovery(groups, pairs, last, *end):
     """What is printed of groups, their map and their last sequence. `end` says where and why reading ends."""
-    rows = [f"{key.hex() or '-'} {pairs[key].hex() or '-'}" for key in sorted(pairs)]
+    rows = [f"{place_of(*key)} {pairs[key].hex() or '-'}" for key in sorted(pairs)]
     lines = [f"groups {len(groups)}", *groups, f"state {last} {len(rows)}", *rows]
     return "".join(line + "\n" for line in [*lines, " ".join(["end", *map(str, end)])])
 
@@ -291,8 +300,9 @@ def varint(number):
     return bytes([*spelled, number])
 
 
-def change(tag, strings):
-    return bytes([tag]) + b"".join(varint(len(string)) + string for string in strings)
+def change(tag, strings, family=0):
+    named = varint(family) if tag in NAMING else b""
+    return bytes([tag]) + named + b"".join(varint(len(string)) + string for string in strings)
 
 
 def batch(first, count, changes):

@@ -14,13 +14,14 @@ PATHS = [[], THREE_SHARDS, ["--pipelined"], [*THREE_SHARDS, "--pipelined"]]
 RATES = ["1000000", "100000000"]
 
 
-def script_of(draw, is_named=False, count=None, has_tokens=False):
+def script_of(draw, is_named=False, count=None, has_tokens=False, families=1):
     """A script of clients that write and read the same keys: of this number, or mostly of 2 to 16 and otherwise of up
     to 64.
 
     Where it should have tokens, clients stop and slow writes, and some commits may not wait. Where its batches should
     have names, each begins with a note of its client and of how many batches of that client come before it, as `3.0`,
-    and some scripts have long values.
+    and some scripts have long values. Where there are several families, records are of any of them, and reads of one
+    more, which there isn't.
     """
     # Where a group has many records, its clients are woken in two stages over shards, each to insert its own.
     least, most = draw.choice([(1, 4), (1, 4), (16, 40)])
@@ -35,9 +36,10 @@ def script_of(draw, is_named=False, count=None, has_tokens=False):
             for record in range(draw.randint(least, most)):
                 key = draw.choice(KEYS)
                 if draw.random() < 0.3:
-                    lines.append([draw.choice(["del", "sdel"]), key])
+                    line = [draw.choice(["del", "sdel"]), key]
                 else:
-                    lines.append(["put", key, f"{client + 1}.{turn}.{record}".ljust(width, "v")])
+                    line = ["put", key, f"{client + 1}.{turn}.{record}".ljust(width, "v")]
+                lines.append(in_family(line, draw.randrange(families)))
             if has_tokens and draw.random() < 0.3:
                 lines.append(draw.choice([["stop"], ["unstop"], ["slow", draw.choice(RATES)], ["unslow"]]))
             flags = draw.choice([(), (), (), ("sync",), ("nolog",)])
@@ -45,8 +47,23 @@ def script_of(draw, is_named=False, count=None, has_tokens=False):
                 flags = (*flags, "noslow")
             lines.append(["commit", *flags])
             for _ in range(draw.randint(0, 2)):
-                lines.append(
-                    draw.choice([["get", draw.choice(KEYS)], ["many", *KEYS], ["scan", "b", "e"], ["scan", "a", "z"]])
-                )
+                line = draw.choice([["get", draw.choice(KEYS)], ["many", *KEYS], ["scan", "b", "e"], ["scan", "a", "z"]])
+                if line[0] == "many" and families > 1:
+                    places = [[str(draw.randrange(families)), key] for key in KEYS]
+                    places += [[str(families), "a"]] * (draw.random() < 0.1)
+                    line = ["fmany", *(word for place in places for word in place)]
+                elif families > 1:
+                    line = in_family(line, draw.randrange(families + 1))
+                lines.append(line)
         clients.append(lines)
     return clients
+
+
+def in_family(line, family):
+    """The same line of a key of a family. The default one isn't named."""
+    return line if family == 0 else [f"f{line[0]}", str(family), *line[1:]]
+
+
+def options_of_families(families):
+    """The options of a run with this many column families. There is one anyway."""
+    return [] if families == 1 else ["--families", str(families)]
