@@ -39,6 +39,8 @@ struct Work {
     value: usize,
     /// Whether the keys of a client come in order.
     ordered: bool,
+    /// How many column families there are. Each key is in one of them.
+    families: u64,
 }
 
 fn main() -> Result<(), Box<dyn Error>> {
@@ -48,6 +50,10 @@ fn main() -> Result<(), Box<dyn Error>> {
             a value, and `ordered` or `random`"
             .into());
     };
+    let (order, families) = match order.split_once(':') {
+        Some((order, families)) => (order, families.parse::<u64>()?.max(1)),
+        None => (order.as_str(), 1),
+    };
     let work = Work {
         clients: clients.parse()?,
         times: times.parse()?,
@@ -55,6 +61,7 @@ fn main() -> Result<(), Box<dyn Error>> {
         records: records.parse()?,
         value: value.parse::<usize>()?.min(VALUE.len()),
         ordered: order == "ordered",
+        families,
     };
     match path {
         [path, ..] => time(File::create_new(path)?, work),
@@ -107,9 +114,14 @@ fn fill(batch: &mut Vec<u8>, keys: &mut Keys, work: Work) {
     batch[8..].copy_from_slice(&work.records.to_le_bytes());
     // The additions so far are in the batch.
     for _ in 0..work.records {
-        batch.push(1);
+        let number = keys.number();
+        // The tag of a value, and that of one in a family, with the family's number.
+        match number % work.families {
+            0 => batch.push(1),
+            family => batch.extend_from_slice(&[5, family as u8]),
+        }
         // First the key, then the value, each after its length.
-        for string in [&keys.next()[..], &VALUE[..work.value]] {
+        for string in [&key_of(number)[..], &VALUE[..work.value]] {
             push_len(batch, string.len());
             batch.extend_from_slice(string);
         }
@@ -137,12 +149,6 @@ impl Keys {
         Keys { state: if ordered { seed.wrapping_mul(APART) } else { seed }, ordered }
     }
 
-    fn next(&mut self) -> [u8; 16] {
-        let mut key = *b"key:000000000000";
-        key[8..].copy_from_slice(&self.number().to_be_bytes());
-        key
-    }
-
     fn number(&mut self) -> u64 {
         if self.ordered {
             self.state = self.state.wrapping_add(1);
@@ -154,6 +160,12 @@ impl Keys {
             .wrapping_add(1_442_695_040_888_963_407);
         self.state >> 1
     }
+}
+
+fn key_of(number: u64) -> [u8; 16] {
+    let mut key = *b"key:000000000000";
+    key[8..].copy_from_slice(&number.to_be_bytes());
+    key
 }
 
 trait Disk {

@@ -1,10 +1,10 @@
 //! What the script `recover` in this folder measures with.
 //!
-//!     recover make LOG MIB
-//!         writes a log of about MIB MiB
-//!     recover measure LOG PROGRAM N [NAME PEER]..
+//!     recover make LOG MIB FAMILIES
+//!         writes a log of about MIB MiB, whose keys are in this number of column families
+//!     recover measure LOG PROGRAM N FAMILIES [NAME PEER]..
 //!         times `PROGRAM LOG recover`, a plain pass of CRC-32C over the log, and how each PEER, a program built of
-//!         `recover_peer.cc` in this folder, opens a database with the log, each N times
+//!         `recover_peer.cc` in this folder, opens a database with as many families with the log, each N times
 //!     recover fill LOG KEYS
 //!         writes a log that puts KEYS keys
 //!     recover resume LOG PROGRAM N
@@ -28,9 +28,11 @@ const FIRST: u8 = 2;
 const MIDDLE: u8 = 3;
 const LAST: u8 = 4;
 
-/// The tag of a value and that of a deletion.
+/// The tag of a value and that of a deletion, and those in a family.
 const VALUE: u8 = 1;
 const DELETION: u8 = 0;
+const VALUE_IN: u8 = 5;
+const DELETION_IN: u8 = 4;
 
 /// How many keys the log has.
 const KEYS: u64 = 50_000;
@@ -41,11 +43,13 @@ fn main() -> Result<(), Failure> {
     let words: Vec<String> = env::args().skip(1).collect();
     let words: Vec<&str> = words.iter().map(String::as_str).collect();
     match words[..] {
-        ["make", log, mib] => make(Path::new(log), mib.parse::<usize>()? << 20),
-        ["measure", log, program, rounds, ref peers @ ..] => measure(log, program, rounds.parse()?, peers),
+        ["make", log, mib, families] => make(Path::new(log), mib.parse::<usize>()? << 20, families.parse()?),
+        ["measure", log, program, rounds, families, ref peers @ ..] => {
+            measure(log, program, rounds.parse()?, families, peers)
+        }
         ["fill", log, keys] => fill(Path::new(log), keys.parse()?),
         ["resume", log, program, rounds] => resume(log, program, rounds.parse()?),
-        _ => Err("usage: recover make LOG MIB | recover measure LOG PROGRAM N [NAME PEER].. \
+        _ => Err("usage: recover make LOG MIB FAMILIES | recover measure LOG PROGRAM N FAMILIES [NAME PEER].. \
             | recover fill LOG KEYS | recover resume LOG PROGRAM N"
             .into()),
     }
@@ -94,13 +98,13 @@ impl Random {
 }
 
 /// Writes batches with rising sequences until the log has `len` bytes or more.
-fn make(path: &Path, len: usize) -> Result<(), Failure> {
+fn make(path: &Path, len: usize, families: u64) -> Result<(), Failure> {
     let checksum = Checksum::new();
     let mut random = Random { state: 1 };
     let mut log = Vec::with_capacity(len + (1 << 20));
     let mut sequence = 1;
     while log.len() < len {
-        let batch = batch(&mut random, &mut sequence);
+        let batch = batch(&mut random, &mut sequence, families.clamp(1, 128));
         put_record(&checksum, &mut log, &batch);
     }
     fs::write(path, &log)?;
@@ -108,16 +112,17 @@ fn make(path: &Path, len: usize) -> Result<(), Failure> {
 }
 
 /// A batch of 1 to 20 records, of which about one in ten deletes its key. Most values have 16 to 400 bytes, and one in
-/// a thousand has 100,000, so that its record lies in several blocks.
-fn batch(random: &mut Random, sequence: &mut u64) -> Vec<u8> {
+/// a thousand has 100,000, so that its record lies in several blocks. A key is in one of at most 128 families.
+fn batch(random: &mut Random, sequence: &mut u64, families: u64) -> Vec<u8> {
     let count = 1 + random.below(20);
     let mut bytes = Vec::new();
     bytes.extend_from_slice(&sequence.to_le_bytes());
     bytes.extend_from_slice(&(count as u32).to_le_bytes());
     for _ in 0..count {
-        let key = format!("key:{:08}", random.below(KEYS));
+        let number = random.below(KEYS);
+        let (key, family) = (format!("key:{number:08}"), (number % families) as u8);
         if random.below(10) == 0 {
-            bytes.push(DELETION);
+            put_tag(&mut bytes, [DELETION, DELETION_IN], family);
             put_string(&mut bytes, key.as_bytes());
         } else {
             let len = match random.below(1000) {
@@ -125,7 +130,7 @@ fn batch(random: &mut Random, sequence: &mut u64) -> Vec<u8> {
                 _ => 16 + random.below(385) as usize,
             };
             let value: Vec<u8> = (0..len).map(|_| random.below(256) as u8).collect();
-            bytes.push(VALUE);
+            put_tag(&mut bytes, [VALUE, VALUE_IN], family);
             put_string(&mut bytes, key.as_bytes());
             put_string(&mut bytes, &value);
         }
@@ -158,6 +163,14 @@ fn fill(path: &Path, keys: u64) -> Result<(), Failure> {
     }
     fs::write(path, &log)?;
     Ok(())
+}
+
+/// The first of these tags for the default family, and the second one for another, with the family's number.
+fn put_tag(bytes: &mut Vec<u8>, tags: [u8; 2], family: u8) {
+    match family {
+        0 => bytes.push(tags[0]),
+        _ => bytes.extend_from_slice(&[tags[1], family]),
+    }
 }
 
 /// A string after its length, a varint.
@@ -205,7 +218,7 @@ fn put_fragment(checksum: &Checksum, log: &mut Vec<u8>, kind: u8, part: &[u8]) {
 
 /// Times all of them, and prints the best times, as rates too, and how many times the time of `recover` each of the
 /// others takes.
-fn measure(log: &str, program: &str, rounds: usize, peers: &[&str]) -> Result<(), Failure> {
+fn measure(log: &str, program: &str, rounds: usize, families: &str, peers: &[&str]) -> Result<(), Failure> {
     let bytes = fs::read(log)?;
     let keys = recovered_keys(log, program, bytes.len())?;
     let mut peers = peers
@@ -229,7 +242,7 @@ fn measure(log: &str, program: &str, rounds: usize, peers: &[&str]) -> Result<()
         sum = checksum.of(std::hint::black_box(&bytes));
         plain = plain.min(spent(OWN)? - start);
         for peer in &mut peers {
-            peer.open(log, keys)?;
+            peer.open(log, families, keys)?;
         }
     }
     println!("log                      {} bytes, {keys} keys, CRC-32C {sum:08x}", bytes.len());
@@ -266,9 +279,9 @@ impl Peer {
     }
 
     /// Opens a new database once, which must then have `keys` keys.
-    fn open(&mut self, log: &str, keys: u64) -> Result<(), Failure> {
+    fn open(&mut self, log: &str, families: &str, keys: u64) -> Result<(), Failure> {
         let folder = format!("{log}.database");
-        let output = Command::new(&self.program).args([&folder, log, self.to]).output()?;
+        let output = Command::new(&self.program).args([&folder, log, self.to, families]).output()?;
         fs::remove_dir_all(&folder)?;
         let text = String::from_utf8(output.stdout)?;
         let mut words = text.split_whitespace().map(str::parse::<u64>);

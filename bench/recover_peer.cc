@@ -2,10 +2,10 @@
 // database that has a given log to recover from, as after a crash. It is built against the library that the macro PEER
 // names, `leveldb` or `rocksdb`, whose calls are alike.
 //
-//     recover_peer FOLDER LOG tables    opens with the library's own settings: what it recovers goes into tables
-//     recover_peer FOLDER LOG memory    opens so that it stays in memory
+//     recover_peer FOLDER LOG tables FAMILIES    opens with the library's own settings: what it recovers goes into tables
+//     recover_peer FOLDER LOG memory FAMILIES    opens so that it stays in memory
 //
-// The folder is made, and must not exist. What is printed is the microseconds of the processor, for all the program's
+// The database has this number of column families; only RocksDB has more than one. The folder is made, and must not exist. What is printed is the microseconds of the processor, for all the program's
 // threads and for the system's work for them, and how many keys the database then has.
 
 #include <sys/resource.h>
@@ -15,6 +15,7 @@
 #include <memory>
 #include <stdexcept>
 #include <string>
+#include <vector>
 
 #define TEXT_OF(words) #words
 #define HEADER_OF(peer) TEXT_OF(peer/db.h)
@@ -29,10 +30,34 @@ void check(const PEER::Status& status) {
     if (!status.ok()) throw std::runtime_error(status.ToString());
 }
 
-std::unique_ptr<PEER::DB> opened(const PEER::Options& options, const std::string& folder) {
+// An open database, and its families.
+struct Opened {
+    std::unique_ptr<PEER::DB> database;
+#ifdef ROCKSDB_MAJOR
+    std::vector<PEER::ColumnFamilyHandle*> families;
+
+    Opened() = default;
+    Opened(Opened&&) = default;
+    ~Opened() {
+        for (auto* family : families) database->DestroyColumnFamilyHandle(family);
+    }
+#endif
+};
+
+Opened opened(PEER::Options options, const std::string& folder, int families) {
     PEER::DB* database = nullptr;
+    Opened made;
+#ifdef ROCKSDB_MAJOR
+    options.create_missing_column_families = true;
+    std::vector<PEER::ColumnFamilyDescriptor> wanted = {{PEER::kDefaultColumnFamilyName, options}};
+    for (int family = 1; family < families; family++) wanted.emplace_back("f" + std::to_string(family), options);
+    check(PEER::DB::Open(options, folder, wanted, &made.families, &database));
+#else
+    if (families > 1) throw std::runtime_error("there are no column families");
     check(PEER::DB::Open(options, folder, &database));
-    return std::unique_ptr<PEER::DB>(database);
+#endif
+    made.database.reset(database);
+    return made;
 }
 
 template <class Options>
@@ -65,26 +90,38 @@ long long spent() {
     return micros_of(usage.ru_utime) + micros_of(usage.ru_stime);
 }
 
-long long keys_of(PEER::DB& database) {
-    std::unique_ptr<PEER::Iterator> rows(database.NewIterator(PEER::ReadOptions()));
+long long keys_of(std::unique_ptr<PEER::Iterator> rows) {
     long long keys = 0;
     for (rows->SeekToFirst(); rows->Valid(); rows->Next()) keys++;
     check(rows->status());
     return keys;
 }
 
+// How many keys all families have together.
+long long keys_of(const Opened& made) {
+#ifdef ROCKSDB_MAJOR
+    long long keys = 0;
+    for (auto* family : made.families)
+        keys += keys_of(std::unique_ptr<PEER::Iterator>(made.database->NewIterator(PEER::ReadOptions(), family)));
+    return keys;
+#else
+    return keys_of(std::unique_ptr<PEER::Iterator>(made.database->NewIterator(PEER::ReadOptions())));
+#endif
+}
+
 int main(int count, char** words) try {
-    if (count != 4) throw std::runtime_error("usage: recover_peer FOLDER LOG tables|memory");
+    if (count != 5) throw std::runtime_error("usage: recover_peer FOLDER LOG tables|memory FAMILIES");
     const std::string folder = words[1];
+    const int families = std::stoi(words[4]);
     PEER::Options options;
     options.create_if_missing = true;
     if (std::string(words[3]) == "memory") stay_in_memory(options);
-    opened(options, folder).reset();
+    { const auto made = opened(options, folder, families); }
     replace_log(folder, words[2]);
     const long long start = spent();
-    const auto database = opened(options, folder);
+    const auto made = opened(options, folder, families);
     const long long end = spent();
-    std::cout << end - start << ' ' << keys_of(*database) << '\n';
+    std::cout << end - start << ' ' << keys_of(made) << '\n';
 } catch (const std::exception& error) {
     std::cerr << "recover_peer: " << error.what() << '\n';
     return 1;

@@ -6,7 +6,8 @@
 //
 // With RECORDS each batch has this number of additions of a key of 16 bytes, which SEED does not change, with a value
 // of VALUE bytes, and each client makes its next batch when the last one was written. A client's keys come in order,
-// or are those of a generator. The last two words are RocksDB's settings: `pipelined` is `enable_pipelined_write`, and
+// or are those of a generator; as `ordered:N` or `random:N` they are in N column families, which only RocksDB has. The
+// last two words are RocksDB's settings: `pipelined` is `enable_pipelined_write`, and
 // `concurrent` is `allow_concurrent_memtable_write`. `unordered_write` is off, and all else is as the library sets it.
 //
 // It is built against the library that the macro PEER names, `leveldb` or `rocksdb`, whose calls are alike. Without
@@ -60,15 +61,35 @@ void set_ways(Options& options, const Ways& ways) {
 
 class Target {
 public:
-    Target(const std::string& path, const std::optional<Ways>& ways) {
+    Target(const std::string& path, const std::optional<Ways>& ways, int families) {
         PEER::Options options;
         options.create_if_missing = true;
         options.error_if_exists = true;
         if (ways) set_ways(options, *ways);
         PEER::DB* database = nullptr;
+#ifdef ROCKSDB_MAJOR
+        options.create_missing_column_families = true;
+        std::vector<PEER::ColumnFamilyDescriptor> wanted = {{PEER::kDefaultColumnFamilyName, options}};
+        for (int family = 1; family < families; family++) wanted.emplace_back("f" + std::to_string(family), options);
+        check(PEER::DB::Open(options, path, wanted, &families_, &database));
+#else
+        if (families > 1) throw std::runtime_error("there are no column families");
         check(PEER::DB::Open(options, path, &database));
+#endif
         database_.reset(database);
     }
+
+#ifdef ROCKSDB_MAJOR
+    ~Target() {
+        for (auto* family : families_) database_->DestroyColumnFamilyHandle(family);
+    }
+
+    void put(Batch& batch, std::uint64_t family, const std::string& key, const std::string& value) {
+        batch.Put(families_[family], key, value);
+    }
+#else
+    void put(Batch& batch, std::uint64_t, const std::string& key, const std::string& value) { batch.Put(key, value); }
+#endif
 
     void write(Batch& batch, bool sync) {
         PEER::WriteOptions options;
@@ -78,6 +99,9 @@ public:
 
 private:
     std::unique_ptr<PEER::DB> database_;
+#ifdef ROCKSDB_MAJOR
+    std::vector<PEER::ColumnFamilyHandle*> families_;
+#endif
 };
 #else
 // The bytes of a batch as RocksDB lays them out, without the header's numbers.
@@ -102,10 +126,12 @@ private:
 
 class Target {
 public:
-    Target(const std::string& path, const std::optional<Ways>&)
+    Target(const std::string& path, const std::optional<Ways>&, int)
         : file_(open(path.c_str(), O_WRONLY | O_CREAT | O_EXCL | O_APPEND, 0644)) {
         if (file_ < 0) throw std::runtime_error("no file " + path);
     }
+
+    void put(Batch& batch, std::uint64_t, const std::string& key, const std::string& value) { batch.Put(key, value); }
 
     void write(Batch& batch, bool sync) {
         const std::string& bytes = batch.bytes();
@@ -157,28 +183,36 @@ struct Work {
     int records;
     std::size_t value;
     bool ordered;
+    std::uint64_t families;
 };
 
-// The keys of a client, each of 16 digits: the numbers from which `engine_program` makes its keys, in hexadecimal.
+// The kind of order, and how many families there are.
+Work work_of(int records, std::size_t value, const std::string& order) {
+    const auto colon = order.find(':');
+    const auto families = colon == std::string::npos ? 1 : std::stoull(order.substr(colon + 1));
+    return Work{records, value, order.substr(0, colon) == "ordered", families};
+}
+
+// A key of 16 digits, in hexadecimal.
+std::string key_of(std::uint64_t number) {
+    std::string key(16, '0');
+    for (auto at = key.rbegin(); at != key.rend(); ++at, number /= 16) *at = "0123456789abcdef"[number % 16];
+    return key;
+}
+
+// The numbers of a client's keys, which are those from which `engine_program` makes its keys.
 class Keys {
 public:
     Keys(int client, bool ordered)
         : state_(ordered ? static_cast<std::uint64_t>(client - 1) << 32 : client - 1), ordered_(ordered) {}
 
-    std::string next() {
-        std::string key(16, '0');
-        auto left = number();
-        for (auto at = key.rbegin(); at != key.rend(); ++at, left /= 16) *at = "0123456789abcdef"[left % 16];
-        return key;
-    }
-
-private:
     std::uint64_t number() {
         if (ordered_) return ++state_;
         state_ = state_ * 6364136223846793005 + 1442695040888963407;
         return state_ >> 1;
     }
 
+private:
     std::uint64_t state_;
     bool ordered_;
 };
@@ -190,7 +224,10 @@ void write_records(Target& target, int client, int batches, const Work& work, bo
     Batch batch;
     for (int written = 0; written < batches; written++) {
         batch.Clear();
-        for (int put = 0; put < work.records; put++) batch.Put(keys.next(), value);
+        for (int put = 0; put < work.records; put++) {
+            const auto number = keys.number();
+            target.put(batch, number % work.families, key_of(number), value);
+        }
         target.write(batch, sync);
     }
 }
@@ -204,13 +241,13 @@ int main(int count, char** words) try {
     const bool has_records = count == 11;
     std::optional<Ways> ways;
     if (has_records) ways = Ways{std::string(words[9]) == "pipelined", std::string(words[10]) == "concurrent"};
-    Target target(words[1], ways);
     const std::uint64_t seed = std::stoull(words[2]);
     const int clients = std::stoi(words[3]);
     const int each = std::stoi(words[4]);
     const bool sync = std::string(words[5]) == "sync";
     Work work{};
-    if (has_records) work = Work{std::stoi(words[6]), std::stoul(words[7]), std::string(words[8]) == "ordered"};
+    if (has_records) work = work_of(std::stoi(words[6]), std::stoul(words[7]), words[8]);
+    Target target(words[1], ways, has_records ? static_cast<int>(work.families) : 1);
     const auto start = std::chrono::steady_clock::now();
     std::vector<std::vector<Batch>> scripts;
     for (int client = 1; client <= clients && !has_records; client++) scripts.push_back(batches_of(seed, client, each));
