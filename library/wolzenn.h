@@ -37,7 +37,7 @@ extern "C" {
 
 /* The version of this header, and that of the library that the program runs with. They are the same number unless the
    header belongs to another version of the library. */
-#define WZ_VERSION 2u
+#define WZ_VERSION 3u
 uint32_t wz_version(void);
 
 /* What a function answers. */
@@ -154,6 +154,13 @@ uint32_t wz_crc32c_mask(uint32_t crc);
 /* Opens a reader at the start of a log. WZ_DONE, WZ_NO_MEMORY. */
 uint32_t wz_reader_open(wz_handle *handle, uint32_t number);
 
+/* Opens a reader at a place of the log: the end of a record (record->end), or 0. So a log that grows is read on where
+   an earlier reader came to, and each record is read once. At any other place it reads what would be read if a record
+   ended there. The log's bytes are all of them, from its start on, and the same as at each later call of this reader.
+   WZ_DONE. WZ_RANGE: the log ends before the place. WZ_NO_MEMORY. At any answer except WZ_DONE the handle holds
+   nothing. */
+uint32_t wz_reader_open_at(wz_handle *handle, uint32_t number, uint64_t place, const uint8_t *log, size_t log_len);
+
 /* Reads the next record of the log. The log's bytes must be the same at each call of this reader: a log that has grown
    needs a new reader, since this one keeps a copy of a block. WZ_DONE: record->start is the offset of the record's
    first fragment, record->end the offset after its last one, and record->len how many bytes the record has;
@@ -161,9 +168,14 @@ uint32_t wz_reader_open(wz_handle *handle, uint32_t number);
    and WZ_NO_MEMORY each further call answers the same. WZ_CLOSED: the handle holds no reader. */
 uint32_t wz_reader_next(wz_handle *handle, const uint8_t *log, size_t log_len, wz_record *record, wz_end *end);
 
-/* Copies the record that the last wz_reader_next read to the start of the buffer, and touches nothing after it.
-   WZ_DONE. WZ_SMALL. WZ_END: that call read none, or there was no such call yet. WZ_CLOSED: the handle holds no
-   reader. */
+/* The same, but it skips the batches that take no sequence or whose last sequence is lower than `since`. A record that
+   is no batch isn't skipped. */
+uint32_t wz_reader_next_since(wz_handle *handle, uint64_t since, const uint8_t *log, size_t log_len, wz_record *record,
+                              wz_end *end);
+
+/* Copies the record that the last wz_reader_next or wz_reader_next_since read to the start of the buffer, and touches
+   nothing after it. WZ_DONE. WZ_SMALL. WZ_END: that call read none, or there was no such call yet. WZ_CLOSED: the
+   handle holds no reader. */
 uint32_t wz_reader_record(wz_handle *handle, uint8_t *buffer, size_t buffer_len);
 
 /* ---- recovering a log ---- */

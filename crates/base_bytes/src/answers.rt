@@ -169,3 +169,65 @@ impl PairList {
         &self.items
     }
 }
+
+/// The records of a log. Contracts see a list of lists of bytes.
+#[derive(Debug, Drop)]
+pub struct RecordList {
+    items: Vec<Bytes>,
+}
+
+impl Model for RecordList {
+    ghost use Rattle.std.specs.Prelude.{List, ℕ};
+
+    ghost Value = { List (List ℕ) };
+
+    ghost view = { λ l. l.items.items };
+}
+
+impl RecordList {
+    /// No records. This takes no memory.
+    pub fn new(alloc: Global) -> RecordList
+        ensures { result ≡ [] }
+    {
+        RecordList {
+            items: Vec::new(alloc),
+        }
+    }
+
+    /// The records of a `Vec`, in its order. This takes no memory.
+    pub fn from_vec(items: Vec<Bytes>) -> RecordList
+        ensures { result ≡ items.items }
+    {
+        RecordList { items }
+    }
+
+    /// The `Vec` of the records. This takes no memory.
+    pub fn into_vec(self) -> Vec<Bytes>
+        ensures { result.items ≡ self }
+    {
+        self.items
+    }
+
+    /// Appends a record.
+    pub fn push(&mut self, bytes: Bytes) -> Result<(), NoMemory>
+        ensures ok { OnOk result (self.new ≡ self.old ++ bytes ∷ []) }
+        ensures err { OnErr result (self.new ≡ self.old) }
+    {
+        self.items.push(bytes)?;
+        Ok(())
+    }
+
+    /// How many records there are.
+    pub fn len(&self) -> usize
+        ensures { result ≡ length self.now }
+    {
+        self.items.len()
+    }
+
+    /// The records.
+    pub fn as_slice(&self) -> &[Bytes]
+        ensures { result.now ≡ self.now }
+    {
+        &self.items
+    }
+}

@@ -14,7 +14,7 @@ mod numbers;
 mod reading;
 mod tables;
 
-pub use answers::{Found, FoundList, PairList, Place, Read, Reads, Rows};
+pub use answers::{Found, FoundList, PairList, Place, Read, Reads, RecordList, Rows};
 pub use bytes::Bytes;
 pub use checksum::{crc32c, extend, mask};
 pub use numbers::{one_spelling, put_fixed32, put_fixed64, put_varint32, varint32_len};

@@ -1,23 +1,16 @@
--- What bytes in memory show as a disk.
-use Rattle.std.specs.Prelude.{◌==◌, ◌&&◌, ℕ, ◌-◌, ◌<◌, ◌^◌, length, if◌then◌else◌}
-use Rattle.std.proofs.Math.Nat.{lt_of_le_of_lt}
-use Rattle.base_devices.specs.Disk.{Disk, IsDisk}
+-- What bytes in memory show as a file to read.
+use Rattle.std.proofs.Common.{◌≡◌, ℕ, ◌≤◌, List, Option, Some, ◌∙◌, ap, arith}
 use Rattle.base_devices.specs.declared.slice_disk.SliceDisk.{SliceDisk}
 
-abbrev pub slice_disk : SliceDisk → Disk
-slice_disk d = record { content = d.bytes.now; synced = d.synced; reach = d.reach; place = d.place }
+abbrev pub slice_bytes : SliceDisk → List ℕ
+slice_bytes d = d.bytes.now
 
--- where the next append would write
-abbrev pub slice_place : SliceDisk → ℕ
-slice_place d = d.place
+-- reading changes nothing of them, and never fails
+pub slice_reads_on : (a b c : SliceDisk) → b ≡ a → c ≡ b → c ≡ a
+slice_reads_on a b c first second = second ∙ first
 
--- how many of its calls have failed: none as long as all of its bytes are safe and no write has reached past them
-abbrev pub slice_faults : SliceDisk → ℕ
-slice_faults d =
-    if (d.synced == length d.bytes.now) && (d.reach == length d.bytes.now) then 0 else 2 ^ 64 - 1
+pub slice_reads_keep : (a b : SliceDisk) → b ≡ a → ◌≡◌ {A = Option (List ℕ)} (Some (slice_bytes b)) (Some (slice_bytes a))
+slice_reads_keep a b same = ap (λ (d : SliceDisk). Some (slice_bytes d)) same
 
-pub slice_is_disk : (d : SliceDisk) → IsDisk (slice_disk d)
-slice_is_disk d = record { synced = d.safe; within = d.reached; placed = d.placed; small = d.small }
-
-pub slice_place_is_small : (d : SliceDisk) → slice_place d < 2 ^ 63
-slice_place_is_small d = lt_of_le_of_lt d.placed d.small
+pub slice_counts_none : (a b : SliceDisk) → b ≡ a → 0 ≤ 0
+slice_counts_none a b same = omega (arith)

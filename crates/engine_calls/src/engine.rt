@@ -1,19 +1,20 @@
 //! The calls of a write path.
 
-ghost use Rattle.std.specs.Prelude.{◌≡◌, ◌+◌, true, false, [], ◌∷◌, None, map, IfOk, IfErr, OnOk, OnErr};
+ghost use Rattle.std.specs.Prelude.{◌≡◌, ◌+◌, true, false, [], ◌∷◌, None, map, List, Option, IfOk, IfErr, IfSome, OnOk, OnErr};
 ghost use Rattle.model_base.specs.Batch as model;
 ghost use Rattle.model_base.specs.LogContents.{GroupCall};
+ghost use Rattle.model_base.specs.Recovery.{Logged};
 ghost use Rattle.model_base.specs.Map.{key_at, key_in, rows_within, value_at};
 ghost use Rattle.model_base.specs.Controller as controller;
 ghost use Rattle.model_base.specs.Tokens.{holds_stop, holds_slow};
 ghost use Rattle.base_bytes.specs.Answers.{found_value};
 ghost use Rattle.base_bytes.specs.declared.answers.Place as place;
-ghost use Rattle.engine_calls.specs.Reading.{IsOfFamilies};
-ghost use Rattle.model_accounts.specs.Accounts.{Keeps, Wrote, Refuses, Reads as ReadsAt, Asks, GivesBack};
+ghost use Rattle.engine_calls.specs.Reading.{IsOfFamilies, FailsFor};
+ghost use Rattle.model_accounts.specs.Accounts.{Keeps, Wrote, Refuses, Reads as ReadsAt, ReadsLog, Asks, GivesBack};
 ghost use Rattle.model_accounts.specs.Closing.{AreOurs, HasOneTrace};
 ghost use Rattle.model_runs.specs.Written.{IsSyncedBy};
 
-use crate::answers::{Closed, Receipt, Refused};
+use crate::answers::{Closed, Receipt, Refused, Since, SinceRefused};
 use base_bytes::{Bytes, Place, Read, Reads, Rows};
 use engine_controller::{Held, NotHeld};
 use log_batch::Batch;
@@ -29,8 +30,8 @@ pub struct Clients<C, R> {
 
 /// A write path that many clients share.
 ///
-/// Each call changes its client's account, and no other account: `Wrote`, `Refuses`, `Reads`, `Asks`, `GivesBack` and
-/// `Keeps` say how. All accounts are parts of one trace, as the clause of `close` says.
+/// Each call changes its client's account, and no other account: `Wrote`, `Refuses`, `Reads`, `ReadsLog`, `FailsFor`,
+/// `Asks`, `GivesBack` and `Keeps` say how. All accounts are parts of one trace, as the clause of `close` says.
 pub trait Engine {
     type Client;
 
@@ -41,11 +42,16 @@ pub trait Engine {
 
     ghost use Rattle.std.specs.Prelude.{ℕ, List, Option};
     ghost use Rattle.model_base.specs.LogContents.{GroupCall};
+    ghost use Rattle.model_base.specs.Recovery.{Logged};
     ghost use Rattle.model_base.specs.Trace.{Settings};
     ghost use Rattle.model_accounts.specs.Accounts.{Account};
 
-    /// What the write path was opened for.
+    /// What the write path was opened for. Which batches its log had kept isn't a part of it: `had` says that.
     ghost settings: { Self → Settings };
+
+    /// As the write path was opened, its log had these batches and no others, and what the log holds is known. Of a log on
+    /// a disk that doesn't tell what it holds there are no such batches.
+    ghost had: { Self → List Logged → Type 0 };
 
     /// What a client did and saw.
     ghost account: { Self.Client → Account };
@@ -187,6 +193,25 @@ pub trait Engine {
             (account client.new)) }
         ensures family { IsOfFamilies (settings self.now) (family ∷ []) result };
 
+    /// The log's records that hold the sequence `since` or later ones, up to an end of what is published: those that the
+    /// log had kept and those of the groups that were logged, in order, without those that hold no sequence. It waits
+    /// until it leads the log alone; while it reads, groups that are in the log already go on into the table.
+    fn updates<R: Wait + rt::Clock>(
+        &self,
+        rt: &R,
+        client: &mut Self::Client,
+        since: u64,
+    ) -> Result<Since, SinceRefused>
+        requires { belongs self.now client.old }
+        ensures belongs { belongs self.now client.new }
+        // The end is that of what the client has then seen published. That the records are right is a part of the clause
+        // of `close`, since it speaks of the whole log.
+        ensures ok { IfOk result (λ r. (holds_stop (account client.old).asked ≡ false)
+            × ReadsLog (account client.old) since r.at r.records (account client.new)) }
+        // It is refused exactly where the client holds a stop token. A fault's count was reached by the disk in the run;
+        // at the closing no other call was answered it.
+        ensures err { IfErr result (λ why. FailsFor (settings self.now) (account client.old) why (account client.new)) };
+
     /// Takes the client's stop token. While any client holds one, all writes wait, except that those that may not
     /// wait, and those of a client that holds one itself, are refused. Where the client already holds one, no call is
     /// made.
@@ -240,7 +265,7 @@ pub trait Engine {
 
     /// Takes all clients, and gives the log back. There is one trace of all that they did and saw, in which each
     /// batch's group ended where its receipt said, and the log was written by exactly the calls that wrote its
-    /// history. It takes no memory.
+    /// history. What reads of the log gave is right in it, where it is known what the log had kept. It takes no memory.
     fn close<R: Wait + rt::Clock>(
         self,
         rt: &R,
@@ -249,7 +274,8 @@ pub trait Engine {
         requires all { AreOurs (belongs self) account (settings self).clients clients.clients.items }
         requires room { closes self clients.room }
         // A receipt that names another end than that of its batch's group fits no closing, and neither does a log that
-        // was written in other groups.
-        ensures { HasOneTrace (settings self) (faults result.log) (map account clients.clients.items) result.last
+        // was written in other groups, or a read that gave other records.
+        ensures { (kept : Option (List Logged)) → IfSome kept (had self)
+            → HasOneTrace (settings self) kept (faults result.log) (map account clients.clients.items) result.last
             (fault result.log) (λ calls. wrote self calls result.log) };
 }

@@ -9,7 +9,7 @@ mod answers;
 mod engine;
 mod gate;
 
-pub use answers::{Closed, Receipt, Refused};
+pub use answers::{Closed, Receipt, Refused, Since, SinceRefused};
 pub use engine::{Clients, Engine};
 pub use engine_controller::{Held, NotHeld};
 pub use gate::{Gate, OpenGate};

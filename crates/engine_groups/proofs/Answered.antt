@@ -1,11 +1,8 @@
 -- What a client concludes from its answer.
-use Rattle.std.proofs.Common.{◌≡◌, inr, ℕ, ◌+◌, ◌-◌, ◌<◌, ◌≤◌, Bool, true, false, not, cond, ◌==◌, ◌&&◌, map, List, [], ◌∷◌, ◌++◌, Option, Some, None, MatchOption, IfSome, Result, Ok, Err, IfOk, IfErr, length, refl, ap, sym, ◌∙◌, subst, arith, append_assoc, append-nil, length-append}
+use Rattle.std.proofs.Common.{◌≡◌, inr, ℕ, ◌+◌, ◌-◌, ◌<◌, ◌≤◌, Bool, true, false, not, cond, ◌==◌, ◌&&◌, List, [], ◌∷◌, ◌++◌, Option, Some, None, MatchOption, IfSome, Result, Ok, Err, IfOk, IfErr, length, refl, ap, sym, ◌∙◌, subst, arith, append_assoc, append-nil, length-append}
 use Rattle.std.specs.Prelude.{if◌then◌else◌, nat_lt}
 use Rattle.std.specs.List.{AllByRecursion}
 use mathlib.Core.List.{IsPrefix}
-use mathlib.Core.Logic.{dite}
-use native.Mathlib.Decide.{ℕ_discrete}
-use Rattle.std.proofs.lemmas.Bool.{ne_eqb, eq-eqb}
 use Rattle.log_writer.specs.declared.group_log.GroupLog.{Ghosts}
 use Rattle.model_base.specs.declared.write.Refusal.{Refusal}
 use Rattle.model_base.specs.declared.write.Refusal.TheVariants.{Empty, TooLarge, SyncWithoutLog, SelfStop, NoFamily, NoMemory, Incomplete, LogFault, SequenceFull}
@@ -38,26 +35,15 @@ use Rattle.engine_calls.specs.declared.answers.Refused.{Refused}
 use Rattle.engine_parts.specs.declared.requests.Answer.{Answer}
 use Rattle.model_accounts.specs.Accounts.{Account, IsRefused, IsRefusedLate, Keeps, Refuses, Wrote}
 use Rattle.model_runs.specs.Written.{IsSyncedBy}
-use Rattle.engine_groups.specs.Clients.{own_commits}
-use Rattle.engine_parts.specs.Handled.{AreHandled, ComesBack, HandsBack, IsLate, ShowsDelay, answer_in, answer_of_refusal, commit_of, held_up_with, noted_in, seen_for}
+use Rattle.engine_groups.specs.Clients.{own_answers, own_commits}
+use Rattle.engine_groups.proofs.Told.{answers_same, commit, commits_told, own_more}
+use Rattle.engine_parts.specs.Handled.{AreHandled, ComesBack, HandsBack, IsLate, ShowsDelay, answer_in, answer_of_refusal, held_up_with, noted_in, seen_for, commits_in}
 use Rattle.engine_parts.specs.Runs.{IsAbove}
 use Rattle.engine_rule.specs.Commits.{Commit, commits_of, held_up}
 use Rattle.engine_rule.specs.Entries.{account_of, SeesMore}
+use Rattle.engine_rule.specs.Reading.{ReadAnswer}
 use Rattle.engine_rule.proofs.Own.{refused_failed, refused_full, refused_held_up, refused_stalled, wrote}
 use Rattle.engine_rule.proofs.Synced.{have_synced}
-
-abbrev pub commit : ℕ → Request → Answer → Commit
-commit k q p = commit_of (record { by = k; asked = q; reply = p })
-
-pub commits_told : (k : ℕ) (hs : List (Handling Request Answer)) → commits_of k (map commit_of hs) ≡ own_commits k (of k hs)
-commits_told k [] = refl
-commits_told k (h ∷ hs) = dite (ℕ_discrete h.by k)
-    (λ same. rw (eq-eqb h.by k same) (λ i. commit (same i) h.asked h.reply ∷ commits_told k hs i))
-    (λ other. rw (ne_eqb h.by k other) (commits_told k hs))
-
-pub own_more : (k : ℕ) (mine : List (Request × Answer)) (q : Request) (p : Answer) → own_commits k (mine ++ (q, p) ∷ []) ≡ own_commits k mine ++ commit k q p ∷ []
-own_more k [] q p = refl
-own_more k (t ∷ mine) q p = ap (λ l. commit k t.0 t.1 ∷ l) (own_more k mine q p)
 
 one_pair : {A : Type 0} (x y : A) (xs ys : List A) → x ∷ xs ≡ y ∷ ys → (x ≡ y) × (xs ≡ ys)
 one_pair x y xs ys e = (cc, cc)
@@ -121,7 +107,8 @@ keeps_self v = record {
   ends = refl;
   asked = refl;
   attempts = refl;
-  seen = record { start = refl; opening = refl; published = begins_self v.seen.published; controller_calls = prefix_self v.seen.controller_calls };
+  read_faults = refl;
+  seen = record { start = refl; opening = refl; published = begins_self v.seen.published; controller_calls = prefix_self v.seen.controller_calls; log_reads = prefix_self v.seen.log_reads };
 }
 
 -- a refusal by the early checks
@@ -144,22 +131,22 @@ pub record Concludes {D : Type 0} {ghosts : Ghosts D} (opened : OpenLog D ghosts
 
 module _ {C D : Type 0} {ghosts : Ghosts D} (controller : Controller C) (opened : OpenLog D ghosts) (start : ℕ) (opening : Pairs) (k : ℕ) (settings : Settings) (q : Request) (p : Answer) (mine : List (Request × Answer)) (handled : List (Handling Request Answer)) (kept : AreHandled controller opened start handled) (own : of k handled ≡ mine ++ (q, p) ∷ []) (seen now : List (List MemberVersions)) (sees : Begins seen now)
     (known after : List ControllerCall) (more : SeesMore k known after) (noted_known : IsPrefix known (noted_in q.note)) (sees_note : IfSome p.note (λ (n : Noted). IsPrefix (seen_by_note n) after))
-    (passed : early_refusal settings.families settings.batch_bytes (holds_stop (tokens_of k known)) q.batch.records q.options ≡ None) (free : holds_stop (tokens_of k known) ≡ false) (above : IsAbove (last_of start seen) p.answer) where
-  is : commits_of k (map commit_of handled) ≡ own_commits k mine ++ commit k q p ∷ []
-  is = commits_told k handled ∙ (ap (own_commits k) own ∙ own_more k mine q p)
+    (passed : early_refusal settings.families settings.batch_bytes (holds_stop (tokens_of k known)) q.batch.records q.options ≡ None) (free : holds_stop (tokens_of k known) ≡ false) (above : IsAbove (last_of start seen) p.answer) (writes : q.since ≡ None) where
+  is : commits_of k (commits_in handled) ≡ own_commits k mine ++ commit k q p ∷ []
+  is = commits_told k handled ∙ (ap (own_commits k) own ∙ own_more k mine q p writes)
 
   abbrev old : Account
-  old = account_of start opening k (own_commits k mine) seen known
+  old = account_of start opening k (own_commits k mine) (own_answers mine) seen known
 
   abbrev new : Account
-  new = account_of start opening k (own_commits k (mine ++ (q, p) ∷ [])) now after
+  new = account_of start opening k (own_commits k (mine ++ (q, p) ∷ [])) (own_answers (mine ++ (q, p) ∷ [])) now after
 
-  new_is : account_of start opening k (own_commits k mine ++ commit k q p ∷ []) now after ≡ new
-  new_is = ap (λ cs. account_of start opening k cs now after) (sym (own_more k mine q p))
+  new_is : account_of start opening k (own_commits k mine ++ commit k q p ∷ []) (own_answers mine) now after ≡ new
+  new_is = λ i. account_of start opening k (sym (own_more k mine q p writes) i) (sym (answers_same mine q p writes) i) now after
 
   pub answered_ok : (r : Receipt) → p.answer ≡ Ok r → r.group_last ≤ last_of start now → Wrote settings old q.batch.records q.options r.run.first r.group_last new
   answered_ok r ok reached = subst (Wrote settings old q.batch.records q.options r.run.first r.group_last) new_is
-      (wrote start opening k (own_commits k mine) (commit k q p) seen now sees known after more free (map commit_of handled) kept.answered is settings r.run.first r.group_last (ap answer_in ok) passed (subst (IsAbove (last_of start seen)) ok above) reached)
+      (wrote start opening k (own_commits k mine) (own_answers mine) (commit k q p) seen now sees known after more free (commits_in handled) kept.answered is settings r.run.first r.group_last (ap answer_in ok) passed (subst (IsAbove (last_of start seen)) ok above) reached)
 
   -- the client has seen the note of a reply, and with it the delay that the note shows
   noted_after : (note : Option Noted) → IfSome note (λ (n : Noted). IsNoteOf controller n × (seen_by_note n ≡ seen_for p)) → IfSome note (λ (n : Noted). IsPrefix (seen_by_note n) after) → (n : Noted) → note ≡ Some n → IsPrefix (seen_for p) after
@@ -168,9 +155,9 @@ module _ {C D : Type 0} {ghosts : Ghosts D} (controller : Controller C) (opened 
 
   refused_by : (why : Refusal) (e : Refused) → e.why ≡ why → p.answer ≡ Err e → IsLate why → IsRefused old q.batch.records q.options why new
   refused_by (LogFault n) e is_why err late = subst (IsRefused old q.batch.records q.options (LogFault n)) new_is
-      (refused_failed start opening k (own_commits k mine) (commit k q p) seen now sees known after more free n (ap answer_in err ∙ ap answer_of_refusal is_why))
+      (refused_failed start opening k (own_commits k mine) (own_answers mine) (commit k q p) seen now sees known after more free n (ap answer_in err ∙ ap answer_of_refusal is_why))
   refused_by (SequenceFull l) e is_why err late = subst (IsRefused old q.batch.records q.options (SequenceFull l)) new_is
-      (refused_full start opening k (own_commits k mine) (commit k q p) seen now sees known after more free (map commit_of handled) kept.answered is l (ap answer_in err ∙ ap answer_of_refusal is_why) (subst (IsAbove (last_of start seen)) err above l is_why))
+      (refused_full start opening k (own_commits k mine) (own_answers mine) (commit k q p) seen now sees known after more free (commits_in handled) kept.answered is l (ap answer_in err ∙ ap answer_of_refusal is_why) (subst (IsAbove (last_of start seen)) err above l is_why))
   refused_by (Incomplete s d w) e is_why err late =
       let numbers : Look = record { stops = s; delays = d; wait = w } in
       let told : answer_in p.answer ≡ held_up numbers = ap answer_in err ∙ ap answer_of_refusal is_why in
@@ -181,7 +168,7 @@ module _ {C D : Type 0} {ghosts : Ghosts D} (controller : Controller C) (opened 
       let later = later_in (seen_for p) after front (length (noted_in q.note)) (length (seen_for p) - 1) (record { client = delayed.by; action = delay delayed.now delayed.bytes; told = Some numbers }) delayed.is_later in
       let low = prefix_length known (noted_in q.note) noted_known in let late = later.later in
       subst (IsRefused old q.batch.records q.options (Incomplete s d w)) new_is
-      (refused_held_up start opening k (own_commits k mine) (commit k q p) seen now sees known after more free numbers delayed.by delayed.now delayed.bytes told h.0 h.1
+      (refused_held_up start opening k (own_commits k mine) (own_answers mine) (commit k q p) seen now sees known after more free numbers delayed.by delayed.now delayed.bytes told h.0 h.1
       (record { later = omega (arith, low, late); there = later.there }))
   refused_by Empty e is_why err late = absurd late
   refused_by (TooLarge size) e is_why err late = absurd late
@@ -200,7 +187,7 @@ module _ {C D : Type 0} {ghosts : Ghosts D} (controller : Controller C) (opened 
   pub answered_synced : (r : Receipt) → p.answer ≡ Ok r → q.options.sync ≡ true → (calls : List GroupCall) × (log : OpenLog D ghosts) × LogWrote opened calls log × IsSyncedBy r.run.first q.batch.records calls
   answered_synced r ok sync =
       let w = kept.written in
-      let h = have_synced start k (map commit_of handled) (own_commits k mine) (commit k q p) w.worked r.run.first r.group_last kept.answered w.parts is (ap answer_in ok) sync (logged_if settings.families settings.batch_bytes (holds_stop (tokens_of k known)) q.batch.records q.options passed sync) in
+      let h = have_synced start k (commits_in handled) (own_commits k mine) (commit k q p) w.worked r.run.first r.group_last kept.answered w.parts is (ap answer_in ok) sync (logged_if settings.families settings.batch_bytes (holds_stop (tokens_of k known)) q.batch.records q.options passed sync) in
       (w.calls, w.log, w.wrote, record { front = h.front; call = h.call; rest = h.rest ++ w.lost; there = w.both ∙ (ap (λ (l : List GroupCall). l ++ w.lost) h.there ∙ append_assoc h.front (h.call ∷ h.rest) w.lost); is = h.is })
 
   -- all that the client concludes
@@ -209,16 +196,16 @@ module _ {C D : Type 0} {ghosts : Ghosts D} (controller : Controller C) (opened 
   concludes (Err e) err reached = let b = subst (ComesBack q.batch) err back in record { accepted = tt; back = tt; synced = tt; refused = answered_err e err; unchanged = b.0 }
 
 -- what a client concludes whose commit met a stall, and is in no group
-pub concludes_met : {D : Type 0} {ghosts : Ghosts D} (opened : OpenLog D ghosts) (settings : Settings) (start : ℕ) (opening : Pairs) (k : ℕ) (own : List Commit) (batch : Contents) (how : WriteOptions) (before now : List (List MemberVersions)) (known after : List ControllerCall) (numbers : Look) (by place : ℕ)
+pub concludes_met : {D : Type 0} {ghosts : Ghosts D} (opened : OpenLog D ghosts) (settings : Settings) (start : ℕ) (opening : Pairs) (k : ℕ) (own : List Commit) (answers : List ReadAnswer) (batch : Contents) (how : WriteOptions) (before now : List (List MemberVersions)) (known after : List ControllerCall) (numbers : Look) (by place : ℕ)
     → Begins before now → SeesMore k known after → early_refusal settings.families settings.batch_bytes (holds_stop (tokens_of k known)) batch.records how ≡ None → holds_stop (tokens_of k known) ≡ false → how.no_slowdown ≡ true
     → IsLater after (length known) place (record { client = by; action = look; told = Some numbers }) → MetStall after k by place numbers
-    → Concludes opened settings (account_of start opening k own before known) batch how (Err (held_up_with numbers batch)) (account_of start opening k own now after)
-concludes_met opened settings start opening k own batch how before now known after numbers by place sees more passed free impatient later met = record {
+    → Concludes opened settings (account_of start opening k own answers before known) batch how (Err (held_up_with numbers batch)) (account_of start opening k own answers now after)
+concludes_met opened settings start opening k own answers batch how before now known after numbers by place sees more passed free impatient later met = record {
   accepted = tt;
   back = tt;
   synced = tt;
-  refused = refuses_late settings (account_of start opening k own before known) batch.records how (Incomplete numbers.stops numbers.delays numbers.wait) (account_of start opening k own now after) passed
-      (inr (refused_stalled start opening k own batch.records how before now known after numbers by place sees more free impatient later met));
+  refused = refuses_late settings (account_of start opening k own answers before known) batch.records how (Incomplete numbers.stops numbers.delays numbers.wait) (account_of start opening k own answers now after) passed
+      (inr (refused_stalled start opening k own answers batch.records how before now known after numbers by place sees more free impatient later met));
   unchanged = refl;
 }
 

@@ -1,25 +1,24 @@
 -- A client whose request was linked or turned away, and what it concludes where it met a stall.
-use Rattle.std.proofs.Common.{◌≡◌, ℕ, zero, suc, ◌≤◌, List, [], ◌∷◌, ◌++◌, Option, Some, None, Result, Ok, Err, IfOk, IfErr, length, slice_get, inl, inr, refl, sym, ap, ◌∙◌, subst, arith}
+use Rattle.std.proofs.Common.{◌≡◌, ℕ, zero, suc, ◌≤◌, List, [], ◌∷◌, ◌++◌, Some, Result, Ok, Err, IfOk, IfErr, length, slice_get, inr, refl, sym, ap, ◌∙◌, subst, arith}
 use Rattle.std.specs.List.{AllByRecursion}
 use mathlib.Core.List.{IsPrefix}
 use Rattle.log_writer.specs.declared.group_log.GroupLog.{Ghosts}
 use Rattle.model_base.specs.Controller as calls
 use Rattle.model_base.specs.Controller.{ControllerCall, Look}
-use Rattle.model_base.specs.Replies.{IsLater, WasHeldUp, MetStall}
+use Rattle.model_base.specs.Replies.{IsLater, MetStall}
 use Rattle.model_base.proofs.Prefixes.{prefix_at, prefix_length, prefix_trans}
 use Rattle.model_base.proofs.Runs.{later_in, held_up_in}
 use Rattle.table_rule.specs.Histories.{In}
-use Rattle.line_writers.specs.Seats.{client_of, Belongs, answers_told}
+use Rattle.line_writers.specs.Seats.{client_of, Belongs}
 use Rattle.engine_controller.specs.Delays.{delays_of}
-use Rattle.engine_controller.specs.Noted.{Noted}
-use Rattle.engine_controller.specs.Passes.{seen_by, seen_by_note, AreOfOthers, GoesOn, IsPassOf, client_of as pass_client}
+use Rattle.engine_controller.specs.Passes.{seen_by, AreOfOthers, GoesOn, IsPassOf, client_of as pass_client}
 use Rattle.engine_rule.specs.Asked.{HasAsked, place_of}
 use Rattle.engine_rule.specs.Commits.{Commit}
 use Rattle.engine_rule.specs.Entries.{SeesMore}
 use Rattle.engine_parts.specs.declared.requests.Request.{Request}
 use Rattle.engine_parts.specs.declared.requests.Answer.{Answer}
 use Rattle.engine_parts.specs.Asking.{OnlyLooks}
-use Rattle.engine_parts.specs.Handled.{IsTurnedAway, LookedInStall}
+use Rattle.engine_parts.specs.Handled.{LookedInStall}
 use Rattle.engine_groups.specs.Meaning.{Meaning}
 use Rattle.engine_groups.specs.declared.engine.GroupEngine.{GroupEngine}
 use Rattle.engine_groups.specs.declared.engine.EngineClient.{EngineClient}

@@ -23,11 +23,13 @@ use Rattle.engine_controller.proofs.Places.{ends_delays, goes_delays}
 use Rattle.engine_rule.specs.Asked.{place_of}
 use Rattle.engine_rule.specs.Commits.{Commit}
 use Rattle.engine_rule.specs.Entries.{SeesMore}
+use Rattle.engine_rule.specs.Reading.{reads_in}
 use Rattle.engine_groups.specs.Meaning.{Meaning}
 use Rattle.engine_groups.specs.declared.engine.GroupEngine.{GroupEngine}
 use Rattle.engine_groups.specs.declared.engine.EngineClient.{EngineClient}
-use Rattle.engine_groups.specs.Clients.{IsClientOf, IsIdle, map_at_opening, account_in, own_commits, told_of}
+use Rattle.engine_groups.specs.Clients.{IsClientOf, IsIdle, map_at_opening, account_in, own_answers, own_commits, told_of}
 use Rattle.engine_groups.proofs.Answered.{begins_self}
+use Rattle.engine_groups.proofs.AtEnds.{ends_on}
 
 pub on_ok : {A B : Type 0} {P Q : Type 0} (r : Result A B) → (P → Q) → OnOk r P → OnOk r Q
 on_ok (Ok x) f p = f p
@@ -91,6 +93,7 @@ module _ {D T C G S U P : Type 0} {ghosts : Ghosts D} (meaning : Meaning T S U P
       out = fits.idle.out;
       has_asked = fits.idle.has_asked;
     };
+    at_ends = ends_on (meaning.opening e.table).start (meaning.account c.seat).seen (meaning.account seat).seen (reads_in (own_answers (told_of c))) learns.seen fits.at_ends;
     envelope = fits.envelope;
   }
 
@@ -101,7 +104,8 @@ module _ {D T C G S U P : Type 0} {ghosts : Ghosts D} (meaning : Meaning T S U P
     ends = refl;
     asked = refl;
     attempts = refl;
-    seen = record { start = refl; opening = refl; published = seen; controller_calls = prefix_self (seen_by c.pass) };
+    read_faults = refl;
+    seen = record { start = refl; opening = refl; published = seen; controller_calls = prefix_self (seen_by c.pass); log_reads = prefix_self _ };
   }
 
   -- what the seat read is true as of the end of what the client has seen
@@ -133,6 +137,7 @@ module _ {D T C G S U P : Type 0} {ghosts : Ghosts D} (meaning : Meaning T S U P
       out = fits.idle.out;
       has_asked = subst (AllByRecursion (λ (place : ℕ). (x : Commit) × In x (own_commits c.number (told_of c)) × (place_of x ≡ place))) (sym delays) fits.idle.has_asked;
     };
+    at_ends = fits.at_ends;
     envelope = fits.envelope;
   }
 
@@ -148,7 +153,8 @@ module _ {D T C G S U P : Type 0} {ghosts : Ghosts D} (meaning : Meaning T S U P
     ends = refl;
     asked = ap (tokens_of c.number) same;
     attempts = refl;
-    seen = record { start = refl; opening = refl; published = begins_self (meaning.account c.seat).seen; controller_calls = subst (IsPrefix (seen_by c.pass)) (sym same) (prefix_self (seen_by c.pass)) };
+    read_faults = refl;
+    seen = record { start = refl; opening = refl; published = begins_self (meaning.account c.seat).seen; controller_calls = subst (IsPrefix (seen_by c.pass)) (sym same) (prefix_self (seen_by c.pass)); log_reads = prefix_self _ };
   }
 
   -- it made a call that isn't a delay
@@ -170,7 +176,8 @@ module _ {D T C G S U P : Type 0} {ghosts : Ghosts D} (meaning : Meaning T S U P
           ends = refl;
           asked = ends_tokens c.number (seen_by c.pass) action None (seen_by pass) ends_own ∙ ap (λ (l : List Action). tokens_of c.number (seen_by c.pass) ++ l) is;
           attempts = refl;
-          seen = record { start = refl; opening = refl; published = begins_self (meaning.account c.seat).seen; controller_calls = ends_begins c.number (seen_by c.pass) action None (seen_by pass) ends_own };
+          read_faults = refl;
+          seen = record { start = refl; opening = refl; published = begins_self (meaning.account c.seat).seen; controller_calls = ends_begins c.number (seen_by c.pass) action None (seen_by pass) ends_own; log_reads = prefix_self _ };
           place = last.place;
           is_later = last.is_later;
         }
@@ -207,11 +214,13 @@ module _ {D T C G S U P : Type 0} {ghosts : Ghosts D} (meaning : Meaning T S U P
       ends = refl;
       asked = ap (λ (k : ℕ). tokens_of k (seen_by pass)) (sym (same ∙ fits.idle.seated.pass_number)) ∙ (tokens ∙ ap (λ (l : List Action). l ++ given_back l) same_tokens);
       attempts = refl;
+      read_faults = refl;
       seen = record {
         start = refl;
         opening = refl;
         published = begins_self (meaning.account c.seat).seen;
         controller_calls = prefix_trans (seen_by c.pass) middle (seen_by pass) (back_begins a (pass_client c.pass) (seen_by c.pass) unstop middle first) (back_begins b (pass_client c.pass) middle unslow (seen_by pass) second);
+        log_reads = prefix_self _;
       };
     }
 

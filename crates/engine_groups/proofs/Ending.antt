@@ -1,5 +1,5 @@
 -- What follows from the parts of an engine that are handed in when it is closed.
-use Rattle.std.proofs.Common.{◌≡◌, inl, inr, ℕ, zero, suc, ◌+◌, ◌-◌, map, slice_get, List, [], ◌∷◌, Option, Some, length, refl, ap, sym, ◌∙◌, subst, ⊎_elim, arith}
+use Rattle.std.proofs.Common.{◌≡◌, inl, inr, ℕ, zero, suc, ◌+◌, ◌-◌, map, slice_get, List, [], ◌∷◌, Option, Some, IfSome, length, refl, ap, sym, ◌∙◌, subst, ⊎_elim, arith}
 use Rattle.std.specs.Option.{option_map}
 use Rattle.std.specs.List.{AllByRecursion}
 use Rattle.std.proofs.lemmas.Option.{slice_get-map, slice_get_cases}
@@ -8,6 +8,8 @@ use Rattle.log_writer.specs.declared.group_log.GroupLog.{Ghosts}
 use Rattle.model_base.specs.Attempts.{Attempt}
 use Rattle.model_base.specs.Controller.{ControllerCall}
 use Rattle.model_base.specs.LogContents.{GroupCall}
+use Rattle.model_base.specs.Recovery.{Logged}
+use Rattle.model_base.specs.Since.{LogRead}
 use Rattle.model_base.specs.Trace.{Trace}
 use Rattle.table_rule.specs.declared.content.MemberVersions.{MemberVersions}
 use Rattle.table_rule.specs.Histories.{In}
@@ -28,12 +30,13 @@ use Rattle.engine_controller.specs.declared.pass.Passes.{Passes}
 use Rattle.engine_controller.specs.Passes.{seen_by, AreAll, IsHistoryOf, IsOthersOf, IsPassOf, client_of as pass_client}
 use Rattle.engine_parts.specs.declared.log.OpenLog.{OpenLog}
 use Rattle.engine_parts.specs.LogLaw.{Covers}
-use Rattle.engine_groups.specs.Clients.{IsClientOf, IsEngine, map_at_opening, opened_log, account_in, own_commits, pass_in, seat_in, writer_in}
-use Rattle.engine_parts.specs.Handled.{commit_of}
+use Rattle.engine_groups.specs.Clients.{IsClientOf, IsEngine, map_at_opening, opened_log, account_in, own_answers, own_commits, pass_in, seat_in, writer_in}
+use Rattle.engine_parts.specs.Handled.{commits_in, reads_handled}
 use Rattle.engine_rule.specs.Asked.{HasAsked}
 use Rattle.engine_rule.specs.Commits.{Commit, commits_of}
 use Rattle.engine_rule.specs.Entries.{account_of, AreCallsOf, HasPart}
-use Rattle.engine_groups.proofs.Told.{commits_told}
+use Rattle.engine_rule.specs.Reading.{IsAtEnd, IsRight, ReadAnswer, answers_of, reads_in}
+use Rattle.engine_groups.proofs.Told.{commits_told, reads_told}
 
 each_all : {C : Type 0} (P : C → Type 0) (cs : List C) → ((i : ℕ) (c : C) → slice_get cs i ≡ Some c → P c) → AllByRecursion P cs
 each_all P [] h = tt
@@ -132,27 +135,30 @@ module _ {D T C G S U P : Type 0} {ghosts : Ghosts D} (meaning : Meaning T S U P
 
     module _ (handled : List (Handling Request Answer)) (published : List (List MemberVersions))
         (merged : Merged handled (map writer_in cs)) (seen : IsTableClosing (meaning.opening e.table).start published (map meaning.account (map seat_in cs))) where
-      part : (i : ℕ) (c : EngineClient D T C S U P ghosts) → slice_get cs i ≡ Some c → HasPart (meaning.opening e.table).start (map_at_opening meaning e.table) (map commit_of handled) published calls i (account_in meaning c)
+      part : (i : ℕ) (c : EngineClient D T C S U P ghosts) → slice_get cs i ≡ Some c → HasPart (meaning.opening e.table).start (map_at_opening meaning e.table) (commits_in handled) (reads_handled handled) published calls i (account_in meaning c)
       part i c at =
           let f = fit i c at in
           let number : c.number ≡ i + 1 = (all.each i c at).1 in
-          let own : own_commits c.number (answers_told c.writer) ≡ commits_of (i + 1) (map commit_of handled) =
-          ap (own_commits c.number) (sym (ap (λ k. of k handled) (sym f.idle.seated.number) ∙ merged_at handled cs merged i c at)) ∙ (sym (commits_told c.number handled) ∙ ap (λ k. commits_of k (map commit_of handled)) number) in
+          let own : own_commits c.number (answers_told c.writer) ≡ commits_of (i + 1) (commits_in handled) =
+          ap (own_commits c.number) (sym (ap (λ k. of k handled) (sym f.idle.seated.number) ∙ merged_at handled cs merged i c at)) ∙ (sym (commits_told c.number handled) ∙ ap (λ k. commits_of k (commits_in handled)) number) in
+          let answers : own_answers (answers_told c.writer) ≡ answers_of (i + 1) (reads_handled handled) =
+          ap own_answers (sym (ap (λ k. of k handled) (sym f.idle.seated.number) ∙ merged_at handled cs merged i c at)) ∙ (sym (reads_told c.number handled) ∙ ap (λ k. answers_of k (reads_handled handled)) number) in
           record {
             seen = (meaning.account c.seat).seen;
             begins = seen.each (meaning.account c.seat) (in_map meaning.account c.seat (map seat_in cs) (in_map seat_in c cs (in_at cs i c at)));
             known = seen_by c.pass;
             goes_on = whole.each i c.pass (slice_get-map pass_in cs i ∙ ap (option_map pass_in) at);
             has_asked = subst (λ (z : ℕ × List Commit). HasAsked z.0 z.1 (seen_by c.pass)) (λ j. (number j, own j)) f.idle.has_asked;
-            is = (λ j. account_of (f.idle.seated.start j) (map_at_opening meaning (f.idle.seated.table j)) (number j) (own j) (meaning.account c.seat).seen (seen_by c.pass));
+            at_ends = subst (λ (l : List ReadAnswer). AllByRecursion (IsAtEnd (meaning.opening e.table).start (meaning.account c.seat).seen) (reads_in l)) answers f.at_ends;
+            is = (λ j. account_of (f.idle.seated.start j) (map_at_opening meaning (f.idle.seated.table j)) (number j) (own j) (answers j) (meaning.account c.seat).seen (seen_by c.pass));
           }
 
       -- each client's account is its part of the whole
-      pub parts : (i : ℕ) (a : Account) → slice_get (map (account_in meaning) cs) i ≡ Some a → HasPart (meaning.opening e.table).start (map_at_opening meaning e.table) (map commit_of handled) published calls i a
+      pub parts : (i : ℕ) (a : Account) → slice_get (map (account_in meaning) cs) i ≡ Some a → HasPart (meaning.opening e.table).start (map_at_opening meaning e.table) (commits_in handled) (reads_handled handled) published calls i a
       parts i a at = elim (slice_get_cases cs i).1 [
         | inl there ↦ (
             let is : account_in meaning there.0 ≡ a = cc (sym (slice_get-map (account_in meaning) cs i) ∙ at, ap (option_map (account_in meaning)) there.2) in
-            subst (HasPart (meaning.opening e.table).start (map_at_opening meaning e.table) (map commit_of handled) published calls i) is (part i there.0 there.2))
+            subst (HasPart (meaning.opening e.table).start (map_at_opening meaning e.table) (commits_in handled) (reads_handled handled) published calls i) is (part i there.0 there.2))
         | inr gone ↦ absurd (cc (sym (slice_get-map (account_in meaning) cs i) ∙ at, ap (option_map (account_in meaning)) gone.1))
       ]
 
@@ -170,3 +176,11 @@ written_by group_bytes wrote calls trace attempts fault by w = record {
   none_else = w.none_else;
   by = subst wrote (sym w.by) by;
 }
+
+-- what reads gave that is right for each list of batches which the log had is right for this one
+pub right_where : (had : List Logged → Type 0) (kept : Option (List Logged)) (last : ℕ) (calls : List GroupCall) (reads : List LogRead) → IfSome kept had → AllByRecursion (IsRight had last calls) reads → AllByRecursion (IsRight (λ batches. kept ≡ Some batches) last calls) reads
+right_where had kept last calls [] is all = tt
+right_where had kept last calls (r ∷ reads) is all = (
+  record { low = all.0.low; answer = λ batches e. all.0.answer batches (subst (λ (o : Option (List Logged)). IfSome o had) e is) },
+  right_where had kept last calls reads is all.1,
+)

@@ -1,5 +1,5 @@
 -- At the end the right to launch is in one place, and what is published is what was handled.
-use Rattle.std.proofs.Common.{◌≡◌, ◌⊎◌, inl, inr, ⊎_elim, Bool, true, false, map, List, [], Option, Some, None, refl, sym, ap, ◌∙◌, subst}
+use Rattle.std.proofs.Common.{◌≡◌, ◌⊎◌, inl, inr, ⊎_elim, Bool, true, false, List, [], Option, Some, None, refl, sym, ap, ◌∙◌, subst}
 use Rattle.log_writer.specs.declared.group_log.GroupLog.{Ghosts}
 use Rattle.table_rule.specs.declared.content.MemberVersions.{MemberVersions}
 use Rattle.line_rule.specs.declared.view.Handling.{Handling}
@@ -14,11 +14,11 @@ use Rattle.engine_groups.specs.declared.leader.Leadership.{Leadership}
 use Rattle.engine_groups.specs.declared.leader.Right.{Right}
 use Rattle.engine_parts.specs.declared.requests.Request.{Request}
 use Rattle.engine_parts.specs.declared.requests.Answer.{Answer}
-use Rattle.engine_parts.specs.Handled.{AreHandled, commit_of}
+use Rattle.engine_parts.specs.Handled.{AreHandled, commits_in}
 use Rattle.engine_groups.specs.Law.{LeadershipCovers, RightStandsFor, ServesIs, TurnIs}
 use Rattle.engine_parts.specs.Runs.{run_of}
 use Rattle.engine_groups.proofs.Leads.{LogIn}
-use Rattle.engine_groups.proofs.Onto.{given_accepted}
+use Rattle.engine_groups.proofs.Onto.{ends_of_all, given_accepted}
 
 some_or : {U : Type 0} → U → Option U → U
 some_or d None = d
@@ -36,7 +36,7 @@ module _ {D T C S U P : Type 0} {ghosts : Ghosts D} (meaning : Meaning T S U P) 
     pub path : LogIn about leadership (meaning.history turn) handled
 
   ends_by : (b : Bool) (apart : Option U) (published : List (List MemberVersions)) → LogIn about leadership published handled → AreHandled about.controller.value about.opened.value about.start handled → TurnIs meaning about.table.value b published leadership.turn
-      → (b ≡ false → ServesIs meaning about.table.value b [] apart) → (b ≡ true → ServesIs meaning about.table.value b (given_runs run_of handled) apart) → Ends leadership.turn apart
+      → (b ≡ false → ServesIs meaning about.table.value about.start b [] apart) → (b ≡ true → ServesIs meaning about.table.value about.start b (given_runs run_of handled) apart) → Ends leadership.turn apart
   ends_by false apart published path kept turn none served = record {
     turn = turn.0;
     place = inl (turn.1, none refl);
@@ -46,6 +46,7 @@ module _ {D T C S U P : Type 0} {ghosts : Ghosts D} (meaning : Meaning T S U P) 
   ends_by true apart published path kept turn none served =
       let s = served refl in
       let accepted = subst (λ cs. AreServed cs (meaning.history s.0)) (given_accepted about.start None handled kept.handed_back path.consistent.answered) s.3 in
+      let named = ends_of_all about.start handled (meaning.history s.0) kept.handed_back path.consistent.answered s.4 in
       record {
         turn = s.0;
         place = inr (turn, s.1);
@@ -54,7 +55,10 @@ module _ {D T C S U P : Type 0} {ghosts : Ghosts D} (meaning : Meaning T S U P) 
           our = tt;
           calls = path.calls;
           wrote = path.wrote;
-          consistent = consistent_served about.start about.clients about.group_bytes (seen_by_note leadership.asked) (map commit_of handled) leadership.held.value.path.last (fault_of leadership.held.value.path.log) published (meaning.history s.0) path.calls path.consistent accepted;
+          consistent = consistent_served about.start about.clients about.group_bytes (seen_by_note leadership.asked) (commits_in handled) leadership.held.value.path.last (fault_of leadership.held.value.path.log) published (meaning.history s.0) path.calls path.consistent accepted named;
+          right = path.right;
+          readers = path.readers;
+          counted = path.counted;
         };
       }
 

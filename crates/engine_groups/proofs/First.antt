@@ -3,11 +3,13 @@ use Rattle.std.proofs.Common.{◌≡◌, ◌⊎◌, inl, inr, ⊎_elim, ℕ, Boo
 use Rattle.log_writer.specs.declared.group_log.GroupLog.{Ghosts}
 use Rattle.model_base.specs.Controller.{ControllerCall}
 use Rattle.engine_parts.specs.declared.log.OpenLog.{OpenLog}
-use Rattle.engine_parts.specs.Logs.{fault_of}
+use Rattle.engine_parts.specs.Logs.{fault_of, faults_of}
+use Rattle.log_writer.specs.CountedFaults.{AreCounted}
+use Rattle.log_writer.proofs.Counting.{none_counted}
 use Rattle.engine_parts.specs.Logs.{Wrote}
 use Rattle.table_rule.specs.declared.content.MemberVersions.{MemberVersions}
 use Rattle.engine_controller.specs.declared.controller.Controller.{Controller}
-use Rattle.engine_rule.specs.Consistent.{AreConsistent}
+use Rattle.engine_rule.specs.Consistent.{AreConsistent, EndsAreNamed}
 use Rattle.engine_groups.specs.Meaning.{Meaning}
 use Rattle.engine_parts.specs.Handled.{AreHandled}
 use Rattle.engine_stage_laws.specs.Served.{AreServed}
@@ -23,6 +25,9 @@ stands_first our_turn history table log start clients group_bytes turn asked fir
   calls = [];
   wrote = begun;
   consistent = subst (λ (z : List ControllerCall × Option ℕ × List (List MemberVersions)). AreConsistent start clients group_bytes z.0 [] start z.1 z.2 []) (λ i. (sym unasked i, sym alive i, sym none i)) first;
+  right = tt;
+  readers = tt;
+  counted = subst (λ (f : Option ℕ). AreCounted (faults_of log) (faults_of log) f []) (sym alive) (none_counted (faults_of log));
 }
 
 -- nothing was handled yet
@@ -52,10 +57,10 @@ unfolding some_or
 some_same a b e = ap (some_or a) e
 
 -- Where the right to launch is at the beginning
-module _ {T S U P : Type 0} (meaning : Meaning T S U P) (table : T) (turn : U) (our : meaning.our_turn table turn) (none : meaning.history turn ≡ []) (with_log apart : Option U) where
-  pub turn_first : (b : Bool) → (b ≡ false → (with_log ≡ Some turn) × (apart ≡ None)) → (b ≡ true → (with_log ≡ None) × (apart ≡ Some turn)) → TurnIs meaning table b [] with_log × ServesIs meaning table b [] apart
+module _ {T S U P : Type 0} (meaning : Meaning T S U P) (table : T) (start : ℕ) (turn : U) (our : meaning.our_turn table turn) (none : meaning.history turn ≡ []) (named : EndsAreNamed start [] []) (with_log apart : Option U) where
+  pub turn_first : (b : Bool) → (b ≡ false → (with_log ≡ Some turn) × (apart ≡ None)) → (b ≡ true → (with_log ≡ None) × (apart ≡ Some turn)) → TurnIs meaning table b [] with_log × ServesIs meaning table start b [] apart
   turn_first false one two = let t = one refl in ((turn, t.0, our, none), t.1)
-  turn_first true one two = let t = two refl in (t.0, (turn, t.1, our, subst (λ h. AreServed [] h) (sym none) refl))
+  turn_first true one two = let t = two refl in (t.0, (turn, t.1, our, subst (λ h. AreServed [] h) (sym none) refl, subst (λ (h : List (List MemberVersions)). EndsAreNamed start [] h) (sym none) named))
 
 module _ {U : Type 0} (turn : U) (with_log apart : Option U) where
   pub place_first : (b : Bool) → (b ≡ false → (with_log ≡ Some turn) × (apart ≡ None)) → (b ≡ true → (with_log ≡ None) × (apart ≡ Some turn)) → ((u : U) × (with_log ≡ Some u) × (apart ≡ None)) ⊎ ((u : U) × (with_log ≡ None) × (apart ≡ Some u))

@@ -1,5 +1,5 @@
 -- The law of the list, in the engine's own words.
-use Rattle.std.proofs.Common.{◌≡◌, ◌⊎◌, inl, inr, ⊎_elim, ℕ, ◌-◌, Bool, true, false, cond, ◌==◌, List, [], ◌∷◌, ◌++◌, None, length, refl, ap, sym, ◌∙◌, subst}
+use Rattle.std.proofs.Common.{◌≡◌, ◌⊎◌, inl, inr, ⊎_elim, ℕ, ◌-◌, Bool, true, false, cond, ◌==◌, List, [], ◌∷◌, ◌++◌, Some, None, length, refl, ap, sym, ◌∙◌, subst}
 use Rattle.std.specs.List.{AllByRecursion}
 use Rattle.std.proofs.lemmas.Bool.{ne_eqb, eq-eqb}
 use Rattle.log_writer.specs.declared.group_log.GroupLog.{Ghosts}
@@ -10,13 +10,11 @@ use Rattle.line_rule.specs.declared.view.QueuedWriter.{QueuedWriter}
 use Rattle.line_rule.specs.declared.view.Handling.{Handling}
 use Rattle.line_rule.specs.Chain.{Absent, Distinct, heads, handling, answers, all_answers, of}
 use Rattle.line_rule.specs.declared.view.LineStage.TheVariants.{Fresh}
-use Rattle.line_rule.specs.Rule.{asks_for, hold, last_run}
+use Rattle.line_rule.specs.Rule.{hold, last_run}
 use Rattle.line_rule.specs.Plays.{Sat}
 use Rattle.line_writers.specs.declared.writer.Role.{Role}
 use Rattle.line_writers.specs.declared.writer.Role.TheVariants.{LogLeader, Done}
-use Rattle.line_writers.specs.declared.writer.Writer.{Writer}
-use Rattle.line_writers.specs.declared.line_writers.WriterList.{WriterList}
-use Rattle.line_writers.specs.Seats.{about_of, answers_told, told_in_first, Belongs, HasGroup}
+use Rattle.line_writers.specs.Seats.{about_of, told_in_first}
 use Rattle.line_writers.specs.declared.writer.Task.{Task}
 use Rattle.line_writers.specs.declared.writer.Task.TheVariants.{Awaits, Leads as Leads_, Helps, Queues, Serves}
 use Rattle.line_rule.specs.Members.{asks, pays}
@@ -31,16 +29,14 @@ use Rattle.engine_parts.specs.declared.requests.Answer.{Answer}
 use Rattle.engine_groups.specs.declared.engine.GroupEngine.{GroupEngine}
 use Rattle.engine_groups.specs.declared.leader.EngineAtOpening.{EngineAtOpening}
 use Rattle.engine_groups.specs.declared.leader.Leadership.{Leadership}
-use Rattle.engine_groups.specs.declared.leader.Right.{Right}
 use Rattle.engine_groups.specs.Clients.{opened_log, own_commits}
 use Rattle.engine_parts.specs.Handled.{AreHandled, HandsBack, InOrder, IsNoted, ShowsDelay, handled_with, seen_for}
-use Rattle.engine_parts.specs.Items.{item_with}
 use Rattle.engine_parts.specs.LogLaw.{LogCovers}
 use Rattle.engine_groups.specs.Law.{kept_in}
 use Rattle.engine_controller.specs.Passes.{seen_by_note}
 use Rattle.engine_parts.specs.Led.{LeadsBy}
 use Rattle.engine_parts.specs.Handled.{IsReplyAt}
-use Rattle.engine_groups.proofs.Answered.{commit, own_more}
+use Rattle.engine_groups.proofs.Told.{commit, commits_same, own_more}
 use Rattle.engine_parts.proofs.Paying.{Paid, number_is, paid, run}
 
 all_append : {A : Type 0} (P : A → Type 0) (xs ys : List A) → AllByRecursion P xs → AllByRecursion P ys → AllByRecursion P (xs ++ ys)
@@ -114,17 +110,21 @@ asked_front own c [] h = tt
 asked_front own c (p ∷ places) h = ((h.0.0, in_front h.0.0 own c h.0.1, h.0.2), asked_front own c places h.1)
 
 -- a client that has one more answer, and asked for no delay
-pub asked_more : (k : ℕ) (mine now : List (Request × Answer)) (q : Request) (p : Answer) (known : List ControllerCall) → now ≡ mine ++ (q, p) ∷ [] → HasAsked k (own_commits k mine) known → HasAsked k (own_commits k now) known
-asked_more k mine now q p known is h =
-    subst (λ (own : List Commit). HasAsked k own known) (sym (ap (own_commits k) is ∙ own_more k mine q p)) (asked_front (own_commits k mine) (commit k q p) (delays_of k known) h)
+pub asked_more : (k : ℕ) (mine now : List (Request × Answer)) (q : Request) (p : Answer) (known : List ControllerCall) → q.since ≡ None → now ≡ mine ++ (q, p) ∷ [] → HasAsked k (own_commits k mine) known → HasAsked k (own_commits k now) known
+asked_more k mine now q p known writes is h =
+    subst (λ (own : List Commit). HasAsked k own known) (sym (ap (own_commits k) is ∙ own_more k mine q p writes)) (asked_front (own_commits k mine) (commit k q p) (delays_of k known) h)
+
+-- the answer to a read of the log is no commit
+pub asked_read : (k : ℕ) (mine now : List (Request × Answer)) (q : Request) (p : Answer) (since : ℕ) (known : List ControllerCall) → q.since ≡ Some since → now ≡ mine ++ (q, p) ∷ [] → HasAsked k (own_commits k mine) known → HasAsked k (own_commits k now) known
+asked_read k mine now q p since known reads is h = subst (λ (own : List Commit). HasAsked k own known) (sym (ap (own_commits k) is ∙ commits_same k mine q p since reads)) h
 
 -- a leader that asked for one more delay, and has its own answer
-pub asked_own : (k : ℕ) (mine now : List (Request × Answer)) (q : Request) (p : Answer) (known after at : List ControllerCall) → now ≡ mine ++ (q, p) ∷ [] → HasAsked k (own_commits k mine) known
+pub asked_own : (k : ℕ) (mine now : List (Request × Answer)) (q : Request) (p : Answer) (known after at : List ControllerCall) → q.since ≡ None → now ≡ mine ++ (q, p) ∷ [] → HasAsked k (own_commits k mine) known
     → delays_of k after ≡ delays_of k known ++ (length at - 1) ∷ [] → seen_for p ≡ at → HasAsked k (own_commits k now) after
-asked_own k mine now q p known after at is h delays own =
+asked_own k mine now q p known after at writes is h delays own =
     let Has : List Commit → ℕ → Type 0 = λ (own : List Commit) (place : ℕ). (x : Commit) × In x own × (place_of x ≡ place) in
     let more = own_commits k mine ++ commit k q p ∷ [] in
-    subst (λ (cs : List Commit). HasAsked k cs after) (sym (ap (own_commits k) is ∙ own_more k mine q p))
+    subst (λ (cs : List Commit). HasAsked k cs after) (sym (ap (own_commits k) is ∙ own_more k mine q p writes))
     (subst (AllByRecursion (Has more)) (sym delays) (all_append (Has more) (delays_of k known) ((length at - 1) ∷ []) (asked_front (own_commits k mine) (commit k q p) (delays_of k known) h)
     ((commit k q p, in_last (own_commits k mine) (commit k q p), ap (λ (l : List ControllerCall). length l - 1) own), tt)))
 

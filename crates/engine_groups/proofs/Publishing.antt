@@ -1,5 +1,5 @@
 -- A leader that has answered its group, and what it does with the group's parts.
-use Rattle.std.proofs.Common.{◌≡◌, ℕ, true, false, List, [], ◌∷◌, ◌++◌, map, Option, Some, None, IfSome, is_none, sym, ap, ◌∙◌, subst}
+use Rattle.std.proofs.Common.{◌≡◌, ℕ, true, false, List, [], ◌∷◌, ◌++◌, Option, Some, None, IfSome, is_none, sym, ap, ◌∙◌, subst}
 use Rattle.std.proofs.lemmas.Bool.{false≢true}
 use Rattle.log_writer.specs.declared.group_log.GroupLog.{Ghosts}
 use Rattle.table_calls.specs.Account.{IsReady}
@@ -24,7 +24,7 @@ use Rattle.engine_groups.specs.Leaving.{HasAnswered, HasAnsweredGroup, IsFlat, I
 use Rattle.engine_parts.specs.declared.layout.Layout.{Layout}
 use Rattle.engine_parts.specs.declared.requests.Request.{Request}
 use Rattle.engine_parts.specs.declared.requests.Answer.{Answer}
-use Rattle.engine_parts.specs.Handled.{commit_of, handled_with}
+use Rattle.engine_parts.specs.Handled.{handled_with, commits_in}
 use Rattle.engine_parts.specs.Layout.{IsLaid}
 use Rattle.engine_parts.specs.Numbering.{AreHelpers, others_in}
 use Rattle.engine_parts.specs.Staged.{IsStaged, MayLaunch}
@@ -63,7 +63,7 @@ module _ {D T C G S U P : Type 0} {ghosts : Ghosts D} (meaning : Meaning T S U P
     to_end (Some end) now staged beside =
         let E = led.seats.is_engine in
         let seat_number : number ≡ (meaning.account w.seat).number = sym led.number_is ∙ sym led.seats.seat_number in
-        let last_is : old.held.value.path.last ≡ last_after_all (meaning.opening e.table).start (map commit_of seen) = was.path.consistent.last_is ∙ ap (λ (k : ℕ). last_after_all k (map commit_of seen)) E.start in
+        let last_is : old.held.value.path.last ≡ last_after_all (meaning.opening e.table).start (commits_in seen) = was.path.consistent.last_is ∙ ap (λ (k : ℕ). last_after_all k (commits_in seen)) E.start in
         let ends : last_of about.start was.published ≡ old.held.value.path.last = history_end our_log as_is tt about.opened.value about.start about.clients about.group_bytes (seen_by_note old.asked) old.held.value.path.log was.published old.held.value.path.last seen was.path in
         record {
           led = led;
@@ -105,7 +105,7 @@ module _ {D T C G S U P : Type 0} {ghosts : Ghosts D} (meaning : Meaning T S U P
       pub may_publish : MayLaunch (meaning.account w.seat).number (meaning.opening e.table).clients (last_of (meaning.opening e.table).start (meaning.history turn)) end [] parts
       may_publish =
           let start_is = h.led.seats.is_engine.start in
-          let last_is : last_after_all (meaning.opening e.table).start (map commit_of seen) ≡ last_of (meaning.opening e.table).start (meaning.history turn) = sym h.last ∙ (λ i. last_of (start_is i) (sym is_single.2 i)) in
+          let last_is : last_after_all (meaning.opening e.table).start (commits_in seen) ≡ last_of (meaning.opening e.table).start (meaning.history turn) = sym h.last ∙ (λ i. last_of (start_is i) (sym is_single.2 i)) in
           subst (λ (z : ℕ × List ℕ). MayLaunch (meaning.account w.seat).number (meaning.opening e.table).clients z.0 end z.1 parts) (λ i. (last_is i, h.alone (ap is_none here) i)) h.parts.may
 
       -- it has published them, and has the right again

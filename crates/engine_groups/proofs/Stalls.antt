@@ -1,5 +1,5 @@
 -- A leader that stalls writes, and what it lets go.
-use Rattle.std.proofs.Common.{◌≡◌, inl, inr, ⊎_elim, ℕ, ◌<◌, ◌≤◌, Bool, true, false, List, [], ◌∷◌, ◌++◌, length, Option, Some, None, slice_get, refl, ap, sym, ◌∙◌, subst, arith, length-append}
+use Rattle.std.proofs.Common.{◌≡◌, inl, inr, ⊎_elim, ℕ, Bool, true, false, List, [], ◌∷◌, ◌++◌, length, Some, slice_get, refl, ap, sym, ◌∙◌, subst, arith, length-append}
 use mathlib.Core.List.{IsPrefix}
 use Rattle.model_base.specs.Controller.{ControllerCall, Look, HoldUp, delay}
 use Rattle.model_base.specs.Replies.{IsLater, WasHeldUp}

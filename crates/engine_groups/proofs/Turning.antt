@@ -1,5 +1,5 @@
 -- Where the right to launch is, and what a group adds to what is published.
-use Rattle.std.proofs.Common.{◌≡◌, ℕ, Bool, true, false, cond, ◌==◌, map, List, [], ◌∷◌, ◌++◌, Option, Some, None, is_some, is_none, not, Result, Ok, Err, refl, sym, ap, ◌∙◌, subst, append_assoc, append-nil}
+use Rattle.std.proofs.Common.{◌≡◌, ℕ, Bool, true, false, cond, ◌==◌, List, [], ◌∷◌, ◌++◌, Option, Some, None, is_some, is_none, not, Result, Ok, Err, refl, sym, ap, ◌∙◌, subst, append_assoc, append-nil}
 use Rattle.std.proofs.lemmas.List.{append_cancel_left}
 use Rattle.table_rule.specs.declared.content.MemberVersions.{MemberVersions}
 use Rattle.table_rule.specs.Histories.{Images, made_by, versions_in, versions_of}
@@ -13,13 +13,13 @@ use Rattle.engine_rule.specs.Entries.{versions_made}
 use Rattle.engine_groups.specs.Meaning.{Meaning}
 use Rattle.engine_parts.specs.declared.requests.Request.{Request}
 use Rattle.engine_parts.specs.declared.requests.Answer.{Answer}
-use Rattle.engine_parts.specs.Handled.{answer_in, commit_of, handled_with}
+use Rattle.engine_parts.specs.Handled.{answer_in, handled_with, commits_in}
 use Rattle.engine_parts.specs.Items.{run_in}
 use Rattle.engine_groups.specs.Law.{TurnIs}
 use Rattle.engine_parts.specs.Runs.{run_of}
 use Rattle.engine_parts.specs.Staged.{HasNoRun}
-use Rattle.engine_parts.proofs.Replies.{map_append}
 use Rattle.engine_parts.proofs.Staging.{HaveNoRuns}
+use Rattle.engine_parts.proofs.Commits.{commits_append}
 
 some_or : {U : Type 0} → U → Option U → U
 some_or d None = d
@@ -55,12 +55,12 @@ versions_snoc [] g = append-nil (versions_in g)
 versions_snoc (x ∷ gs) g = ap (λ l. versions_in x ++ l) (versions_snoc gs g) ∙ sym (append_assoc (versions_in x) (versions_of gs) (versions_in g))
 
 -- the group's versions are those that its commits made
-pub group_made : (seen new : List (Handling Request Answer)) (published : List (List MemberVersions)) (g : List MemberVersions) → Images versions_made (map commit_of seen) published → Images versions_made (map commit_of (seen ++ new)) (published ++ g ∷ [])
-    → versions_in g ≡ made_by versions_made (map commit_of new)
+pub group_made : (seen new : List (Handling Request Answer)) (published : List (List MemberVersions)) (g : List MemberVersions) → Images versions_made (commits_in seen) published → Images versions_made (commits_in (seen ++ new)) (published ++ g ∷ [])
+    → versions_in g ≡ made_by versions_made (commits_in new)
 group_made seen new published g before after =
-    let cs = map commit_of seen in let ds = map commit_of new in
+    let cs = commits_in seen in let ds = commits_in new in
     let was = images_versions versions_made cs published before in
-    let now = sym (made_append cs ds) ∙ (ap (made_by versions_made) (sym (map_append commit_of seen new)) ∙ (images_versions versions_made (map commit_of (seen ++ new)) (published ++ g ∷ []) after ∙ versions_snoc published g)) in
+    let now = sym (made_append cs ds) ∙ (ap (made_by versions_made) (sym (commits_append seen new)) ∙ (images_versions versions_made (commits_in (seen ++ new)) (published ++ g ∷ []) after ∙ versions_snoc published g)) in
     append_cancel_left (versions_of published) (versions_in g) (made_by versions_made ds) (sym now ∙ ap (λ l. l ++ made_by versions_made ds) was)
 
 -- a request without a run isn't among those that got runs
@@ -73,7 +73,7 @@ given_none [] ys none = refl
 given_none (x ∷ xs) [] none = refl
 given_none (x ∷ xs) (y ∷ ys) none = none_by (record { by = x.0; asked = x.1; reply = y.1 }) (given_runs run_of (handled_with xs ys)) y.1.answer none.0 ∙ given_none xs ys none.1
 
-given_append : (a b : List (Handling Request Answer)) → given_runs run_of (a ++ b) ≡ given_runs run_of a ++ given_runs run_of b
+pub given_append : (a b : List (Handling Request Answer)) → given_runs run_of (a ++ b) ≡ given_runs run_of a ++ given_runs run_of b
 given_append [] b = refl
 given_append (h ∷ a) b = by ((run_of h.reply).1 == 0) (given_append a b)
   where

@@ -7,8 +7,8 @@ use Rattle.model_base.specs.History.{max_sequence}
 use Rattle.model_base.specs.Map.{Pairs}
 use Rattle.model_base.specs.Trace.{Settings}
 use Rattle.engine_parts.specs.declared.log.OpenLog.{OpenLog}
-use Rattle.engine_parts.specs.Logs.{faults_of, fault_of}
-use Rattle.table_rule.specs.Histories.{map_of}
+use Rattle.engine_parts.specs.Logs.{Had, faults_of, fault_of}
+use Rattle.table_rule.specs.Histories.{last_of, map_of}
 use Rattle.table_calls.specs.Account.{IsReady}
 use Rattle.line_rule.specs.declared.words.TheConstants.{STALL}
 use Rattle.line_rule.specs.declared.view.Handling.{Handling}
@@ -32,13 +32,22 @@ use Rattle.engine_groups.specs.declared.engine.EngineClient.{EngineClient}
 use Rattle.engine_groups.specs.declared.engine.ClosingRoom.{ClosingRoom}
 use Rattle.engine_groups.specs.declared.leader.Leadership.{Leadership}
 use Rattle.engine_groups.specs.declared.leader.Right.{Right}
-use Rattle.engine_parts.specs.Handled.{commit_of, AreHandled, IsDropped, IsTurnedAway}
+use Rattle.engine_parts.specs.Handled.{answer_if, commit_if, commit_of, AreHandled, IsDropped, IsTurnedAway}
+use Rattle.engine_parts.specs.ReadAnswers.{HasReadTo}
+use Rattle.engine_rule.specs.Reading.{IsAtEnd, ReadAnswer, reads_in}
+use Rattle.model_base.specs.Recovery.{Logged}
+use Rattle.std.specs.List.{AllByRecursion}
 use Rattle.engine_parts.specs.Layout.{IsRoomy}
 
--- a client's commits, from its requests and their answers
+-- a client's commits, from its requests and their answers, and the answers to its reads of the log
 abbrev pub own_commits : ℕ → List (Request × Answer) → List Commit
 own_commits client [] = []
-own_commits client (t ∷ ts) = commit_of (record { by = client; asked = t.0; reply = t.1 }) ∷ own_commits client ts
+own_commits client (t ∷ ts) =
+    commit_if t.0.since (commit_of (record { by = client; asked = t.0; reply = t.1 })) ++ own_commits client ts
+
+abbrev pub own_answers : List (Request × Answer) → List ReadAnswer
+own_answers [] = []
+own_answers (t ∷ ts) = answer_if t.0.since t.1 ++ own_answers ts
 
 -- the map that a table was opened over
 abbrev pub map_at_opening : {Versions Seat Turn Part : Type 0} → Meaning Versions Seat Turn Part → Versions → Pairs
@@ -100,23 +109,30 @@ module _ {Log Versions Time Seat Turn Part : Type 0} {ghosts : Ghosts Log} where
         pub out : IsOut c.writer
         pub has_asked : HasAsked c.number (own_commits c.number (told_of c)) (seen_by c.pass)
 
-    -- it is a client of the engine, between two of its calls
+    -- it is a client of the engine, between two of its calls; its reads of the log were at ends of what it has seen
     pub record IsClientOf {Watch : Type 0} (e : GroupEngine Log Versions Time Watch Seat Turn Part ghosts)
         (c : EngineClient Log Versions Time Seat Turn Part ghosts) : Type 0
       where
         pub idle : IsIdle e c
+        pub at_ends : AllByRecursion (IsAtEnd (meaning.opening e.table).start (meaning.account c.seat).seen)
+            (reads_in (own_answers (told_of c)))
         pub envelope : c.envelope ≡ Some tt
 
     abbrev pub account_in : EngineClient Log Versions Time Seat Turn Part ghosts → Account
     account_in c = account_of c.start (map_at_opening meaning c.table.value) c.number (own_commits c.number (told_of c))
-        (meaning.account c.seat).seen (seen_by c.pass)
+        (own_answers (told_of c)) (meaning.account c.seat).seen (seen_by c.pass)
 
-    -- what the log had kept isn't known here
+    -- as the engine was opened, its log had just these batches, and what it holds is known
+    abbrev pub had_in : {Watch : Type 0} → GroupEngine Log Versions Time Watch Seat Turn Part ghosts → List Logged
+        → Type 0
+    had_in e batches = Had (opened_log e) (meaning.opening e.table).start batches
+
+    -- what the log had isn't said here
     abbrev pub settings_of : {Watch : Type 0} → GroupEngine Log Versions Time Watch Seat Turn Part ghosts → Settings
     settings_of e = record {
       start = (meaning.opening e.table).start;
       opening = map_at_opening meaning e.table;
-      kept = [];
+      kept = None;
       clients = clients_of e.list;
       families = e.families;
       group_bytes = bound_of e.list;
@@ -163,6 +179,15 @@ module _ {Log Versions Time Seat Turn Part : Type 0} {ghosts : Ghosts Log} where
     pub note : Noted
     pub shows : seen_by_note note ≡ seen_by w.pass
     pub dropped : IsDropped controller (record q { note = Some note }) p
+
+  -- A read of the log, with its answer: it led alone, and read up to the end of what the client has then seen published.
+  pub record IsReadBy (meaning : Meaning Versions Seat Turn Part) (opened : OpenLog Log ghosts) (q : Request) (p : Answer)
+      (v w : EngineClient Log Versions Time Seat Turn Part ghosts) : Type 0 where
+    pub told_now : told_of w ≡ told_of v ++ (q, p) ∷ []
+    pub number : w.number ≡ v.number
+    pub start_same : w.start ≡ v.start
+    pub table_same : w.table ≡ v.table
+    pub read : HasReadTo (faults_of opened) (last_of v.start (meaning.account w.seat).seen) p.read
 
   -- The request met a stall, and is in no group. Nothing more was handled for the client.
   pub record IsLeftOut (controller : Controller Time) (q : Request) (p : Answer)

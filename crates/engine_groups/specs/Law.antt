@@ -1,5 +1,5 @@
 -- What the log, the note and the right of a leader say of all that was handled.
-use Rattle.std.specs.Prelude.{◌≡◌, ℕ, Bool, true, false, List, Option, Some, None, map}
+use Rattle.std.specs.Prelude.{◌≡◌, ℕ, Bool, true, false, List, Option, Some, None}
 use Rattle.log_writer.specs.declared.group_log.GroupLog.{Ghosts}
 use Rattle.engine_controller.specs.Passes.{seen_by_note, IsNoteOf}
 use Rattle.table_rule.specs.declared.content.MemberVersions.{MemberVersions}
@@ -11,13 +11,14 @@ use Rattle.engine_groups.specs.declared.leader.EngineAtOpening.{EngineAtOpening}
 use Rattle.engine_groups.specs.declared.leader.Leadership.{Leadership}
 use Rattle.engine_groups.specs.declared.leader.Right.{Right}
 use Rattle.table_tree.specs.declared.parts.MemberNodes.{MemberNodes}
+use Rattle.engine_rule.specs.Consistent.{EndsAreNamed}
 use Rattle.engine_stage_laws.specs.Served.{AreServed}
 use Rattle.line_writers.specs.declared.line_writers.WriterList.{WriterList}
 use Rattle.line_writers.specs.Seats.{about_of, start_of}
 use Rattle.line_rule.specs.Laws.{asks_for, logs_from}
 use Rattle.engine_parts.specs.Runs.{run_of}
 use Rattle.engine_parts.specs.LogLaw.{LogCovers}
-use Rattle.engine_parts.specs.Handled.{AreHandled, IsDropped, IsNoted, commit_of}
+use Rattle.engine_parts.specs.Handled.{AreHandled, IsDropped, IsNoted, commits_in}
 use Rattle.engine_parts.specs.Items.{item_with}
 use Rattle.engine_parts.specs.Staged.{published_with}
 
@@ -29,13 +30,15 @@ TurnIs {Versions} {Seat} {Turn} meaning table false published turn = (u : Turn) 
     × (meaning.history u ≡ published)
 TurnIs {Versions} {Seat} {Turn} meaning table true published turn = turn ≡ None
 
--- Where there are two stages the right is apart, and what is published was made by exactly the groups that were served.
-abbrev pub ServesIs : {Versions Seat Turn Part : Type 0} → Meaning Versions Seat Turn Part → Versions → Bool
+-- Where there are two stages the right is apart, and what is published after the sequence `start` was made by exactly
+-- the groups that were served, each of which ends where its answers say.
+abbrev pub ServesIs : {Versions Seat Turn Part : Type 0} → Meaning Versions Seat Turn Part → Versions → ℕ → Bool
     → List (Handling Request Answer) → Option Turn → Type 0
-ServesIs {Versions} {Seat} {Turn} meaning table false served turn = turn ≡ None
-ServesIs {Versions} {Seat} {Turn} meaning table true served turn = (u : Turn) × (turn ≡ Some u)
+ServesIs {Versions} {Seat} {Turn} meaning table start false served turn = turn ≡ None
+ServesIs {Versions} {Seat} {Turn} meaning table start true served turn = (u : Turn) × (turn ≡ Some u)
     × meaning.our_turn table u
-    × AreServed (map commit_of served) (meaning.history u)
+    × AreServed (commits_in served) (meaning.history u)
+    × EndsAreNamed start (commits_in served) (meaning.history u)
 
 -- The log represents all that was handled (`LogCovers`), where the groups in `published` are published or will be.
 -- The note is the controller's, and shows what the last leader had seen.
@@ -53,7 +56,7 @@ abbrev pub RightStandsFor : {Log Versions Time Seat Turn Part : Type 0} {ghosts 
     → Meaning Versions Seat Turn Part → EngineAtOpening Log Versions Time ghosts → Right Versions Seat Turn Part
     → List (Handling Request Answer) → Type 0
 RightStandsFor meaning about right served =
-    ServesIs meaning about.table.value about.pipelined served right.turn
+    ServesIs meaning about.table.value about.start about.pipelined served right.turn
 
 -- As `LeadershipCovers`, where the parts of the leader's group, if there are any, must still be published.
 pub record LeadershipIsStaged {Log Versions Time Seat Turn Part : Type 0} {ghosts : Ghosts Log}
@@ -81,7 +84,7 @@ module _ {Log Versions Time Seat Turn Part : Type 0} {ghosts : Ghosts Log} where
 
   abbrev pub wanted_in : WriterList Request Answer (Leadership Log Versions Time Seat Turn Part ghosts)
       (Right Versions Seat Turn Part) (EngineAtOpening Log Versions Time ghosts) → Request → ℕ → Type 0
-  wanted_in list = asks_for (λ (q : Request). item_with q.batch.records q.options)
+  wanted_in list = asks_for (λ (q : Request). item_with q.since q.batch.records q.options)
       (λ (a : EngineAtOpening Log Versions Time ghosts) (q : Request). IsNoted a.controller.value q) (about_of list)
 
   abbrev pub law_in : Meaning Versions Seat Turn Part

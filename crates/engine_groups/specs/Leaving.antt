@@ -1,5 +1,5 @@
 -- A leader that has answered its group, and gives the log on.
-use Rattle.std.specs.Prelude.{◌≡◌, ℕ, ◌≤◌, false, List, [], ◌∷◌, ◌++◌, map, Option, Some, None, is_none, vec_len, vec_capacity}
+use Rattle.std.specs.Prelude.{◌≡◌, ℕ, ◌≤◌, false, List, [], ◌∷◌, ◌++◌, Option, Some, None, is_none, vec_len, vec_capacity}
 use Rattle.log_writer.specs.declared.group_log.GroupLog.{Ghosts}
 use Rattle.engine_parts.specs.declared.log.OpenLog.{OpenLog}
 use Rattle.table_rule.specs.declared.content.MemberVersions.{MemberVersions}
@@ -26,7 +26,7 @@ use Rattle.engine_groups.specs.declared.leader.Leadership.{Leadership}
 use Rattle.engine_parts.specs.declared.requests.Request.{Request}
 use Rattle.engine_parts.specs.declared.requests.Answer.{Answer}
 use Rattle.engine_groups.specs.Clients.{own_commits}
-use Rattle.engine_parts.specs.Handled.{AreHandled, IsNoted, commit_of}
+use Rattle.engine_parts.specs.Handled.{AreHandled, IsNoted, commits_in}
 use Rattle.engine_parts.specs.Items.{item_with}
 use Rattle.engine_parts.specs.Runs.{run_of}
 use Rattle.engine_groups.specs.Law.{LeadershipCovers, LeadershipIsStaged}
@@ -56,7 +56,7 @@ module _ {Log Versions Time Watch Seat Turn Part : Type 0} {ghosts : Ghosts Log}
       pub left : List (QueuedWriter Request)
       pub gs : List (QueuedWriter Request × Answer)
       pub p : Answer
-      pub has : HasGroup (asks_for (λ (q : Request). item_with q.batch.records q.options)
+      pub has : HasGroup (asks_for (λ (q : Request). item_with q.since q.batch.records q.options)
           (λ (a : EngineAtOpening Log Versions Time ghosts) (q : Request). IsNoted a.controller.value q)
           (about_of e.list))
           (clients_of e.list) (bound_of e.list) own group left seen (answers_told w.writer) w.writer
@@ -97,11 +97,11 @@ module _ {Log Versions Time Watch Seat Turn Part : Type 0} {ghosts : Ghosts Log}
       (gs : List (QueuedWriter Request × Answer))
       (w : EngineClient Log Versions Time Seat Turn Part ghosts) (end : ℕ) : Type 0 where
     pub may : MayLaunch (meaning.account w.seat).number (meaning.opening e.table).clients
-        (last_after_all (meaning.opening e.table).start (map commit_of seen)) end w.layout.members.items
+        (last_after_all (meaning.opening e.table).start (commits_in seen)) end w.layout.members.items
         (group_of w.layout.parts.parts)
     pub beside : AreMembers (clients_of e.list) w.layout.members.items gs
     pub made : versions_in (group_of w.layout.parts.parts)
-        ≡ made_by versions_made (map commit_of (all_answers own p gs))
+        ≡ made_by versions_made (commits_in (all_answers own p gs))
 
   pub record IsToHandOn (number start : ℕ) (mine : List (Request × Answer)) (own : QueuedWriter Request)
       (seen : List (Handling Request Answer)) (w : EngineClient Log Versions Time Seat Turn Part ghosts)
@@ -119,7 +119,7 @@ module _ {Log Versions Time Watch Seat Turn Part : Type 0} {ghosts : Ghosts Log}
     pub led : HasAnsweredGroup number start mine own seen w leadership.held.value.path.last
     pub published : List (List MemberVersions)
     pub last : last_of (about_of e.list).start published
-        ≡ last_after_all (meaning.opening e.table).start (map commit_of seen)
+        ≡ last_after_all (meaning.opening e.table).start (commits_in seen)
     pub staged : LeadershipIsStaged meaning (about_of e.list) leadership (Some end) w.layout.parts.parts published
         (seen ++ all_answers own led.p led.gs)
     pub parts : HasLaidOut own seen led.p led.gs w end

@@ -1,21 +1,24 @@
 //! The engine as any write path that many clients share.
 
-ghost use Rattle.std.specs.Prelude.{List, map};
+ghost use Rattle.std.specs.Prelude.{List, Option, IfSome, map};
+ghost use Rattle.model_base.specs.Recovery.{Logged};
 
 use crate::engine::{ClosingRoom, EngineClient, GroupEngine};
 use base_bytes::{Bytes, Place, Read, Reads, Rows};
 use base_devices::Clock;
-use engine_calls::{Clients, Closed, Engine, Gate, Held, NotHeld, Receipt, Refused};
+use engine_calls::{
+    Clients, Closed, Engine, Gate, Held, NotHeld, Receipt, Refused, Since, SinceRefused,
+};
 use engine_parts::OpenLog;
 use log_batch::Batch;
-use log_writer::GroupLog;
+use log_writer::ReadableLog;
 use model_base::{NoMemory, ReadRefused, WriteOptions};
 use std::rt;
 use std::sync::Wait;
 use table_calls::Table;
 use table_tree::{Nodes, Parts};
 
-impl<Log: GroupLog, Versions: Table<Nodes, Parts>, Time: Clock + Drop, Watch: Gate + Drop> Engine
+impl<Log: ReadableLog, Versions: Table<Nodes, Parts>, Time: Clock + Drop, Watch: Gate + Drop> Engine
     for GroupEngine<Log, Versions, Time, Watch> {
     type Client = EngineClient<Log, Versions, Time>;
 
@@ -27,9 +30,11 @@ impl<Log: GroupLog, Versions: Table<Nodes, Parts>, Time: Clock + Drop, Watch: Ga
     ghost use Rattle.engine_parts.specs.Logs.{fault_of, faults_of};
     ghost use Rattle.engine_parts.specs.Logs.{Wrote};
     ghost use Rattle.line_writers.specs.Seats.{clients_of};
-    ghost use Rattle.engine_groups.specs.Clients.{IsClientOf, HasRoomToClose, account_in, settings_of, opened_log};
+    ghost use Rattle.engine_groups.specs.Clients.{IsClientOf, HasRoomToClose, account_in, had_in, settings_of, opened_log};
 
     ghost settings = { λ e. settings_of Versions.Table e };
+
+    ghost had = { λ e batches. had_in Versions.Table e batches };
 
     ghost account = { λ c. account_in Versions.Table c };
 
@@ -115,6 +120,15 @@ impl<Log: GroupLog, Versions: Table<Nodes, Parts>, Time: Clock + Drop, Watch: Ga
         self.scan_in(rt, client, family, lo, hi)
     }
 
+    fn updates<R: Wait + rt::Clock>(
+        &self,
+        rt: &R,
+        client: &mut EngineClient<Log, Versions, Time>,
+        since: u64,
+    ) -> Result<Since, SinceRefused> {
+        self.updates(rt, client, since)
+    }
+
     fn stop<R: Wait + rt::Clock>(
         &self,
         rt: &R,
@@ -160,7 +174,8 @@ impl<Log: GroupLog, Versions: Table<Nodes, Parts>, Time: Clock + Drop, Watch: Ga
         requires all { AreOurs (IsClientOf Versions.Table self) (account_in Versions.Table)
             (clients_of self.list) clients.clients.items }
         requires room { HasRoomToClose self.controller (clients_of self.list) clients.room }
-        ensures { HasOneTrace (settings_of Versions.Table self) (faults_of result.log)
+        ensures { (kept : Option (List Logged)) → IfSome kept (had_in Versions.Table self)
+            → HasOneTrace (settings_of Versions.Table self) kept (faults_of result.log)
             (map (account_in Versions.Table) clients.clients.items) result.last (fault_of result.log)
             (λ calls. Wrote (opened_log self) calls result.log) }
     {

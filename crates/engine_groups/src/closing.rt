@@ -1,8 +1,9 @@
 //! The end of an engine.
 
-ghost use Rattle.std.specs.Prelude.{◌≡◌, ◌≤◌, ◌+◌, ◌<◌, ℕ, List, [], ◌++◌, map, length, vec_len, vec_capacity};
+ghost use Rattle.std.specs.Prelude.{◌≡◌, ◌≤◌, ◌+◌, ◌<◌, ℕ, List, [], ◌++◌, map, Option, IfSome, length, vec_len, vec_capacity};
 ghost use mathlib.Core.List.{IsPrefix};
 ghost use Rattle.model_base.specs.Controller.{ControllerCall};
+ghost use Rattle.model_base.specs.Recovery.{Logged};
 ghost use Rattle.engine_controller.specs.Passes.{seen_by_note, AreAll, IsNoteOf, IsHistoryOf};
 ghost use Rattle.engine_groups.specs.Clients.{writer_in, seat_in, pass_in};
 
@@ -92,7 +93,7 @@ impl<
     ghost use Rattle.engine_parts.specs.Logs.{Wrote};
     ghost use Rattle.model_accounts.specs.Closing.{AreOurs, HasOneTrace};
     ghost use Rattle.line_writers.specs.Seats.{clients_of};
-    ghost use Rattle.engine_groups.specs.Clients.{IsClientOf, account_in, settings_of, opened_log, HasRoomToClose};
+    ghost use Rattle.engine_groups.specs.Clients.{IsClientOf, account_in, had_in, settings_of, opened_log, HasRoomToClose};
 
     /// Closes the engine, and gives its log back. All clients are handed in. There is one trace of all that they wrote
     /// and read, and the log was written by exactly the calls that wrote the trace's history.
@@ -104,7 +105,9 @@ impl<
         requires all { AreOurs (IsClientOf Versions.Table self) (account_in Versions.Table)
             (clients_of self.list) clients.clients.items }
         requires room { HasRoomToClose self.controller (clients_of self.list) clients.room }
-        ensures { HasOneTrace (settings_of Versions.Table self) (faults_of result.log)
+        // What reads of the log gave is right in it, for whatever the log had kept before.
+        ensures { (kept : Option (List Logged)) → IfSome kept (had_in Versions.Table self)
+            → HasOneTrace (settings_of Versions.Table self) kept (faults_of result.log)
             (map (account_in Versions.Table) clients.clients.items) result.last (fault_of result.log)
             (λ calls. Wrote (opened_log self) calls result.log) }
     {

@@ -45,6 +45,10 @@ impl<
             → IsToLeave Versions.Table self.now number start mine own seen client.old leadership
             → HasAnswered self.now.controller (opened_log self.now) (Versions.opening self.now.table).start number mine
             own.asked result (told_of client.new) }
+        ensures reply { (number start : ℕ) (mine : List (Asked × Told)) (own : QueuedWriter Asked)
+            (seen : List (Handling Asked Told))
+            → (l : IsToLeave Versions.Table self.now number start mine own seen client.old leadership)
+            → result ≡ l.led.p }
         ensures same { (client.new.number ≡ client.old.number) × (client.new.start ≡ client.old.start)
             × (client.new.seat ≡ client.old.seat) × (client.new.pass ≡ client.old.pass)
             × (client.new.table ≡ client.old.table) }

@@ -3,7 +3,7 @@
 //! the write controller and has the group logged (`serve`, `log_phase`), has it put into the table, and gives the log
 //! on (`leave`, `hand_on`).
 
-ghost use Rattle.std.specs.Prelude.{◌≡◌, ◌⊎◌, ◌+◌, true, false, ℕ, List, [], ◌∷◌, ◌++◌, Ok, Err, IfOk, IfErr, IfSome, is_none};
+ghost use Rattle.std.specs.Prelude.{◌≡◌, ◌⊎◌, ◌+◌, true, false, ℕ, List, [], ◌∷◌, ◌++◌, Ok, Err, None, IfOk, IfErr, IfSome, is_none};
 ghost use Rattle.table_rule.specs.Histories.{Begins};
 ghost use Rattle.line_rule.specs.declared.view.QueuedWriter.{QueuedWriter};
 ghost use Rattle.line_rule.specs.declared.view.Handling.{Handling};
@@ -110,6 +110,7 @@ impl<
             options,
             // It gets one as it is linked.
             note: None,
+            since: None,
         };
         // It is there between two calls, and comes back with the answer.
         let Some(envelope) = client.envelope.take() else {
@@ -121,6 +122,7 @@ impl<
             answer,
             delay: _,
             note,
+            read: _,
         } = told;
         await_above(rt, shown, &answer);
         // The client gets its answer only once its own reads see the whole group.
@@ -137,6 +139,7 @@ impl<
         request: SealedRequest,
     ) -> SealedAnswer
         requires client { IsIdle Versions.Table self.now client.old }
+        requires write { request.since ≡ None }
         // a client that holds a stop token never waits in the list
         requires free { holds_stop (asked_by client.old.pass) ≡ false }
         ensures fits { IsIdle Versions.Table self.now client.new }
@@ -178,7 +181,7 @@ impl<
         requires has_asked { HasAsked client.old.number (own_commits client.old.number (told_of client.old))
             (seen_by client.old.pass) }
         requires leads { (own : QueuedWriter Asked) × (seen : List (Handling Asked Told))
-            × IsChosen own seen (told_of client.old) client.old.writer
+            × IsChosen own seen (told_of client.old) client.old.writer × (own.asked.since ≡ None)
             × (of client.old.number seen ≡ told_of client.old)
             × AreHandled self.now.controller (opened_log self.now) (Versions.opening self.now.table).start seen
             × LeadershipCovers Versions.Table (about_of self.now.list) leadership seen }
@@ -232,7 +235,7 @@ impl<
         requires has_asked { HasAsked client.old.number (own_commits client.old.number (told_of client.old))
             (seen_by client.old.pass) }
         requires leads { (own : QueuedWriter Asked) × (seen : List (Handling Asked Told))
-            × IsChosen own seen (told_of client.old) client.old.writer
+            × IsChosen own seen (told_of client.old) client.old.writer × (own.asked.since ≡ None)
             × (of client.old.number seen ≡ told_of client.old)
             × AreHandled self.now.controller (opened_log self.now) (Versions.opening self.now.table).start seen
             × LeadershipCovers Versions.Table (about_of self.now.list) leadership seen }

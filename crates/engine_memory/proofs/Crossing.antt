@@ -5,11 +5,16 @@ use denote.Struct.Declared.{shape, fields}
 use denote.Enum.Declared.{shape as variants}
 use denote.Param.Send.{IsSend, IsSync, AllSend, AllSync, struct_send, struct_sync, enum_send, recorded_send, recorded_sync, sendable}
 use Rattle.std.proofs.Crossing.{crosses, Vec-send}
+use Rattle.std.specs.contracts.result.Result as result_row
 use Rattle.std.proofs.alloc.Global.TheSendSync as heap
 use Rattle.base_waiting.proofs.bell.Bell.TheSendSync as bell
 use Rattle.log_writer.specs.declared.group_log.GroupLog.{Ghosts}
 use Rattle.engine_calls.proofs.answers.Receipt.TheSendSync as receipt
 use Rattle.engine_calls.proofs.answers.Refused.TheSendSync as refused
+use Rattle.engine_calls.specs.contracts.answers.Since as since_row
+use Rattle.engine_calls.proofs.answers.Since.TheSendSync as since
+use Rattle.engine_calls.specs.contracts.answers.SinceRefused as since_refused_row
+use Rattle.engine_calls.proofs.answers.SinceRefused.TheSendSync as since_refused
 use Rattle.engine_controller.proofs.controller.Controller.TheSendSync as controller
 use Rattle.engine_controller.proofs.pass.Pass.TheSendSync as pass
 use Rattle.engine_controller.proofs.pass.Note.TheSendSync as note
@@ -48,10 +53,13 @@ use Rattle.engine_groups.proofs.leader.Right.TheSendSync as right
 use Rattle.engine_parts.specs.contracts.numbering.Numbering as numbering
 
 request_fields : AllSend (fields request.the_type)
-request_fields = (batch.the_send, (nodes_send, (options.the_field_send, (search (sendable, note.the_send), tt))))
+request_fields = (batch.the_send, (nodes_send, (options.the_field_send, (search (sendable, note.the_send), (search sendable, tt)))))
+
+read_send : IsSend (result_row.the_row since_row.the_row since_refused_row.the_row)
+read_send = search (sendable, since.the_send, since_refused.the_send) depth 12
 
 answer_fields : AllSend (fields answer_row.the_type)
-answer_fields = (search (sendable, receipt.the_send, refused.the_send), (search crosses, (search (sendable, note.the_send), tt)))
+answer_fields = (search (sendable, receipt.the_send, refused.the_send), (search crosses, (search (sendable, note.the_send), (search (sendable, read_send), tt))))
 
 letter_send : IsSend letter.the_row
 letter_send = let C = letter.the_type in recorded_send letter.the_field.row C.D C.to C.to_one (enum_send (variants C) (tt, ((struct_send (shape request.the_type) request_fields, tt), ((struct_send (shape answer_row.the_type) answer_fields, tt), tt))))

@@ -1,4 +1,8 @@
 pub mod Letters
+pub mod Commits
+pub mod ReadsLaw
+pub mod LogOrder
+pub mod LogReading
 pub mod Replies
 pub mod Sizes
 pub mod Apart

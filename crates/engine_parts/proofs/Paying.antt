@@ -1,5 +1,5 @@
 -- A leader's replies in the form in which the list gets them, and the number of the log's law.
-use Rattle.std.proofs.Common.{◌≡◌, ℕ, suc, ◌+◌, ◌-◌, ◌≤◌, cond, ◌==◌, map, List, [], ◌∷◌, ◌++◌, Option, Result, Ok, Err, length, refl, ap, sym, ◌∙◌, arith}
+use Rattle.std.proofs.Common.{◌≡◌, ℕ, suc, ◌+◌, ◌-◌, ◌≤◌, cond, ◌==◌, List, [], ◌∷◌, ◌++◌, Option, Some, None, Result, Ok, Err, length, refl, ap, sym, ◌∙◌, arith}
 use Rattle.std.specs.List.{AllByRecursion}
 use Rattle.std.proofs.lemmas.Bool.{ne_eqb}
 use Rattle.model_base.specs.declared.write.Refusal.{Refusal}
@@ -15,7 +15,8 @@ use Rattle.engine_parts.specs.declared.requests.Request.{Request}
 use Rattle.engine_calls.specs.declared.answers.Receipt.{Receipt}
 use Rattle.engine_calls.specs.declared.answers.Refused.{Refused}
 use Rattle.engine_parts.specs.declared.requests.Answer.{Answer}
-use Rattle.engine_parts.specs.Handled.{ComesBack, HandsBack, InOrder, answer_in, answer_of_refusal, commit_of, handled_with}
+use Rattle.engine_parts.specs.Handled.{ComesBack, HandsBack, InOrder, answer_in, answer_of_refusal, commit_if, commit_of, handled_with, commits_in}
+use Rattle.engine_parts.proofs.Views.{read_counts}
 use Rattle.engine_parts.specs.Items.{run_in}
 use Rattle.engine_rule.specs.Commits.{AreAnswered, IsAnswer, fault_after, last_after, last_after_all}
 
@@ -81,11 +82,28 @@ number_by last dead batch (Ok r) back ok =
     ap (λ b. cond b last (r.run.first + count - 1)) (ne_eqb count 0 (λ e. omega (arith, e, counted, some))) ∙ omega (arith, counted, some, first)
 number_by last dead batch (Err e) back ok = late_same last (count_of batch.records) e.why
 
-pub number_is : (last : ℕ) (dead : Option ℕ) (hs : List (Handling Request Answer)) → AllByRecursion HandsBack hs → AreAnswered last dead (map commit_of hs) → last_run run last hs ≡ last_after_all last (map commit_of hs)
+-- the empty batch of a read takes no sequence, whatever its answer
+number_of_read : (last : ℕ) (batch : Contents) (r : Result Receipt Refused) → count_of batch.records ≡ 0 → ComesBack batch r → cond ((run_in r).1 == 0) last ((run_in r).0 + (run_in r).1 - 1) ≡ last
+number_of_read last batch (Ok r) none back =
+    let end : r.run.last + 1 ≡ r.run.first + count_of batch.records = back.1 in
+    let count : ℕ = r.run.last + 1 - r.run.first in
+    ap (λ (n : ℕ). cond (n == 0) last (r.run.first + n - 1)) (let zero : count ≡ 0 = omega (arith, end, none) in zero)
+number_of_read last batch (Err e) none back = refl
+
+pub number_is : (last : ℕ) (dead : Option ℕ) (hs : List (Handling Request Answer)) → AllByRecursion HandsBack hs → AreAnswered last dead (commits_in hs) → last_run run last hs ≡ last_after_all last (commits_in hs)
 number_is last dead [] handed_back answered = refl
-number_is last dead (h ∷ hs) handed_back answered =
-    ap (λ n. last_run run n hs) (number_by last dead h.asked.batch h.reply.answer handed_back.0 answered.0)
-    ∙ number_is (last_after last (count_of h.asked.batch.records) (answer_in h.reply.answer)) (fault_after dead (answer_in h.reply.answer)) hs handed_back.1 answered.1
+number_is last dead (h ∷ hs) handed_back answered = by_since h.asked.since refl answered (λ l d right. number_is l d hs handed_back.1 right)
+  where
+    last_now : ℕ
+    last_now = last_after last (count_of h.asked.batch.records) (answer_in h.reply.answer)
+
+    by_since : (since : Option ℕ) → h.asked.since ≡ since → AreAnswered last dead (commit_if since (commit_of h) ++ commits_in hs) → ((l : ℕ) (d : Option ℕ) → AreAnswered l d (commits_in hs) → last_run run l hs ≡ last_after_all l (commits_in hs)) → last_run run last (h ∷ hs) ≡ last_after_all last (commit_if since (commit_of h) ++ commits_in hs)
+    by_since None write right more =
+        ap (λ n. last_run run n hs) (number_by last dead h.asked.batch h.reply.answer handed_back.0 right.0)
+        ∙ more last_now (fault_after dead (answer_in h.reply.answer)) right.1
+    by_since (Some since) read right more =
+        ap (λ n. last_run run n hs) (number_of_read last h.asked.batch h.reply.answer (read_counts h.asked since read) handed_back.0)
+        ∙ more last dead right
 
 pub backs_append : (xs ys : List (Handling Request Answer)) → AllByRecursion HandsBack xs → AllByRecursion HandsBack ys → AllByRecursion HandsBack (xs ++ ys)
 backs_append [] ys a b = b

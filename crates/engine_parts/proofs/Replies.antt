@@ -1,5 +1,5 @@
 -- What the leader's answers are for the commits.
-use Rattle.std.proofs.Common.{◌≡◌, ℕ, suc, ◌+◌, ◌≤◌, Bool, true, false, cond, nat_le, map, List, [], ◌∷◌, ◌++◌, length, refl, ap, arith}
+use Rattle.std.proofs.Common.{◌≡◌, ℕ, suc, ◌+◌, ◌≤◌, Bool, true, false, cond, nat_le, map, List, [], ◌∷◌, ◌++◌, length, refl, ap, ◌∙◌, arith}
 use Rattle.std.specs.List.{AllByRecursion}
 use Rattle.model_base.specs.declared.write.Refusal.TheVariants.{LogFault, SequenceFull}
 use Rattle.model_base.specs.Batch.{count_of}
@@ -8,9 +8,12 @@ use Rattle.log_batch.specs.Contents.{Contents}
 use Rattle.std.specs.declared.snapshot.Snapshot.{Snapshot}
 use Rattle.engine_parts.specs.declared.requests.Request.{Request}
 use Rattle.engine_parts.specs.declared.requests.Delay.{Delay}
+use Rattle.engine_parts.specs.declared.requests.Answer.{Answer}
+use Rattle.line_rule.specs.declared.view.Handling.{Handling}
+use Rattle.engine_parts.proofs.Commits.{Writes, one_commit_in}
 use Rattle.engine_parts.specs.declared.numbering.Numbering.TheVariants as numbered
 use Rattle.engine_parts.specs.declared.numbering.GroupFate.TheVariants.{Written, Faulted}
-use Rattle.engine_parts.specs.Handled.{ComesBack, HandsBack, IsReplyOf, accepted_reply, commit_of, commit_request_of, commit_requests_of, failures, handled_with, refused_reply, run_after, snapshot_of, replies_of, seen_at}
+use Rattle.engine_parts.specs.Handled.{ComesBack, HandsBack, IsReplyOf, accepted_reply, commit_of, commit_request_of, commit_requests_of, failures, handled_with, refused_reply, run_after, snapshot_of, replies_of, seen_at, commits_in, reply_at}
 use Rattle.engine_parts.specs.Numbering.{AreEnough, answers, batch_at, batches_of, numberings_of}
 use Rattle.engine_rule.specs.Commits.{accepted, failed, no_room}
 use Rattle.engine_rule.specs.Plans.{all_failed, commit_of_request, batches_from, last_with, commits_of_plan}
@@ -80,13 +83,19 @@ module _ (delay : Delay) where
   commit_by last end x true = refl
   commit_by last end x false = refl
 
-  pub commits_planned : (last end : ℕ) (xs : List (ℕ × Request)) → map commit_of (handled_with xs (replies_of delay last end xs)) ≡ commits_of_plan (seen_at delay) last end (commit_requests_of xs)
-  commits_planned last end [] = refl
-  commits_planned last end (x ∷ xs) = λ i. commit_by last end x (nat_le (last + count_of x.1.batch.records) max_sequence) i ∷ commits_planned (last_with last x.1.batch.records) end xs i
+  pub commits_planned : (last end : ℕ) (xs : List (ℕ × Request)) → AllByRecursion Writes xs → commits_in (handled_with xs (replies_of delay last end xs)) ≡ commits_of_plan (seen_at delay) last end (commit_requests_of xs)
+  commits_planned last end [] all = refl
+  commits_planned last end (x ∷ xs) all =
+      let next : ℕ = last_with last x.1.batch.records in
+      let h : Handling Request Answer = record { by = x.0; asked = x.1; reply = reply_at delay last end x.1 } in
+      one_commit_in h (handled_with xs (replies_of delay next end xs)) all.0
+      ∙ (λ i. commit_by last end x (nat_le (last + count_of x.1.batch.records) max_sequence) i ∷ commits_planned next end xs all.1 i)
 
-  pub commits_failed : (n : ℕ) (xs : List (ℕ × Request)) → map commit_of (handled_with xs (failures delay n xs)) ≡ all_failed (seen_at delay) n (commit_requests_of xs)
-  commits_failed n [] = refl
-  commits_failed n (x ∷ xs) = ap (λ l. commit_of_request (seen_at delay) (commit_request_of x) (failed n) ∷ l) (commits_failed n xs)
+  pub commits_failed : (n : ℕ) (xs : List (ℕ × Request)) → AllByRecursion Writes xs → commits_in (handled_with xs (failures delay n xs)) ≡ all_failed (seen_at delay) n (commit_requests_of xs)
+  commits_failed n [] all = refl
+  commits_failed n (x ∷ xs) all =
+      one_commit_in (record { by = x.0; asked = x.1; reply = refused_reply delay (LogFault n) x.1 }) (handled_with xs (failures delay n xs)) all.0
+      ∙ ap (λ l. commit_of_request (seen_at delay) (commit_request_of x) (failed n) ∷ l) (commits_failed n xs all.1)
 
   -- the batches come back
   back_by : (last end : ℕ) (q : Request) (b : Bool) → ComesBack q.batch (cond b (accepted_reply delay last end q) (refused_reply delay (SequenceFull last) q)).answer

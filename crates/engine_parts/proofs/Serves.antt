@@ -1,7 +1,7 @@
 -- What holds once the group of a leader that has asked for its delay is refused or written.
 use Rattle.std.proofs.Common.{◌≡◌, ℕ, ◌+◌, ◌-◌, Bool, true, get_or, take, drop, map, slice_get, Option, Some, IfSome, List, [], ◌∷◌, ◌++◌, length, refl, sym, ap, ◌∙◌, subst, arith, append-nil, length-append}
 use Rattle.std.specs.List.{AllByRecursion, AllZip}
-use Rattle.std.proofs.lemmas.List.{map-append, length-map, drop_all, take_all}
+use Rattle.std.proofs.lemmas.List.{length-map, drop_all, take_all}
 use mathlib.Core.List.{IsPrefix}
 use Rattle.log_writer.specs.declared.group_log.GroupLog.{Ghosts}
 use Rattle.model_base.specs.Controller.{ControllerCall, Look, HoldUp, delay}
@@ -29,11 +29,14 @@ use Rattle.engine_parts.specs.declared.requests.Delay.{Delay}
 use Rattle.engine_parts.specs.declared.requests.Request.{Request}
 use Rattle.engine_parts.specs.declared.requests.Answer.{Answer}
 use Rattle.engine_parts.specs.Asking.{HasAskedFor, OnlyLooks, all_seen}
-use Rattle.engine_parts.specs.Handled.{ComesBack, HandsBack, InOrder, IsDelayed, IsHeldUp, IsNotHeldUp, IsReplyOf, ShowsDelay, answer_in, commit_of, commit_request_of, commit_requests_of, handled_with, noted_in, seen_at, seen_for}
+use Rattle.engine_parts.specs.Handled.{ComesBack, HandsBack, InOrder, IsDelayed, IsHeldUp, IsNotHeldUp, IsReplyOf, ShowsDelay, answer_in, commit_if, commit_of, commit_request_of, commit_requests_of, handled_with, noted_in, reads_handled, reads_of, seen_at, seen_for, commits_in}
 use Rattle.engine_parts.specs.LogLaw.{Covers}
 use Rattle.engine_parts.specs.Led.{AreAlike, IsLedGroup, LeadsBy}
 use Rattle.engine_parts.specs.Handled.{IsReplyAt}
 use Rattle.engine_parts.proofs.Views.{Saw, unnoted, unseen_commits}
+use Rattle.engine_rule.specs.Reading.{AnsweredRead}
+use Rattle.engine_parts.proofs.Commits.{Writes, commits_append, one_commit_in, reads_append}
+use Rattle.engine_parts.proofs.ReadsLaw.{ReadsStand, with_writes}
 
 -- The delay that was asked for
 
@@ -121,6 +124,10 @@ proceeds k numbers known went group_bytes clients requests led leads begins lets
 
 -- Requests whose notes were taken
 
+writes_unnoted : (requests : List (ℕ × Request)) → AllByRecursion Writes requests → AllByRecursion Writes (all_seen requests)
+writes_unnoted [] all = tt
+writes_unnoted (x ∷ requests) all = (all.0, writes_unnoted requests all.1)
+
 pub led_unnoted : (group_bytes clients : ℕ) (requests : List (ℕ × Request)) → IsLedGroup group_bytes clients requests → IsLedGroup group_bytes clients (all_seen requests)
 led_unnoted group_bytes clients requests led =
     let same : commit_requests_of requests ≡ commit_requests_of (all_seen requests) = sym (unseen_commits requests) in
@@ -133,6 +140,7 @@ led_unnoted group_bytes clients requests led =
       logged = λ e. subst AreLogged same (led.logged e);
       unlogged = λ e. subst AreUnlogged same (led.unlogged e);
       syncs = subst (λ cs. SyncsFor cs led.first.1.options.sync) same led.syncs;
+      writes = writes_unnoted requests led.writes;
       slowdown = subst (AreAlike led.first.1.options.no_slowdown) same led.slowdown;
     }
 
@@ -165,10 +173,15 @@ back_unnoted [] replies h = tt
 back_unnoted (x ∷ requests) [] h = tt
 back_unnoted (x ∷ requests) (y ∷ replies) h = (h.0, back_unnoted requests replies h.1)
 
-commits_unnoted : (requests : List (ℕ × Request)) (replies : List (ℕ × Answer)) → map commit_of (handled_with (all_seen requests) replies) ≡ map commit_of (handled_with requests replies)
+commits_unnoted : (requests : List (ℕ × Request)) (replies : List (ℕ × Answer)) → commits_in (handled_with (all_seen requests) replies) ≡ commits_in (handled_with requests replies)
 commits_unnoted [] replies = refl
 commits_unnoted (x ∷ requests) [] = refl
-commits_unnoted (x ∷ requests) (y ∷ replies) = ap (λ (l : List Commit). commit_of (record { by = x.0; asked = x.1; reply = y.1 }) ∷ l) (commits_unnoted requests replies)
+commits_unnoted (x ∷ requests) (y ∷ replies) = ap (λ (l : List Commit). commit_if x.1.since (commit_of (record { by = x.0; asked = x.1; reply = y.1 })) ++ l) (commits_unnoted requests replies)
+
+reads_unnoted : (requests : List (ℕ × Request)) (replies : List (ℕ × Answer)) → reads_handled (handled_with (all_seen requests) replies) ≡ reads_handled (handled_with requests replies)
+reads_unnoted [] replies = refl
+reads_unnoted (x ∷ requests) [] = refl
+reads_unnoted (x ∷ requests) (y ∷ replies) = ap (λ (l : List AnsweredRead). reads_of (record { by = x.0; asked = x.1; reply = y.1 }) ++ l) (reads_unnoted requests replies)
 
 -- A written group
 
@@ -215,11 +228,13 @@ module _ {C : Type 0} (controller : Controller C) (d : Delay) (numbers : Look) w
       let calls : seen_for y.1 ≡ known = ap seen_at h.2 ∙ is in
       (λ i. record { client = x.0; records = x.1.batch.records; options = x.1.options; answer = answer i; controller_calls = calls i })
 
-  pub held_commits : (known : List ControllerCall) → seen_at d ≡ known → (requests : List (ℕ × Request)) (replies : List (ℕ × Answer)) → AllZip (IsHeldUp controller d numbers) (all_seen requests) replies
-      → map commit_of (handled_with requests replies) ≡ all_held_up known numbers (commit_requests_of requests)
-  held_commits known is [] replies h = refl
-  held_commits known is (x ∷ requests) [] h = absurd h
-  held_commits known is (x ∷ requests) (y ∷ replies) h = (λ i. one_commit x y known is h.0 i ∷ held_commits known is requests replies h.1 i)
+  pub held_commits : (known : List ControllerCall) → seen_at d ≡ known → (requests : List (ℕ × Request)) (replies : List (ℕ × Answer)) → AllByRecursion Writes requests → AllZip (IsHeldUp controller d numbers) (all_seen requests) replies
+      → commits_in (handled_with requests replies) ≡ all_held_up known numbers (commit_requests_of requests)
+  held_commits known is [] replies w h = refl
+  held_commits known is (x ∷ requests) [] w h = absurd h
+  held_commits known is (x ∷ requests) (y ∷ replies) w h =
+      one_commit_in (record { by = x.0; asked = x.1; reply = y.1 }) (handled_with requests replies) w.0
+      ∙ (λ i. one_commit x y known is h.0 i ∷ held_commits known is requests replies w.1 h.1 i)
 
   one_shown : (known : List ControllerCall) → seen_at d ≡ known → HoldUp numbers → (x : ℕ × Request) (y : ℕ × Answer) → IsHeldUp controller d numbers (unnoted x) y → x.1.options.no_slowdown ≡ true → IsDelayed (noted_in x.1.note) known numbers
       → ShowsDelay controller (record { by = x.0; asked = x.1; reply = y.1 })
@@ -259,13 +274,20 @@ module _ {D : Type 0} {ghosts : Ghosts D} {T U : Type 0} (our_turn : T → U →
       → Covers our_turn history table opened start clients group_bytes asked log turn last (hs ++ handled_with (all_seen requests) replies)
       → Covers our_turn history table opened start clients group_bytes asked log turn last (hs ++ handled_with requests replies)
   stands_noted table start clients group_bytes asked hs requests replies s =
-      let same : map commit_of (hs ++ handled_with (all_seen requests) replies) ≡ map commit_of (hs ++ handled_with requests replies) =
-      map-append commit_of hs (handled_with (all_seen requests) replies) ∙ (ap (λ (l : List Commit). map commit_of hs ++ l) (commits_unnoted requests replies) ∙ sym (map-append commit_of hs (handled_with requests replies))) in
+      let same : commits_in (hs ++ handled_with (all_seen requests) replies) ≡ commits_in (hs ++ handled_with requests replies) =
+      commits_append hs (handled_with (all_seen requests) replies) ∙ (ap (λ (l : List Commit). commits_in hs ++ l) (commits_unnoted requests replies) ∙ sym (commits_append hs (handled_with requests replies))) in
+      let as_read : reads_handled (hs ++ handled_with (all_seen requests) replies) ≡ reads_handled (hs ++ handled_with requests replies) =
+      reads_append hs (handled_with (all_seen requests) replies) ∙ (ap (λ (l : List AnsweredRead). reads_handled hs ++ l) (reads_unnoted requests replies) ∙ sym (reads_append hs (handled_with requests replies))) in
+      let were : ReadsStand opened start clients s.calls log last (reads_handled (hs ++ handled_with (all_seen requests) replies)) = record { right = s.right; readers = s.readers; counted = s.counted } in
+      let reads = subst (ReadsStand opened start clients s.calls log last) as_read were in
       record {
         our = s.our;
         calls = s.calls;
         wrote = s.wrote;
         consistent = subst (λ (cs : List Commit). AreConsistent start clients group_bytes asked cs last (fault_of log) (history turn) s.calls) same s.consistent;
+        right = reads.right;
+        readers = reads.readers;
+        counted = reads.counted;
       }
 
   -- the law holds after the group is refused
@@ -274,12 +296,16 @@ module _ {D : Type 0} {ghosts : Ghosts D} {T U : Type 0} (our_turn : T → U →
       → MayNotWait (commit_requests_of requests) → Covers our_turn history table opened start clients group_bytes asked log turn last hs
       → Covers our_turn history table opened start clients group_bytes known log turn last (hs ++ handled_with requests replies)
   stands_held_up controller d numbers table start clients group_bytes asked known hs requests replies zip is led is_asked comes hold may s =
-      let same : map commit_of hs ++ all_held_up known numbers (commit_requests_of requests) ≡ map commit_of (hs ++ handled_with requests replies) =
-      ap (λ (l : List Commit). map commit_of hs ++ l) (sym (held_commits controller d numbers known is requests replies zip)) ∙ sym (map-append commit_of hs (handled_with requests replies)) in
+      let same : commits_in hs ++ all_held_up known numbers (commit_requests_of requests) ≡ commits_in (hs ++ handled_with requests replies) =
+      ap (λ (l : List Commit). commits_in hs ++ l) (sym (held_commits controller d numbers known is requests replies led.writes zip)) ∙ sym (commits_append hs (handled_with requests replies)) in
+      let reads = with_writes opened start clients s.calls log last hs requests replies led.writes (record { right = s.right; readers = s.readers; counted = s.counted }) in
       record {
         our = s.our;
         calls = s.calls;
         wrote = s.wrote;
         consistent = subst (λ (cs : List Commit). AreConsistent start clients group_bytes known cs last (fault_of log) (history turn) s.calls) same
-            (consistent_held_up start clients group_bytes (map commit_of hs) last (history turn) s.calls (commit_requests_of requests) asked known numbers led.lawful led.whole is_asked comes (fault_of log) s.consistent hold may);
+            (consistent_held_up start clients group_bytes (commits_in hs) last (history turn) s.calls (commit_requests_of requests) asked known numbers led.lawful led.whole is_asked comes (fault_of log) s.consistent hold may);
+        right = reads.right;
+        readers = reads.readers;
+        counted = reads.counted;
       }

@@ -1,5 +1,6 @@
 -- Each way in which a leader's work may end keeps the law of log and table.
-use Rattle.std.proofs.Common.{◌≡◌, ◌⊎◌, inl, inr, ℕ, ◌+◌, ◌≤◌, map, List, [], ◌∷◌, ◌++◌, Option, Some, None, length, refl, ap, sym, ◌∙◌, subst, ⊎_elim}
+use Rattle.std.proofs.Common.{◌≡◌, ◌⊎◌, inl, inr, ℕ, ◌+◌, ◌≤◌, map, List, [], ◌∷◌, ◌++◌, Option, Some, None, length, refl, ap, sym, ◌∙◌, subst, ⊎_elim, arith}
+use Rattle.std.specs.List.{AllByRecursion}
 use Rattle.log_writer.specs.declared.group_log.GroupLog.{Ghosts}
 use Rattle.model_base.specs.History.{max_sequence}
 use Rattle.model_base.specs.Controller.{ControllerCall, Look}
@@ -13,16 +14,19 @@ use Rattle.line_rule.specs.declared.view.Handling.{Handling}
 use Rattle.engine_parts.specs.declared.requests.Request.{Request}
 use Rattle.engine_parts.specs.declared.requests.Delay.{Delay}
 use Rattle.engine_parts.specs.declared.requests.Answer.{Answer}
-use Rattle.engine_parts.specs.Handled.{commit_of, commit_requests_of, failures, handled_with, replies_of, seen_at}
+use Rattle.engine_parts.specs.Handled.{commit_requests_of, failures, handled_with, replies_of, reads_handled, seen_at, commits_in}
 use Rattle.engine_parts.specs.LogLaw.{Covers}
 use Rattle.engine_rule.specs.Commits.{Commit}
 use Rattle.engine_rule.specs.Consistent.{AreConsistent, Publishes}
 use Rattle.engine_rule.specs.Entries.{versions_made}
 use Rattle.engine_rule.specs.LogCalls.{SyncsFor, WritesBatches}
 use Rattle.engine_rule.specs.Plans.{AreLawful, AreUnlogged, ComesAfter, CommitRequest, IsAskedFor, IsWholeGroup, ProceedsWith, batches_from, last_with_all, versions_from}
-use Rattle.engine_parts.proofs.Replies.{commits_failed, commits_planned, map_append}
+use Rattle.engine_parts.proofs.Replies.{commits_failed, commits_planned}
 use Rattle.engine_rule.proofs.Reaching.{last_bound, versions_length}
 use Rattle.engine_rule.proofs.Steps.{consistent_accepted, consistent_after_fault, consistent_with_fault}
+use Rattle.engine_rule.proofs.Plans.{versions_runs}
+use Rattle.engine_parts.proofs.Commits.{Writes, commits_append}
+use Rattle.engine_parts.proofs.ReadsLaw.{ReadsStand, with_call, with_failed_call, with_no_call, with_writes}
 
 -- the log stays as it was, since there was nothing to write; or one call that worked wrote the batches
 abbrev pub LogsOn : {D : Type 0} {ghosts : Ghosts D} → ℕ → List CommitRequest → OpenLog D ghosts → OpenLog D ghosts → Type 0
@@ -34,46 +38,90 @@ module _ {D : Type 0} {ghosts : Ghosts D} {T U : Type 0} (our_turn : T → U →
 
   module _ (asked : List ControllerCall) (log : OpenLog D ghosts) (turn : U) (last : ℕ) (hs : List (Handling Request Answer)) (s : Stands asked log turn last hs) where
     pub last_low : start ≤ max_sequence → last ≤ max_sequence
-    last_low low = subst (λ n. n ≤ max_sequence) (sym s.consistent.last_is) (last_bound start None (map commit_of hs) s.consistent.answered low)
+    last_low low = subst (λ n. n ≤ max_sequence) (sym s.consistent.last_is) (last_bound start None (commits_in hs) s.consistent.answered low)
 
     -- the published history ends at the sequence given last
     pub history_end : last_of start (history turn) ≡ last
-    history_end = ap (λ vs. start + length vs) (sym (images_versions versions_made (map commit_of hs) (history turn) s.consistent.images)) ∙ (versions_length start None (map commit_of hs) s.consistent.answered ∙ sym s.consistent.last_is)
+    history_end = ap (λ vs. start + length vs) (sym (images_versions versions_made (commits_in hs) (history turn) s.consistent.images)) ∙ (versions_length start None (commits_in hs) s.consistent.answered ∙ sym s.consistent.last_is)
 
-    -- a whole group, whose leader asked for its delay after the leaders before it, and which goes on with what the
+    -- what the law says of reads of the log
+    pub reads_now : ReadsStand opened start clients s.calls log last (reads_handled hs)
+    reads_now = record { right = s.right; readers = s.readers; counted = s.counted }
+
+    -- a whole group of writes, whose leader asked for its delay after the leaders before it, and which goes on with what the
     -- leader has seen
-    module _ (xs : List (ℕ × Request)) (lawful : AreLawful clients (commit_requests_of xs)) (whole : IsWholeGroup group_bytes (commit_requests_of xs)) (delay : Delay) (numbers : Look)
+    module _ (xs : List (ℕ × Request)) (own : AllByRecursion Writes xs) (lawful : AreLawful clients (commit_requests_of xs)) (whole : IsWholeGroup group_bytes (commit_requests_of xs)) (delay : Delay) (numbers : Look)
         (is_asked : IsAskedFor (commit_requests_of xs) numbers (seen_at delay)) (comes : ComesAfter asked (seen_at delay)) (went : List ControllerCall) (proceeds : ProceedsWith (commit_requests_of xs) numbers (seen_at delay) went) where
       pub stands_dead : (n : ℕ) → fault_of log ≡ Some n → Stands went log turn last (hs ++ handled_with xs (failures delay n xs))
       stands_dead n dead =
-          let old = subst (λ f. AreConsistent start clients group_bytes asked (map commit_of hs) last f (history turn) s.calls) dead s.consistent in
-          let new = consistent_after_fault start clients group_bytes (map commit_of hs) last (history turn) s.calls (commit_requests_of xs) asked (seen_at delay) numbers lawful whole is_asked comes went proceeds n old in
-          let commits = map_append commit_of hs (handled_with xs (failures delay n xs)) ∙ ap (λ l. map commit_of hs ++ l) (commits_failed delay n xs) in
-          record { our = s.our; calls = s.calls; wrote = s.wrote; consistent = subst (λ (z : List Commit × Option ℕ). AreConsistent start clients group_bytes went z.0 last z.1 (history turn) s.calls) (λ i. (sym commits i, sym dead i)) new }
+          let old = subst (λ f. AreConsistent start clients group_bytes asked (commits_in hs) last f (history turn) s.calls) dead s.consistent in
+          let new = consistent_after_fault start clients group_bytes (commits_in hs) last (history turn) s.calls (commit_requests_of xs) asked (seen_at delay) numbers lawful whole is_asked comes went proceeds n old in
+          let commits = commits_append hs (handled_with xs (failures delay n xs)) ∙ ap (λ l. commits_in hs ++ l) (commits_failed delay n xs own) in
+          let reads = with_writes opened start clients s.calls log last hs xs (failures delay n xs) own reads_now in
+          record {
+            our = s.our;
+            calls = s.calls;
+            wrote = s.wrote;
+            consistent = subst (λ (z : List Commit × Option ℕ). AreConsistent start clients group_bytes went z.0 last z.1 (history turn) s.calls) (λ i. (sym commits i, sym dead i)) new;
+            right = reads.right;
+            readers = reads.readers;
+            counted = reads.counted;
+          }
 
       pub stands_failed : fault_of log ≡ None → (n : ℕ) (c : GroupCall) (log' : OpenLog D ghosts) → Adds c log log' → WritesBatches last (commit_requests_of xs) c → c.failed ≡ Some n → Stands went log' turn last (hs ++ handled_with xs (failures delay n xs))
       stands_failed alive n c log' adds writes failed_is =
-          let old = subst (λ f. AreConsistent start clients group_bytes asked (map commit_of hs) last f (history turn) s.calls) alive s.consistent in
-          let new = consistent_with_fault start clients group_bytes (map commit_of hs) last (history turn) s.calls (commit_requests_of xs) asked (seen_at delay) numbers lawful whole is_asked comes went proceeds n old c writes failed_is in
-          let commits = map_append commit_of hs (handled_with xs (failures delay n xs)) ∙ ap (λ l. map commit_of hs ++ l) (commits_failed delay n xs) in
+          let old = subst (λ f. AreConsistent start clients group_bytes asked (commits_in hs) last f (history turn) s.calls) alive s.consistent in
+          let new = consistent_with_fault start clients group_bytes (commits_in hs) last (history turn) s.calls (commit_requests_of xs) asked (seen_at delay) numbers lawful whole is_asked comes went proceeds n old c writes failed_is in
+          let commits = commits_append hs (handled_with xs (failures delay n xs)) ∙ ap (λ l. commits_in hs ++ l) (commits_failed delay n xs own) in
           let stops : fault_of log' ≡ Some n = adds.fault alive ∙ failed_is in
-          record { our = s.our; calls = s.calls ++ c ∷ []; wrote = adds.wrote opened s.calls s.wrote; consistent = subst (λ (z : List Commit × Option ℕ). AreConsistent start clients group_bytes went z.0 last z.1 (history turn) (s.calls ++ c ∷ [])) (λ i. (sym commits i, sym stops i)) new }
+          let reads = with_writes opened start clients (s.calls ++ c ∷ []) log' last hs xs (failures delay n xs) own
+          (with_failed_call opened start clients s.calls c log log' last n (reads_handled hs) failed_is alive adds reads_now) in
+          record {
+            our = s.our;
+            calls = s.calls ++ c ∷ [];
+            wrote = adds.wrote opened s.calls s.wrote;
+            consistent = subst (λ (z : List Commit × Option ℕ). AreConsistent start clients group_bytes went z.0 last z.1 (history turn) (s.calls ++ c ∷ [])) (λ i. (sym commits i, sym stops i)) new;
+            right = reads.right;
+            readers = reads.readers;
+            counted = reads.counted;
+          }
 
       pub stands_written : fault_of log ≡ None → (log' : OpenLog D ghosts) (turn' : U) → our_turn table turn' → LogsOn last (commit_requests_of xs) log log' → Publishes (versions_from last (commit_requests_of xs)) (history turn) (history turn')
           → Stands went log' turn' (last_with_all last (commit_requests_of xs)) (hs ++ handled_with xs (replies_of delay last (last_with_all last (commit_requests_of xs)) xs))
       stands_written alive log' turn' our logs published =
-          let old = subst (λ f. AreConsistent start clients group_bytes asked (map commit_of hs) last f (history turn) s.calls) alive s.consistent in
+          let old = subst (λ f. AreConsistent start clients group_bytes asked (commits_in hs) last f (history turn) s.calls) alive s.consistent in
           let end = last_with_all last (commit_requests_of xs) in
-          let commits = map_append commit_of hs (handled_with xs (replies_of delay last end xs)) ∙ ap (λ l. map commit_of hs ++ l) (commits_planned delay last end xs) in
+          let rises : last ≤ end = (let ends = (versions_runs last (commit_requests_of xs)).1 in omega (arith, ends)) in
+          let commits = commits_append hs (handled_with xs (replies_of delay last end xs)) ∙ ap (λ l. commits_in hs ++ l) (commits_planned delay last end xs own) in
           ⊎_elim
           (λ (t : (log' ≡ log) × (AreUnlogged (commit_requests_of xs) ⊎ (batches_from last (commit_requests_of xs) ≡ []))).
-          let new = consistent_accepted start clients group_bytes asked (seen_at delay) went (map commit_of hs) last (history turn) s.calls old (commit_requests_of xs) lawful numbers whole is_asked comes proceeds (history turn') s.calls published (inl (refl, t.1)) in
-          record { our = our; calls = s.calls; wrote = subst (Wrote opened s.calls) (sym t.0) s.wrote; consistent = subst (λ (z : List Commit × Option ℕ). AreConsistent start clients group_bytes went z.0 end z.1 (history turn') s.calls) (λ i. (sym commits i, sym (ap fault_of t.0 ∙ alive) i)) new })
+          let new = consistent_accepted start clients group_bytes asked (seen_at delay) went (commits_in hs) last (history turn) s.calls old (commit_requests_of xs) lawful numbers whole is_asked comes proceeds (history turn') s.calls published (inl (refl, t.1)) in
+          let reads = with_writes opened start clients s.calls log' end hs xs (replies_of delay last end xs) own
+          (subst (λ (l : OpenLog D ghosts). ReadsStand opened start clients s.calls l end (reads_handled hs)) (sym t.0) (with_no_call opened start clients s.calls log last end (reads_handled hs) rises reads_now)) in
+          record {
+            our = our;
+            calls = s.calls;
+            wrote = subst (Wrote opened s.calls) (sym t.0) s.wrote;
+            consistent = subst (λ (z : List Commit × Option ℕ). AreConsistent start clients group_bytes went z.0 end z.1 (history turn') s.calls) (λ i. (sym commits i, sym (ap fault_of t.0 ∙ alive) i)) new;
+            right = reads.right;
+            readers = reads.readers;
+            counted = reads.counted;
+          })
           (λ (t : (c : GroupCall) × Adds c log log' × WritesBatches last (commit_requests_of xs) c × SyncsFor (commit_requests_of xs) c.sync × (c.failed ≡ None)).
           let c = t.0 in
           let grows : fault_of log' ≡ None = t.1.fault alive ∙ t.4 in
-          let new = consistent_accepted start clients group_bytes asked (seen_at delay) went (map commit_of hs) last (history turn) s.calls old (commit_requests_of xs) lawful numbers whole is_asked comes proceeds (history turn') (s.calls ++ c ∷ []) published (inr (c, refl, t.2, t.3, t.4)) in
-          record { our = our; calls = s.calls ++ c ∷ []; wrote = t.1.wrote opened s.calls s.wrote; consistent = subst (λ (z : List Commit × Option ℕ). AreConsistent start clients group_bytes went z.0 end z.1 (history turn') (s.calls ++ c ∷ [])) (λ i. (sym commits i, sym grows i)) new })
+          let new = consistent_accepted start clients group_bytes asked (seen_at delay) went (commits_in hs) last (history turn) s.calls old (commit_requests_of xs) lawful numbers whole is_asked comes proceeds (history turn') (s.calls ++ c ∷ []) published (inr (c, refl, t.2, t.3, t.4)) in
+          let reads = with_writes opened start clients (s.calls ++ c ∷ []) log' end hs xs (replies_of delay last end xs) own
+          (with_call opened start clients s.calls c log log' last end (reads_handled hs) rises t.2.first alive t.1 reads_now) in
+          record {
+            our = our;
+            calls = s.calls ++ c ∷ [];
+            wrote = t.1.wrote opened s.calls s.wrote;
+            consistent = subst (λ (z : List Commit × Option ℕ). AreConsistent start clients group_bytes went z.0 end z.1 (history turn') (s.calls ++ c ∷ [])) (λ i. (sym commits i, sym grows i)) new;
+            right = reads.right;
+            readers = reads.readers;
+            counted = reads.counted;
+          })
           logs
 
 pub none_of : {A B : Type 0} (f : A → B) (xs : List A) → map f xs ≡ [] → xs ≡ []

@@ -95,18 +95,30 @@ versions_prop a b = hlevel props
 low_prop : (m n : ℕ) → IsProp (m ≤ n)
 low_prop m n = hlevel props
 
-abbrev pub noting : (q : Request) → Option Noted → q.nodes ≡ reverse (new_versions q.batch.records) → 1 ≤ count_of q.batch.records → size_of_batch q.batch.records ≤ MAX_SIZE → Request
-noting q n m s l = record { batch = q.batch; nodes = q.nodes; options = q.options; note = n; made_of = m; some = s; small = l }
+none_prop : (m n : ℕ) → IsProp (m ≡ n)
+none_prop m n = hlevel props
+
+-- a write has at least one record that counts, and a read of the log has none
+pub write_counts : (q : Request) → q.since ≡ None → 1 ≤ count_of q.batch.records
+write_counts q is = q.some is
+
+pub read_counts : (q : Request) (since : ℕ) → q.since ≡ Some since → count_of q.batch.records ≡ 0
+read_counts q since is = q.none since is
+
+abbrev pub noting : (q : Request) → Option Noted → q.nodes ≡ reverse (new_versions q.batch.records) → (q.since ≡ None → 1 ≤ count_of q.batch.records) → ((since : ℕ) → q.since ≡ Some since → count_of q.batch.records ≡ 0) → size_of_batch q.batch.records ≤ MAX_SIZE → Request
+noting q n m s z l = record { batch = q.batch; nodes = q.nodes; options = q.options; note = n; since = q.since; made_of = m; some = s; none = z; small = l }
 
 -- the request with this note
-pub noting_as : (q : Request) (n o : Option Noted) (m : q.nodes ≡ reverse (new_versions q.batch.records)) (s : 1 ≤ count_of q.batch.records) (l : size_of_batch q.batch.records ≤ MAX_SIZE) → n ≡ o → noting q n m s l ≡ record q { note = o }
-noting_as q n o m s l is = λ i. record {
+pub noting_as : (q : Request) (n o : Option Noted) (m : q.nodes ≡ reverse (new_versions q.batch.records)) (s : q.since ≡ None → 1 ≤ count_of q.batch.records) (z : (since : ℕ) → q.since ≡ Some since → count_of q.batch.records ≡ 0) (l : size_of_batch q.batch.records ≤ MAX_SIZE) → n ≡ o → noting q n m s z l ≡ record q { note = o }
+noting_as q n o m s z l is = λ i. record {
   batch = q.batch;
   nodes = q.nodes;
   options = q.options;
   note = is i;
+  since = q.since;
   made_of = versions_prop q.nodes (reverse (new_versions q.batch.records)) m q.made_of i;
-  some = low_prop 1 (count_of q.batch.records) s q.some i;
+  some = λ write. low_prop 1 (count_of q.batch.records) (s write) (q.some write) i;
+  none = λ since read. none_prop (count_of q.batch.records) 0 (z since read) (q.none since read) i;
   small = low_prop (size_of_batch q.batch.records) MAX_SIZE l q.small i;
 }
 

@@ -1,9 +1,8 @@
 -- What the list's grouping says of the requests that a leader has.
-use Rattle.std.proofs.Common.{◌≡◌, ◌≢◌, ℕ, zero, suc, ◌<◌, ◌≤◌, true, false, map, slice_get, Some, List, [], ◌∷◌, ◌++◌, length, reverse, take, refl, ap, sym, ◌∙◌, subst, arith, length-append}
+use Rattle.std.proofs.Common.{◌≡◌, ◌≢◌, ℕ, zero, suc, ◌<◌, ◌≤◌, true, false, map, slice_get, is_some, Option, None, Some, List, [], ◌∷◌, ◌++◌, length, reverse, take, refl, ap, sym, ◌∙◌, subst, arith, length-append}
 use Rattle.std.specs.List.{AllByRecursion}
 use Rattle.std.proofs.lemmas.List.{reverse-append, map-append}
 use Rattle.model_base.specs.declared.group.Item.{Item}
-use Rattle.model_base.specs.Batch.{count_of}
 use Rattle.model_base.specs.Grouping.{group_len}
 use Rattle.line_grouping.proofs.Longest.{longest}
 use Rattle.model_accounts.proofs.Wholes.{whole_of_queue}
@@ -16,9 +15,12 @@ use Rattle.engine_parts.specs.declared.requests.Request.{Request}
 use Rattle.engine_parts.specs.Items.{item_with}
 use Rattle.engine_parts.specs.Handled.{commit_request_of, commit_requests_of}
 use Rattle.engine_parts.specs.Led.{IsLedGroup}
+use Rattle.engine_parts.specs.ReadAnswers.{IsOneRead}
+use Rattle.engine_parts.proofs.Commits.{Writes}
+use Rattle.engine_parts.proofs.Views.{write_counts}
 
 abbrev pub item_in : Request → Item
-item_in q = item_with q.batch.records q.options
+item_in q = item_with q.since q.batch.records q.options
 
 abbrev item_at : ℕ × Request → Item
 item_at x = item_in x.1
@@ -135,28 +137,62 @@ other_way : (k : ℕ) (asks : List CommitRequest) → AllByRecursion (λ (b : Co
 other_way k [] h = tt
 other_way k (a ∷ asks) h = ((λ e. h.0 (sym e)), other_way k asks h.1)
 
-lawful_asks : (n : ℕ) (group : List (QueuedWriter Request)) → Within n group → AreLawful n (commit_requests_of (rev_asks group))
+-- each member has a client's number
+abbrev HasNumber : ℕ → ℕ × Request → Type 0
+HasNumber n x = (1 ≤ x.0) × (x.0 ≤ n)
+
+numbers_asks : (n : ℕ) (group : List (QueuedWriter Request)) → Within n group → AllByRecursion (HasNumber n) (rev_asks group)
 unfolding rev_asks
-lawful_asks n [] h = tt
-lawful_asks n (e ∷ es) h = subst (AreLawful n) (sym (map_snoc commit_request_of (rev_asks es) (e.by, e.asked))) (all_snoc (λ (a : CommitRequest). (1 ≤ count_of a.records) × (1 ≤ a.client) × (a.client ≤ n)) (commit_requests_of (rev_asks es)) (commit_request_of (e.by, e.asked)) (lawful_asks n es h.2) (e.asked.some, h.0, h.1))
+numbers_asks n [] h = tt
+numbers_asks n (e ∷ es) h = all_snoc (HasNumber n) (rev_asks es) (e.by, e.asked) (numbers_asks n es h.2) (h.0, h.1)
 
-map_map : (xs : List (ℕ × Request)) → map item_of_request (commit_requests_of xs) ≡ map item_at xs
-map_map [] = refl
-map_map (x ∷ xs) = ap (λ l. item_at x ∷ l) (map_map xs)
+lawful_writes : (n : ℕ) (xs : List (ℕ × Request)) → AllByRecursion Writes xs → AllByRecursion (HasNumber n) xs → AreLawful n (commit_requests_of xs)
+lawful_writes n [] writes numbers = tt
+lawful_writes n (x ∷ xs) writes numbers = ((write_counts x.1 writes.0, numbers.0.0, numbers.0.1), lawful_writes n xs writes.1 numbers.1)
 
-pub led_of : ((item : Item) → item_of (code_of item) ≡ item) → {wanted : Request → ℕ → Type 0} → ((q : Request) (code : ℕ) → wanted q code → code ≡ code_by item_in q) → (max n : ℕ) (own : QueuedWriter Request) (group left : List (QueuedWriter Request)) → IsWhole wanted max own group left → 0 < own.by → own.by ≤ n → Within n group → IsLedGroup max n (asks own group)
-led_of law coded max n own group left whole low high within =
+-- Who leads a group of writes leads no reads of the log
+
+not_some : (o : Option ℕ) → is_some o ≡ false → o ≡ None
+not_some None e = refl
+not_some (Some n) e = absurd (cc)
+
+together : (max : ℕ) (leader : Item) (behind : List Item) → group_len max (leader ∷ behind) ≡ length (leader ∷ behind) → AllByRecursion (λ (i : Item). i.alone ≡ false) behind
+together max leader behind len =
+    let l = longest max leader behind in
+    all_each (λ (i : Item). i.alone ≡ false) behind (λ k i e. (l.joined (suc k) i (omega arith) (let h = get_in behind k i e in omega (arith, h, len)) e).not_alone)
+
+all_write : (xs : List (ℕ × Request)) → AllByRecursion (λ (i : Item). i.alone ≡ false) (map item_at xs) → AllByRecursion Writes xs
+all_write [] h = tt
+all_write (x ∷ xs) h = (not_some x.1.since h.0, all_write xs h.1)
+
+-- grouping sees the same of a write and of its request
+map_map : (xs : List (ℕ × Request)) → AllByRecursion Writes xs → map item_of_request (commit_requests_of xs) ≡ map item_at xs
+map_map [] writes = refl
+map_map (x ∷ xs) writes = λ i. item_with (sym writes.0 i) x.1.batch.records x.1.options ∷ map_map xs writes.1 i
+
+-- and who leads a read of the log leads nothing else
+none_join : (max : ℕ) (leader : Item) (behind : List Item) → leader.alone ≡ true → group_len max (leader ∷ behind) ≡ length (leader ∷ behind) → behind ≡ []
+none_join max leader [] alone len = refl
+none_join max leader (i ∷ behind) alone len = absurd (let join = (longest max leader (i ∷ behind)).joined 1 i (omega arith) (omega (arith, len)) refl in let takes = join.leader_takes in cc)
+
+none_asked : (xs : List (ℕ × Request)) → map item_at xs ≡ [] → xs ≡ []
+none_asked [] e = refl
+none_asked (x ∷ xs) e = absurd (cc)
+
+pub led_of : ((item : Item) → item_of (code_of item) ≡ item) → {wanted : Request → ℕ → Type 0} → ((q : Request) (code : ℕ) → wanted q code → code ≡ code_by item_in q) → (max n : ℕ) (own : QueuedWriter Request) (group left : List (QueuedWriter Request)) → own.asked.since ≡ None → IsWhole wanted max own group left → 0 < own.by → own.by ≤ n → Within n group → IsLedGroup max n (asks own group)
+led_of law coded max n own group left write whole low high within =
     let leader : ℕ × Request = (own.by, own.asked) in let ts : List (ℕ × Request) = rev_asks group in
     let is : asks own group ≡ leader ∷ ts = asks_are own group in
     let len : group_len max (item_at leader ∷ map item_at ts) ≡ length (item_at leader ∷ map item_at ts) = subst (λ l. group_len max (map item_at l) ≡ length (map item_at l)) is (whole_group law coded max own group left whole) in
     let flags = of_requests (item_at leader) ts (joins max (item_at leader) (map item_at ts) len) in
     let d = distinct_own group own whole.1 in
-    let items_of : map item_of_request (commit_requests_of (leader ∷ ts)) ≡ item_at leader ∷ map item_at ts = map_map (leader ∷ ts) in
+    let writes : AllByRecursion Writes (leader ∷ ts) = (write, all_write ts (together max (item_at leader) (map item_at ts) len)) in
+    let items_of : map item_of_request (commit_requests_of (leader ∷ ts)) ≡ item_at leader ∷ map item_at ts = map_map (leader ∷ ts) writes in
     subst (IsLedGroup max n) (sym is) record {
       first = leader;
       rest = ts;
       leads = refl;
-      lawful = ((own.asked.some, low, high), lawful_asks n group within);
+      lawful = lawful_writes n (leader ∷ ts) writes ((low, high), numbers_asks n group within);
       whole = record {
         some = omega arith;
         whole = ap (group_len max) items_of ∙ (len ∙ (sym (ap length items_of) ∙ map_size item_of_request (commit_requests_of (leader ∷ ts))));
@@ -165,5 +201,15 @@ led_of law coded max n own group left whole low high within =
       logged = λ e. (e, weaker (λ (a : CommitRequest). (a.options.no_log ≡ own.asked.options.no_log) × (a.options.sync ≡ true → own.asked.options.sync ≡ true) × (a.options.no_slowdown ≡ own.asked.options.no_slowdown)) (λ (a : CommitRequest). a.options.no_log ≡ false) (λ a t. t.0 ∙ e) (commit_requests_of ts) flags);
       unlogged = λ e. (e, weaker (λ (a : CommitRequest). (a.options.no_log ≡ own.asked.options.no_log) × (a.options.sync ≡ true → own.asked.options.sync ≡ true) × (a.options.no_slowdown ≡ own.asked.options.no_slowdown)) (λ (a : CommitRequest). a.options.no_log ≡ true) (λ a t. t.0 ∙ e) (commit_requests_of ts) flags);
       syncs = ((λ e. e), weaker (λ (a : CommitRequest). (a.options.no_log ≡ own.asked.options.no_log) × (a.options.sync ≡ true → own.asked.options.sync ≡ true) × (a.options.no_slowdown ≡ own.asked.options.no_slowdown)) (λ (a : CommitRequest). a.options.sync ≡ true → own.asked.options.sync ≡ true) (λ a t. t.1) (commit_requests_of ts) flags);
+      writes = writes;
       slowdown = (refl, weaker (λ (a : CommitRequest). (a.options.no_log ≡ own.asked.options.no_log) × (a.options.sync ≡ true → own.asked.options.sync ≡ true) × (a.options.no_slowdown ≡ own.asked.options.no_slowdown)) (λ (a : CommitRequest). a.options.no_slowdown ≡ own.asked.options.no_slowdown) (λ a t. t.2) (commit_requests_of ts) flags);
     }
+
+pub read_of : ((item : Item) → item_of (code_of item) ≡ item) → {wanted : Request → ℕ → Type 0} → ((q : Request) (code : ℕ) → wanted q code → code ≡ code_by item_in q) → (max n : ℕ) (own : QueuedWriter Request) (group left : List (QueuedWriter Request)) (since : ℕ) → own.asked.since ≡ Some since
+    → IsWhole wanted max own group left → 0 < own.by → own.by ≤ n → IsOneRead n (asks own group)
+read_of law coded max n own group left since reads whole low high =
+    let leader : ℕ × Request = (own.by, own.asked) in let ts : List (ℕ × Request) = rev_asks group in
+    let is : asks own group ≡ leader ∷ ts = asks_are own group in
+    let len : group_len max (item_at leader ∷ map item_at ts) ≡ length (item_at leader ∷ map item_at ts) = subst (λ l. group_len max (map item_at l) ≡ length (map item_at l)) is (whole_group law coded max own group left whole) in
+    let none : ts ≡ [] = none_asked ts (none_join max (item_at leader) (map item_at ts) (ap (λ (o : Option ℕ). is_some o) reads) len) in
+    record { client = own.by; request = own.asked; is = is ∙ ap (λ l. leader ∷ l) none; since = since; reads = reads; low = low; high = high }

@@ -1,5 +1,5 @@
 -- Requests that were handled, as commits, and how a leader answers.
-use Rattle.std.specs.Prelude.{◌≡◌, ℕ, ◌+◌, ◌-◌, true, length, IfSome, List, [], ◌∷◌, ◌++◌, map, nat_le, if◌then◌else◌, Option, Some, None, Result, Ok, Err, ⊤}
+use Rattle.std.specs.Prelude.{◌≡◌, ℕ, ◌+◌, ◌-◌, true, length, IfSome, List, [], ◌∷◌, ◌++◌, map, flat_map, nat_le, if◌then◌else◌, Option, Some, None, Result, Ok, Err, ⊤}
 use Rattle.std.specs.List.{AllByRecursion}
 use Rattle.model_base.specs.declared.write.Refusal.{Refusal}
 use Rattle.model_base.specs.declared.write.Refusal.TheVariants.{Empty, TooLarge, SyncWithoutLog, SelfStop, NoFamily, NoMemory, Incomplete, LogFault, SequenceFull}
@@ -27,6 +27,10 @@ use Rattle.engine_parts.specs.declared.requests.Request.{Request}
 use Rattle.engine_parts.specs.declared.requests.Delay.{Delay}
 use Rattle.engine_calls.specs.declared.answers.Receipt.{Receipt}
 use Rattle.engine_calls.specs.declared.answers.Refused.{Refused}
+use Rattle.engine_calls.specs.declared.answers.Since.{Since}
+use Rattle.engine_calls.specs.declared.answers.SinceRefused.{SinceRefused}
+use Rattle.engine_calls.specs.declared.answers.SinceRefused.TheVariants as unread
+use Rattle.engine_rule.specs.Reading.{ReadAnswer, AnsweredRead, gave, broke, lacked}
 use Rattle.engine_parts.specs.declared.requests.Answer.{Answer}
 
 -- A refusal as the answer to a commit. A leader gives only the first three.
@@ -60,6 +64,38 @@ commit_of h = record {
   answer = answer_in h.reply.answer;
   controller_calls = seen_for h.reply;
 }
+
+-- a write is a commit, and a read of the log is none
+abbrev pub commit_if : Option ℕ → Commit → List Commit
+commit_if None c = c ∷ []
+commit_if (Some since) c = []
+
+-- what was handled, as commits
+abbrev pub commits_in : List (Handling Request Answer) → List Commit
+commits_in handled = flat_map (λ (h : Handling Request Answer). commit_if h.asked.since (commit_of h)) handled
+
+-- the answer to a read of the log from this sequence on
+abbrev pub read_answer : ℕ → Option (Result Since SinceRefused) → ReadAnswer
+read_answer since None = lacked
+read_answer since (Some (Ok r)) = gave (record { since = since; at = r.at; records = r.records })
+read_answer since (Some (Err unread.SelfStop)) = lacked
+read_answer since (Some (Err unread.NoMemory)) = lacked
+read_answer since (Some (Err (unread.ReadFault count))) = broke count
+
+abbrev pub answer_if : Option ℕ → Answer → List ReadAnswer
+answer_if None p = []
+answer_if (Some since) p = read_answer since p.read ∷ []
+
+-- a client's read of the log with this answer
+abbrev pub read_by : ℕ → ReadAnswer → AnsweredRead
+read_by client answer = record { client = client; answer = answer }
+
+-- the reads of the log among what was handled, with their clients
+abbrev pub reads_of : Handling Request Answer → List AnsweredRead
+reads_of h = map (read_by h.by) (answer_if h.asked.since h.reply)
+
+abbrev pub reads_handled : List (Handling Request Answer) → List AnsweredRead
+reads_handled handled = flat_map reads_of handled
 
 -- what the request's note, if it has one, shows of the controller's history
 abbrev pub noted_in : Option Noted → List ControllerCall
@@ -125,10 +161,10 @@ pub record HasWritten {Log : Type 0} {ghosts : Ghosts Log} (opened : OpenLog Log
 pub record AreHandled {Time Log : Type 0} {ghosts : Ghosts Log} (controller : Controller Time)
     (opened : OpenLog Log ghosts)
     (start : ℕ) (handled : List (Handling Request Answer)) : Type 0 where
-  pub answered : AreAnswered start None (map commit_of handled)
+  pub answered : AreAnswered start None (commits_in handled)
   pub handed_back : AllByRecursion HandsBack handled
   pub shown : AllByRecursion (ShowsDelay controller) handled
-  pub written : HasWritten opened (map commit_of handled)
+  pub written : HasWritten opened (commits_in handled)
 
 -- A leader's requests and replies, with the clients' numbers
 
@@ -142,9 +178,9 @@ commit_requests_of requests = map commit_request_of requests
 abbrev pub snapshot_of : {X : Type 0} → X → Snapshot X
 snapshot_of x = record { marker = record {}; value = x }
 
--- the reply with this answer in a group of this delay, without a note
+-- the reply to a batch with this answer in a group of this delay, without a note
 abbrev pub reply_with : Delay → Result Receipt Refused → Answer
-reply_with delay answer = record { answer = answer; delay = snapshot_of delay; note = None }
+reply_with delay answer = record { answer = answer; delay = snapshot_of delay; note = None; read = None }
 
 -- the run of a batch where `last` was given last
 abbrev pub run_after : ℕ → List Record → Run

@@ -1,5 +1,5 @@
 -- The group that a leader has in hand.
-use Rattle.std.specs.Prelude.{◌≡◌, ℕ, Bool, true, false, List, [], ◌∷◌}
+use Rattle.std.specs.Prelude.{◌≡◌, ℕ, Bool, true, false, None, List, [], ◌∷◌}
 use Rattle.std.specs.List.{AllByRecursion}
 use Rattle.model_base.specs.Controller.{ControllerCall, Look}
 use Rattle.engine_rule.specs.Plans.{CommitRequest, AreLawful, AreLogged, AreUnlogged, ComesAfter, IsAskedFor, IsWholeGroup, ProceedsWith}
@@ -11,7 +11,7 @@ use Rattle.engine_parts.specs.Handled.{commit_requests_of}
 abbrev pub AreAlike : Bool → List CommitRequest → Type 0
 AreAlike no_slowdown requests = AllByRecursion (λ (q : CommitRequest). q.options.no_slowdown ≡ no_slowdown) requests
 
--- The requests of a whole group, its leader's first. Either all are logged, or none is. Where one asks for a sync, its
+-- The requests of a whole group of writes, its leader's first. Either all are logged, or none is. Where one asks for a sync, its
 -- leader does too. Either all may wait, or none may.
 pub record IsLedGroup (group_bytes clients : ℕ) (requests : List (ℕ × Request)) : Type 0 where
   pub first : ℕ × Request
@@ -22,6 +22,7 @@ pub record IsLedGroup (group_bytes clients : ℕ) (requests : List (ℕ × Reque
   pub logged : first.1.options.no_log ≡ false → AreLogged (commit_requests_of requests)
   pub unlogged : first.1.options.no_log ≡ true → AreUnlogged (commit_requests_of requests)
   pub syncs : SyncsFor (commit_requests_of requests) first.1.options.sync
+  pub writes : AllByRecursion (λ (x : ℕ × Request). x.1.since ≡ None) requests
   pub slowdown : AreAlike first.1.options.no_slowdown (commit_requests_of requests)
 
 -- the first request is this client's own

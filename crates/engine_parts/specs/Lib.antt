@@ -7,5 +7,6 @@ pub mod Numbering
 pub mod Layout
 pub mod Led
 pub mod Staged
+pub mod ReadAnswers
 pub mod Logs
 pub mod LogLaw

@@ -1,9 +1,11 @@
 -- What a log covers, and what it was opened for.
-use Rattle.std.specs.Prelude.{ℕ, List, ◌++◌, map, Option, ⊤}
+use Rattle.std.specs.Prelude.{ℕ, ◌≤◌, List, ◌++◌, Option, ⊤}
 use Rattle.log_writer.specs.declared.group_log.GroupLog.{Ghosts}
 use Rattle.engine_parts.specs.declared.log.OpenLog.{OpenLog}
-use Rattle.engine_parts.specs.Logs.{fault_of}
-use Rattle.engine_parts.specs.Logs.{Wrote}
+use Rattle.engine_parts.specs.Logs.{Had, fault_of, faults_of, Wrote}
+use Rattle.log_writer.specs.CountedFaults.{AreCounted}
+use Rattle.engine_rule.specs.Reading.{AnsweredRead, AreRight, answers_in, faults_in, reads_in}
+use Rattle.std.specs.List.{AllByRecursion}
 use Rattle.model_base.specs.Controller.{ControllerCall}
 use Rattle.model_base.specs.LogContents.{GroupCall}
 use Rattle.table_rule.specs.declared.content.MemberVersions.{MemberVersions}
@@ -12,11 +14,12 @@ use Rattle.line_rule.specs.declared.view.Handling.{Handling}
 use Rattle.engine_rule.specs.Consistent.{AreConsistent}
 use Rattle.engine_parts.specs.declared.requests.Request.{Request}
 use Rattle.engine_parts.specs.declared.requests.Answer.{Answer}
-use Rattle.engine_parts.specs.Handled.{commit_of, handled_with}
+use Rattle.engine_parts.specs.Handled.{commits_in, handled_with, reads_handled}
 use Rattle.engine_parts.specs.Staged.{published_with}
 
 -- The right to launch is the table's. Calls have written the log since it was opened. Log, table and the last sequence
--- given are what the handled requests have made. `asked` is the controller's history as the last leader had seen it
+-- given are what the handled commits have made. What reads of the log gave is right, and each fault of the log or of a
+-- read of it is a count of its own. `asked` is the controller's history as the last leader had seen it
 -- when its group went on or was refused.
 pub record Covers {Log : Type 0} {ghosts : Ghosts Log} {Versions Turn : Type 0}
     (our_turn : Versions → Turn → Type 0) (history : Turn → List (List MemberVersions)) (table : Versions)
@@ -27,8 +30,12 @@ pub record Covers {Log : Type 0} {ghosts : Ghosts Log} {Versions Turn : Type 0}
   pub our : our_turn table turn
   pub calls : List GroupCall
   pub wrote : Wrote opened calls log
-  pub consistent : AreConsistent start clients group_bytes asked (map commit_of handled) last (fault_of log)
+  pub consistent : AreConsistent start clients group_bytes asked (commits_in handled) last (fault_of log)
       (history turn) calls
+  pub right : AreRight (Had opened start) last calls (reads_in (answers_in (reads_handled handled)))
+  pub readers : AllByRecursion (λ (r : AnsweredRead). (1 ≤ r.client) × (r.client ≤ clients)) (reads_handled handled)
+  pub counted : AreCounted (faults_of opened) (faults_of log) (fault_of log)
+      (faults_in (answers_in (reads_handled handled)))
 
 -- What `Covers` says, for the log alone, where these groups are published or will be.
 abbrev pub LogCovers : {Log : Type 0} {ghosts : Ghosts Log} → OpenLog Log ghosts → ℕ → ℕ → ℕ
@@ -53,6 +60,10 @@ abbrev pub StandsForPast : {Log : Type 0} {ghosts : Ghosts Log} → ℕ → Past
     → OpenLog Log ghosts → ℕ → Type 0
 StandsForPast clients p log last =
     LogCovers p.opened p.start clients p.group_bytes p.asked log p.published last p.handled
+
+-- the past with a read of the log, which led alone
+abbrev pub with_read : {Log : Type 0} → Past Log → List (ℕ × Request) → List (ℕ × Answer) → Past Log
+with_read p requests replies = record p { handled = p.handled ++ handled_with requests replies }
 
 -- The past with one more group: the group's leader has seen this much of the controller, the group's parts are
 -- published, if it has any, and its requests have these replies.

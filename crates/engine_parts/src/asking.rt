@@ -177,6 +177,7 @@ pub fn drop_if_stalled<Time: Clock, R: Wait>(
         answer: Err(refused_by(look, batch)),
         delay: Snapshot::of(delay),
         note: Some(controller.note(pass)),
+        read: None,
     };
     Ok(envelope.tell(answer))
 }
@@ -213,6 +214,7 @@ pub fn turn_away_if_stalled<Time: Clock, R: Wait>(
         answer: Err(refused_by(look, batch)),
         delay: Snapshot::of(&delay),
         note: None,
+        read: None,
     };
     Ok(envelope.tell(answer))
 }
@@ -283,6 +285,7 @@ pub fn refuse_held_up<Time: Clock>(
             answer: Err(refused_by(look, batch)),
             delay: Snapshot::of(delay),
             note: Some(controller.note(pass)),
+            read: None,
         };
         replies.push_reserved((client, envelope.tell(answer)));
     }

@@ -71,7 +71,7 @@ impl Model for SealedAnswer {
 impl HasGroupingItem for SealedRequest {
     ghost use Rattle.engine_parts.specs.Items.{item_with};
 
-    ghost item_of = { λ r. item_with r.batch.records r.options };
+    ghost item_of = { λ r. item_with r.since r.batch.records r.options };
 }
 
 impl GivesRun for SealedAnswer {

@@ -74,6 +74,7 @@ pub(crate) fn batch_of(request: SealedRequest) -> (Batch, Envelope)
         nodes: _,
         options: _,
         note: _,
+        since: _,
     } = request;
     (batch, envelope)
 }
@@ -258,6 +259,7 @@ fn number_one(
         mut nodes,
         options: _,
         note: _,
+        since: _,
     } = request;
     let count = u64::from(batch.count());
     let run = match next_run(last, count) {
@@ -393,6 +395,7 @@ fn reply(delay: &Delay, answer: Result<Receipt, Refused>) -> Answer
         answer,
         delay: Snapshot::of(delay),
         note: None,
+        read: None,
     }
 }
 

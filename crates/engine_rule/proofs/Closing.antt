@@ -1,5 +1,5 @@
 -- At the end the commits make one trace of all clients, and the log's calls wrote its history.
-use Rattle.std.proofs.Common.{◌≡◌, ◌≢◌, inl, inr, ℕ, suc, ◌+◌, ◌-◌, ◌<◌, ◌≤◌, Bool, true, false, cond, nat_le, ◌==◌, map, get_or, slice_get, List, [], ◌∷◌, ◌++◌, Option, Some, None, IfSome, length, refl, ap, sym, ◌∙◌, subst, ⊎_elim, arith, append_assoc}
+use Rattle.std.proofs.Common.{◌≡◌, ◌≢◌, inl, inr, ℕ, suc, ◌+◌, ◌-◌, ◌<◌, ◌≤◌, Bool, true, false, cond, nat_le, ◌==◌, map, get_or, slice_get, List, [], ◌∷◌, ◌++◌, Option, Some, None, length, refl, ap, sym, ◌∙◌, subst, ⊎_elim, arith, append_assoc}
 use Rattle.std.specs.Option.{option_map}
 use Rattle.std.specs.List.{AllByRecursion, AllZip}
 use Rattle.std.specs.Bool.{IsTrue}
@@ -11,17 +11,18 @@ use Rattle.model_base.specs.History.{Entry, IsHistory, max_sequence, last_sequen
 use Rattle.model_base.specs.Attempts.{Attempt, slowed}
 use Rattle.model_base.specs.Controller.{ControllerCall, IsLegal}
 use Rattle.model_base.specs.Tokens.{is_token, tokens_of}
+use Rattle.model_base.specs.Recovery.{Logged}
+use Rattle.model_base.specs.Settings.{with_kept}
 use Rattle.model_base.specs.Trace.{Trace, Settings}
 use Rattle.model_base.specs.Groups.{Member, Group, Holds, AreOfOthers, AreStatuses, IsStatus, items_of}
-use Rattle.model_base.specs.Outcomes.{entries_of_client}
-use Rattle.model_base.specs.Counts.{Rose}
+use Rattle.model_base.specs.Outcomes.{entries_of_client, AreOwnFaults}
 use Rattle.model_base.specs.Grouping.{group_len}
-use Rattle.model_base.specs.LogContents.{GroupCall}
+use Rattle.model_base.specs.LogContents.{GroupCall, AreGroupsOf}
 use Rattle.table_rule.specs.declared.content.MemberVersions.{MemberVersions}
 use Rattle.model_runs.specs.Lost.{batches_that_fit, IsLost}
 use Rattle.model_accounts.specs.Sights.{Saw}
 use Rattle.model_accounts.specs.Accounts.{Account}
-use Rattle.model_accounts.specs.Closing.{IsAccountOf, IsClosing, all_attempts}
+use Rattle.model_accounts.specs.Closing.{IsAccountOf, IsClosing, RoseInRun, all_attempts, all_read_faults}
 use Rattle.model_accounts.specs.Led.{AreLed, Led, all_taken, groups_of}
 use Rattle.model_accounts.specs.Parts.{AreParts, ends_in}
 use Rattle.model_runs.specs.Written.{AreLost, IsLostCall, WritesLog}
@@ -30,10 +31,13 @@ use Rattle.engine_rule.specs.Consistent.{AreConsistent}
 use Rattle.engine_rule.specs.Asked.{HasAsked, place_of}
 use Rattle.engine_rule.specs.Entries.{AreCallsOf, HasPart, trace_of, attempt_of, ends_of, entries_after, entries_of, entry_after, entry_with, status_of}
 use Rattle.engine_rule.specs.LogCalls.{AreLostWrites, IsLostWrite}
+use Rattle.engine_rule.specs.Reading.{AnsweredRead, AreRight, IsRight, answers_in, answers_of, faults_in, reads_in, reads_with}
 use Rattle.engine_rule.specs.Plans.{AreLogged, CommitRequest, HaveOwnClients, all_failed, commit_of_request, batches_from, item_of_request}
 use Rattle.engine_rule.proofs.Chains.{entries_clients, entries_history, entries_own, images_entries}
 use Rattle.engine_rule.proofs.GroupParts.{ends_are, parts_after, parts_cut, parts_named}
 use Rattle.engine_rule.proofs.Leaders.{are_led, led_of}
+use Rattle.engine_rule.proofs.OwnFaults.{all_of_client, by_client, faults_of_accounts, no_faults, own_by_client}
+use Rattle.engine_rule.proofs.ReadsEnd.{records_written, right_reads}
 use Rattle.model_accounts.proofs.Leading.{groups_from_led, slowed_holds}
 use Rattle.model_accounts.proofs.Logs.{parts_are_groups}
 use Rattle.model_accounts.proofs.Parts.{parts_made}
@@ -214,9 +218,9 @@ some_length f (x ∷ xs) n e = ap suc (some_length f xs (length xs) refl) ∙ e
 
 module _ (settings : Settings) (cs : List Commit) (last : ℕ) (fault : Option ℕ) (published : List (List MemberVersions)) (calls : List GroupCall) (asked history : List ControllerCall)
     (k : AreConsistent settings.start settings.clients settings.group_bytes asked cs last fault published calls)
-    (accounts : List Account) (all : length accounts ≡ settings.clients) (are : (i : ℕ) (a : Account) → slice_get accounts i ≡ Some a → HasPart settings.start settings.opening cs published history i a) where
+    (accounts : List Account) (all : length accounts ≡ settings.clients) (reads : List AnsweredRead) (are : (i : ℕ) (a : Account) → slice_get accounts i ≡ Some a → HasPart settings.start settings.opening cs reads published history i a) (kept : Option (List Logged)) where
   abbrev trace : Trace
-  trace = trace_of settings.start settings.opening cs k.written.parts.parts history
+  trace = trace_of settings.start settings.opening kept cs k.written.parts.parts history
 
   is_history : IsHistory settings.start (entries_of cs) × (last_sequence settings.start (entries_of cs) ≡ last_after_all settings.start cs)
   is_history = entries_history settings.start None [] cs k.answered
@@ -248,7 +252,10 @@ module _ (settings : Settings) (cs : List Commit) (last : ℕ) (fault : Option �
       (λ (p : (length accounts ≤ client - 1) × (slice_get accounts (client - 1) ≡ None)). let none = p.0 in absurd (omega (arith, none, low, high, all)))
       (slice_get_cases accounts (client - 1)).1
 
-  module _ (legal : IsLegal history) (calls_of : AreCallsOf settings.clients history) (within : IsPrefix asked history) where
+  are_groups : AreGroupsOf (entries_of cs) k.written.parts.parts
+  are_groups = parts_are_groups (entries_of cs) k.written.parts.parts k.written.worked k.written.parts.cut k.written.parts.runs k.written.parts.each
+
+  module _ (legal : IsLegal history) (calls_of : AreCallsOf settings.clients history) (within : IsPrefix asked history) (right : AreRight (λ (batches : List Logged). kept ≡ Some batches) last calls (reads_in (answers_in reads))) where
     abbrev led : List Led
     led = map led_of k.in_groups.groups
 
@@ -283,7 +290,8 @@ module _ (settings : Settings) (cs : List Commit) (last : ℕ) (fault : Option �
           tokens = ap (λ n. tokens_of n history) number ∙ (goes_tokens (i + 1) h.known history h.goes_on ∙ sym (ap (λ b. b.asked) h.is));
           statuses = subst (λ (z : ℕ × List Attempt). AreStatuses trace (groups_of led) fault z.0 0 z.1) (λ j. (sym number j, sym (attempts_are i a there) j)) (own_statuses trace (groups_of led) fault (i + 1) 0 cs statuses held);
           seen = subst (λ (b : Account). Saw b.seen trace) (sym h.is)
-              (saw_published trace published (images_entries [] cs published k.images) (record { start = settings.start; opening = settings.opening; published = h.seen; controller_calls = h.known }) refl refl h.begins (goes_begins (i + 1) h.known history h.goes_on));
+              (saw_published trace published (images_entries [] cs published k.images) (record { start = settings.start; opening = settings.opening; published = h.seen; controller_calls = h.known; log_reads = reads_in (answers_of (i + 1) reads) }) refl refl h.begins (goes_begins (i + 1) h.known history h.goes_on)
+              (right_reads trace is_history.0 cs published k.named k.cuts are_groups last calls (records_written settings.start settings.group_bytes cs fault last calls k.written is_history.0) h.seen h.begins (reads_in (answers_of (i + 1) reads)) h.at_ends (all_of_client (IsRight (λ (batches : List Logged). kept ≡ Some batches) last calls) reads_with (i + 1) reads right)));
         }
       where
         from_none : (j : ℕ) → j ≡ 0 + j
@@ -293,17 +301,29 @@ module _ (settings : Settings) (cs : List Commit) (last : ℕ) (fault : Option �
     of_tokens n [] h = tt
     of_tokens n (t ∷ ts) h = ((λ is. h.0), of_tokens n ts h.1)
 
-    pub closing : (ended : ℕ) → IfSome fault (λ count. Rose settings.opened count × (count ≤ ended)) → (groups : List Group) × IsClosing settings ended trace groups accounts last fault
-    closing ended rose = (
+    faults_are : (client : ℕ) (a : Account) (i : ℕ) → client ≡ i + 1 → slice_get accounts i ≡ Some a → a.read_faults ≡ faults_in (answers_of client reads)
+    faults_are client a i number there = ap (λ b. b.read_faults) (are i a there).is ∙ ap (λ n. faults_in (answers_of n reads)) (sym number)
+
+    all_faults : all_read_faults accounts ≡ by_client 1 settings.clients reads
+    all_faults = faults_of_accounts 1 accounts reads (λ i a there. faults_are (1 + i) a i (next i) there) ∙ ap (λ n. by_client 1 n reads) all
+      where
+        next : (i : ℕ) → 1 + i ≡ i + 1
+        next i = omega arith
+
+    pub closing : (ended : ℕ) → RoseInRun settings ended fault → AllByRecursion (λ (r : AnsweredRead). (1 ≤ r.client) × (r.client ≤ settings.clients)) reads → AreOwnFaults ended fault (faults_in (answers_in reads)) → (fault ≡ None → faults_in (answers_in reads) ≡ [] → ended ≡ settings.opened)
+        → (groups : List Group) × IsClosing (with_kept kept settings) ended trace groups accounts last fault
+    closing ended rose of_clients own counted = (
       groups_of led,
       record {
-        is_trace = record { start = refl; opening = refl; entries = is_history.0; logged = parts_are_groups (entries_of cs) k.written.parts.parts k.written.worked k.written.parts.cut k.written.parts.runs k.written.parts.each; controller_calls = legal; clients = entries_clients settings.clients [] cs k.of_clients; tokens = of_tokens settings.clients history calls_of };
+        is_trace = record { start = refl; opening = refl; kept = refl; entries = is_history.0; logged = are_groups; controller_calls = legal; clients = entries_clients settings.clients [] cs k.of_clients; tokens = of_tokens settings.clients history calls_of };
         are_groups = groups_from_led settings.group_bytes history led (all_attempts accounts) is_led;
         parts = parts;
         are_parts = are_parts;
         each = part_of;
         last_is = last_is;
         fault_is = rose;
+        read_faults = subst (AreOwnFaults ended fault) (sym all_faults) (own_by_client ended fault settings.clients reads of_clients own);
+        counted = λ worked none. counted worked (no_faults settings.clients reads of_clients (sym all_faults ∙ none));
       },
     )
 

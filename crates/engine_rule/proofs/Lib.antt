@@ -6,5 +6,8 @@ pub mod Own
 pub mod Synced
 pub mod Steps
 pub mod Leaders
+pub mod LogReads
+pub mod OwnFaults
+pub mod ReadsEnd
 pub mod GroupParts
 pub mod Closing

@@ -15,6 +15,7 @@ use Rattle.model_base.specs.Trace.{Settings}
 use Rattle.model_base.specs.Outcomes.{entries_of_client}
 use Rattle.model_base.specs.Progress.{early_refusal}
 use Rattle.model_base.specs.Replies.{AreFullBelow, AreUpTo, IsFullBelow, IsLater, LooksAway, MetStall}
+use Rattle.model_base.proofs.Prefixes.{prefix_self}
 use Rattle.model_base.proofs.Runs.{not_kept_out}
 use Rattle.table_rule.specs.declared.content.MemberVersions.{MemberVersions}
 use Rattle.table_rule.specs.Histories.{Begins, last_of as last_of_groups}
@@ -22,6 +23,7 @@ use Rattle.model_accounts.specs.Accounts.{Account, IsRefused, Wrote}
 use Rattle.model_accounts.specs.Sights.{Sees}
 use Rattle.engine_rule.specs.Commits.{Answer, AreAnswered, Commit, IsAnswer, accepted, held_up, commits_of, failed, fault_after, fault_after_all, last_after, last_after_all, no_room}
 use Rattle.engine_rule.specs.Asked.{place_of}
+use Rattle.engine_rule.specs.Reading.{ReadAnswer}
 use Rattle.engine_rule.specs.Entries.{SeesMore, account_of, attempt_of, end_with, ends_of, entries_of, entry_with, mine_after, status_of}
 use Rattle.engine_controller.specs.Passes.{EndsWith}
 use Rattle.engine_controller.proofs.Account.{ends_begins, ends_last, ends_tokens}
@@ -188,16 +190,16 @@ ends_same old c v is none = ends_as old c v is ∙ (ap (λ l. ends_of old ++ l) 
 mine_same : (k : ℕ) (old : List Commit) (c : Commit) (v : Answer) → c.answer ≡ v → entry_with k (mine_after k [] old) c v ≡ [] → mine_after k [] (old ++ c ∷ []) ≡ mine_after k [] old
 mine_same k old c v is none = mine_more k [] old c ∙ (ap (λ w. mine_after k [] old ++ entry_with k (mine_after k [] old) c w) is ∙ (ap (λ es. mine_after k [] old ++ es) none ∙ append-nil (mine_after k [] old)))
 
-module _ (start : ℕ) (opening : Pairs) (k : ℕ) (old : List Commit) (c : Commit) (before after : List (List MemberVersions)) (sees : Begins before after) (known now : List ControllerCall) (more : SeesMore k known now)
+module _ (start : ℕ) (opening : Pairs) (k : ℕ) (old : List Commit) (answers : List ReadAnswer) (c : Commit) (before after : List (List MemberVersions)) (sees : Begins before after) (known now : List ControllerCall) (more : SeesMore k known now)
     (free : holds_stop (tokens_of k known) ≡ false) where
   abbrev was : Account
-  was = account_of start opening k old before known
+  was = account_of start opening k old answers before known
 
   abbrev becomes : Account
-  becomes = account_of start opening k (old ++ c ∷ []) after now
+  becomes = account_of start opening k (old ++ c ∷ []) answers after now
 
   saw : Sees was.seen becomes.seen
-  saw = record { start = refl; opening = refl; published = sees; controller_calls = more.begins }
+  saw = record { start = refl; opening = refl; published = sees; controller_calls = more.begins; log_reads = prefix_self _ }
 
   pub refused_held_up : (numbers : Look) (by moment bytes : ℕ) → c.answer ≡ held_up numbers → c.options.no_slowdown ≡ true → HoldUp numbers
       → IsLater now (length known) (place_of c) (record { client = by; action = delay moment bytes; told = Some numbers })
@@ -211,6 +213,7 @@ module _ (start : ℕ) (opening : Pairs) (k : ℕ) (old : List Commit) (c : Comm
     ends = ends_same old c (held_up numbers) held_is refl;
     asked = more.tokens;
     attempts = handled_as old c (held_up numbers) held_is;
+    read_faults = refl;
     seen = saw;
   }
 
@@ -224,6 +227,7 @@ module _ (start : ℕ) (opening : Pairs) (k : ℕ) (old : List Commit) (c : Comm
     ends = ends_same old c (failed n) failed_is refl;
     asked = more.tokens;
     attempts = handled_as old c (failed n) failed_is;
+    read_faults = refl;
     seen = saw;
   }
 
@@ -238,6 +242,7 @@ module _ (start : ℕ) (opening : Pairs) (k : ℕ) (old : List Commit) (c : Comm
           ends = ends_as old c (accepted first end) given_is;
           asked = more.tokens;
           attempts = handled_as old c (accepted first end) given_is;
+          read_faults = refl;
           seen = saw;
           some = v.1;
           passed = passed;
@@ -268,14 +273,15 @@ module _ (start : ℕ) (opening : Pairs) (k : ℕ) (old : List Commit) (c : Comm
           ends = ends_same old c (no_room l) full_is refl;
           asked = more.tokens;
           attempts = handled_as old c (no_room l) full_is;
+          read_faults = refl;
           seen = saw;
         }
 
 -- a client that looked itself made no commit of the batch, and has its refusal from the look
-pub refused_looked : (start : ℕ) (opening : Pairs) (k : ℕ) (own : List Commit) (records : List Record) (how : WriteOptions) (before after : List (List MemberVersions)) (known now : List ControllerCall) (numbers : Look) → Begins before after
+pub refused_looked : (start : ℕ) (opening : Pairs) (k : ℕ) (own : List Commit) (answers : List ReadAnswer) (records : List Record) (how : WriteOptions) (before after : List (List MemberVersions)) (known now : List ControllerCall) (numbers : Look) → Begins before after
     → holds_stop (tokens_of k known) ≡ true → EndsWith k known look (Some numbers) now → how.no_slowdown ≡ true → HoldUp numbers
-    → IsRefused (account_of start opening k own before known) records how (no.Incomplete numbers.stops numbers.delays numbers.wait) (account_of start opening k own after now)
-refused_looked start opening k own records how before after known now numbers sees stopping ends impatient hold =
+    → IsRefused (account_of start opening k own answers before known) records how (no.Incomplete numbers.stops numbers.delays numbers.wait) (account_of start opening k own answers after now)
+refused_looked start opening k own answers records how before after known now numbers sees stopping ends impatient hold =
     let last = ends_last k known look (Some numbers) now ends in record {
       status = None;
       may = (
@@ -294,14 +300,15 @@ refused_looked start opening k own records how before after known now numbers se
       ends = refl;
       asked = ends_tokens k known look (Some numbers) now ends ∙ append-nil (tokens_of k known);
       attempts = refl;
-      seen = record { start = refl; opening = refl; published = sees; controller_calls = ends_begins k known look (Some numbers) now ends };
+      read_faults = refl;
+      seen = record { start = refl; opening = refl; published = sees; controller_calls = ends_begins k known look (Some numbers) now ends; log_reads = prefix_self _ };
     }
 
 -- a client whose commit met a stall made no commit of the batch, and has its refusal from a look, its own or the leader's
-pub refused_stalled : (start : ℕ) (opening : Pairs) (k : ℕ) (own : List Commit) (records : List Record) (how : WriteOptions) (before after : List (List MemberVersions)) (known now : List ControllerCall) (numbers : Look) (by place : ℕ)
+pub refused_stalled : (start : ℕ) (opening : Pairs) (k : ℕ) (own : List Commit) (answers : List ReadAnswer) (records : List Record) (how : WriteOptions) (before after : List (List MemberVersions)) (known now : List ControllerCall) (numbers : Look) (by place : ℕ)
     → Begins before after → SeesMore k known now → holds_stop (tokens_of k known) ≡ false → how.no_slowdown ≡ true → IsLater now (length known) place (record { client = by; action = look; told = Some numbers }) → MetStall now k by place numbers
-    → IsRefused (account_of start opening k own before known) records how (no.Incomplete numbers.stops numbers.delays numbers.wait) (account_of start opening k own after now)
-refused_stalled start opening k own records how before after known now numbers by place sees more free impatient later met = record {
+    → IsRefused (account_of start opening k own answers before known) records how (no.Incomplete numbers.stops numbers.delays numbers.wait) (account_of start opening k own answers after now)
+refused_stalled start opening k own answers records how before after known now numbers by place sees more free impatient later met = record {
   status = None;
   may = (
     impatient,
@@ -319,5 +326,6 @@ refused_stalled start opening k own records how before after known now numbers b
   ends = refl;
   asked = more.tokens;
   attempts = refl;
-  seen = record { start = refl; opening = refl; published = sees; controller_calls = more.begins };
+  read_faults = refl;
+  seen = record { start = refl; opening = refl; published = sees; controller_calls = more.begins; log_reads = prefix_self _ };
 }

@@ -1,24 +1,28 @@
 -- Each way in which a leader's work may end keeps the state consistent.
-use Rattle.std.proofs.Common.{◌≡◌, ◌≢◌, ◌⊎◌, ℕ, ◌+◌, ◌<◌, ◌≤◌, Bool, true, false, cond, ◌==◌, filter, map, List, [], ◌∷◌, ◌++◌, Option, Some, None, length, refl, ap, sym, ◌∙◌, subst, ⊎_elim, arith, append_assoc, append-nil}
+use Rattle.std.proofs.Common.{◌≡◌, ◌≢◌, ◌⊎◌, inl, inr, ℕ, ◌+◌, ◌<◌, ◌≤◌, Bool, true, false, cond, ◌==◌, filter, map, List, [], ◌∷◌, ◌++◌, Option, Some, None, length, refl, ap, sym, ◌∙◌, subst, ⊎_elim, arith, append_assoc, append-nil}
+use Rattle.std.specs.Prelude.{flat_map, nat_le, if◌then◌else◌}
 use Rattle.std.specs.List.{AllByRecursion, AllZip}
 use Rattle.std.proofs.lemmas.List.Elements.{filter-append}
 use Rattle.std.proofs.lemmas.Grind.{flat_map-append}
 use Rattle.model_base.specs.declared.write.WriteOptions.{WriteOptions}
 use Rattle.model_base.specs.Batch.{count_of}
 use Rattle.model_base.specs.declared.history.Flag.TheVariants.{Log, NoLog, Sync}
-use Rattle.model_base.specs.History.{Entry, IsHistory, RunsFollow, logged_entries, is_logged, flag_of}
+use Rattle.model_base.specs.History.{Entry, IsHistory, RunsFollow, last_sequence, logged_entries, is_logged, flag_of, max_sequence}
 use Rattle.model_base.specs.Controller.{ControllerCall, HoldUp, Look}
 use Rattle.model_base.specs.LogContents.{GroupCall}
 use Rattle.table_rule.specs.declared.content.MemberVersions.{MemberVersions}
-use Rattle.table_rule.specs.Histories.{made_by, versions_in, Images}
-use Rattle.table_rule.proofs.Images.{images_more, images_none}
+use Rattle.table_rule.specs.Histories.{made_by, versions_in, versions_of, last_of, Begins, Images, In}
+use Rattle.table_rule.proofs.Images.{images_more, images_none, images_versions}
+use Rattle.engine_rule.specs.Reading.{IsCutAt}
+use Rattle.engine_rule.proofs.Reaching.{versions_length}
 use Rattle.model_runs.specs.Written.{AreOfOwnClients, WroteEntries, first_of}
 use Rattle.engine_rule.specs.Commits.{Answer, AreAnswered, AreOfClients, Commit, accepted, held_up, failed, fault_after_all, last_after, last_after_all, no_room}
 use Rattle.engine_rule.specs.Asked.{AreInGroups}
-use Rattle.engine_rule.specs.Consistent.{AreConsistent, Publishes}
+use Rattle.engine_rule.specs.Consistent.{AreConsistent, EndsAreNamed, IsNamed, Publishes}
 use Rattle.engine_rule.specs.Entries.{entries_after, entries_of, entry_after, entry_with, versions_made, versions_with}
 use Rattle.engine_rule.specs.LogCalls.{AreLostWrites, IsLostWrite, LogsGroup, SyncsFor, WritesBatches, WroteCommits, WroteParts}
-use Rattle.engine_rule.specs.Plans.{HaveOwnClients, AreLawful, AreUnlogged, ComesAfter, CommitRequest, IsAskedFor, IsWholeGroup, MayNotWait, ProceedsWith, all_failed, all_held_up, answer_with, commit_of_request, batches_from, last_with, last_with_all, commits_of_plan, versions_from}
+use Rattle.engine_rule.specs.Plans.{HaveOwnClients, AreLawful, AreUnlogged, ComesAfter, CommitRequest, IsAskedFor, IsWholeGroup, MayNotWait, ProceedsWith, all_failed, all_held_up, answer_with, commit_of_request, batches_from, last_with, last_with_all, commits_of_plan, versions_at, versions_from}
+use Rattle.table_rule.specs.Batches.{new_versions, number_from}
 use Rattle.engine_rule.proofs.Chains.{answered_append, dead_append, end_append, entries_history, entries_more}
 use Rattle.engine_rule.proofs.OneGroup.{all_append, in_groups_failed, in_groups_held_up, in_groups_planned}
 use Rattle.engine_rule.proofs.Plans.{planned_answered, planned_batches, planned_clients, planned_dead, planned_end, planned_versions}
@@ -117,13 +121,42 @@ all_synced sync (e ∷ es) h = ((λ is. h.0.1 (syncs_flag h.0.0 (sym h.0.2 ∙ i
 
 -- The log's calls
 
-no_more_calls : (old new : List Entry) (calls : List GroupCall) → logged_entries new ≡ [] → WroteParts old calls → WroteParts (old ++ new) calls
-no_more_calls old new calls none k = record {
-  parts = k.parts;
-  cut = k.cut ∙ (sym (append-nil (logged_entries old)) ∙ ((λ i. logged_entries old ++ sym none i) ∙ sym (filter-append (λ (e : Entry). is_logged e.flag) old new)));
-  runs = k.runs;
-  each = k.each;
+-- the log's parts, which are cut wherever one of these commits says that its group ends
+abbrev CutParts : ℕ → List Commit → List Entry → List GroupCall → Type 0
+CutParts start cs es calls = (w : WroteParts es calls) × ((at : ℕ) → IsNamed cs at → IsCutAt start es w.parts at)
+
+-- more entries and parts come behind
+cut_more : (start at : ℕ) (es new : List Entry) (parts more : List (List Entry)) → IsCutAt start es parts at → IsCutAt start (es ++ new) (parts ++ more) at
+cut_more start at es new parts more c = record {
+  front = c.front;
+  is_front = record { rest = c.is_front.rest ++ new; split = ap (λ l. l ++ new) c.is_front.split ∙ append_assoc c.front c.is_front.rest new; ends = c.is_front.ends };
+  own = c.own;
+  more = c.more ++ more;
+  parts_are = ap (λ l. l ++ more) c.parts_are ∙ append_assoc c.own c.more more;
+  logged = c.logged;
 }
+
+-- they are cut behind all
+cut_whole : (start at : ℕ) (es : List Entry) (parts : List (List Entry)) → at ≡ last_sequence start es → flat_map (λ part. part) parts ≡ logged_entries es → IsCutAt start es parts at
+cut_whole start at es parts ends logged = record {
+  front = es;
+  is_front = record { rest = []; split = sym (append-nil es); ends = ends };
+  own = parts;
+  more = [];
+  parts_are = sym (append-nil parts);
+  logged = logged;
+}
+
+no_more_calls : (start : ℕ) (cs : List Commit) (old new : List Entry) (calls : List GroupCall) → logged_entries new ≡ [] → CutParts start cs old calls → CutParts start cs (old ++ new) calls
+no_more_calls start cs old new calls none k = (
+  record {
+    parts = k.0.parts;
+    cut = k.0.cut ∙ (sym (append-nil (logged_entries old)) ∙ ((λ i. logged_entries old ++ sym none i) ∙ sym (filter-append (λ (e : Entry). is_logged e.flag) old new)));
+    runs = k.0.runs;
+    each = k.0.each;
+  },
+  (λ at is. subst (λ (ps : List (List Entry)). IsCutAt start (old ++ new) ps at) (append-nil k.0.parts) (cut_more start at old new k.0.parts [] (k.1 at is))),
+)
 
 first_is : (last : ℕ) (es : List Entry) → IsHistory last es → 0 < length es → first_of es ≡ Some (last + 1)
 first_is last [] h some = absurd (omega arith)
@@ -133,14 +166,59 @@ runs_follow : (last : ℕ) (es : List Entry) → IsHistory last es → RunsFollo
 runs_follow last [] h = tt
 runs_follow last (e ∷ es) h = h.1
 
-one_more_call : (last : ℕ) (old new : List Entry) (calls : List GroupCall) (c : GroupCall) → IsHistory last new → logged_entries new ≡ new → 0 < length new → c.first ≡ last + 1 → c.batches ≡ map (λ (e : Entry). e.records) new
-    → AllByRecursion (λ (e : Entry). e.flag ≡ Sync → c.sync ≡ true) new → c.failed ≡ None → AreOfOwnClients new → WroteParts old calls → WroteParts (old ++ new) (calls ++ c ∷ [])
-one_more_call last old new calls c h all some first batches synced ok own k = record {
-  parts = k.parts ++ new ∷ [];
-  cut = flat_map-append (λ part. part) k.parts (new ∷ []) ∙ ((λ i. k.cut i ++ append-nil new i) ∙ ((λ i. logged_entries old ++ sym all i) ∙ sym (filter-append (λ (e : Entry). is_logged e.flag) old new)));
-  runs = all_append RunsFollow k.parts (new ∷ []) k.runs (runs_follow last new h, tt);
-  each = zip_append WroteEntries k.parts calls (new ∷ []) (c ∷ []) k.each (record { some = first_is last new h some ∙ ap Some (sym first); apart = own; batches = batches; synced = synced; ok = ok }, tt);
-}
+one_more_call : (start last : ℕ) (cs : List Commit) (old new : List Entry) (calls : List GroupCall) (c : GroupCall) → IsHistory last new → logged_entries new ≡ new → 0 < length new → c.first ≡ last + 1 → c.batches ≡ map (λ (e : Entry). e.records) new
+    → AllByRecursion (λ (e : Entry). e.flag ≡ Sync → c.sync ≡ true) new → c.failed ≡ None → AreOfOwnClients new → CutParts start cs old calls → CutParts start cs (old ++ new) (calls ++ c ∷ [])
+one_more_call start last cs old new calls c h all some first batches synced ok own k = (
+  record {
+    parts = k.0.parts ++ new ∷ [];
+    cut = flat_map-append (λ part. part) k.0.parts (new ∷ []) ∙ ((λ i. k.0.cut i ++ append-nil new i) ∙ ((λ i. logged_entries old ++ sym all i) ∙ sym (filter-append (λ (e : Entry). is_logged e.flag) old new)));
+    runs = all_append RunsFollow k.0.parts (new ∷ []) k.0.runs (runs_follow last new h, tt);
+    each = zip_append WroteEntries k.0.parts calls (new ∷ []) (c ∷ []) k.0.each (record { some = first_is last new h some ∙ ap Some (sym first); apart = own; batches = batches; synced = synced; ok = ok }, tt);
+  },
+  (λ at is. cut_more start at old new k.0.parts (new ∷ []) (k.1 at is)),
+)
+
+-- Which ends are named
+
+in_front : {A : Type 0} (x : A) (xs ys : List A) → In x xs → In x (xs ++ ys)
+in_front x [] ys h = absurd h
+in_front x (z ∷ xs) ys h = ⊎_elim (λ (e : z ≡ x). inl e) (λ (t : In x xs). inr (in_front x xs ys t)) h
+
+in_rest : {A : Type 0} (x : A) (xs ys : List A) → In x ys → In x (xs ++ ys)
+in_rest x [] ys h = h
+in_rest x (z ∷ xs) ys h = inr (in_rest x xs ys h)
+
+in_either : {A : Type 0} (x : A) (xs ys : List A) → In x (xs ++ ys) → In x xs ⊎ In x ys
+in_either x [] ys h = inr h
+in_either x (z ∷ xs) ys h = ⊎_elim (λ (e : z ≡ x). inl (inl e)) (λ (t : In x (xs ++ ys)). ⊎_elim (λ (a : In x xs). inl (inr a)) (λ (b : In x ys). inr b) (in_either x xs ys t)) h
+
+pub named_more : (cs ds : List Commit) (at : ℕ) → IsNamed cs at → IsNamed (cs ++ ds) at
+named_more cs ds at n = (n.0, n.1, in_front n.0 cs ds n.2, n.3)
+
+named_behind : (cs ds : List Commit) (at : ℕ) → IsNamed ds at → IsNamed (cs ++ ds) at
+named_behind cs ds at n = (n.0, n.1, in_rest n.0 cs ds n.2, n.3)
+
+named_in : (cs ds : List Commit) (at : ℕ) → IsNamed (cs ++ ds) at → IsNamed cs at ⊎ IsNamed ds at
+named_in cs ds at n = ⊎_elim (λ (a : In n.0 cs). inl (n.0, n.1, a, n.3)) (λ (b : In n.0 ds). inr (n.0, n.1, b, n.3)) (in_either n.0 cs ds n.2)
+
+begins_one : {A : Type 0} (y x : A) (shown more : List A) → x ∷ [] ≡ y ∷ (shown ++ more) → y ∷ shown ≡ x ∷ []
+begins_one y x [] more e = ap (λ z. z ∷ []) (let head : y ≡ x = cc e in head)
+begins_one y x (z ∷ shown) more e = absurd (let tail : [] ≡ z ∷ (shown ++ more) = cc e in cc tail)
+
+-- what begins a list with one more element begins the list, or is all of it
+pub begins_snoc : {A : Type 0} (shown xs : List A) (x : A) → Begins shown (xs ++ x ∷ []) → Begins shown xs ⊎ (shown ≡ xs ++ x ∷ [])
+begins_snoc [] xs x b = inl (xs, refl)
+begins_snoc (y ∷ shown) [] x b = inr (begins_one y x shown b.0 b.1)
+begins_snoc (y ∷ shown) (z ∷ xs) x b =
+    let head : z ≡ y = cc b.1 in let tail : xs ++ x ∷ [] ≡ shown ++ b.0 = cc b.1 in
+    ⊎_elim
+    (λ (t : Begins shown xs). inl (t.0, (λ i. head i ∷ t.1 i)))
+    (λ (t : shown ≡ xs ++ x ∷ []). inr (λ i. sym head i ∷ t i))
+    (begins_snoc shown xs x (b.0, tail))
+
+shown_first : (start : ℕ) (shown : List (List MemberVersions)) → Begins shown [] → last_of start shown ≡ start
+shown_first start [] b = omega arith
+shown_first start (g ∷ shown) b = absurd (let e : [] ≡ g ∷ (shown ++ b.0) = b.1 in cc)
 
 -- A group got runs
 module _ (start clients group_bytes : ℕ) (asked known went : List ControllerCall) (cs : List Commit) (last : ℕ) (published : List (List MemberVersions)) (calls : List GroupCall) (k : AreConsistent start clients group_bytes asked cs last None published calls) (requests : List CommitRequest) (lawful : AreLawful clients requests)
@@ -165,37 +243,109 @@ module _ (start clients group_bytes : ℕ) (asked known went : List ControllerCa
   unfolding new_entries
   batches_are = planned_batches known last end (entries_of cs) requests
 
-  written_new : (calls' : List GroupCall) → LogsGroup last requests calls calls' → WroteCommits group_bytes (cs ++ new) None end calls'
+  -- an answer of the group that names an end names the group's end; and one does, where the group has versions
+  named_by : (at l : ℕ) (b : Bool) (first : ℕ) → (if b then accepted (l + 1) end else no_room l) ≡ accepted first at → at ≡ end
+  named_by at l true first e = cc
+  named_by at l false first e = absurd (cc)
+
+  named_end : (at l : ℕ) (qs : List CommitRequest) → IsNamed (commits_of_plan known l end qs) at → at ≡ end
+  named_end at l [] n = absurd n.2
+  named_end at l (a ∷ qs) n =
+      let c = commit_of_request known a (answer_with l end a.records) in
+      ⊎_elim
+      (λ (e : c ≡ n.0). named_by at l (nat_le (l + count_of a.records) max_sequence) n.1 (ap (λ (x : Commit). x.answer) e ∙ n.3))
+      (λ (t : In n.0 (commits_of_plan known (last_with l a.records) end qs)). named_end at (last_with l a.records) qs (n.0, n.1, t, n.3))
+      n.2
+
+  some_named : (l : ℕ) (qs : List CommitRequest) → (versions_from l qs ≡ []) ⊎ IsNamed (commits_of_plan known l end qs) end
+  some_named l [] = inl refl
+  some_named l (a ∷ qs) = by (nat_le (l + count_of a.records) max_sequence) refl (some_named (last_with l a.records) qs)
+    where
+      by : (b : Bool) → nat_le (l + count_of a.records) max_sequence ≡ b → (versions_from (last_with l a.records) qs ≡ []) ⊎ IsNamed (commits_of_plan known (last_with l a.records) end qs) end
+          → (versions_from l (a ∷ qs) ≡ []) ⊎ IsNamed (commits_of_plan known l end (a ∷ qs)) end
+      by true e later = inr (commit_of_request known a (answer_with l end a.records), l + 1, inl refl, ap (λ (b : Bool). if b then accepted (l + 1) end else no_room l) e)
+      by false e later =
+          let none : versions_at l a.records ≡ [] = ap (λ (b : Bool). if b then number_from (l + 1) (new_versions a.records) else []) e in
+          ⊎_elim
+          (λ (t : versions_from (last_with l a.records) qs ≡ []). inl (λ i. none i ++ t i))
+          (λ (n : IsNamed (commits_of_plan known (last_with l a.records) end qs) end). inr (n.0, n.1, inr n.2, n.3))
+          later
+
+  -- the group's end is the last sequence given
+  all_end : last_after_all start (cs ++ new) ≡ end
+  all_end = end_append start cs new ∙ (ap (λ n. last_after_all n new) (sym k.last_is) ∙ planned_end known last end requests)
+
+  answered_all : AreAnswered start None (cs ++ new)
+  answered_all = answered_append start None cs new k.answered (subst (λ (z : ℕ × Option ℕ). AreAnswered z.0 z.1 new) (λ i. (k.last_is i, k.fault_is i)) answered_new)
+
+  -- the log's parts, with the group's own
+  written_new : (calls' : List GroupCall) → LogsGroup last requests calls calls' → (w : WroteCommits group_bytes (cs ++ new) None end calls') × ((at : ℕ) → IsNamed (cs ++ new) at → IsCutAt start (entries_of (cs ++ new)) w.parts.parts at)
   unfolding new_entries
   written_new calls' logs =
       let w = k.written in
       let all_good : calls ≡ w.worked = w.both ∙ ((λ i. w.worked ++ w.are_lost i) ∙ append-nil w.worked) in
-      let old : WroteParts (entries_of cs) calls = subst (WroteParts (entries_of cs)) (sym all_good) w.parts in
-      let now : WroteParts (entries_of cs ++ new_entries) calls' = ⊎_elim
-      (λ (t : (calls' ≡ calls) × (AreUnlogged requests ⊎ (batches_from last requests ≡ []))). subst (WroteParts (entries_of cs ++ new_entries)) (sym t.0) (no_more_calls (entries_of cs) new_entries calls
+      let old : CutParts start cs (entries_of cs) calls = subst (CutParts start cs (entries_of cs)) (sym all_good) (w.parts, k.cuts) in
+      let now : CutParts start cs (entries_of cs ++ new_entries) calls' = ⊎_elim
+      (λ (t : (calls' ≡ calls) × (AreUnlogged requests ⊎ (batches_from last requests ≡ []))). subst (CutParts start cs (entries_of cs ++ new_entries)) (sym t.0) (no_more_calls start cs (entries_of cs) new_entries calls
       (⊎_elim (λ (u : AreUnlogged requests). none_logged new_entries (flags_of known (λ options. options.no_log ≡ true) last end (entries_of cs) requests u))
       (λ (u : batches_from last requests ≡ []). ap logged_entries (none_of (λ (e : Entry). e.records) new_entries (batches_are ∙ u))) t.1) old))
       (λ (t : (c : GroupCall) × (calls' ≡ calls ++ c ∷ []) × WritesBatches last requests c × SyncsFor requests c.sync × (c.failed ≡ None)).
       let c = t.0 in
       let same : c.batches ≡ map (λ (e : Entry). e.records) new_entries = t.2.batches ∙ sym batches_are in
       let some : 0 < length new_entries = some_of (λ (e : Entry). e.records) new_entries (subst (λ l. 0 < length l) same t.2.some) in
-      subst (WroteParts (entries_of cs ++ new_entries)) (sym t.1) (one_more_call last (entries_of cs) new_entries calls c history_new (all_logged new_entries (flags_of known (λ options. options.no_log ≡ false) last end (entries_of cs) requests t.2.to_log)) some t.2.first same
+      subst (CutParts start cs (entries_of cs ++ new_entries)) (sym t.1) (one_more_call start last cs (entries_of cs) new_entries calls c history_new (all_logged new_entries (flags_of known (λ options. options.no_log ≡ false) last end (entries_of cs) requests t.2.to_log)) some t.2.first same
       (all_synced c.sync new_entries (flags_of known (λ options. options.sync ≡ true → c.sync ≡ true) last end (entries_of cs) requests t.3)) t.4 (own_clients known last end (entries_of cs) requests whole.of_others) old))
       logs in
-      record { worked = calls'; lost = []; both = sym (append-nil calls'); parts = subst (λ es. WroteParts es calls') (sym (entries_more cs new)) now; are_lost = refl }
+      let all : CutParts start cs (entries_of (cs ++ new)) calls' = subst (λ es. CutParts start cs es calls') (sym (entries_more cs new)) now in
+      let whole_history : last_sequence start (entries_of (cs ++ new)) ≡ end = (entries_history start None [] (cs ++ new) answered_all).1 ∙ all_end in (
+        record { worked = calls'; lost = []; both = sym (append-nil calls'); parts = all.0; are_lost = refl },
+        (λ at is. ⊎_elim
+            (λ (a : IsNamed cs at). all.1 at a)
+            (λ (b : IsNamed new at). cut_whole start at (entries_of (cs ++ new)) all.0.parts (named_end at last requests b ∙ sym whole_history) all.0.cut)
+            (named_in cs new at is)),
+      )
+
+  -- what is published then
+  named_new : (published' : List (List MemberVersions)) → Publishes (versions_from last requests) published published' → Images versions_made (cs ++ new) published' → EndsAreNamed start (cs ++ new) published'
+  named_new published' publishes images shown begins = ⊎_elim
+      (λ (t : (versions_from last requests ≡ []) × (published' ≡ published)). was shown (subst (Begins shown) t.1 begins))
+      (λ (t : (g : List MemberVersions) × (published' ≡ published ++ g ∷ []) × (versions_in g ≡ versions_from last requests)). ⊎_elim
+      (λ (b : Begins shown published). was shown b)
+      (λ (all : shown ≡ published ++ t.0 ∷ []).
+      let ends : last_of start shown ≡ end = ap (last_of start) (all ∙ sym t.1) ∙ (ap (λ vs. start + length vs) (sym (images_versions versions_made (cs ++ new) published' images)) ∙ (versions_length start None (cs ++ new) answered_all ∙ all_end)) in
+      ⊎_elim
+      (λ (none : versions_from last requests ≡ []).
+      let same : last_of start shown ≡ last_of start published = ap (last_of start) all ∙ (ap (λ vs. start + length vs) (versions_behind published t.0) ∙ ap (λ vs. start + length (versions_of published ++ vs)) (t.2 ∙ none) ∙ ap (λ vs. start + length vs) (append-nil (versions_of published))) in
+      subst (λ n. (n ≡ start) ⊎ IsNamed (cs ++ new) n) (sym same) (was published ([], sym (append-nil published))))
+      (λ (n : IsNamed new end). inr (subst (IsNamed (cs ++ new)) (sym ends) (named_behind cs new end n)))
+      (some_named last requests))
+      (begins_snoc shown published t.0 (subst (Begins shown) t.1 begins)))
+      publishes
+    where
+      was : (s : List (List MemberVersions)) → Begins s published → (last_of start s ≡ start) ⊎ IsNamed (cs ++ new) (last_of start s)
+      was s b = ⊎_elim (λ (e : last_of start s ≡ start). inl e) (λ (n : IsNamed cs (last_of start s)). inr (named_more cs new (last_of start s) n)) (k.named s b)
+
+      versions_behind : (gs : List (List MemberVersions)) (g : List MemberVersions) → versions_of (gs ++ g ∷ []) ≡ versions_of gs ++ versions_in g
+      versions_behind [] g = append-nil (versions_in g)
+      versions_behind (x ∷ gs) g = ap (λ l. versions_in x ++ l) (versions_behind gs g) ∙ sym (append_assoc (versions_in x) (versions_of gs) (versions_in g))
+
+  images_new : (published' : List (List MemberVersions)) → Publishes (versions_from last requests) published published' → Images versions_made (cs ++ new) published'
+  images_new published' publishes = ⊎_elim
+      (λ (t : (versions_from last requests ≡ []) × (published' ≡ published)). subst (Images versions_made (cs ++ new)) (sym t.1) (images_none versions_made cs new published k.images (planned_versions known last end requests ∙ t.0)))
+      (λ (t : (g : List MemberVersions) × (published' ≡ published ++ g ∷ []) × (versions_in g ≡ versions_from last requests)). subst (Images versions_made (cs ++ new)) (sym t.1) (images_more versions_made cs new published t.0 k.images (planned_versions known last end requests ∙ sym t.2)))
+      publishes
 
   pub consistent_accepted : (published' : List (List MemberVersions)) (calls' : List GroupCall) → Publishes (versions_from last requests) published published' → LogsGroup last requests calls calls' → AreConsistent start clients group_bytes went (cs ++ new) end None published' calls'
-  consistent_accepted published' calls' publishes logs = record {
-    answered = answered_append start None cs new k.answered (subst (λ (z : ℕ × Option ℕ). AreAnswered z.0 z.1 new) (λ i. (k.last_is i, k.fault_is i)) answered_new);
+  consistent_accepted published' calls' publishes logs = let w = written_new calls' logs in let images = images_new published' publishes in record {
+    answered = answered_all;
     of_clients = all_append (λ (c : Commit). (1 ≤ c.client) × (c.client ≤ clients)) cs new k.of_clients (planned_clients known clients last end requests lawful);
-    last_is = sym (end_append start cs new ∙ (ap (λ n. last_after_all n new) (sym k.last_is) ∙ planned_end known last end requests));
+    last_is = sym all_end;
     fault_is = sym (dead_append None cs new ∙ (ap (λ d. fault_after_all d new) (sym k.fault_is) ∙ planned_dead known last end None requests));
     in_groups = in_groups_planned start group_bytes cs asked known numbers k.in_groups requests whole is_asked comes went proceeds last k.last_is;
-    images = ⊎_elim
-        (λ (t : (versions_from last requests ≡ []) × (published' ≡ published)). subst (Images versions_made (cs ++ new)) (sym t.1) (images_none versions_made cs new published k.images (planned_versions known last end requests ∙ t.0)))
-        (λ (t : (g : List MemberVersions) × (published' ≡ published ++ g ∷ []) × (versions_in g ≡ versions_from last requests)). subst (Images versions_made (cs ++ new)) (sym t.1) (images_more versions_made cs new published t.0 k.images (planned_versions known last end requests ∙ sym t.2)))
-        publishes;
-    written = written_new calls' logs;
+    images = images;
+    written = w.0;
+    named = named_new published' publishes images;
+    cuts = w.1;
   }
 
 -- All members of a group got the same answer, and no runs
@@ -207,12 +357,13 @@ record GivesNoRun (v : Answer) : Type 0 where
   last : (n count : ℕ) → last_after n count v ≡ n
   entries : (client : ℕ) (mine : List Entry) (c : Commit) → entry_with client mine c v ≡ []
   versions : (c : Commit) → versions_with c v ≡ []
+  names : (first at : ℕ) → v ≡ accepted first at → ⊥
 
 held_up_no_run : (numbers : Look) → GivesNoRun (held_up numbers)
-held_up_no_run numbers = record { last = λ n count. refl; entries = λ client mine c. refl; versions = λ c. refl }
+held_up_no_run numbers = record { last = λ n count. refl; entries = λ client mine c. refl; versions = λ c. refl; names = λ first at e. absurd (cc) }
 
 failed_no_run : (n : ℕ) → GivesNoRun (failed n)
-failed_no_run n = record { last = λ m count. refl; entries = λ client mine c. refl; versions = λ c. refl }
+failed_no_run n = record { last = λ m count. refl; entries = λ client mine c. refl; versions = λ c. refl; names = λ first at e. absurd (cc) }
 
 module _ (known : List ControllerCall) (v : Answer) (none : GivesNoRun v) where
   alike_end : (last : ℕ) (requests : List CommitRequest) → last_after_all last (alike known v requests) ≡ last
@@ -237,9 +388,25 @@ module _ (known : List ControllerCall) (v : Answer) (none : GivesNoRun v) where
   same_entries : (cs : List Commit) (requests : List CommitRequest) → entries_of (cs ++ alike known v requests) ≡ entries_of cs
   same_entries cs requests = entries_more cs (alike known v requests) ∙ ((λ i. entries_of cs ++ alike_entries (entries_of cs) requests i) ∙ append-nil (entries_of cs))
 
+  -- they name no end
+  alike_unnamed : (at : ℕ) (requests : List CommitRequest) → IsNamed (alike known v requests) at → ⊥
+  alike_unnamed at [] n = n.2
+  alike_unnamed at (a ∷ requests) n = ⊎_elim
+      (λ (e : commit_of_request known a v ≡ n.0). none.names n.1 at (ap (λ (x : Commit). x.answer) e ∙ n.3))
+      (λ (t : In n.0 (alike known v requests)). alike_unnamed at requests (n.0, n.1, t, n.3))
+      n.2
+
+  named_alike : (cs : List Commit) (at : ℕ) (requests : List CommitRequest) → IsNamed (cs ++ alike known v requests) at → IsNamed cs at
+  named_alike cs at requests n = ⊎_elim (λ (a : IsNamed cs at). a) (λ (b : IsNamed (alike known v requests) at). absurd (alike_unnamed at requests b)) (named_in cs (alike known v requests) at n)
+
+  -- the log's parts stay as they are
+  same_parts : (start : ℕ) (cs : List Commit) (requests : List CommitRequest) (calls : List GroupCall) → CutParts start cs (entries_of cs) calls → CutParts start (cs ++ alike known v requests) (entries_of (cs ++ alike known v requests)) calls
+  same_parts start cs requests calls k = let t = subst (λ es. CutParts start cs es calls) (sym (same_entries cs requests)) k in (t.0, (λ at is. t.1 at (named_alike cs at requests is)))
+
   consistent_alike : (start clients group_bytes : ℕ) (asked went : List ControllerCall) (cs : List Commit) (last : ℕ) (fault now : Option ℕ) (published : List (List MemberVersions)) (calls more : List GroupCall) (requests : List CommitRequest)
       → AreConsistent start clients group_bytes asked cs last fault published calls → AreLawful clients requests → AreAnswered last fault (alike known v requests) → fault_after_all fault (alike known v requests) ≡ now
-      → AreInGroups start group_bytes went (cs ++ alike known v requests) → WroteCommits group_bytes (cs ++ alike known v requests) now last more
+      → AreInGroups start group_bytes went (cs ++ alike known v requests)
+      → (w : WroteCommits group_bytes (cs ++ alike known v requests) now last more) × ((at : ℕ) → IsNamed (cs ++ alike known v requests) at → IsCutAt start (entries_of (cs ++ alike known v requests)) w.parts.parts at)
       → AreConsistent start clients group_bytes went (cs ++ alike known v requests) last now published more
   consistent_alike start clients group_bytes asked went cs last fault now published calls more requests k lawful right fault_now in_groups written = record {
     answered = answered_append start None cs (alike known v requests) k.answered (subst (λ (z : ℕ × Option ℕ). AreAnswered z.0 z.1 (alike known v requests)) (λ i. (k.last_is i, k.fault_is i)) right);
@@ -248,7 +415,9 @@ module _ (known : List ControllerCall) (v : Answer) (none : GivesNoRun v) where
     fault_is = sym (dead_append None cs (alike known v requests) ∙ (ap (λ d. fault_after_all d (alike known v requests)) (sym k.fault_is) ∙ fault_now));
     in_groups = in_groups;
     images = images_none versions_made cs (alike known v requests) published k.images (alike_versions requests);
-    written = written;
+    written = written.0;
+    named = λ shown begins. ⊎_elim (λ (e : last_of start shown ≡ start). inl e) (λ (n : IsNamed cs (last_of start shown)). inr (named_more cs (alike known v requests) (last_of start shown) n)) (k.named shown begins);
+    cuts = written.1;
   }
 
 -- the log's fault stays the same after members whose answer is this fault
@@ -293,14 +462,18 @@ lost_as_before : (group_bytes last : ℕ) (cs more : List Commit) (fault : Optio
 lost_as_before group_bytes last cs more None lost h = h
 lost_as_before group_bytes last cs more (Some n) lost h = (h.0, h.1, lost_later group_bytes n last cs more h.0 h.2)
 
-wrote_as_before : (group_bytes last : ℕ) (cs new : List Commit) (fault : Option ℕ) (calls : List GroupCall) → entries_of (cs ++ new) ≡ entries_of cs → WroteCommits group_bytes cs fault last calls → WroteCommits group_bytes (cs ++ new) fault last calls
-wrote_as_before group_bytes last cs new fault calls same w = record {
-  worked = w.worked;
-  lost = w.lost;
-  both = w.both;
-  parts = subst (λ es. WroteParts es w.worked) (sym same) w.parts;
-  are_lost = lost_as_before group_bytes last cs new fault w.lost w.are_lost;
-}
+wrote_as_before : (start group_bytes last : ℕ) (cs new : List Commit) (fault : Option ℕ) (calls : List GroupCall) (w : WroteCommits group_bytes cs fault last calls) → CutParts start (cs ++ new) (entries_of (cs ++ new)) w.worked
+    → (x : WroteCommits group_bytes (cs ++ new) fault last calls) × ((at : ℕ) → IsNamed (cs ++ new) at → IsCutAt start (entries_of (cs ++ new)) x.parts.parts at)
+wrote_as_before start group_bytes last cs new fault calls w parts = (
+  record {
+    worked = w.worked;
+    lost = w.lost;
+    both = w.both;
+    parts = parts.0;
+    are_lost = lost_as_before group_bytes last cs new fault w.lost w.are_lost;
+  },
+  parts.1,
+)
 
 module _ (start clients group_bytes : ℕ) (cs : List Commit) (last : ℕ) (published : List (List MemberVersions)) (calls : List GroupCall) (requests : List CommitRequest) (asked known : List ControllerCall) (numbers : Look)
     (lawful : AreLawful clients requests) (whole : IsWholeGroup group_bytes requests) (is_asked : IsAskedFor requests numbers known) (comes : ComesAfter asked known) where
@@ -311,7 +484,7 @@ module _ (start clients group_bytes : ℕ) (cs : List Commit) (last : ℕ) (publ
       let none = held_up_no_run numbers in
       consistent_alike known (held_up numbers) none start clients group_bytes asked known cs last fault fault published calls calls requests k lawful (held_up_answered known last numbers fault requests) (held_up_dead known numbers fault requests)
       (in_groups_held_up start group_bytes cs asked known numbers k.in_groups requests whole is_asked comes hold may)
-      (wrote_as_before group_bytes last cs (all_held_up known numbers requests) fault calls (same_entries known (held_up numbers) none cs requests) k.written)
+      (wrote_as_before start group_bytes last cs (all_held_up known numbers requests) fault calls k.written (same_parts known (held_up numbers) none start cs requests k.written.worked (k.written.parts, k.cuts)))
 
   module _ (went : List ControllerCall) (proceeds : ProceedsWith requests numbers known went) where
     -- the log had failed before
@@ -320,7 +493,7 @@ module _ (start clients group_bytes : ℕ) (cs : List Commit) (last : ℕ) (publ
         let none = failed_no_run n in
         consistent_alike known (failed n) none start clients group_bytes asked went cs last (Some n) (Some n) published calls calls requests k lawful (failed_answered_on known last n requests) (failed_dead_on known n requests)
         (in_groups_failed start group_bytes cs asked known numbers k.in_groups requests whole is_asked comes went proceeds n)
-        (wrote_as_before group_bytes last cs (all_failed known n requests) (Some n) calls (same_entries known (failed n) none cs requests) k.written)
+        (wrote_as_before start group_bytes last cs (all_failed known n requests) (Some n) calls k.written (same_parts known (failed n) none start cs requests k.written.worked (k.written.parts, k.cuts)))
 
     -- the log fails with this group
     pub consistent_with_fault : (n : ℕ) → AreConsistent start clients group_bytes asked cs last None published calls → (c : GroupCall) → WritesBatches last requests c → c.failed ≡ Some n
@@ -340,13 +513,16 @@ module _ (start clients group_bytes : ℕ) (cs : List Commit) (last : ℕ) (publ
         } in
         consistent_alike known (failed n) none start clients group_bytes asked went cs last None (Some n) published calls (calls ++ c ∷ []) requests k lawful (failed_answered known last n requests) (failed_dead known n None requests whole.some)
         (in_groups_failed start group_bytes cs asked known numbers k.in_groups requests whole is_asked comes went proceeds n)
-        (record {
-          worked = w.worked;
-          lost = c ∷ [];
-          both = (λ i. all_good i ++ c ∷ []);
-          parts = subst (λ es. WroteParts es w.worked) (sym (same_entries known (failed n) none cs requests)) w.parts;
-          are_lost = (c, refl, lost);
-        })
+        (let parts = same_parts known (failed n) none start cs requests w.worked (w.parts, k.cuts) in (
+          record {
+            worked = w.worked;
+            lost = c ∷ [];
+            both = (λ i. all_good i ++ c ∷ []);
+            parts = parts.0;
+            are_lost = (c, refl, lost);
+          },
+          parts.1,
+        ))
 
 -- at the beginning nothing was handled
 pub consistent_first : (start clients group_bytes : ℕ) → AreConsistent start clients group_bytes [] [] start None [] []
@@ -358,4 +534,6 @@ consistent_first start clients group_bytes = record {
   in_groups = record { groups = []; cut = refl; each = tt; seen = tt; rise = tt; name_ends = tt };
   images = refl;
   written = record { worked = []; lost = []; both = refl; parts = record { parts = []; cut = refl; runs = tt; each = tt }; are_lost = refl };
+  named = λ shown begins. inl (shown_first start shown begins);
+  cuts = λ at n. absurd n.2;
 }

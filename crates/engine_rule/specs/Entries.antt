@@ -1,5 +1,5 @@
 -- What commits make: the entries of the one history, their versions, and each client's account.
-use Rattle.std.specs.Prelude.{◌≡◌, ℕ, ◌+◌, ◌≤◌, false, List, [], ◌∷◌, ◌++◌, flat_map, map, None}
+use Rattle.std.specs.Prelude.{◌≡◌, ℕ, ◌+◌, ◌≤◌, false, List, [], ◌∷◌, ◌++◌, flat_map, map, Option, None}
 use Rattle.std.specs.List.{AllByRecursion}
 use mathlib.Core.List.{IsPrefix}
 use Rattle.model_base.specs.declared.write.Refusal.{Refusal}
@@ -12,6 +12,7 @@ use Rattle.model_base.specs.Controller.{ControllerCall}
 use Rattle.model_base.specs.Tokens.{tokens_of, holds_stop}
 use Rattle.model_base.specs.Outcomes.{entries_of_client}
 use Rattle.model_base.specs.Progress.{next_entry}
+use Rattle.model_base.specs.Recovery.{Logged}
 use Rattle.model_base.specs.Trace.{Trace}
 use Rattle.table_rule.specs.declared.content.Version.{Version}
 use Rattle.table_rule.specs.declared.content.MemberVersions.{MemberVersions}
@@ -21,6 +22,7 @@ use Rattle.model_accounts.specs.Accounts.{Account, IsRefused}
 use Rattle.engine_controller.specs.Passes.{GoesOn}
 use Rattle.engine_rule.specs.Commits.{Answer, accepted, held_up, failed, no_room, Commit, AreAnswered, commits_of}
 use Rattle.engine_rule.specs.Asked.{place_of, HasAsked}
+use Rattle.engine_rule.specs.Reading.{ReadAnswer, AnsweredRead, IsAtEnd, answers_of, faults_in, reads_in}
 
 -- The history
 
@@ -43,11 +45,12 @@ entries_after before (c ∷ commits) = entry_after before c ++ entries_after (be
 abbrev pub entries_of : List Commit → List Entry
 entries_of commits = entries_after [] commits
 
--- the trace of the commits, with these parts of the log and this history of the controller
-abbrev pub trace_of : ℕ → Pairs → List Commit → List (List Entry) → List ControllerCall → Trace
-trace_of start opening commits logged history = record {
+-- the trace of the commits, with what the log had kept, these parts of the log and this history of the controller
+abbrev pub trace_of : ℕ → Pairs → Option (List Logged) → List Commit → List (List Entry) → List ControllerCall → Trace
+trace_of start opening kept commits logged history = record {
   start = start;
   opening = opening;
+  kept = kept;
   entries = entries_of commits;
   logged = logged;
   controller_calls = history;
@@ -92,43 +95,54 @@ end_with (no_room at) = []
 abbrev pub ends_of : List Commit → List ℕ
 ends_of commits = flat_map (λ (c : Commit). end_with c.answer) commits
 
--- the account of a client that has made these commits, and has seen these groups published and these calls of the
--- controller
-abbrev pub account_of : ℕ → Pairs → ℕ → List Commit → List (List MemberVersions) → List ControllerCall → Account
-account_of start opening client own published known = record {
+-- the account of a client that has made these commits, was given these answers to its reads of the log, and has seen
+-- these groups published and these calls of the controller
+abbrev pub account_of : ℕ → Pairs → ℕ → List Commit → List ReadAnswer → List (List MemberVersions)
+    → List ControllerCall → Account
+account_of start opening client own answers published known = record {
   number = client;
   mine = mine_after client [] own;
   ends = ends_of own;
   asked = tokens_of client known;
   attempts = map attempt_of own;
-  seen = record { start = start; opening = opening; published = published; controller_calls = known };
+  read_faults = faults_in answers;
+  seen = record {
+    start = start;
+    opening = opening;
+    published = published;
+    controller_calls = known;
+    log_reads = reads_in answers;
+  };
 }
 
--- The account of the client at this place (from 0). The client has made exactly its own of the commits. It has seen a
--- beginning of what was published, and of the controller's history a beginning with all calls of its own. For each
--- delay among these calls it has a commit.
-pub record HasPart (start : ℕ) (opening : Pairs) (commits : List Commit) (published : List (List MemberVersions))
-    (history : List ControllerCall) (place : ℕ) (a : Account) : Type 0 where
+-- The account of the client at this place (from 0). The client has made exactly its own of the commits, and of the reads
+-- of the log. It has seen a beginning of what was published, and of the controller's history a beginning with all calls
+-- of its own. For each delay among these calls it has a commit. Its reads of the log were at ends of what it has seen.
+pub record HasPart (start : ℕ) (opening : Pairs) (commits : List Commit) (reads : List AnsweredRead)
+    (published : List (List MemberVersions)) (history : List ControllerCall) (place : ℕ) (a : Account) : Type 0 where
   pub seen : List (List MemberVersions)
   pub begins : Begins seen published
   pub known : List ControllerCall
   pub goes_on : GoesOn (place + 1) known history
   pub has_asked : HasAsked (place + 1) (commits_of (place + 1) commits) known
-  pub is : a ≡ account_of start opening (place + 1) (commits_of (place + 1) commits) seen known
+  pub at_ends : AllByRecursion (IsAtEnd start seen) (reads_in (answers_of (place + 1) reads))
+  pub is : a
+      ≡ account_of start opening (place + 1) (commits_of (place + 1) commits) (answers_of (place + 1) reads) seen known
 
 -- the controller's history, as a client has seen it, went on, while the client itself took no token and gave none back
 pub record SeesMore (client : ℕ) (known now : List ControllerCall) : Type 0 where
   pub begins : IsPrefix known now
   pub tokens : tokens_of client now ≡ tokens_of client known
 
--- One call of a client: the sequence and the map before the first batch; the client's number, and its own commits
--- before the call; what it had seen before the call of what is published (`before`) and of the controller (`known`);
--- and what it has seen of them at the end of the call (`after`, `now`)
+-- One call of a client: the sequence and the map before the first batch; the client's number, its own commits before the
+-- call, and the answers to its reads of the log; what it had seen before the call of what is published (`before`) and of
+-- the controller (`known`); and what it has seen of them at the end of the call (`after`, `now`)
 pub record ClientCall : Type 0 where
   pub start : ℕ
   pub opening : Pairs
   pub client : ℕ
   pub own : List Commit
+  pub answers : List ReadAnswer
   pub before : List (List MemberVersions)
   pub after : List (List MemberVersions)
   pub known : List ControllerCall
@@ -136,10 +150,14 @@ pub record ClientCall : Type 0 where
 
 -- the client's account before the call, and the account after it, with this commit added
 abbrev pub account_before : ClientCall → Account
-account_before k = account_of k.start k.opening k.client k.own k.before k.known
+account_before k = account_of k.start k.opening k.client k.own k.answers k.before k.known
 
 abbrev pub account_with : ClientCall → Commit → Account
-account_with k c = account_of k.start k.opening k.client (k.own ++ c ∷ []) k.after k.now
+account_with k c = account_of k.start k.opening k.client (k.own ++ c ∷ []) k.answers k.after k.now
+
+-- the account after it, with this answer to a read of the log
+abbrev pub account_told : ClientCall → ReadAnswer → Account
+account_told k answer = account_of k.start k.opening k.client k.own (k.answers ++ answer ∷ []) k.after k.now
 
 -- what the client had seen went on, while it took no token and gave none back
 abbrev pub HasSeenMore : ClientCall → Type 0
@@ -160,7 +178,7 @@ EndsRefused k c why = IsRefused (account_before k) c.records c.options why (acco
 -- the commit was refused for this, and is in no group
 abbrev pub StaysOutside : ClientCall → List Record → WriteOptions → Refusal → Type 0
 StaysOutside k records how why = IsRefused (account_before k) records how why
-    (account_of k.start k.opening k.client k.own k.after k.now)
+    (account_of k.start k.opening k.client k.own k.answers k.after k.now)
 
 -- all these calls are of clients with the numbers from 1 to this
 abbrev pub AreCallsOf : ℕ → List ControllerCall → Type 0

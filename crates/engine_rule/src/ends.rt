@@ -12,17 +12,22 @@ ghost use Rattle.model_base.specs.LogContents.{GroupCall};
 ghost use Rattle.model_base.specs.Progress.{early_refusal};
 ghost use Rattle.model_base.specs.Replies.{IsLater, MetStall};
 ghost use Rattle.model_base.specs.Tokens.{tokens_of, holds_stop};
+ghost use Rattle.model_base.specs.Counts.{Rose};
+ghost use Rattle.model_base.specs.Recovery.{Logged};
+ghost use Rattle.model_base.specs.Settings.{with_kept};
+ghost use Rattle.model_base.specs.Since.{LogRead};
 ghost use Rattle.model_base.specs.Trace.{Settings};
 ghost use Rattle.table_rule.specs.Histories.{Begins, made_by, last_of};
-ghost use Rattle.model_accounts.specs.Accounts.{Account, Wrote};
-ghost use Rattle.model_accounts.specs.Closing.{all_attempts, IsClosing, RoseInRun};
+ghost use Rattle.model_accounts.specs.Accounts.{Account, FailsToRead, Keeps, ReadsLog, Wrote};
+ghost use Rattle.model_accounts.specs.Closing.{all_attempts, IsClosing};
 ghost use Rattle.model_runs.specs.Written.{WritesLog, IsSyncedBy};
 ghost use Rattle.engine_controller.specs.Passes.{EndsWith};
 ghost use Rattle.engine_rule.specs.Commits.{Commit, accepted, held_up, failed, no_room, last_after_all, AreAnswered, commits_of};
 ghost use Rattle.engine_rule.specs.Asked.{place_of};
-ghost use Rattle.engine_rule.specs.Entries.{trace_of, entries_of, versions_made, account_of, ClientCall, account_before, account_with, HasSeenMore, IsFree, IsNewest, EndsRefused, StaysOutside, AreCallsOf};
+ghost use Rattle.engine_rule.specs.Entries.{trace_of, entries_of, versions_made, account_of, ClientCall, account_before, account_with, account_told, HasSeenMore, IsFree, IsNewest, EndsRefused, StaysOutside, AreCallsOf};
+ghost use Rattle.engine_rule.specs.Reading.{gave, broke, lacked};
 ghost use Rattle.engine_rule.specs.LogCalls.{WroteParts};
-ghost use Rattle.engine_rule.specs.Consistent.{Standing, IsConsistent, AreAccountsOf};
+ghost use Rattle.engine_rule.specs.Consistent.{Standing, IsConsistent, AreAccountsOf, AreReadsRight};
 
 /// From `last` on, as many sequences are given as the commits make versions. Where `last` isn't above the greatest
 /// sequence, the sequence that is given last isn't either.
@@ -68,6 +73,16 @@ pub fn accounts_of_the_commits()
         → StaysOutside k records how (Incomplete numbers.stops numbers.delays numbers.wait) }
 {}
 
+/// What the answer to a read of the log says of the client's account, once the client has seen what is published up to
+/// the sequence at which the log was read. Whether the records are right is said at the closing.
+pub fn accounts_of_the_reads()
+    ensures gave { (k : ClientCall) (r : LogRead) → HasSeenMore k → r.at ≡ last_of k.start k.after
+        → ReadsLog (account_before k) r.since r.at r.records (account_told k (gave r)) }
+    ensures broke { (settings : Settings) (k : ClientCall) (count : ℕ) → HasSeenMore k → Rose settings.opened count
+        → FailsToRead settings (account_before k) count (account_told k (broke count)) }
+    ensures lacked { (k : ClientCall) → HasSeenMore k → Keeps (account_before k) (account_told k lacked) }
+{}
+
 /// A commit that has a run, isn't kept out of the log, and asked for a sync, was written by a call that synced.
 pub fn synced_commits()
     ensures synced { (start client : ℕ) (commits own : List Commit) (c : Commit) (calls : List GroupCall)
@@ -77,19 +92,20 @@ pub fn synced_commits()
 {}
 
 /// Once all clients are at rest, their accounts are parts of one trace: of the commits and of the controller's one
-/// history. And the log was written by exactly the calls that wrote its history.
+/// history. And the log was written by exactly the calls that wrote its history. What reads of the log gave is right in
+/// that trace, where the log had kept these batches.
 pub fn closings()
-    ensures closing { (settings : Settings) (ended : ℕ) (s : Standing) (history : List ControllerCall)
-        (accounts : List Account) → (is : IsConsistent settings s) → AreAccountsOf settings s history accounts
-        → IsLegal history → AreCallsOf settings.clients history → IsPrefix s.asked history
-        → RoseInRun settings ended s.fault → (groups : List Group)
-        × IsClosing settings ended
-        (trace_of settings.start settings.opening s.commits is.written.parts.parts history) groups accounts s.last
+    ensures closing { (settings : Settings) (kept : Option (List Logged)) (ended : ℕ) (s : Standing)
+        (history : List ControllerCall) (accounts : List Account) → (is : IsConsistent settings s)
+        → AreAccountsOf settings s history accounts → IsLegal history → AreCallsOf settings.clients history
+        → IsPrefix s.asked history → AreReadsRight settings kept ended s → (groups : List Group)
+        × IsClosing (with_kept kept settings) ended
+        (trace_of settings.start settings.opening kept s.commits is.written.parts.parts history) groups accounts s.last
         s.fault }
     // The calls that wrote the history and no others: so no batch is written twice, or apart from its group.
-    ensures log { (settings : Settings) (s : Standing) (history : List ControllerCall) (accounts : List Account)
-        → (is : IsConsistent settings s) → AreAccountsOf settings s history accounts
+    ensures log { (settings : Settings) (kept : Option (List Logged)) (s : Standing) (history : List ControllerCall)
+        (accounts : List Account) → (is : IsConsistent settings s) → AreAccountsOf settings s history accounts
         → WritesLog settings.group_bytes (λ (made : List GroupCall). made ≡ s.calls)
-        (trace_of settings.start settings.opening s.commits is.written.parts.parts history) (all_attempts accounts)
+        (trace_of settings.start settings.opening kept s.commits is.written.parts.parts history) (all_attempts accounts)
         s.fault }
 {}

@@ -1,13 +1,16 @@
 //! A leader that handles its group keeps history, log, table and answers consistent.
 
-ghost use Rattle.std.specs.Prelude.{◌≡◌, ◌+◌, ℕ, List, [], ◌∷◌, ◌++◌, length, None, Some};
+ghost use Rattle.std.specs.Prelude.{◌≡◌, ◌+◌, ℕ, List, [], ◌∷◌, ◌++◌, length, Option, None, Some};
 ghost use Rattle.model_base.specs.Controller.{HoldUp};
 ghost use Rattle.model_base.specs.LogContents.{GroupCall};
+ghost use Rattle.model_base.specs.Recovery.{Logged};
+ghost use Rattle.model_base.specs.Since.{LogRead};
 ghost use Rattle.model_base.specs.Trace.{Settings};
 ghost use Rattle.table_rule.specs.declared.content.MemberVersions.{MemberVersions};
 ghost use Rattle.table_rule.specs.Histories.{Runs};
 ghost use Rattle.engine_rule.specs.Plans.{CommitRequest, LeadersGroup, IsBuilt, GoesAhead, last_with_all, versions_from, all_held_up, MayNotWait};
 ghost use Rattle.engine_rule.specs.LogCalls.{WritesBatches, LogsGroup};
+ghost use Rattle.engine_rule.specs.Reading.{AreRight, IsRight};
 ghost use Rattle.engine_rule.specs.Consistent.{AreConsistent, Standing, IsConsistent, answered, with_runs, with_fault, Publishes};
 
 /// The versions of a group are one run. It begins after `last`, the last sequence given, and ends with the sequence
@@ -38,4 +41,22 @@ pub fn groups_stay_consistent()
     // the log had failed before, and was not called
     ensures dead { (settings : Settings) (s : Standing) (g : LeadersGroup) (count : ℕ) → IsConsistent settings s
         → s.fault ≡ Some count → GoesAhead settings s.asked g → IsConsistent settings (with_fault s g count s.calls) }
+{}
+
+/// What reads of the log gave stays right while groups are logged, for whatever the log had kept: a later record has later
+/// sequences.
+pub fn reads_stay_right()
+    ensures first { (kept : Option (List Logged)) (start : ℕ) → AreRight (λ batches. kept ≡ Some batches) start [] [] }
+    ensures written { (kept : Option (List Logged)) (last : ℕ) (requests : List CommitRequest)
+        (calls more : List GroupCall) (reads : List LogRead) → LogsGroup last requests calls more
+        → AreRight (λ batches. kept ≡ Some batches) last calls reads
+        → AreRight (λ batches. kept ≡ Some batches) (last_with_all last requests) more reads }
+    // a call that failed has written no record
+    ensures failed { (kept : Option (List Logged)) (last count : ℕ) (calls : List GroupCall) (c : GroupCall)
+        (reads : List LogRead) → c.failed ≡ Some count → AreRight (λ batches. kept ≡ Some batches) last calls reads
+        → AreRight (λ batches. kept ≡ Some batches) last (calls ++ c ∷ []) reads }
+    ensures one_more { (kept : Option (List Logged)) (last : ℕ) (calls : List GroupCall) (reads : List LogRead)
+        (r : LogRead) → AreRight (λ batches. kept ≡ Some batches) last calls reads
+        → IsRight (λ batches. kept ≡ Some batches) last calls r
+        → AreRight (λ batches. kept ≡ Some batches) last calls (reads ++ r ∷ []) }
 {}

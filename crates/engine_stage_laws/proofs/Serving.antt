@@ -6,7 +6,7 @@ use Rattle.table_rule.specs.declared.content.MemberVersions.{MemberVersions}
 use Rattle.table_rule.specs.Histories.{last_of, made_by, versions_in}
 use Rattle.table_rule.proofs.Images.{images_more, images_none, images_versions}
 use Rattle.engine_rule.specs.Commits.{Answer, AreAnswered, Commit, accepted, failed, held_up, last_after_all, no_room}
-use Rattle.engine_rule.specs.Consistent.{AreConsistent, Publishes}
+use Rattle.engine_rule.specs.Consistent.{AreConsistent, EndsAreNamed, Publishes}
 use Rattle.engine_rule.specs.Entries.{versions_made, versions_with}
 use Rattle.engine_rule.specs.Plans.{CommitRequest, all_failed, all_held_up, commit_of_request, commits_of_plan, versions_from}
 use Rattle.engine_rule.proofs.Plans.{planned_versions}
@@ -78,8 +78,8 @@ none_held_up known numbers (q ∷ requests) = none_held_up known numbers request
 
 -- what the log's law says of its own history also holds of the table's history
 pub consistent_served : (start clients group_bytes : ℕ) (asked : List ControllerCall) (cs : List Commit) (last : ℕ) (fault : Option ℕ) (logged published : List (List MemberVersions)) (calls : List GroupCall)
-    → AreConsistent start clients group_bytes asked cs last fault logged calls → AreServed (accepted_of cs) published → AreConsistent start clients group_bytes asked cs last fault published calls
-consistent_served start clients group_bytes asked cs last fault logged published calls k ok = record {
+    → AreConsistent start clients group_bytes asked cs last fault logged calls → AreServed (accepted_of cs) published → EndsAreNamed start cs published → AreConsistent start clients group_bytes asked cs last fault published calls
+consistent_served start clients group_bytes asked cs last fault logged published calls k ok named = record {
   answered = k.answered;
   of_clients = k.of_clients;
   last_is = k.last_is;
@@ -87,4 +87,6 @@ consistent_served start clients group_bytes asked cs last fault logged published
   in_groups = k.in_groups;
   images = served_all cs published ok;
   written = k.written;
+  named = named;
+  cuts = k.cuts;
 }

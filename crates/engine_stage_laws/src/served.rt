@@ -8,7 +8,7 @@ ghost use Rattle.table_rule.specs.declared.content.MemberVersions.{MemberVersion
 ghost use Rattle.table_rule.specs.Histories.{Members, last_of, versions_in};
 ghost use Rattle.engine_rule.specs.Commits.{Commit, AreAnswered, last_after_all};
 ghost use Rattle.engine_rule.specs.Plans.{CommitRequest, commits_of_plan, versions_from, all_failed, all_held_up, AreLawful, HaveOwnClients};
-ghost use Rattle.engine_rule.specs.Consistent.{AreConsistent, Publishes};
+ghost use Rattle.engine_rule.specs.Consistent.{AreConsistent, EndsAreNamed, Publishes};
 ghost use Rattle.engine_stage_laws.specs.Served.{accepted_of, AreServed, parts_from};
 
 /// The parts of a group, one for each member that has a run, are together the group's versions. Each of these members
@@ -37,10 +37,11 @@ pub fn groups_are_served()
     ensures held_up { (known : List ControllerCall) (numbers : Look) (requests : List CommitRequest)
         (commits : List Commit)
         → accepted_of (commits ++ all_held_up known numbers requests) ≡ accepted_of commits }
-    // at the end the log's commits and the table's history belong together
+    // at the end the log's commits and the table's history belong together, where each published group ends as some
+    // answer says
     ensures closing { (start clients group_bytes : ℕ) (asked : List ControllerCall) (commits : List Commit) (last : ℕ)
         (fault : Option ℕ) (logged published : List (List MemberVersions)) (calls : List GroupCall)
         → AreConsistent start clients group_bytes asked commits last fault logged calls
-        → AreServed (accepted_of commits) published
+        → AreServed (accepted_of commits) published → EndsAreNamed start commits published
         → AreConsistent start clients group_bytes asked commits last fault published calls }
 {}

@@ -1,5 +1,5 @@
 -- The events of a stall are events of the core.
-use Rattle.std.proofs.Common.{◌≡◌, ℕ, eqb, true, false, not, ◌&&◌, List, [], ◌∷◌, ◌++◌, map, Option as Answer, Some, refl, sym, ap, ◌∙◌, subst, append-nil, append_assoc, eq-eqb, ne_eqb, cond, filter, reverse, find, if◌then◌else◌, None}
+use Rattle.std.proofs.Common.{◌≡◌, ℕ, eqb, true, false, not, ◌&&◌, List, [], ◌∷◌, ◌++◌, map, Option as Answer, Some, refl, sym, ap, ◌∙◌, subst, append-nil, append_assoc, eq-eqb, ne_eqb, cond, filter, reverse, find, if◌then◌else◌, None, inl}
 use Rattle.std.proofs.lemmas.List.{map-append, reverse-append}
 use mathlib.Core.Path.{Path}
 use Rattle.model_base.specs.Calls.{Reply as CoreReply, refused, commit}
@@ -7,14 +7,14 @@ use Rattle.model_base.specs.declared.group.Item.{Item}
 use Rattle.model_base.specs.declared.write.Refusal.{Refusal}
 use Rattle.model_base.specs.declared.write.WriteOptions.{WriteOptions}
 use Rattle.model_core.specs.declared.event.Event.TheVariants as core
-use Rattle.model_core.specs.Core.{Options, Writer, built as in_hand, stalled, State, Client, leads, item_of as item_of_writer, stall_refusal, with_client, next_call, after_reply, refusal_in, may_link}
+use Rattle.model_core.specs.Core.{Options, Writer, built as in_hand, stalled, State, Client, leads, item_of as item_of_writer, stall_refusal, with_client, next_call, after_reply, refusal_in, may_link, is_alone}
 use Rattle.model_core.specs.CoreLaw.{writers_in}
 use Rattle.model_core.specs.Halves.{list_half_of}
-use Rattle.model_core.specs.Step.{step, when, link, link_call, link_or_refuse, link_with, stall, unstall, left_queue, leave_with, leave_queue, is_no_slowdown}
+use Rattle.model_core.specs.Step.{step, when, link, link_call, link_or_refuse, link_with, link_read, stall, unstall, left_queue, leave_with, leave_queue, is_no_slowdown}
 use Rattle.line_rule.specs.declared.view.QueuedWriter.{QueuedWriter}
 use Rattle.line_rule.specs.declared.view.Handling.{Handling}
 use Rattle.line_rule.specs.Chain.{Absent, handling}
-use Rattle.line_rule.specs.CoreEvents.{IsSame, core_queue, core_log, answer_of, answer_in, HasItems, IsCoreOf, IsRearranged, group_handed_on, HasGroups, IsLogOf, IsTaken, IsCommit, IsRefusedAtOnce}
+use Rattle.line_rule.specs.CoreEvents.{IsSame, core_queue, core_log, answer_of, answer_in, HasItems, IsCoreOf, IsRearranged, group_handed_on, HasGroups, IsLogOf, IsTaken, IsCommit, IsUpdates, IsRefusedAtOnce}
 use Rattle.line_rule.specs.Events.{Core, LogHolder, grouped, halted, stalls, drops, resumes}
 use Rattle.line_rule.specs.Grouping.{item_of}
 use Rattle.line_rule.specs.SecondList.{SecondList}
@@ -63,14 +63,14 @@ module _ {Request Reply : Type 0} (writer_of : QueuedWriter Request → Writer) 
   waits = answered (s.leaving ++ writers_in s.second)
 
   -- the leader stalls writes
-  pub stalls_core : (vs : List Writer) (own : QueuedWriter Request) (group : List (QueuedWriter Request)) → IsSame writer_of → Stands → s.log ≡ in_hand vs → is_no_slowdown vs ≡ false → HappensAlone (stalls own group) a b → IsTaken writer_of reply_of o (core.Stall own.by) s [] b
-  stalls_core vs own group same r is slow ev =
-      let u = in_hand_is writer_of reply_of o s a b ws vs r is in
-      let theirs : vs ≡ core_queue writer_of (group ++ own ∷ []) = writers_are writer_of reply_of o s a b ws vs own group r is ev.0.0.0 in
+  pub stalls_core : (vs : List Writer) (own : QueuedWriter Request) (group : List (QueuedWriter Request)) → IsSame writer_of → Stands → s.log ≡ in_hand vs → is_alone vs ≡ false → is_no_slowdown vs ≡ false → HappensAlone (stalls own group) a b → IsTaken writer_of reply_of o (core.Stall own.by) s [] b
+  stalls_core vs own group same r is writes slow ev =
+      let u = in_hand_is writer_of reply_of o s a b ws vs r is writes in
+      let theirs : vs ≡ core_queue writer_of (group ++ own ∷ []) = writers_are writer_of reply_of o s a b ws vs own group r is writes ev.0.0.0 in
       let first : leads own.by vs ≡ true = ap (leads own.by) theirs ∙ first_leads writer_of same own group in
       let new : State = record s { log = stalled vs } in (
         new,
-        (λ i. stall s own.by (is i)) ∙ (λ i. when (first i && not (slow i)) new),
+        (λ i. stall s own.by (is i)) ∙ (λ i. when (first i && not (writes i) && not (slow i)) new),
         record {
           queue = r.queue ∙ ap (λ (k : Core Request Reply). core_queue writer_of k.0) (sym ev.0.1);
           log = (ap stalled theirs ∙ ap (λ (k : Core Request Reply). core_log writer_of k.1) (sym ev.0.1), refl, settled writer_of reply_of o s a b ws a.1.1 b.1.1 a.1.2 b.1.2 (ap (λ (x : SecondList Request Reply). x.1) ev.1) (ap (λ (x : SecondList Request Reply). x.2) ev.1) u.2);
@@ -121,6 +121,14 @@ module _ {Request Reply : Type 0} (writer_of : QueuedWriter Request → Writer) 
       let slow' : commits.1.no_slowdown ≡ false = sym (ap (λ (v : Writer). v.options.no_slowdown) commits.6) ∙ slow in
       x.1 ∙ (λ i. answer_while x.0 c (next_call commits.0).client commits.1 (if slow' i then Some (stall_refusal 1 0) else None))
 
+  -- nor is one that is to read the log
+  pub reader_barred : (c : ℕ) (w : Writer) → Stands → IsStalled a → IsUpdates s c w → step o s (core.Link c) ≡ None
+  reader_barred c w r held asks =
+      let ready = next_call asks.0 in
+      let u = unlogged writer_of a.0.1 a.1.1 a.1.2 ws s.log (λ own' group' is. not_grouped held.0 own' held.1 group' (sym held.2 ∙ is)) r.log in
+      let there : s.log ≡ stalled (core_queue writer_of (held.1 ++ held.0 ∷ [])) = u.0 ∙ ap (core_log writer_of) held.2 in
+      (λ i. link o s c (asks.2 i)) ∙ ((λ i. if asks.3 i then link_call o s c ready.client (asks.4 i) else None) ∙ (λ i. when (may_link (there i) None) (link_read s c ready.client asks.1)))
+
   -- and ends that
   pub resumes_core : (own : QueuedWriter Request) (group : List (QueuedWriter Request)) → IsSame writer_of → Stands → HappensAlone (resumes own group) a b → IsTaken writer_of reply_of o (core.Unstall own.by) s [] b
   resumes_core own group same r ev =
@@ -133,7 +141,7 @@ module _ {Request Reply : Type 0} (writer_of : QueuedWriter Request → Writer) 
         (λ i. unstall s own.by (is i)) ∙ (λ i. when (first i) new),
         record {
           queue = r.queue ∙ ap (λ (k : Core Request Reply). core_queue writer_of k.0) (sym ev.0.1);
-          log = (ap (λ (k : Core Request Reply). core_log writer_of k.1) (sym ev.0.1), refl, settled writer_of reply_of o s a b ws a.1.1 b.1.1 a.1.2 b.1.2 (ap (λ (x : SecondList Request Reply). x.1) ev.1) (ap (λ (x : SecondList Request Reply). x.2) ev.1) u.2);
+          log = inl ((ap (λ (k : Core Request Reply). core_log writer_of k.1) (sym ev.0.1), refl, settled writer_of reply_of o s a b ws a.1.1 b.1.1 a.1.2 b.1.2 (ap (λ (x : SecondList Request Reply). x.1) ev.1) (ap (λ (x : SecondList Request Reply). x.2) ev.1) u.2));
           second = subst (λ gs. HasGroups writer_of gs s.second) (ap (λ (x : SecondList Request Reply). x.0) (sym ev.1)) r.second;
           owed = rearranged_as (handled a.0.3) waits (handled b.0.3 ++ []) waits (append-nil (handled b.0.3) ∙ (λ i. handled ((ev.0.1 i).3))) refl (owed_plain writer_of reply_of o s a b ws r (none_handed writer_of reply_of o s a b ws a.0.1 u.0));
         },

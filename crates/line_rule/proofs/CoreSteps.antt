@@ -1,20 +1,21 @@
 -- The events of the lists are events of the core.
-use Rattle.std.proofs.Common.{◌≡◌, ℕ, eqb, eq-eqb, Bool, true, false, not, ◌&&◌, List, [], ◌∷◌, ◌++◌, map, drop, if◌then◌else◌, Option as Answer, Some, refl, sym, ap, ◌∙◌, subst, append-nil, append_assoc, eqb-true, cond, filter, reverse, take, None}
-use Rattle.std.proofs.lemmas.List.{map-append, reverse-append}
+use Rattle.std.proofs.Common.{◌≡◌, ℕ, eqb, eq-eqb, Bool, true, false, not, ◌&&◌, List, [], ◌∷◌, ◌++◌, map, drop, if◌then◌else◌, Option as Answer, Some, refl, sym, ap, ◌∙◌, subst, append-nil, append_assoc, eqb-true, cond, filter, reverse, take, None, length, inl, inr, arith}
+use Rattle.std.specs.Prelude.{is_some}
+use Rattle.std.proofs.lemmas.List.{map-append, reverse-append, length-map, length-reverse, length_push, nil_from_length}
 use mathlib.Core.Option.{Option, none, some}
 use Rattle.model_base.specs.Calls.{Reply as CoreReply, refused}
 use Rattle.model_core.specs.declared.event.Event.TheVariants as core
-use Rattle.model_core.specs.Core.{Options, Writer, LogPhase, free as nobody, led, built as in_hand, stalled, in_log, marked, handed, still, published, State, leads, first_group, in_hand as logged, Client, with_runs, has_run, all_answered, entries_of, client_at, with_client, next_call, refusal_in, may_link}
+use Rattle.model_core.specs.Core.{Options, Writer, LogPhase, free as nobody, led, built as in_hand, stalled, in_log, marked, handed, TablePhase, still, launched, published, State, leads, table_group, first_group, in_hand as logged, Client, with_runs, has_run, all_answered, entries_of, client_at, with_client, next_call, refusal_in, may_link, plain_options, read_at, reply_told, is_alone}
 use Rattle.model_core.specs.CoreLaw.{writers_in}
 use Rattle.model_core.specs.Halves.{list_half_of, left_with}
-use Rattle.model_core.specs.Step.{step, when, leave, boundary, to_second, next, exit, link, link_call, link_or_refuse, link_with, complete, complete_with, after_completion, elect, build, log_group, logged_group, with_group, fault, refuse, is_no_slowdown, group_size}
+use Rattle.model_core.specs.Step.{step, when, leave, boundary, to_second, next, exit, link, link_call, link_or_refuse, link_with, complete, complete_with, after_completion, elect, build, log_group, logged_group, with_group, fault, refuse, is_no_slowdown, group_size, link_read, read_log, answer_read, exit_reader, without_table_group}
 use Rattle.line_rule.specs.declared.view.Back.{Back}
 use Rattle.line_rule.specs.declared.view.Back.TheVariants.{Away, Parting, Joining, Holding, Queued, Serving, Passing}
 use Rattle.line_rule.specs.declared.view.QueuedWriter.{QueuedWriter}
 use Rattle.line_rule.specs.declared.view.Handling.{Handling}
 use Rattle.line_rule.specs.declared.view.Squad.{Squad}
 use Rattle.line_rule.specs.Chain.{all_answers, Absent, handling}
-use Rattle.line_rule.specs.CoreEvents.{IsSame, core_queue, core_log, answer_of, answer_in, HasReplies, HasItems, AllHave, IsCoreOf, IsRearranged, group_handed_on, IsGroupOf, HasGroups, IsUnlogged, IsLogOf, IsTaken, without_answer, IsSettled, IsCommit, HasLeft}
+use Rattle.line_rule.specs.CoreEvents.{IsSame, core_queue, core_log, answer_of, answer_in, HasReplies, HasItems, AllHave, IsCoreOf, IsRearranged, group_handed_on, IsGroupOf, HasGroups, IsUnlogged, IsLogOf, IsTaken, without_answer, IsSettled, IsCommit, IsUpdates, HasLeft}
 use Rattle.line_rule.specs.Events.{Core, LogHolder, free, elected, grouped, halted, IsRunning, comes, elects, builds, IsNotWith, was_for, without}
 use Rattle.line_rule.specs.Handing.{IsJoined}
 use Rattle.line_rule.specs.Plays.{squad_with_end}
@@ -47,6 +48,15 @@ first_or d (x ∷ xs) = x
 pub one_built : (vs ws : List Writer) → Path LogPhase (in_hand vs) (in_hand ws) → vs ≡ ws
 one_built vs ws is = cc
 
+none_before : {A : Type 0} (xs : List A) (x y : A) → xs ++ x ∷ [] ≡ y ∷ [] → xs ≡ []
+none_before xs x y is = nil_from_length xs (let m = length_push xs x in let n = ap length is in omega (arith, m, n))
+
+-- a queue of one writer
+none_else : {Request : Type 0} (writer_of : QueuedWriter Request → Writer) (w : Writer) (own : QueuedWriter Request) (group : List (QueuedWriter Request)) → w ∷ [] ≡ core_queue writer_of (group ++ own ∷ []) → group ≡ []
+none_else writer_of w own group is =
+    let es = group ++ own ∷ [] in
+    nil_from_length group (let m = length_push group own in let n = ap length is ∙ (length-map (reverse es) writer_of ∙ length-reverse es) in omega (arith, m, n))
+
 one_ahead : (c d : ℕ) → Path Lead2 (ahead c) (ahead d) → c ≡ d
 one_ahead c d is = cc
 
@@ -57,7 +67,8 @@ module _ {Request Reply : Type 0} (writer_of : QueuedWriter Request → Writer) 
   pub unlogged : (h : LogHolder Request) (l : Lead2) (f : ℕ → Option (Squad Request Reply)) (ws : List Writer) (phase : LogPhase) → ((own : QueuedWriter Request) (group : List (QueuedWriter Request)) → h ≡ grouped own group → ⊥) → IsLogOf writer_of h l f ws phase → IsUnlogged writer_of h l f ws phase
   unlogged h l f ws nobody not is = is
   unlogged h l f ws (led c) not is = is
-  unlogged h l f ws (in_hand vs) not is = is
+  unlogged h l f ws (in_hand vs) not (inl is) = is
+  unlogged h l f ws (in_hand vs) not (inr read) = absurd (not read.0 [] read.2)
   unlogged h l f ws (stalled vs) not is = is
   unlogged h l f ws (in_log vs) not is = absurd (not is.1.0 is.1.1 is.1.2)
   unlogged h l f ws (marked vs) not is = absurd (not is.2.0.own is.2.0.rest is.2.1)
@@ -160,7 +171,8 @@ module _ {Request Reply : Type 0} (writer_of : QueuedWriter Request → Writer) 
           )
       by_phase nobody is log = let bad : none ≡ some g = sym (log.2.1 c) ∙ ev.0 in absurd (cc)
       by_phase (led d) is log = let bad : none ≡ some g = sym (log.2.1 c) ∙ ev.0 in absurd (cc)
-      by_phase (in_hand vs) is log = let bad : none ≡ some g = sym (log.2.1 c) ∙ ev.0 in absurd (cc)
+      by_phase (in_hand vs) is (inl log) = let bad : none ≡ some g = sym (log.2.1 c) ∙ ev.0 in absurd (cc)
+      by_phase (in_hand vs) is (inr read) = let bad : none ≡ some g = sym (read.5.1 c) ∙ ev.0 in absurd (cc)
       by_phase (stalled vs) is log = let bad : none ≡ some g = sym (log.2.1 c) ∙ ev.0 in absurd (cc)
       by_phase (in_log vs) is log = let bad : none ≡ some g = sym (log.2.1 c) ∙ ev.0 in absurd (cc)
       by_phase (handed d) is log = let bad : none ≡ some g = sym (log.1 c) ∙ ev.0 in absurd (cc)
@@ -191,7 +203,8 @@ module _ {Request Reply : Type 0} (writer_of : QueuedWriter Request → Writer) 
           )
       by_phase nobody is log = let bad : level ≡ ahead own.by = sym log.2.0 ∙ here in absurd (cc)
       by_phase (led d) is log = let bad : level ≡ ahead own.by = sym log.2.0 ∙ here in absurd (cc)
-      by_phase (in_hand vs) is log = let bad : level ≡ ahead own.by = sym log.2.0 ∙ here in absurd (cc)
+      by_phase (in_hand vs) is (inl log) = let bad : level ≡ ahead own.by = sym log.2.0 ∙ here in absurd (cc)
+      by_phase (in_hand vs) is (inr read) = let bad : level ≡ ahead own.by = sym read.5.0 ∙ here in absurd (cc)
       by_phase (stalled vs) is log = let bad : level ≡ ahead own.by = sym log.2.0 ∙ here in absurd (cc)
       by_phase (in_log vs) is log = let bad : level ≡ ahead own.by = sym log.2.0 ∙ here in absurd (cc)
       by_phase (marked vs) is log = let bad : level ≡ ahead own.by = sym log.1 ∙ here in absurd (cc)
@@ -224,7 +237,7 @@ module _ {Request Reply : Type 0} (writer_of : QueuedWriter Request → Writer) 
         first.0,
         (
           left_by true,
-          (λ i. exit o s c (is i)) ∙ ((λ i. when (led_by (two i)) (left_by (two i))) ∙ (λ i. when (leads_g i) (left_by true))),
+          (λ i. exit o s c (is i)) ∙ ((λ i. if led_by (two i) then Some (left_by (two i)) else exit_reader s c s.log) ∙ (λ i. if leads_g i then Some (left_by true) else exit_reader s c s.log)),
           record {
             queue = r.queue ∙ ap (λ (k : Core Request Reply). core_queue writer_of k.0) (sym ev.2);
             log = same_log writer_of a.0.1 b.0.1 a.1.1 b.1.1 a.1.2 b.1.2 ws s.log (ap (λ (k : Core Request Reply). k.1) ev.2) ev.3 ev.4 r.log;
@@ -243,7 +256,7 @@ module _ {Request Reply : Type 0} (writer_of : QueuedWriter Request → Writer) 
       let client : Client = commits.0 in
       let how : WriteOptions = commits.1 in
       let ready = next_call client in
-      let w : Writer = record { client = c; options = how; records = ready.client.added; answer = None } in
+      let w : Writer = record { client = c; options = how; records = ready.client.added; since = None; answer = None } in
       let lets_in = unstalled writer_of a.0.1 a.1.1 a.1.2 ws how s.log r.log ev.0.0.1 in
       let new : State = record (with_client s c (record ready.client { idle = false })) { queue = s.queue ++ w ∷ [] } in (
         new,
@@ -255,6 +268,45 @@ module _ {Request Reply : Type 0} (writer_of : QueuedWriter Request → Writer) 
           owed = rearranged_as was_owed waits (handled b.0.3 ++ answered (group_handed_on s.log ws)) waits (λ i. handled ((ev.0.1 i).3) ++ answered (group_handed_on s.log ws)) refl r.owed;
         },
       )
+
+  -- so does one that is to read the log
+  pub reader_comes : (e : QueuedWriter Request) → Stands → HappensAlone (comes e) a b → IsUpdates s e.by (writer_of e) → IsTaken writer_of reply_of o (core.Link e.by) s ws b
+  reader_comes e r ev asks =
+      let more : core_queue writer_of (e ∷ a.0.0) ≡ core_queue writer_of a.0.0 ++ writer_of e ∷ [] = ap (map writer_of) (reverse-append (e ∷ []) a.0.0) ∙ map-append writer_of (reverse a.0.0) (e ∷ []) in
+      let c : ℕ = e.by in
+      let client : Client = asks.0 in
+      let n : ℕ = asks.1 in
+      let ready = next_call client in
+      let lets_in = unstalled writer_of a.0.1 a.1.1 a.1.2 ws plain_options s.log r.log ev.0.0.1 in
+      let new : State = link_read s c ready.client n in (
+        new,
+        (λ i. link o s c (asks.2 i)) ∙ ((λ i. if asks.3 i then link_call o s c ready.client (asks.4 i) else None) ∙ (λ i. when (lets_in.1 i) new)),
+        record {
+          queue = (λ i. r.queue i ++ sym asks.5 i ∷ []) ∙ (sym more ∙ ap (λ (k : Core Request Reply). core_queue writer_of k.0) (sym ev.0.1));
+          log = same_log writer_of a.0.1 b.0.1 a.1.1 b.1.1 a.1.2 b.1.2 ws s.log (ap (λ (k : Core Request Reply). k.1) ev.0.1) (ap (λ (x : SecondList Request Reply). x.1) ev.1) (ap (λ (x : SecondList Request Reply). x.2) ev.1) r.log;
+          second = subst (λ gs. HasGroups writer_of gs s.second) (ap (λ (x : SecondList Request Reply). x.0) (sym ev.1)) r.second;
+          owed = rearranged_as was_owed waits (handled b.0.3 ++ answered (group_handed_on s.log ws)) waits (λ i. handled ((ev.0.1 i).3) ++ answered (group_handed_on s.log ws)) refl r.owed;
+        },
+      )
+
+  -- a leader that is alone has read the log
+  pub reads_core : (own : QueuedWriter Request) (n : ℕ) → IsSame writer_of → Stands → a.0.1 ≡ grouped own [] → (writer_of own).since ≡ Some n → (writer_of own).answer ≡ None → s.log ≡ in_hand (writer_of own ∷ []) → IsTaken writer_of reply_of o (core.Since own.by) s ws a
+  reads_core own n same r held reads unanswered is =
+      let w : Writer = writer_of own in
+      let new : State = record s { log = in_hand (record w { answer = Some (read_at s.last) } ∷ []) } in (
+        new,
+        (λ i. read_log s own.by (is i)) ∙ ((λ i. if eq-eqb w.client own.by (same own) i then answer_read s w w.since w.answer else None) ∙ (λ i. answer_read s w (reads i) (unanswered i))),
+        record {
+          queue = r.queue;
+          log = inr (own, read_at s.last, held, ap is_some reads, refl, still_there (subst (IsLogOf writer_of a.0.1 a.1.1 a.1.2 ws) is r.log));
+          second = r.second;
+          owed = rearranged_as was_owed waits (handled a.0.3 ++ []) waits (λ i. handled a.0.3 ++ answered (group_handed_on (sym is i) ws)) refl r.owed;
+        },
+      )
+    where
+      still_there : IsLogOf writer_of a.0.1 a.1.1 a.1.2 ws (in_hand (writer_of own ∷ [])) → IsSettled a.1.1 a.1.2
+      still_there (inl log) = log.2
+      still_there (inr read) = read.5
 
   pub settled : (l l' : Lead2) (f f' : ℕ → Option (Squad Request Reply)) → l' ≡ l → f' ≡ f → IsSettled l f → IsSettled l' f'
   settled l l' f f' el ef is = (el ∙ is.0, λ k. ap (λ x. x k) ef ∙ is.1 k)
@@ -301,29 +353,33 @@ module _ {Request Reply : Type 0} (writer_of : QueuedWriter Request → Writer) 
         (λ i. build o s own.by (is i)) ∙ (λ i. when (eq-eqb own.by own.by refl i) new),
         record {
           queue = half.1 ∙ ap (λ (k : Core Request Reply). core_queue writer_of k.0) (sym ev.0.1);
-          log = (ap in_hand half.0 ∙ ap (λ (k : Core Request Reply). core_log writer_of k.1) (sym ev.0.1), refl, settled a.1.1 b.1.1 a.1.2 b.1.2 (ap (λ (x : SecondList Request Reply). x.1) ev.1) (ap (λ (x : SecondList Request Reply). x.2) ev.1) u.2);
+          log = inl ((ap in_hand half.0 ∙ ap (λ (k : Core Request Reply). core_log writer_of k.1) (sym ev.0.1), refl, settled a.1.1 b.1.1 a.1.2 b.1.2 (ap (λ (x : SecondList Request Reply). x.1) ev.1) (ap (λ (x : SecondList Request Reply). x.2) ev.1) u.2));
           second = subst (λ gs. HasGroups writer_of gs s.second) (ap (λ (x : SecondList Request Reply). x.0) (sym ev.1)) r.second;
           owed = rearranged_as (handled a.0.3) waits (handled b.0.3 ++ []) waits (append-nil (handled b.0.3) ∙ (λ i. handled ((ev.0.1 i).3))) refl (owed_plain r (none_handed a.0.1 u.0));
         },
       )
 
   -- the group in hand has its writers
-  pub in_hand_is : (vs : List Writer) → Stands → s.log ≡ in_hand vs → IsUnlogged writer_of a.0.1 a.1.1 a.1.2 ws (in_hand vs)
-  in_hand_is vs r is = subst (IsLogOf writer_of a.0.1 a.1.1 a.1.2 ws) is r.log
+  pub in_hand_is : (vs : List Writer) → Stands → s.log ≡ in_hand vs → is_alone vs ≡ false → IsUnlogged writer_of a.0.1 a.1.1 a.1.2 ws (in_hand vs)
+  in_hand_is vs r is writes = by (subst (IsLogOf writer_of a.0.1 a.1.1 a.1.2 ws) is r.log)
+    where
+      by : IsLogOf writer_of a.0.1 a.1.1 a.1.2 ws (in_hand vs) → IsUnlogged writer_of a.0.1 a.1.1 a.1.2 ws (in_hand vs)
+      by (inl log) = log
+      by (inr read) = absurd (let bad : true ≡ false = sym (ap is_alone read.4 ∙ read.3) ∙ writes in cc)
 
-  pub writers_are : (vs : List Writer) (own : QueuedWriter Request) (group : List (QueuedWriter Request)) → Stands → s.log ≡ in_hand vs → a.0.1 ≡ grouped own group → vs ≡ core_queue writer_of (group ++ own ∷ [])
-  writers_are vs own group r is held = one_built vs (core_queue writer_of (group ++ own ∷ [])) ((in_hand_is vs r is).0 ∙ ap (core_log writer_of) held)
+  pub writers_are : (vs : List Writer) (own : QueuedWriter Request) (group : List (QueuedWriter Request)) → Stands → s.log ≡ in_hand vs → is_alone vs ≡ false → a.0.1 ≡ grouped own group → vs ≡ core_queue writer_of (group ++ own ∷ [])
+  writers_are vs own group r is writes held = one_built vs (core_queue writer_of (group ++ own ∷ [])) ((in_hand_is vs r is writes).0 ∙ ap (core_log writer_of) held)
 
   -- the core logs the group in hand
-  pub logs_there : (now vs : List Writer) (own : QueuedWriter Request) (group : List (QueuedWriter Request)) → IsSame writer_of → Stands → a.0.1 ≡ grouped own group → s.log ≡ in_hand vs → s.log_failed ≡ false → now ≡ with_runs s.assigned vs → list_any has_run now ≡ true → IsTaken writer_of reply_of o (core.Log own.by) s now a
-  logs_there now vs own group same r held is alive runs one =
-      let u = in_hand_is vs r is in
-      let theirs : vs ≡ core_queue writer_of (group ++ own ∷ []) = writers_are vs own group r is held in
+  pub logs_there : (now vs : List Writer) (own : QueuedWriter Request) (group : List (QueuedWriter Request)) → IsSame writer_of → Stands → a.0.1 ≡ grouped own group → s.log ≡ in_hand vs → s.log_failed ≡ false → is_alone vs ≡ false → now ≡ with_runs s.assigned vs → list_any has_run now ≡ true → IsTaken writer_of reply_of o (core.Log own.by) s now a
+  logs_there now vs own group same r held is alive writes runs one =
+      let u = in_hand_is vs r is writes in
+      let theirs : vs ≡ core_queue writer_of (group ++ own ∷ []) = writers_are vs own group r is writes held in
       let first : leads own.by vs ≡ true = ap (leads own.by) theirs ∙ first_leads writer_of same own group in
       let new : State = with_group s now (entries_of s now) in
       let off : State = record (leave s now) { log = nobody } in (
         new,
-        (λ i. log_group s own.by (is i)) ∙ ((λ i. when (first i && not (alive i)) (logged_group s (sym runs i))) ∙ (λ i. Some (if one i then new else off))),
+        (λ i. log_group s own.by (is i)) ∙ ((λ i. when (first i && not (writes i) && not (alive i)) (logged_group s (sym runs i))) ∙ (λ i. Some (if one i then new else off))),
         record {
           queue = r.queue;
           log = (refl, (own, group, held, ap (map without_answer) runs ∙ (runs_kept s.assigned vs ∙ ap (map without_answer) theirs)), u.2);
@@ -348,45 +404,45 @@ module _ {Request Reply : Type 0} (writer_of : QueuedWriter Request → Writer) 
       }
 
   -- the group in hand leaves, with nothing logged
-  unlogged_leaves : (own : QueuedWriter Request) (p : Reply) (gs : List (QueuedWriter Request × Reply)) (vs now : List Writer) → Stands → IsExit own p gs a b → s.log ≡ in_hand vs → HasReplies reply_of (all_answers own p gs) now → IsCoreOf writer_of reply_of [] b (left_with s now)
-  unlogged_leaves own p gs vs now r ev is has = leaves_there own p gs now r (in_hand_is vs r is).2 (ap (λ l. group_handed_on l ws) is) ev has
+  unlogged_leaves : (own : QueuedWriter Request) (p : Reply) (gs : List (QueuedWriter Request × Reply)) (vs now : List Writer) → Stands → IsExit own p gs a b → s.log ≡ in_hand vs → is_alone vs ≡ false → HasReplies reply_of (all_answers own p gs) now → IsCoreOf writer_of reply_of [] b (left_with s now)
+  unlogged_leaves own p gs vs now r ev is writes has = leaves_there own p gs now r (in_hand_is vs r is writes).2 (ap (λ l. group_handed_on l ws) is) ev has
 
   -- the leader of a group that leaves is the first of its writers
-  first_of_exit : (own : QueuedWriter Request) (p : Reply) (gs : List (QueuedWriter Request × Reply)) (vs : List Writer) → IsSame writer_of → Stands → IsExit own p gs a b → s.log ≡ in_hand vs → leads own.by vs ≡ true
-  first_of_exit own p gs vs same r ev is =
+  first_of_exit : (own : QueuedWriter Request) (p : Reply) (gs : List (QueuedWriter Request × Reply)) (vs : List Writer) → IsSame writer_of → Stands → IsExit own p gs a b → s.log ≡ in_hand vs → is_alone vs ≡ false → leads own.by vs ≡ true
+  first_of_exit own p gs vs same r ev is writes =
       let own' : QueuedWriter Request = ev.0.0.0 in
       let group : List (QueuedWriter Request) = ev.0.0.1 in
       let by : own.by ≡ own'.by = ap (λ (l : List (ℕ × Request)). (first_or (was_for (handling own p)) l).0) ev.0.0.3 in
-      subst (λ c. leads c vs ≡ true) (sym by) (ap (leads own'.by) (writers_are vs own' group r is ev.0.0.2) ∙ first_leads writer_of same own' group)
+      subst (λ c. leads c vs ≡ true) (sym by) (ap (leads own'.by) (writers_are vs own' group r is writes ev.0.0.2) ∙ first_leads writer_of same own' group)
 
-  pub log_leaves : (now vs : List Writer) (own : QueuedWriter Request) (p : Reply) (gs : List (QueuedWriter Request × Reply)) → IsSame writer_of → Stands → IsExit own p gs a b → s.log ≡ in_hand vs → s.log_failed ≡ false → now ≡ with_runs s.assigned vs → list_any has_run now ≡ false → HasReplies reply_of (all_answers own p gs) now
+  pub log_leaves : (now vs : List Writer) (own : QueuedWriter Request) (p : Reply) (gs : List (QueuedWriter Request × Reply)) → IsSame writer_of → Stands → IsExit own p gs a b → s.log ≡ in_hand vs → s.log_failed ≡ false → is_alone vs ≡ false → now ≡ with_runs s.assigned vs → list_any has_run now ≡ false → HasReplies reply_of (all_answers own p gs) now
       → IsTaken writer_of reply_of o (core.Log own.by) s [] b
-  log_leaves now vs own p gs same r ev is alive runs no_run has =
-      let first : leads own.by vs ≡ true = first_of_exit own p gs vs same r ev is in
+  log_leaves now vs own p gs same r ev is alive writes runs no_run has =
+      let first : leads own.by vs ≡ true = first_of_exit own p gs vs same r ev is writes in
       let on : State = with_group s now (entries_of s now) in
       let new : State = record (leave s now) { log = nobody } in
-      (new, (λ i. log_group s own.by (is i)) ∙ ((λ i. when (first i && not (alive i)) (logged_group s (sym runs i))) ∙ (λ i. Some (if no_run i then on else new))), unlogged_leaves own p gs vs now r ev is has)
+      (new, (λ i. log_group s own.by (is i)) ∙ ((λ i. when (first i && not (writes i) && not (alive i)) (logged_group s (sym runs i))) ∙ (λ i. Some (if no_run i then on else new))), unlogged_leaves own p gs vs now r ev is writes has)
 
   -- each member gets the same answer
-  given_there : (reply : CoreReply) (own : QueuedWriter Request) (p : Reply) (gs : List (QueuedWriter Request × Reply)) (vs : List Writer) → IsSame writer_of → Stands → IsExit own p gs a b → s.log ≡ in_hand vs → AllHave reply_of reply (all_answers own p gs) → HasReplies reply_of (all_answers own p gs) (all_answered reply vs)
-  given_there reply own p gs vs same r ev is ok =
-      subst (λ w. HasReplies reply_of (all_answers own p gs) (all_answered reply w)) (sym (writers_are vs ev.0.0.0 ev.0.0.1 r is ev.0.0.2)) (group_given reply_of writer_of same reply ev.0.0.0 ev.0.0.1 (all_answers own p gs) ev.0.0.3 ok)
+  given_there : (reply : CoreReply) (own : QueuedWriter Request) (p : Reply) (gs : List (QueuedWriter Request × Reply)) (vs : List Writer) → IsSame writer_of → Stands → IsExit own p gs a b → s.log ≡ in_hand vs → is_alone vs ≡ false → AllHave reply_of reply (all_answers own p gs) → HasReplies reply_of (all_answers own p gs) (all_answered reply vs)
+  given_there reply own p gs vs same r ev is writes ok =
+      subst (λ w. HasReplies reply_of (all_answers own p gs) (all_answered reply w)) (sym (writers_are vs ev.0.0.0 ev.0.0.1 r is writes ev.0.0.2)) (group_given reply_of writer_of same reply ev.0.0.0 ev.0.0.1 (all_answers own p gs) ev.0.0.3 ok)
 
-  pub fault_leaves : (vs : List Writer) (own : QueuedWriter Request) (p : Reply) (gs : List (QueuedWriter Request × Reply)) → IsSame writer_of → Stands → IsExit own p gs a b → s.log ≡ in_hand vs → AllHave reply_of (refused (no.LogFault 1)) (all_answers own p gs) → IsTaken writer_of reply_of o (core.Fault own.by) s [] b
-  fault_leaves vs own p gs same r ev is ok =
+  pub fault_leaves : (vs : List Writer) (own : QueuedWriter Request) (p : Reply) (gs : List (QueuedWriter Request × Reply)) → IsSame writer_of → Stands → IsExit own p gs a b → s.log ≡ in_hand vs → is_alone vs ≡ false → AllHave reply_of (refused (no.LogFault 1)) (all_answers own p gs) → IsTaken writer_of reply_of o (core.Fault own.by) s [] b
+  fault_leaves vs own p gs same r ev is writes ok =
       let now : List Writer = all_answered (refused (no.LogFault 1)) vs in
-      let first : leads own.by vs ≡ true = first_of_exit own p gs vs same r ev is in
+      let first : leads own.by vs ≡ true = first_of_exit own p gs vs same r ev is writes in
       let new : State = record (leave s now) { log = nobody; log_failed = true } in
-      (new, (λ i. fault s own.by (is i)) ∙ (λ i. when (first i) new), unlogged_leaves own p gs vs now r ev is (given_there (refused (no.LogFault 1)) own p gs vs same r ev is ok))
+      (new, (λ i. fault s own.by (is i)) ∙ (λ i. when (first i && not (writes i)) new), unlogged_leaves own p gs vs now r ev is writes (given_there (refused (no.LogFault 1)) own p gs vs same r ev is writes ok))
 
-  pub refuse_leaves : (vs : List Writer) (own : QueuedWriter Request) (p : Reply) (gs : List (QueuedWriter Request × Reply)) (stops delays wait : ℕ) → IsSame writer_of → Stands → IsExit own p gs a b → s.log ≡ in_hand vs → is_no_slowdown vs ≡ true → AllHave reply_of (refused (no.Incomplete stops delays wait)) (all_answers own p gs)
+  pub refuse_leaves : (vs : List Writer) (own : QueuedWriter Request) (p : Reply) (gs : List (QueuedWriter Request × Reply)) (stops delays wait : ℕ) → IsSame writer_of → Stands → IsExit own p gs a b → s.log ≡ in_hand vs → is_alone vs ≡ false → is_no_slowdown vs ≡ true → AllHave reply_of (refused (no.Incomplete stops delays wait)) (all_answers own p gs)
       → IsTaken writer_of reply_of o (core.Refuse own.by stops delays wait) s [] b
-  refuse_leaves vs own p gs stops delays wait same r ev is unslowed ok =
+  refuse_leaves vs own p gs stops delays wait same r ev is writes unslowed ok =
       let reply : CoreReply = refused (no.Incomplete stops delays wait) in
       let now : List Writer = all_answered reply vs in
-      let first : leads own.by vs ≡ true = first_of_exit own p gs vs same r ev is in
+      let first : leads own.by vs ≡ true = first_of_exit own p gs vs same r ev is writes in
       let new : State = record (leave s now) { log = nobody } in
-      (new, (λ i. refuse s own.by (no.Incomplete stops delays wait) (is i)) ∙ (λ i. when (first i && unslowed i) new), unlogged_leaves own p gs vs now r ev is (given_there reply own p gs vs same r ev is ok))
+      (new, (λ i. refuse s own.by (no.Incomplete stops delays wait) (is i)) ∙ (λ i. when (first i && unslowed i) new), unlogged_leaves own p gs vs now r ev is writes (given_there reply own p gs vs same r ev is writes ok))
 
   -- a client gets its reply
   pub told_core : (e : QueuedWriter Request) (p : Reply) (client : Client) → IsSame writer_of → Stands → IsComplete e p a b → IsNotWith e.by a.0.1 → Absent e.by (flat a.1.0) → client_at s e.by ≡ Some client → HasLeft s e.by (reply_of p) × IsTaken writer_of reply_of o (core.Complete e.by) s ws b
@@ -403,7 +459,7 @@ module _ {Request Reply : Type 0} (writer_of : QueuedWriter Request → Writer) 
       let found = found_first c s.leaving (c, Some (reply_of p)) [] one in
       let w : Writer = found.0 in
       let reply : w.answer ≡ Some (reply_of p) = ap (λ (x : ℕ × Answer CoreReply). x.1) found.2 in
-      let new : State = record (with_client s c (after_completion client w (reply_of p))) { leaving = kept } in (
+      let new : State = record (with_client s c (after_completion client w (reply_told s w.since (reply_of p)))) { leaving = kept } in (
         (w, client, there, found.1, reply),
         (
           new,
@@ -453,6 +509,44 @@ module _ {Request Reply : Type 0} (writer_of : QueuedWriter Request → Writer) 
       let group_by : Bool → LogPhase → List Writer = λ x l. if x then first_group s.second else logged l in
       let left_by : Bool → LogPhase → State = λ x l. record (leave (if x then record s { second = drop 1 s.second } else record s { log = nobody }) (group_by x l)) { table = still } in (
         left_by false (in_log ws),
-        (λ i. exit o s own.by (there i)) ∙ ((λ i. when (leads own.by (group_by (one i) (is i))) (left_by (one i) (is i))) ∙ (λ i. when (first i) (left_by false (in_log ws)))),
+        (λ i. exit o s own.by (there i)) ∙ ((λ i. if leads own.by (group_by (one i) (is i)) then Some (left_by (one i) (is i)) else exit_reader s own.by s.log) ∙ (λ i. if first i then Some (left_by false (in_log ws)) else exit_reader s own.by s.log)),
         leaves_there own p gs ws r log.2 (ap (λ l. group_handed_on l ws) is) ev has,
       )
+
+  -- a client that has read the log leaves with its answer
+  pub reader_leaves : (own : QueuedWriter Request) (reply : CoreReply) (p : Reply) (gs : List (QueuedWriter Request × Reply)) → IsSame writer_of → Stands → is_some (writer_of own).since ≡ true → s.log ≡ in_hand (record (writer_of own) { answer = Some reply } ∷ []) → leads own.by (table_group o s) ≡ false
+      → IsExit own p gs a b → AllHave reply_of reply (all_answers own p gs) → IsTaken writer_of reply_of o (core.Exit own.by) s [] b
+  reader_leaves own reply p gs same r reads is apart ev ok =
+      let there = alone_there (subst (IsLogOf writer_of a.0.1 a.1.1 a.1.2 ws) is r.log) in
+      let answers : Path (List (ℕ × Answer CoreReply)) (answered (w ∷ [])) (answered (all_answered reply (writer_of own' ∷ []))) = λ i. ((same own ∙ (by ∙ sym (same own'))) i, Some reply) ∷ [] in
+      let has : HasReplies reply_of (all_answers own p gs) (w ∷ []) =
+      answers ∙ (ap (λ es. answered (all_answered reply (core_queue writer_of (es ++ own' ∷ [])))) (sym there.0) ∙ group_given reply_of writer_of same reply own' group (all_answers own p gs) ev.0.0.3 ok) in
+      (new, exits s.table, leaves_there own p gs (w ∷ []) r there.1 (ap (λ l. group_handed_on l ws) is) ev has)
+    where
+      w : Writer
+      w = record (writer_of own) { answer = Some reply }
+
+      own' : QueuedWriter Request
+      own' = ev.0.0.0
+
+      group : List (QueuedWriter Request)
+      group = ev.0.0.1
+
+      by : own.by ≡ own'.by
+      by = ap (λ (l : List (ℕ × Request)). (first_or (was_for (handling own p)) l).0) ev.0.0.3
+
+      -- its group is it alone
+      alone_there : IsLogOf writer_of a.0.1 a.1.1 a.1.2 ws (in_hand (w ∷ [])) → (group ≡ []) × IsSettled a.1.1 a.1.2
+      alone_there (inl log) = (none_else writer_of w own' group (one_built (w ∷ []) (core_queue writer_of (group ++ own' ∷ [])) (log.0 ∙ ap (core_log writer_of) ev.0.0.2)), log.2)
+      alone_there (inr read) = (none_before group own' read.0 (ap line_held (sym ev.0.0.2 ∙ read.2)), read.5)
+
+      new : State
+      new = record (leave s (w ∷ [])) { log = nobody }
+
+      leaves_alone : exit_reader s own.by s.log ≡ Some new
+      leaves_alone = (λ i. exit_reader s own.by (is i)) ∙ (λ i. when (eq-eqb w.client own.by (same own) i && reads i && true) new)
+
+      exits : (phase : TablePhase) → exit o s own.by phase ≡ Some new
+      exits published = (λ i. if apart i then Some (record (leave (without_table_group o s) (table_group o s)) { table = still }) else exit_reader s own.by s.log) ∙ leaves_alone
+      exits still = leaves_alone
+      exits (launched ins fin) = leaves_alone

@@ -1,10 +1,10 @@
 -- The events of the list, and of the second one, as events of the write path's core: the two lists are the half of the
 -- core that has the writers.
-use Rattle.std.specs.Prelude.{◌≡◌, ℕ, List, [], ◌∷◌, ◌++◌, map, reverse, Option as Answer, Some, ◌==◌, true, false, find, None}
+use Rattle.std.specs.Prelude.{◌≡◌, ◌⊎◌, is_some, ℕ, List, [], ◌∷◌, ◌++◌, map, reverse, Option as Answer, Some, ◌==◌, true, false, find, None}
 use Rattle.model_core.specs.declared.event.Event.{Event as CoreEvent}
 use Rattle.model_core.specs.declared.event.Event.TheVariants as core
-use Rattle.model_base.specs.Calls.{Reply as CoreReply, commit, refused}
-use Rattle.model_core.specs.Core.{Options, Writer, LogPhase, free as nobody, led, built as in_hand, stalled, in_log, State as CoreState, item_of as item_of_writer, Client, marked, handed, client_at, with_client, next_call, after_reply, refusal_of, stall_refusal, with_runs}
+use Rattle.model_base.specs.Calls.{Reply as CoreReply, commit, updates, refused}
+use Rattle.model_core.specs.Core.{Options, Writer, LogPhase, free as nobody, led, built as in_hand, stalled, in_log, State as CoreState, item_of as item_of_writer, Client, marked, handed, client_at, with_client, next_call, after_reply, refusal_of, stall_refusal, plain_options, is_alone, with_runs}
 use Rattle.model_core.specs.Halves.{ListHalf, list_half_of}
 use Rattle.line_rule.specs.declared.view.QueuedWriter.{QueuedWriter}
 use Rattle.line_rule.specs.declared.view.Handling.{Handling}
@@ -108,12 +108,19 @@ module _ {Request Reply : Type 0} (writer_of : QueuedWriter Request → Writer) 
       → Type 0
   IsUnlogged held lead apart ws phase = (phase ≡ core_log writer_of held) × (ws ≡ []) × IsSettled lead apart
 
+  -- a writer that leads alone has read the log, and has its answer
+  abbrev pub HasRead : LogHolder Request → Lead2 → (ℕ → Option (Squad Request Reply)) → List Writer → Type 0
+  HasRead held lead apart vs = (own : QueuedWriter Request) × (reply : CoreReply) × (held ≡ grouped own [])
+      × (is_some (writer_of own).since ≡ true) × (vs ≡ record (writer_of own) { answer = Some reply } ∷ [])
+      × IsSettled lead apart
+
   -- Where the core's log is, by what the lists show: ws are the writers of the group in hand once it is logged. A
   -- logged group is marked while it is apart from both lists, and handed on while its leader is ahead.
   abbrev pub IsLogOf : LogHolder Request → Lead2 → (ℕ → Option (Squad Request Reply)) → List Writer → LogPhase → Type 0
   IsLogOf held lead apart ws nobody = IsUnlogged held lead apart ws nobody
   IsLogOf held lead apart ws (led c) = IsUnlogged held lead apart ws (led c)
   IsLogOf held lead apart ws (in_hand vs) = IsUnlogged held lead apart ws (in_hand vs)
+      ⊎ HasRead held lead apart vs
   IsLogOf held lead apart ws (stalled vs) = IsUnlogged held lead apart ws (stalled vs)
   IsLogOf held lead apart ws (in_log vs) = (vs ≡ ws)
       × ((own : QueuedWriter Request) × (group : List (QueuedWriter Request)) × (held ≡ grouped own group)
@@ -151,7 +158,13 @@ module _ {Request Reply : Type 0} (writer_of : QueuedWriter Request → Writer) 
 abbrev pub IsCommit : Options → CoreState → ℕ → Writer → Type 0
 IsCommit o s c w = (client : Client) × (how : WriteOptions) × (client_at s c ≡ Some client) × (client.idle ≡ true)
     × ((next_call client).call ≡ Some (commit how)) × (refusal_of o how (next_call client).client.added ≡ None)
-    × (w ≡ record { client = c; options = how; records = (next_call client).client.added; answer = None })
+    × (w ≡ record { client = c; options = how; records = (next_call client).client.added; since = None; answer = None })
+
+-- the client is idle, its next call is a read of the log, and this is its writer
+abbrev pub IsUpdates : CoreState → ℕ → Writer → Type 0
+IsUpdates s c w = (client : Client) × (n : ℕ) × (client_at s c ≡ Some client) × (client.idle ≡ true)
+    × ((next_call client).call ≡ Some (updates n))
+    × (w ≡ record { client = c; options = plain_options; records = []; since = Some n; answer = None })
 
 -- the core's `link` of this writer refuses its commit, since writes are stalled, and moves nothing but its client
 abbrev pub IsRefusedAtOnce : Options → CoreState → ℕ → Writer → Type 0
@@ -164,7 +177,7 @@ abbrev pub HasLeft : CoreState → ℕ → CoreReply → Type 0
 HasLeft s c reply = (w : Writer) × (client : Client) × (client_at s c ≡ Some client)
     × (find (λ (x : Writer). x.client == c) s.leaving ≡ Some w) × (w.answer ≡ Some reply)
 
--- a group is in hand, no append has failed, and these are the group's writers, with their runs
+-- a group of writes is in hand, no append has failed, and these are the group's writers, with their runs
 abbrev pub IsToLog : CoreState → List Writer → Type 0
-IsToLog s ws = (built : List Writer) × (s.log ≡ in_hand built) × (s.log_failed ≡ false)
+IsToLog s ws = (built : List Writer) × (s.log ≡ in_hand built) × (s.log_failed ≡ false) × (is_alone built ≡ false)
     × (ws ≡ with_runs s.assigned built)

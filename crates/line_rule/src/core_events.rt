@@ -1,10 +1,10 @@
 //! The events of the list, and of the second one, are events of the write path's core.
-ghost use Rattle.std.specs.Prelude.{◌≡◌, List, [], true, false, ℕ, Some, None};
+ghost use Rattle.std.specs.Prelude.{◌≡◌, List, [], ◌∷◌, true, false, ℕ, Some, None, is_some};
 ghost use Rattle.std.specs.List.{list_any};
 ghost use Rattle.model_base.specs.Calls.{Command, Reply as CoreReply, refused};
 ghost use Rattle.model_base.specs.declared.write.Refusal.TheVariants as no;
 ghost use Rattle.model_core.specs.declared.event.Event.TheVariants as core;
-ghost use Rattle.model_core.specs.Core.{Options, Writer, Client, State, item_of, client_at, built as in_hand, in_log, published, opening_state, first_group, has_run};
+ghost use Rattle.model_core.specs.Core.{Options, Writer, Client, State, item_of, client_at, built as in_hand, in_log, published, opening_state, first_group, has_run, is_alone, leads, table_group};
 ghost use Rattle.model_core.specs.Halves.{list_half_of};
 ghost use Rattle.model_core.specs.Step.{step, is_no_slowdown};
 ghost use Rattle.line_rule.specs.declared.view.Back.{Back};
@@ -17,7 +17,7 @@ ghost use Rattle.line_rule.specs.Events.{grouped, comes, elects};
 ghost use Rattle.line_rule.specs.Standing.{ahead, line_of};
 ghost use Rattle.line_rule.specs.Steps.{Lists, HappensAlone, IsBuild, IsStall, IsStalled, IsDrop, IsResume, IsComplete, IsBoundary, IsSecond, IsNext, IsServedOut};
 ghost use Rattle.line_rule.specs.Handing.{IsInNone, IsJoined};
-ghost use Rattle.line_rule.specs.CoreEvents.{IsSame, HasItems, HasReplies, LeavesWith, AllLeaveWith, IsGroupOf, IsCoreOf, StandsAs, IsTaken, IsCommit, IsRefusedAtOnce, HasLeft, IsToLog};
+ghost use Rattle.line_rule.specs.CoreEvents.{IsSame, HasItems, HasReplies, LeavesWith, AllLeaveWith, IsGroupOf, IsCoreOf, StandsAs, IsTaken, IsCommit, IsUpdates, IsRefusedAtOnce, HasLeft, IsToLog};
 ghost use Rattle.line_rule.specs.Grouping.{code_by};
 ghost use Rattle.model_base.specs.declared.group.Item.{Item};
 ghost use Rattle.line_rule.specs.Before.{lists_at_opening};
@@ -37,6 +37,9 @@ use crate::code::codes_stand_for_items;
 /// A leader that has a group in hand that may be slowed down stalls writes, and ends that. In between nobody comes and
 /// the group isn't logged, and writers of the queue that may not be slowed down leave it. A commit that may not be
 /// slowed down is refused before it comes, and any other one can't come until the stall is over.
+///
+/// A leader that reads the log has a group of its own, which isn't logged: it is answered by the core's `since`, and
+/// leaves by an exit, in either mode.
 ///
 /// Where there is one stage, a logged group leaves by the core's exit, once it is published. Where groups are handed
 /// on, a logged group is cut off from the first list by `boundary`, goes to the end of the second queue by `second`,
@@ -59,6 +62,11 @@ pub fn list_and_core<Request, Reply>()
         (s : State) (a b : Lists Request Reply) (ws : List Writer) (e : QueuedWriter Request)
         → IsCoreOf writer_of reply_of ws a (list_half_of s) → HappensAlone (comes e) a b
         → IsCommit o s e.by (writer_of e) → IsTaken writer_of reply_of o (core.Link e.by) s ws b }
+    // So does one that is to read the log.
+    ensures link_read { (writer_of : QueuedWriter Request → Writer) (reply_of : Reply → CoreReply) (o : Options)
+        (s : State) (a b : Lists Request Reply) (ws : List Writer) (e : QueuedWriter Request)
+        → IsCoreOf writer_of reply_of ws a (list_half_of s) → HappensAlone (comes e) a b
+        → IsUpdates s e.by (writer_of e) → IsTaken writer_of reply_of o (core.Link e.by) s ws b }
     ensures elect { (writer_of : QueuedWriter Request → Writer) (reply_of : Reply → CoreReply) (o : Options)
         (s : State) (a b : Lists Request Reply) (ws : List Writer) (e : QueuedWriter Request)
         → StandsAs writer_of reply_of ws a s → HappensAlone (elects e) a b
@@ -105,18 +113,32 @@ pub fn list_and_core<Request, Reply>()
         → LeavesWith reply_of ws own a b → IsTaken writer_of reply_of o (core.Log own.by) s [] b }
     ensures fault { (writer_of : QueuedWriter Request → Writer) (reply_of : Reply → CoreReply) (o : Options)
         (s : State) (a b : Lists Request Reply) (old built : List Writer) (own : QueuedWriter Request)
-        → StandsAs writer_of reply_of old a s → s.log ≡ in_hand built
+        → StandsAs writer_of reply_of old a s → s.log ≡ in_hand built → is_alone built ≡ false
         → AllLeaveWith reply_of (refused (no.LogFault 1)) own a b
         → IsTaken writer_of reply_of o (core.Fault own.by) s [] b }
     ensures refuse { (writer_of : QueuedWriter Request → Writer) (reply_of : Reply → CoreReply) (o : Options)
         (s : State) (a b : Lists Request Reply) (old built : List Writer) (own : QueuedWriter Request)
         (stops delays wait : ℕ) → StandsAs writer_of reply_of old a s → s.log ≡ in_hand built
-        → is_no_slowdown built ≡ true → AllLeaveWith reply_of (refused (no.Incomplete stops delays wait)) own a b
+        → is_alone built ≡ false → is_no_slowdown built ≡ true
+        → AllLeaveWith reply_of (refused (no.Incomplete stops delays wait)) own a b
         → IsTaken writer_of reply_of o (core.Refuse own.by stops delays wait) s [] b }
     ensures stall { (writer_of : QueuedWriter Request → Writer) (reply_of : Reply → CoreReply) (o : Options)
         (s : State) (a b : Lists Request Reply) (old built : List Writer) (lead : Lead Request Reply)
-        → StandsAs writer_of reply_of old a s → s.log ≡ in_hand built → is_no_slowdown built ≡ false
-        → IsStall lead a b → IsTaken writer_of reply_of o (core.Stall lead.own.by) s [] b }
+        → StandsAs writer_of reply_of old a s → s.log ≡ in_hand built → is_alone built ≡ false
+        → is_no_slowdown built ≡ false → IsStall lead a b → IsTaken writer_of reply_of o (core.Stall lead.own.by) s [] b }
+    // A leader that reads the log alone has its answer while the lists stay as they are, and then leaves with it. That
+    // its client leads no group of the second list is a premise.
+    ensures read { (writer_of : QueuedWriter Request → Writer) (reply_of : Reply → CoreReply) (o : Options)
+        (s : State) (a : Lists Request Reply) (ws : List Writer) (own : QueuedWriter Request) (n : ℕ)
+        → StandsAs writer_of reply_of ws a s → a.0.1 ≡ grouped own [] → (writer_of own).since ≡ Some n
+        → (writer_of own).answer ≡ None → s.log ≡ in_hand (writer_of own ∷ [])
+        → IsTaken writer_of reply_of o (core.Since own.by) s ws a }
+    ensures exit_of_read { (writer_of : QueuedWriter Request → Writer) (reply_of : Reply → CoreReply) (o : Options)
+        (s : State) (a b : Lists Request Reply) (ws : List Writer) (own : QueuedWriter Request) (reply : CoreReply)
+        → StandsAs writer_of reply_of ws a s → is_some (writer_of own).since ≡ true
+        → s.log ≡ in_hand (record (writer_of own) { answer = Some reply } ∷ [])
+        → leads own.by (table_group o s) ≡ false → AllLeaveWith reply_of reply own a b
+        → IsTaken writer_of reply_of o (core.Exit own.by) s [] b }
     ensures leave { (writer_of : QueuedWriter Request → Writer) (reply_of : Reply → CoreReply) (o : Options)
         (s : State) (a b : Lists Request Reply) (ws : List Writer) (e : QueuedWriter Request) (p : Reply)
         (stops delays : ℕ) → StandsAs writer_of reply_of ws a s → HasItems writer_of a.0.0
@@ -134,6 +156,11 @@ pub fn list_and_core<Request, Reply>()
         (s : State) (a : Lists Request Reply) (ws : List Writer) (c : ℕ) (w : Writer)
         → IsCoreOf writer_of reply_of ws a (list_half_of s) → IsStalled a → IsCommit o s c w
         → w.options.no_slowdown ≡ false → step o s (core.Link c) ≡ None }
+    // Nor can a read of the log.
+    ensures link_read_barred { (writer_of : QueuedWriter Request → Writer) (reply_of : Reply → CoreReply) (o : Options)
+        (s : State) (a : Lists Request Reply) (ws : List Writer) (c : ℕ) (w : Writer)
+        → IsCoreOf writer_of reply_of ws a (list_half_of s) → IsStalled a → IsUpdates s c w
+        → step o s (core.Link c) ≡ None }
     ensures unstall { (writer_of : QueuedWriter Request → Writer) (reply_of : Reply → CoreReply) (o : Options)
         (s : State) (a b : Lists Request Reply) (ws : List Writer) (lead : Lead Request Reply)
         → StandsAs writer_of reply_of ws a s → IsResume lead a b

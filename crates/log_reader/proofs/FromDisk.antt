@@ -2,25 +2,24 @@
 use Rattle.std.proofs.Common.{◌≡◌, ℕ, ◌+◌, ◌-◌, ◌<◌, ◌≤◌, min, List, ◌++◌, length, take, drop, Option, Some, None, IfSome, sym, ◌∙◌, ap, subst, arith, length-append, length-take, length-drop}
 use Rattle.std.proofs.Math.Seq.{take-add, take-append-add}
 use Rattle.std.proofs.lemmas.List.{drop-drop, take-append-le, take_all}
-use Rattle.base_devices.specs.Disk.{Disk}
 use Rattle.log_reader.specs.Blocks.{ReadsBlock}
 use borrow.Rule.Slice.PartMut.{put_mid}
 
 -- a fact about a disk that tells its content, from two others about it
-pub if_both : (told : Option Disk) (P Q R : Disk → Type 0) → IfSome told P → IfSome told Q → ((d : Disk) → P d → Q d → R d) → IfSome told R
+pub if_both : (told : Option (List ℕ)) (P Q R : List ℕ → Type 0) → IfSome told P → IfSome told Q → ((d : List ℕ) → P d → Q d → R d) → IfSome told R
 if_both None P Q R p q f = tt
 if_both (Some d) P Q R p q f = f d p q
 
-pub if_one : (told : Option Disk) (P R : Disk → Type 0) → IfSome told P → ((d : Disk) → P d → R d) → IfSome told R
+pub if_one : (told : Option (List ℕ)) (P R : List ℕ → Type 0) → IfSome told P → ((d : List ℕ) → P d → R d) → IfSome told R
 if_one None P R p f = tt
 if_one (Some d) P R p f = f d p
 
 -- The block's bytes that were read so far are those of the disk from `start` on; and, below, what one read gives.
-abbrev pub Before : ℕ → ℕ → List ℕ → Disk → Type 0
-Before start at block d = take at block ≡ take at (drop start d.content)
+abbrev pub Before : ℕ → ℕ → List ℕ → List ℕ → Type 0
+Before start at block d = take at block ≡ take at (drop start d)
 
-abbrev pub Gives : ℕ → ℕ → List ℕ → Disk → Type 0
-Gives place more buf d = (more ≡ min (length buf) (length d.content - place)) × (take more buf ≡ take more (drop place d.content))
+abbrev pub Gives : ℕ → ℕ → List ℕ → List ℕ → Type 0
+Gives place more buf d = (more ≡ min (length buf) (length d - place)) × (take more buf ≡ take more (drop place d))
 
 -- after one more read the block's first bytes, with the new ones, are still those of the disk
 pub read_more : (content block buf : List ℕ) (start at more : ℕ) → at ≤ length block → length buf ≡ length block - at → take at block ≡ take at (drop start content)

@@ -3,4 +3,3 @@ pub mod NextSeen
 pub mod InBlocks
 pub mod Looking
 pub mod OneMore
-pub mod Time

@@ -3,4 +3,4 @@ pub mod Windows
 pub mod Records
 pub mod Steps
 pub mod Reader
-pub mod OnlyReads
+pub mod Opens

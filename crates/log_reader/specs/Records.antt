@@ -1,9 +1,8 @@
 -- What a reader answers, compared with what the log says. Where a definition takes `number` first, that is the log's
 -- number, if it has one.
-use Rattle.std.specs.Prelude.{◌≡◌, ℕ, ◌≤◌, List, length, Option, Some, None}
+use Rattle.std.specs.Prelude.{◌≡◌, ℕ, ◌≤◌, List, Option, Some, None}
 use Rattle.base_devices.specs.Faults.{Rose}
-use Rattle.model_base.specs.Log.{Fragment, AreOneRecord, kinds_of, record_of, next_place}
-use Rattle.model_base.specs.Reading.{HasFragments, end_of, ReadingEnds, IsRecord}
+use Rattle.model_base.specs.Reading.{ReadingEnds, IsRecord}
 use Rattle.log_reader.specs.declared.reader.Next.{Next}
 use Rattle.log_reader.specs.declared.reader.Next.TheVariants as next
 

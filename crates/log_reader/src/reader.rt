@@ -1,17 +1,18 @@
 //! The records of a log, one after another.
 
-ghost use Rattle.std.specs.Prelude.{◌≡◌, ◌+◌, ◌^◌, ◌<◌, ◌≤◌, ℕ, List, [], ◌++◌, slice_range, None, IfOk, IfSome, OnOk};
+ghost use Rattle.std.specs.Prelude.{◌≡◌, ◌+◌, ◌^◌, ◌<◌, ◌≤◌, ℕ, List, [], ◌++◌, length, slice_range, None, IfOk, IfErr, IfSome, OnOk};
 ghost use Rattle.model_base.specs.Log.{Kind, kind_code};
 ghost use Rattle.log_reader.specs.Blocks.{IsNext};
+ghost use Rattle.log_reader.specs.Opens.{IsOpenError};
 ghost use Rattle.log_reader.specs.Windows.{IsSound, IsOn, offset_of, bytes_of};
 ghost use Rattle.log_reader.specs.Records.{Reads, HasFault, stopped_by};
 ghost use Rattle.log_reader.specs.Steps as steps;
 ghost use Rattle.log_reader.specs.Steps.{HasReadPart, StepIs, EndsAt, Moves, HasFaultStep, end_of_reading};
 ghost use Rattle.log_reader.specs.Reader.{Follows, PlaceAfter, GoesForward};
-ghost use Rattle.log_reader.specs.OnlyReads.{OnlyReads};
 
+use crate::errors::OpenError;
 use crate::window::Window;
-use base_devices::Disk;
+use base_devices::ReadAt;
 use log_block::{FIRST, FULL, LAST, MIDDLE, Seen, plain_type};
 use model_base::{EndReason, NoMemory};
 use std::alloc::Global;
@@ -85,28 +86,58 @@ impl LogReader {
         })
     }
 
+    /// A reader of a log with this number, if it has one, which begins at an offset: the end of a record that was read
+    /// before, or any other place at which a record may begin. It reads the block that has the place.
+    pub fn open_at<R: ReadAt>(
+        alloc: Global,
+        number: Option<u32>,
+        place: u64,
+        disk: &mut R,
+    ) -> Result<LogReader, OpenError>
+        requires small { place < 2 ^ 63 }
+        ensures number { IfOk result (λ r. r.number ≡ number) }
+        ensures going { IfOk result (λ r. r.stopped ≡ None) }
+        ensures empty { IfOk result (λ r. r.in_hand ≡ []) }
+        // If the file ends before the place, the reader's place is before it too.
+        ensures there { IfSome (R.held disk.old) (λ file. place ≤ length file
+            → IfOk result (λ r. (r.place ≡ place) × Follows file r)) }
+        ensures worked { OnOk result (R.failures disk.new ≡ R.failures disk.old) }
+        ensures error { IfErr result (IsOpenError (R.failures disk.old) (R.failures disk.new)) }
+        ensures disk { R.only_reads disk.old disk.new }
+    {
+        let window = Window::open_at(alloc, place, disk)?;
+        let place = window.offset();
+        Ok(LogReader {
+            number,
+            window,
+            in_hand: Vec::new(alloc),
+            place,
+            stopped: None,
+        })
+    }
+
     /// Reads the next record of the log that the disk holds, which should be the same log at each call. After any
     /// answer but `Record` the same answer comes again, and the disk isn't touched. A read that failed is never tried
     /// again.
-    pub fn next<D: Disk>(&mut self, disk: &mut D) -> Next
-        // Of a disk that tells its content: the next record of the definition, with its place and its bytes in hand, or
+    pub fn next<R: ReadAt>(&mut self, disk: &mut R) -> Next
+        // Of a file whose content is known: the next record of the definition, with its place and its bytes in hand, or
         // where nothing more is read and why.
-        ensures reads { IfSome (D.told disk.old) (λ d. Follows d.content self.old → self.old.stopped ≡ None
-            → Reads self.old.number d.content self.old.place self.new.in_hand result) }
+        ensures reads { IfSome (R.held disk.old) (λ file. Follows file self.old → self.old.stopped ≡ None
+            → Reads self.old.number file self.old.place self.new.in_hand result) }
         ensures number { self.new.number ≡ self.old.number }
         ensures place { self.old.stopped ≡ None → PlaceAfter self.old self.new result }
         // A loop over the records ends: each of them ends after the place before it.
         ensures forward { self.old.stopped ≡ None → GoesForward self.old.place result }
         // So the clause `reads` is good for the next call as well.
-        ensures follows { IfSome (D.told disk.old) (λ d. Follows d.content self.old → Follows d.content self.new) }
+        ensures follows { IfSome (R.held disk.old) (λ file. Follows file self.old → Follows file self.new) }
         // A fault is answered only where the count rose in this call, and any other answer only where it stayed as it
         // was.
-        ensures fault { self.old.stopped ≡ None → HasFault (D.faults disk.old) (D.faults disk.new) result }
+        ensures fault { self.old.stopped ≡ None → HasFault (R.failures disk.old) (R.failures disk.new) result }
         ensures stopped { self.old.stopped ≡ None → self.new.stopped ≡ stopped_by result }
         ensures again { IfSome self.old.stopped (λ answer. (result ≡ answer) × (self.new ≡ self.old)) }
         ensures untouched { IfSome self.old.stopped (λ _. disk.new ≡ disk.old) }
-        // The disk tells what it told before, its count of faults doesn't fall, and its time goes on.
-        ensures disk { OnlyReads ⟦<D as Disk>⟧ disk.old disk.new }
+        // The disk is only read.
+        ensures disk { R.only_reads disk.old disk.new }
     {
         if let Some(answer) = self.stopped {
             return answer;
@@ -145,20 +176,20 @@ enum Continuation {
 }
 
 /// Reads the next record, from the window's place on.
-fn read_record<D: Disk>(
+fn read_record<R: ReadAt>(
     number: Option<u32>,
     window: &mut Window,
     in_hand: &mut Vec<u8>,
-    disk: &mut D,
+    disk: &mut R,
 ) -> Next
     requires { IsSound window.old }
     ensures sound { IsSound window.new }
-    ensures reads { IfSome (D.told disk.old) (λ d. IsOn d.content window.old
-        → Reads number d.content (offset_of window.old) in_hand.new.items result) }
-    ensures on { IfSome (D.told disk.old) (λ d. IsOn d.content window.old → IsOn d.content window.new) }
+    ensures reads { IfSome (R.held disk.old) (λ file. IsOn file window.old
+        → Reads number file (offset_of window.old) in_hand.new.items result) }
+    ensures on { IfSome (R.held disk.old) (λ file. IsOn file window.old → IsOn file window.new) }
     ensures end { EndsAt (offset_of window.old) (offset_of window.new) result }
-    ensures fault { HasFault (D.faults disk.old) (D.faults disk.new) result }
-    ensures disk { OnlyReads ⟦<D as Disk>⟧ disk.old disk.new }
+    ensures fault { HasFault (R.failures disk.old) (R.failures disk.new) result }
+    ensures disk { R.only_reads disk.old disk.new }
 {
     in_hand.clear();
     let mut begun = None;
@@ -172,22 +203,22 @@ fn read_record<D: Disk>(
 }
 
 /// Reads one more fragment of a record. `begun` is where the record begins, if fragments of it were read already.
-fn read_part<D: Disk>(
+fn read_part<R: ReadAt>(
     number: Option<u32>,
     window: &mut Window,
     in_hand: &mut Vec<u8>,
     begun: Option<u64>,
-    disk: &mut D,
+    disk: &mut R,
 ) -> Step
     requires { IsSound window.old }
     ensures sound { IsSound window.new }
-    ensures step { IfSome (D.told disk.old) (λ d. (place : ℕ) → IsOn d.content window.old
-        → HasReadPart number d.content place begun in_hand.old.items (offset_of window.old)
-        → StepIs number d.content place in_hand.new.items (offset_of window.new) result) }
-    ensures on { IfSome (D.told disk.old) (λ d. IsOn d.content window.old → IsOn d.content window.new) }
+    ensures step { IfSome (R.held disk.old) (λ file. (place : ℕ) → IsOn file window.old
+        → HasReadPart number file place begun in_hand.old.items (offset_of window.old)
+        → StepIs number file place in_hand.new.items (offset_of window.new) result) }
+    ensures on { IfSome (R.held disk.old) (λ file. IsOn file window.old → IsOn file window.new) }
     ensures moves { Moves (offset_of window.old) (offset_of window.new) result }
-    ensures fault { HasFaultStep (D.faults disk.old) (D.faults disk.new) result }
-    ensures disk { OnlyReads ⟦<D as Disk>⟧ disk.old disk.new }
+    ensures fault { HasFaultStep (R.failures disk.old) (R.failures disk.new) result }
+    ensures disk { R.only_reads disk.old disk.new }
 {
     match window.look(number, disk) {
         Ok(Seen::Fragment { kind, start, end }) => take_part(

@@ -1,13 +1,14 @@
 //! The block of a log in which a reader is.
 
-ghost use Rattle.std.specs.Prelude.{◌≡◌, ◌+◌, ◌^◌, ◌<◌, ◌≤◌, ℕ, List, length, slice_range, IfOk, IfErr, IfSome, OnOk, true};
+ghost use Rattle.std.specs.Prelude.{◌≡◌, ◌+◌, ◌^◌, ◌<◌, ◌≤◌, ℕ, List, length, slice_range, IfOk, IfErr, IfSome, OnOk, true, false};
 ghost use Rattle.base_devices.specs.Faults.{Rose};
+ghost use Rattle.log_reader.specs.Opens.{IsOpenError, starts_at};
 ghost use Rattle.log_reader.specs.Windows.{IsSound, IsOn, offset_of, SeesNext, PartLies, bytes_of};
-ghost use Rattle.log_reader.specs.OnlyReads.{OnlyReads};
 
+use crate::errors::OpenError;
 use crate::read_block::read_block;
 use crate::see::see;
-use base_devices::Disk;
+use base_devices::ReadAt;
 use log_block::{BLOCK_LEN, Seen};
 use model_base::NoMemory;
 use std::alloc::Global;
@@ -32,6 +33,7 @@ impl Window {
     pub fn new(alloc: Global) -> Result<Window, NoMemory>
         ensures sound { IfOk result IsSound }
         ensures begins { IfOk result (λ w. offset_of w ≡ 0) }
+        ensures unread { IfOk result (λ w. w.is_read ≡ false) }
         ensures on { IfOk result (λ w. (file : List ℕ) → IsOn file w) }
     {
         Ok(Window {
@@ -43,19 +45,53 @@ impl Window {
         })
     }
 
+    /// The block that has this offset of a file, not read yet. The reader's place is the block's start.
+    fn of_place(alloc: Global, place: u64) -> Result<Window, NoMemory>
+        requires small { place < 2 ^ 63 }
+        ensures sound { IfOk result IsSound }
+        ensures start { IfOk result (λ w. w.start ≡ starts_at place) }
+        ensures unread { IfOk result (λ w. w.is_read ≡ false) }
+    {
+        let mut window = Window::new(alloc)?;
+        window.start = place - place % BLOCK_LEN as u64;
+        Ok(window)
+    }
+
+    /// The block that has this offset of a file, and the reader's place there. If the file ends before the offset, the
+    /// place is before it too.
+    pub fn open_at<R: ReadAt>(alloc: Global, place: u64, disk: &mut R) -> Result<Window, OpenError>
+        requires small { place < 2 ^ 63 }
+        ensures sound { IfOk result IsSound }
+        ensures there { IfSome (R.held disk.old) (λ file. place ≤ length file
+            → IfOk result (λ w. (offset_of w ≡ place) × IsOn file w)) }
+        ensures worked { OnOk result (R.failures disk.new ≡ R.failures disk.old) }
+        ensures error { IfErr result (IsOpenError (R.failures disk.old) (R.failures disk.new)) }
+        ensures disk { R.only_reads disk.old disk.new }
+    {
+        let mut window = Window::of_place(alloc, place)?;
+        match window.fill(disk) {
+            Ok(()) => {
+                let at = ((place - window.start) as usize).min(window.len);
+                window.go_to(at);
+                Ok(window)
+            }
+            Err(count) => Err(OpenError::Fault { count }),
+        }
+    }
+
     /// What the reader of a log with this number, if it has one, sees next. The reader's place is there then. For a
     /// fault of the disk it answers the disk's count of faults.
-    pub fn look<D: Disk>(&mut self, number: Option<u32>, disk: &mut D) -> Result<Seen, u64>
+    pub fn look<R: ReadAt>(&mut self, number: Option<u32>, disk: &mut R) -> Result<Seen, u64>
         requires { IsSound self.old }
         ensures sound { IsSound self.new }
-        ensures seen { IfSome (D.told disk.old) (λ d. IsOn d.content self.old
-            → IfOk result (SeesNext number d.content (offset_of self.old) self.new)) }
-        ensures on { IfSome (D.told disk.old) (λ d. IsOn d.content self.old → IsOn d.content self.new) }
+        ensures seen { IfSome (R.held disk.old) (λ file. IsOn file self.old
+            → IfOk result (SeesNext number file (offset_of self.old) self.new)) }
+        ensures on { IfSome (R.held disk.old) (λ file. IsOn file self.old → IsOn file self.new) }
         ensures part { IfOk result (PartLies self.new) }
         ensures forward { offset_of self.old ≤ offset_of self.new }
-        ensures worked { OnOk result (D.faults disk.new ≡ D.faults disk.old) }
-        ensures fault { IfErr result (λ count. Rose (D.faults disk.old) count × (count ≤ D.faults disk.new)) }
-        ensures disk { OnlyReads ⟦<D as Disk>⟧ disk.old disk.new }
+        ensures worked { OnOk result (R.failures disk.new ≡ R.failures disk.old) }
+        ensures fault { IfErr result (λ count. Rose (R.failures disk.old) count × (count ≤ R.failures disk.new)) }
+        ensures disk { R.only_reads disk.old disk.new }
     {
         // From the place where the window was at the call, the blocks before this one have nothing more.
         loop {
@@ -73,16 +109,16 @@ impl Window {
     }
 
     /// Reads the block, if it isn't read yet.
-    fn fill<D: Disk>(&mut self, disk: &mut D) -> Result<(), u64>
+    fn fill<R: ReadAt>(&mut self, disk: &mut R) -> Result<(), u64>
         requires { IsSound self.old }
         ensures sound { IsSound self.new }
         ensures read { OnOk result (self.new.is_read ≡ true) }
-        ensures on { IfSome (D.told disk.old) (λ d. IsOn d.content self.old → IsOn d.content self.new) }
+        ensures on { IfSome (R.held disk.old) (λ file. IsOn file self.old → IsOn file self.new) }
         ensures start { self.new.start ≡ self.old.start }
         ensures at { self.new.at ≡ self.old.at }
-        ensures worked { OnOk result (D.faults disk.new ≡ D.faults disk.old) }
-        ensures fault { IfErr result (λ count. Rose (D.faults disk.old) count × (count ≤ D.faults disk.new)) }
-        ensures disk { OnlyReads ⟦<D as Disk>⟧ disk.old disk.new }
+        ensures worked { OnOk result (R.failures disk.new ≡ R.failures disk.old) }
+        ensures fault { IfErr result (λ count. Rose (R.failures disk.old) count × (count ≤ R.failures disk.new)) }
+        ensures disk { R.only_reads disk.old disk.new }
     {
         if !self.is_read {
             self.len = read_block(disk, self.start, &mut self.room)?;

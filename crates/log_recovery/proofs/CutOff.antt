@@ -1,6 +1,5 @@
 -- For each reason for which a log may end: whether its last write was cut off.
 use Rattle.std.proofs.Common.{◌≡◌, ◌↔◌, IsTrue, ℕ, Bool, true, List, drop, Option, Some, None, Result, Ok, Err, IfOk, IfSome, refl, sym, ◌∙◌, subst}
-use Rattle.base_devices.specs.Disk.{Disk}
 use Rattle.model_base.specs.declared.log.Damage.TheVariants.{ShortHeader, Zeros, BadLength}
 use Rattle.model_base.specs.declared.log.EndReason.{EndReason}
 use Rattle.model_base.specs.declared.log.EndReason.TheVariants.{Broken, Unfinished}
@@ -26,19 +25,19 @@ zeros_of number file at why in_record is = absurd (cc)
 zeros_of number file at why (zeros all) is = all
 
 -- where an answer has one meaning for the file and this implies another one, it has the other one too
-told_by : (told : Option Disk) (answer : Result Bool ℕ) (P Q : Disk → Bool → Type 0) → ((d : Disk) (b : Bool) → P d b → Q d b) → IfSome told (λ d. IfOk answer (P d)) → IfSome told (λ d. IfOk answer (Q d))
+told_by : (told : Option (List ℕ)) (answer : Result Bool ℕ) (P Q : List ℕ → Bool → Type 0) → ((d : List ℕ) (b : Bool) → P d b → Q d b) → IfSome told (λ d. IfOk answer (P d)) → IfSome told (λ d. IfOk answer (Q d))
 told_by None answer P Q says p = tt
 told_by (Some d) (Ok b) P Q says p = says d b p
 told_by (Some d) (Err e) P Q says p = tt
 
-pub by_part : (told : Option Disk) (answer : Result Bool ℕ) (number : Option ℕ) (at : ℕ) (why : EndReason) → why ≡ Broken BadLength → IfSome told (λ d. IfOk answer (λ b. IsTrue b ↔ PassesFile number d.content at))
-    → IfSome told (λ d. IfOk answer (λ b. IsTrue b ↔ IsCutOff number d.content at why))
+pub by_part : (told : Option (List ℕ)) (answer : Result Bool ℕ) (number : Option ℕ) (at : ℕ) (why : EndReason) → why ≡ Broken BadLength → IfSome told (λ d. IfOk answer (λ b. IsTrue b ↔ PassesFile number d at))
+    → IfSome told (λ d. IfOk answer (λ b. IsTrue b ↔ IsCutOff number d at why))
 by_part told answer number at why is =
-    told_by told answer (λ d b. IsTrue b ↔ PassesFile number d.content at) (λ d b. IsTrue b ↔ IsCutOff number d.content at why)
-    (λ d b says. (λ yes. subst (IsCutOff number d.content at) (sym is) (in_part (says.0 yes)), λ cut. says.1 (part_of number d.content at why cut is)))
+    told_by told answer (λ d b. IsTrue b ↔ PassesFile number d at) (λ d b. IsTrue b ↔ IsCutOff number d at why)
+    (λ d b says. (λ yes. subst (IsCutOff number d at) (sym is) (in_part (says.0 yes)), λ cut. says.1 (part_of number d at why cut is)))
 
-pub by_zeros : (told : Option Disk) (answer : Result Bool ℕ) (number : Option ℕ) (at : ℕ) (why : EndReason) → why ≡ Broken Zeros → IfSome told (λ d. IfOk answer (λ b. b ≡ are_zeros (drop at d.content)))
-    → IfSome told (λ d. IfOk answer (λ b. IsTrue b ↔ IsCutOff number d.content at why))
+pub by_zeros : (told : Option (List ℕ)) (answer : Result Bool ℕ) (number : Option ℕ) (at : ℕ) (why : EndReason) → why ≡ Broken Zeros → IfSome told (λ d. IfOk answer (λ b. b ≡ are_zeros (drop at d)))
+    → IfSome told (λ d. IfOk answer (λ b. IsTrue b ↔ IsCutOff number d at why))
 by_zeros told answer number at why is =
-    told_by told answer (λ d b. b ≡ are_zeros (drop at d.content)) (λ d b. IsTrue b ↔ IsCutOff number d.content at why)
-    (λ d b says. (λ yes. subst (IsCutOff number d.content at) (sym is) (zeros (sym says ∙ yes)), λ cut. says ∙ zeros_of number d.content at why cut is))
+    told_by told answer (λ d b. b ≡ are_zeros (drop at d)) (λ d b. IsTrue b ↔ IsCutOff number d at why)
+    (λ d b says. (λ yes. subst (IsCutOff number d at) (sym is) (zeros (sym says ∙ yes)), λ cut. says ∙ zeros_of number d at why cut is))

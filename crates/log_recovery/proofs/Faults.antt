@@ -1,5 +1,5 @@
 -- The counts of several disks of which the first was read, and why logs weren't recovered.
-use Rattle.std.proofs.Common.{◌≡◌, ℕ, ◌+◌, ◌-◌, ◌≤◌, List, ◌∷◌, sum_by, Result, Ok, Err, IfErr, IsErrAnd, OnOk, refl, sym, ◌∙◌, ap, subst, arith}
+use Rattle.std.proofs.Common.{◌≡◌, ℕ, ◌+◌, ◌≤◌, List, ◌∷◌, sum_by, Result, Ok, Err, IfErr, IsErrAnd, OnOk, refl, sym, ◌∙◌, ap, subst, arith}
 use Rattle.std.proofs.lemmas.List.Sums.{sum_by-cons}
 use Rattle.base_devices.specs.Faults.{Rose, count_in_all}
 use Rattle.log_recovery.specs.declared.modes.Mode.{Mode}

@@ -14,3 +14,5 @@ pub mod Accepting
 pub mod LogByLog
 pub mod Unread
 pub mod Faults
+pub mod NotDue
+pub mod FollowSteps

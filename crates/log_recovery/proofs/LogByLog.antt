@@ -3,7 +3,9 @@ use Rattle.std.proofs.Common.{◌≡◌, ◌↔◌, IsTrue, ℕ, ◌+◌, ◌<�
 use Rattle.std.specs.List.{AllZip}
 use Rattle.std.proofs.lemmas.List.{map-append}
 use Rattle.std.proofs.lemmas.List.Sums.{fold-append}
+use Rattle.base_devices.proofs.Contents.{of_content}
 use Rattle.base_devices.specs.Disk.{Disk}
+use Rattle.base_devices.specs.OnlyReads.{content_of}
 use Rattle.base_devices.specs.declared.disk.Disk.{Ghosts}
 use Rattle.model_base.specs.declared.log.EndReason.{EndReason}
 use Rattle.model_base.specs.declared.log.EndReason.TheVariants as ends
@@ -97,8 +99,8 @@ module _ (files : List (List ℕ)) (file : List ℕ) (log : ℕ) (before kept : 
   reads_on_in disk new rest news later = reads_on has.recovered has.is (sym has.why ∙ clean) (subst (λ n. AreReadInTurn n files rest news) has.shows.last later)
 
 -- what is said of the disk's content is said of the file that it holds
-held : {D : Type 0} (ghosts : Ghosts D) (disk : D) (told : Option Disk) (file : List ℕ) (P : List ℕ → Type 0) → told ≡ ghosts.told disk → Holds ghosts disk file → IfSome told (λ d. P d.content) → P file
-held ghosts disk told file P same holds says = subst P holds.2 (subst (λ (t : Option Disk). IfSome t (λ d. P d.content)) (same ∙ holds.1) says)
+held : {D : Type 0} (ghosts : Ghosts D) (disk : D) (told : Option Disk) (file : List ℕ) (P : List ℕ → Type 0) → told ≡ ghosts.told disk → Holds ghosts disk file → IfSome (content_of told) P → P file
+held ghosts disk told file P same holds says = subst P holds.2 (subst (λ (t : Option Disk). IfSome t (λ d. P d.content)) (same ∙ holds.1) (of_content told P says))
 
 -- disks that aren't there hold no files
 no_files : {D : Type 0} (ghosts : Ghosts D) (rest : List D) (files : List (List ℕ)) → rest ≡ [] → AllZip (Holds ghosts) rest files → files ≡ []
@@ -119,7 +121,7 @@ module _ {D : Type 0} (ghosts : Ghosts D) (disks : List D) (disk : D) (rest : Li
   pub all_stop : (new : D) (last : ℕ) (files : List (List ℕ)) → AreReadInTurn last files disks (new ∷ rest)
   all_stop new last files = subst (λ (l : List D). AreReadInTurn last files l (new ∷ rest)) (sym parts) stops
 
-  module _ (log : ℕ) (before kept : Kept) (end : End) (has : IfSome (ghosts.told disk) (λ d. HasKept plain_log d.content before kept end)) where
+  module _ (log : ℕ) (before kept : Kept) (end : End) (has : IfSome (content_of (ghosts.told disk)) (λ file. HasKept plain_log file before kept end)) where
     has_kept : (file : List ℕ) → Holds ghosts disk file → HasKept plain_log file before kept end
     has_kept file holds = held ghosts disk (ghosts.told disk) file (λ l. HasKept plain_log l before kept end) refl holds has
 
@@ -129,7 +131,7 @@ module _ {D : Type 0} (ghosts : Ghosts D) (disks : List D) (disk : D) (rest : Li
       all_end = by_files (λ files. AreRecoveredFrom files log before (answer_of kept log end)) (λ file files first others.
           ends_in files file log before kept end (has_kept file first) (λ clean. no_files ghosts rest files (final clean) others))
 
-      module _ (mode : Mode) (told : Option Disk) (same : told ≡ ghosts.told disk) (is : Bool) (decided : IfSome told (λ d. IsTrue is ↔ Accepts plain_log mode d.content end.at end.why)) where
+      module _ (mode : Mode) (told : Option Disk) (same : told ≡ ghosts.told disk) (is : Bool) (decided : IfSome (content_of told) (λ file. IsTrue is ↔ Accepts plain_log mode file end.at end.why)) where
         is_accepted : (file : List ℕ) → Holds ghosts disk file → IsTrue is ↔ Accepts plain_log mode file end.at end.why
         is_accepted file holds = held ghosts disk told file (λ l. IsTrue is ↔ Accepts plain_log mode l end.at end.why) same holds decided
 

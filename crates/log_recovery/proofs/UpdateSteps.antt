@@ -1,7 +1,6 @@
 -- The steps of reading a log's records from a sequence on: one more record, or the end.
 use Rattle.std.proofs.Common.{Option, ◌≡◌, ℕ, List, [], ◌∷◌, ◌++◌, refl, sym, ◌∙◌, ap, subst, MatchOption, IfSome, Some, None}
 use Rattle.std.proofs.lemmas.List.Sums.{fold-append}
-use Rattle.base_devices.specs.Disk.{Disk}
 use Rattle.model_base.specs.declared.log.EndReason.{EndReason}
 use Rattle.model_base.specs.Log.{record_of, next_place}
 use Rattle.model_base.specs.Reading.{end_of, HasFragments, ReadingEnds, IsRecord}
@@ -18,7 +17,7 @@ use Rattle.log_recovery.proofs.Ending.{recovered_unread, recovered_unkept}
 use Rattle.log_recovery.proofs.Picking.{updates_more}
 use Rattle.log_recovery.proofs.Recovers.{is_recovered}
 
-if_both : (told : Option Disk) (P Q R : Disk → Type 0) → IfSome told P → IfSome told Q → ((d : Disk) → P d → Q d → R d) → IfSome told R
+if_both : (told : Option (List ℕ)) (P Q R : List ℕ → Type 0) → IfSome told P → IfSome told Q → ((d : List ℕ) → P d → Q d → R d) → IfSome told R
 if_both None P Q R p q f = tt
 if_both (Some d) P Q R p q f = f d p q
 
@@ -93,21 +92,21 @@ pub picked_refuses : (s upto : ℕ) (old new : Picked) (bytes : List ℕ) (end :
 picked_refuses s upto old new bytes end None why m e = absurd (cc)
 picked_refuses s upto old new bytes end (Some w) why m e = let same : w ≡ why = cc in (m.0, subst (Refuses old.last bytes) same m.1)
 
-pub picked_more : (number : Option ℕ) (told : Option Disk) (s upto : ℕ) (old new : Picked) (place start end : ℕ) (in_hand bytes : List ℕ) → old.end ≡ place → bytes ≡ in_hand → Picks s upto old new bytes end
-    → IfSome told (λ d. PicksFront number d.content s upto old) → IfSome told (λ d. Reads number d.content place in_hand (next.Record start end)) → IfSome told (λ d. PicksFront number d.content s upto new)
+pub picked_more : (number : Option ℕ) (told : Option (List ℕ)) (s upto : ℕ) (old new : Picked) (place start end : ℕ) (in_hand bytes : List ℕ) → old.end ≡ place → bytes ≡ in_hand → Picks s upto old new bytes end
+    → IfSome told (λ d. PicksFront number d s upto old) → IfSome told (λ d. Reads number d place in_hand (next.Record start end)) → IfSome told (λ d. PicksFront number d s upto new)
 picked_more number told s upto old new place start end in_hand bytes there bytes_are adds front says =
-    if_both told (λ d. PicksFront number d.content s upto old) (λ d. Reads number d.content place in_hand (next.Record start end)) (λ d. PicksFront number d.content s upto new) front says
-    (λ d f r. picks_read number d.content s upto old new place start end in_hand bytes there bytes_are f r adds)
+    if_both told (λ d. PicksFront number d s upto old) (λ d. Reads number d place in_hand (next.Record start end)) (λ d. PicksFront number d s upto new) front says
+    (λ d f r. picks_read number d s upto old new place start end in_hand bytes there bytes_are f r adds)
 
-pub picked_refused : (number : Option ℕ) (told : Option Disk) (s upto : ℕ) (old new : Picked) (place start end : ℕ) (in_hand bytes : List ℕ) (why : EndReason) → old.end ≡ place → bytes ≡ in_hand → (new ≡ old) × Refuses old.last bytes why
-    → IfSome told (λ d. PicksFront number d.content s upto old) → IfSome told (λ d. Reads number d.content place in_hand (next.Record start end)) → IfSome told (λ d. HasUpdates number d.content s upto (answer new start why))
+pub picked_refused : (number : Option ℕ) (told : Option (List ℕ)) (s upto : ℕ) (old new : Picked) (place start end : ℕ) (in_hand bytes : List ℕ) (why : EndReason) → old.end ≡ place → bytes ≡ in_hand → (new ≡ old) × Refuses old.last bytes why
+    → IfSome told (λ d. PicksFront number d s upto old) → IfSome told (λ d. Reads number d place in_hand (next.Record start end)) → IfSome told (λ d. HasUpdates number d s upto (answer new start why))
 picked_refused number told s upto old new place start end in_hand bytes why there bytes_are refuses front says =
-    subst (λ (k : Picked). IfSome told (λ d. HasUpdates number d.content s upto (answer k start why))) (sym refuses.0)
-    (if_both told (λ d. PicksFront number d.content s upto old) (λ d. Reads number d.content place in_hand (next.Record start end)) (λ d. HasUpdates number d.content s upto (answer old start why)) front says
-    (λ d f r. ends_unkept number d.content s upto old place start end in_hand bytes why there bytes_are f r refuses.1))
+    subst (λ (k : Picked). IfSome told (λ d. HasUpdates number d s upto (answer k start why))) (sym refuses.0)
+    (if_both told (λ d. PicksFront number d s upto old) (λ d. Reads number d place in_hand (next.Record start end)) (λ d. HasUpdates number d s upto (answer old start why)) front says
+    (λ d f r. ends_unkept number d s upto old place start end in_hand bytes why there bytes_are f r refuses.1))
 
-pub picked_ended : (number : Option ℕ) (told : Option Disk) (s upto : ℕ) (picked : Picked) (place at : ℕ) (in_hand : List ℕ) (why : EndReason) → picked.end ≡ place
-    → IfSome told (λ d. PicksFront number d.content s upto picked) → IfSome told (λ d. Reads number d.content place in_hand (next.End at why)) → IfSome told (λ d. HasUpdates number d.content s upto (answer picked at why))
+pub picked_ended : (number : Option ℕ) (told : Option (List ℕ)) (s upto : ℕ) (picked : Picked) (place at : ℕ) (in_hand : List ℕ) (why : EndReason) → picked.end ≡ place
+    → IfSome told (λ d. PicksFront number d s upto picked) → IfSome told (λ d. Reads number d place in_hand (next.End at why)) → IfSome told (λ d. HasUpdates number d s upto (answer picked at why))
 picked_ended number told s upto picked place at in_hand why there front says =
-    if_both told (λ d. PicksFront number d.content s upto picked) (λ d. Reads number d.content place in_hand (next.End at why)) (λ d. HasUpdates number d.content s upto (answer picked at why)) front says
-    (λ d f r. ends_unread number d.content s upto picked at why f (subst (λ n. ReadingEnds number d.content n at why) (sym there) r))
+    if_both told (λ d. PicksFront number d s upto picked) (λ d. Reads number d place in_hand (next.End at why)) (λ d. HasUpdates number d s upto (answer picked at why)) front says
+    (λ d f r. ends_unread number d s upto picked at why f (subst (λ n. ReadingEnds number d n at why) (sym there) r))

@@ -1,3 +1,4 @@
+pub mod Following
 pub mod Keeping
 pub mod Modes
 pub mod Recovering

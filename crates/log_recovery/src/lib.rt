@@ -10,6 +10,7 @@
 //! mode lets it lose is not taken for whole. What is recovered is the same in each mode.
 #![tactic(auto)]
 
+mod following;
 mod kept;
 mod many;
 mod modes;
@@ -17,6 +18,7 @@ mod picked;
 mod recovery;
 mod since;
 
+pub use following::{MoreUpdates, Place, places, updates_from};
 pub use kept::GroupNote;
 pub use many::{RecoveredMany, recover_many};
 pub use modes::Mode;

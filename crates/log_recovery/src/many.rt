@@ -6,7 +6,7 @@ ghost use Rattle.log_recovery.specs.declared.modes.Mode.TheVariants.{Point};
 ghost use Rattle.log_recovery.specs.Recovering.{HasKept, IsNumbered, IsRecoverError};
 ghost use Rattle.std.specs.List.{AllZip};
 ghost use Rattle.model_base.specs.declared.log.EndReason.TheVariants.{Clean};
-ghost use Rattle.log_reader.specs.OnlyReads.{OnlyReads};
+ghost use Rattle.base_devices.specs.OnlyReads.{OnlyReads, content_of};
 ghost use Rattle.log_recovery.specs.RecoveringLogs.{AcceptFrom, AreReadInTurn, AreRecoveredFrom, CountNone, HaveRecovered, Holds};
 ghost use Rattle.log_recovery.specs.RecoveringLogs.{IsErrorFrom, IsErrorOfLogs, TellDamage, TellDamageFrom, with_count};
 
@@ -128,7 +128,8 @@ fn keep_one<D: Disk>(
     log: u64,
     kept: &mut Kept,
 ) -> Result<End, RecoverError>
-    ensures recovered { IfSome (D.told disk.old) (λ d. IfOk result (HasKept plain_log d.content kept.old kept.new)) }
+    ensures recovered { IfSome (content_of (D.told disk.old))
+        (λ file. IfOk result (HasKept plain_log file kept.old kept.new)) }
     ensures numbered { OnOk result (IsNumbered kept.old.map kept.old.last → IsNumbered kept.new.map kept.new.last) }
     ensures worked { OnOk result (D.faults disk.new ≡ D.faults disk.old) }
     ensures error { IfErr result (IsRecoverError Point (D.faults disk.old) (D.faults disk.new)) }

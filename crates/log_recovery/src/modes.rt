@@ -3,12 +3,11 @@
 ghost use Rattle.std.specs.Prelude.{◌≡◌, ◌≤◌, ◌↔◌, IsTrue, IfOk, IfErr, IfSome, OnOk, drop, true};
 ghost use Rattle.base_devices.specs.Faults.{Rose};
 ghost use Rattle.model_base.specs.Reading.{are_zeros};
-ghost use Rattle.log_reader.specs.OnlyReads.{OnlyReads};
 ghost use Rattle.log_recovery.specs.declared.modes.Mode.TheVariants.{Point};
 ghost use Rattle.log_recovery.specs.Modes.{Accepts, IsWholeEnd, IsCutOff, PassesFile};
 
 use crate::recovery::End;
-use base_devices::Disk;
+use base_devices::ReadAt;
 use byteorder::{ByteOrder, LittleEndian};
 use log_block::{BLOCK_LEN, header_len};
 use model_base::{Damage, EndReason};
@@ -26,18 +25,18 @@ pub enum Mode {
 
 /// Whether the mode accepts this end, which recovery found for the log that the disk holds. For a fault of the disk it
 /// answers the disk's count of faults.
-pub fn accepts<D: Disk>(
-    disk: &mut D,
+pub fn accepts<R: ReadAt>(
+    disk: &mut R,
     number: Option<u32>,
     mode: Mode,
     end: End,
 ) -> Result<bool, u64>
-    ensures decided { IfSome (D.told disk.old) (λ d. IfOk result
-        (λ is. IsTrue is ↔ Accepts number mode d.content end.at end.why)) }
+    ensures decided { IfSome (R.held disk.old) (λ file. IfOk result
+        (λ is. IsTrue is ↔ Accepts number mode file end.at end.why)) }
     ensures any { IfOk result (λ is. mode ≡ Point → is ≡ true) }
-    ensures worked { OnOk result (D.faults disk.new ≡ D.faults disk.old) }
-    ensures fault { IfErr result (λ count. Rose (D.faults disk.old) count × (count ≤ D.faults disk.new)) }
-    ensures disk { OnlyReads ⟦<D as Disk>⟧ disk.old disk.new }
+    ensures worked { OnOk result (R.failures disk.new ≡ R.failures disk.old) }
+    ensures fault { IfErr result (λ count. Rose (R.failures disk.old) count × (count ≤ R.failures disk.new)) }
+    ensures disk { R.only_reads disk.old disk.new }
 {
     match mode {
         Mode::Point => Ok(true),
@@ -64,12 +63,12 @@ fn is_whole_end(why: EndReason) -> bool
 }
 
 /// Whether the log ends there because its last write was cut off.
-fn is_cut_off<D: Disk>(disk: &mut D, number: Option<u32>, end: End) -> Result<bool, u64>
-    ensures decided { IfSome (D.told disk.old) (λ d. IfOk result
-        (λ is. IsTrue is ↔ IsCutOff number d.content end.at end.why)) }
-    ensures worked { OnOk result (D.faults disk.new ≡ D.faults disk.old) }
-    ensures fault { IfErr result (λ count. Rose (D.faults disk.old) count × (count ≤ D.faults disk.new)) }
-    ensures disk { OnlyReads ⟦<D as Disk>⟧ disk.old disk.new }
+fn is_cut_off<R: ReadAt>(disk: &mut R, number: Option<u32>, end: End) -> Result<bool, u64>
+    ensures decided { IfSome (R.held disk.old) (λ file. IfOk result
+        (λ is. IsTrue is ↔ IsCutOff number file end.at end.why)) }
+    ensures worked { OnOk result (R.failures disk.new ≡ R.failures disk.old) }
+    ensures fault { IfErr result (λ count. Rose (R.failures disk.old) count × (count ≤ R.failures disk.new)) }
+    ensures disk { R.only_reads disk.old disk.new }
 {
     match end.why {
         EndReason::Unfinished => Ok(true),
@@ -84,15 +83,15 @@ fn is_cut_off<D: Disk>(disk: &mut D, number: Option<u32>, end: End) -> Result<bo
 const HEADER_ROOM: usize = 11;
 
 /// Whether the fragment at the place `at` goes on past the end of the file, and not past the end of its block.
-fn passes_file<D: Disk>(disk: &mut D, number: Option<u32>, at: u64) -> Result<bool, u64>
-    ensures decided { IfSome (D.told disk.old) (λ d. IfOk result (λ is. IsTrue is ↔ PassesFile number d.content at)) }
-    ensures worked { OnOk result (D.faults disk.new ≡ D.faults disk.old) }
-    ensures fault { IfErr result (λ count. Rose (D.faults disk.old) count × (count ≤ D.faults disk.new)) }
-    ensures disk { OnlyReads ⟦<D as Disk>⟧ disk.old disk.new }
+fn passes_file<R: ReadAt>(disk: &mut R, number: Option<u32>, at: u64) -> Result<bool, u64>
+    ensures decided { IfSome (R.held disk.old) (λ file. IfOk result (λ is. IsTrue is ↔ PassesFile number file at)) }
+    ensures worked { OnOk result (R.failures disk.new ≡ R.failures disk.old) }
+    ensures fault { IfErr result (λ count. Rose (R.failures disk.old) count × (count ≤ R.failures disk.new)) }
+    ensures disk { R.only_reads disk.old disk.new }
 {
     let mut header = [0; HEADER_ROOM];
-    let Ok(len) = disk.read(at, &mut header) else {
-        return Err(disk.faults());
+    let Ok(len) = disk.read_at(at, &mut header) else {
+        return Err(disk.failure_count());
     };
     if len < header_len(number) {
         return Ok(false);
@@ -102,8 +101,8 @@ fn passes_file<D: Disk>(disk: &mut D, number: Option<u32>, at: u64) -> Result<bo
         return Ok(false);
     }
     let last = at + fragment_len as u64 - 1;
-    let Ok(len) = disk.read(last, &mut [0]) else {
-        return Err(disk.faults());
+    let Ok(len) = disk.read_at(last, &mut [0]) else {
+        return Err(disk.failure_count());
     };
     Ok(len == 0)
 }
@@ -112,18 +111,18 @@ fn passes_file<D: Disk>(disk: &mut D, number: Option<u32>, at: u64) -> Result<bo
 const PIECE: usize = 4096;
 
 /// Whether all bytes of a file from this place on are zeros.
-fn are_zeros_from<D: Disk>(disk: &mut D, from: u64) -> Result<bool, u64>
-    ensures decided { IfSome (D.told disk.old) (λ d. IfOk result (λ is. is ≡ are_zeros (drop from d.content))) }
-    ensures worked { OnOk result (D.faults disk.new ≡ D.faults disk.old) }
-    ensures fault { IfErr result (λ count. Rose (D.faults disk.old) count × (count ≤ D.faults disk.new)) }
-    ensures disk { OnlyReads ⟦<D as Disk>⟧ disk.old disk.new }
+fn are_zeros_from<R: ReadAt>(disk: &mut R, from: u64) -> Result<bool, u64>
+    ensures decided { IfSome (R.held disk.old) (λ file. IfOk result (λ is. is ≡ are_zeros (drop from file))) }
+    ensures worked { OnOk result (R.failures disk.new ≡ R.failures disk.old) }
+    ensures fault { IfErr result (λ count. Rose (R.failures disk.old) count × (count ≤ R.failures disk.new)) }
+    ensures disk { R.only_reads disk.old disk.new }
 {
     let mut piece = [0; PIECE];
     let mut at = from;
     // From `from` up to `at` there are only zeros, and no read has failed.
     loop {
-        let Ok(len) = disk.read(at, &mut piece) else {
-            return Err(disk.faults());
+        let Ok(len) = disk.read_at(at, &mut piece) else {
+            return Err(disk.failure_count());
         };
         if len == 0 {
             return Ok(true);

@@ -1,14 +1,13 @@
 //! Recovery, record by record.
 
 ghost use Rattle.std.specs.Prelude.{◌≡◌, ◌≤◌, IfOk, IfErr, IfSome, OnOk};
-ghost use Rattle.log_reader.specs.OnlyReads.{OnlyReads};
 ghost use Rattle.log_recovery.specs.declared.modes.Mode.TheVariants.{Point};
 ghost use Rattle.log_recovery.specs.Modes.{Accepts, TellsDamage};
 ghost use Rattle.log_recovery.specs.Recovering.{HasKept, HasRecovered, IsNumbered, IsOfFirstLog, IsRecoverError};
 
 use crate::kept::{GroupNote, Kept};
 use crate::modes::{Mode, accepts};
-use base_devices::Disk;
+use base_devices::ReadAt;
 use base_maps::FamilyMap;
 use log_reader::{LogReader, Next};
 use model_base::{EndReason, NoMemory};
@@ -61,21 +60,21 @@ impl From<NoMemory> for RecoverError {
 ///
 /// The error is `Fault` where a read failed, and `NoMemory` where there was no memory for a block, a record, a note, a
 /// key or a value. This call accepts any end, as [`Mode::Point`] does, so the error is never `Damage`.
-pub fn recover<D: Disk>(
+pub fn recover<R: ReadAt>(
     alloc: Global,
-    disk: &mut D,
+    disk: &mut R,
     number: Option<u32>,
 ) -> Result<Recovered, RecoverError>
     // It is said of any bytes: they needn't be a log that a program wrote.
-    ensures recovered { IfSome (D.told disk.old) (λ d. IfOk result (HasRecovered number d.content)) }
+    ensures recovered { IfSome (R.held disk.old) (λ file. IfOk result (HasRecovered number file)) }
     // A log writer and a table may go on from it. It is said also where the disk tells nothing.
     ensures numbered { IfOk result (λ r. IsNumbered r.map r.last) }
     // So no fault is swallowed.
-    ensures worked { OnOk result (D.faults disk.new ≡ D.faults disk.old) }
+    ensures worked { OnOk result (R.failures disk.new ≡ R.failures disk.old) }
     // An error has a cause: the disk's count of faults rose, or there was no memory.
-    ensures error { IfErr result (IsRecoverError Point (D.faults disk.old) (D.faults disk.new)) }
-    // The disk tells what it told before, its count of faults doesn't fall, and its time goes on.
-    ensures disk { OnlyReads ⟦<D as Disk>⟧ disk.old disk.new }
+    ensures error { IfErr result (IsRecoverError Point (R.failures disk.old) (R.failures disk.new)) }
+    // The disk is only read.
+    ensures disk { R.only_reads disk.old disk.new }
 {
     let mut kept = Kept::new(alloc);
     let end = keep_log(alloc, disk, number, &mut kept)?;
@@ -84,17 +83,17 @@ pub fn recover<D: Disk>(
 
 /// Keeps what the log recovers that a disk holds, after what was kept before, and answers where recovery of it ends.
 /// Where this fails, what is kept is of no use.
-pub(crate) fn keep_log<D: Disk>(
+pub(crate) fn keep_log<R: ReadAt>(
     alloc: Global,
-    disk: &mut D,
+    disk: &mut R,
     number: Option<u32>,
     kept: &mut Kept,
 ) -> Result<End, RecoverError>
-    ensures recovered { IfSome (D.told disk.old) (λ d. IfOk result (HasKept number d.content kept.old kept.new)) }
+    ensures recovered { IfSome (R.held disk.old) (λ file. IfOk result (HasKept number file kept.old kept.new)) }
     ensures numbered { OnOk result (IsNumbered kept.old.map kept.old.last → IsNumbered kept.new.map kept.new.last) }
-    ensures worked { OnOk result (D.faults disk.new ≡ D.faults disk.old) }
-    ensures error { IfErr result (IsRecoverError Point (D.faults disk.old) (D.faults disk.new)) }
-    ensures disk { OnlyReads ⟦<D as Disk>⟧ disk.old disk.new }
+    ensures worked { OnOk result (R.failures disk.new ≡ R.failures disk.old) }
+    ensures error { IfErr result (IsRecoverError Point (R.failures disk.old) (R.failures disk.new)) }
+    ensures disk { R.only_reads disk.old disk.new }
 {
     let mut log = LogReader::open(alloc, number)?;
     kept.end = 0;
@@ -118,26 +117,26 @@ pub(crate) fn keep_log<D: Disk>(
 ///
 /// The disk is read further where the mode asks for it: from the place where recovery ends, at most up to the file's
 /// end.
-pub fn recover_mode<D: Disk>(
+pub fn recover_mode<R: ReadAt>(
     alloc: Global,
-    disk: &mut D,
+    disk: &mut R,
     number: Option<u32>,
     mode: Mode,
 ) -> Result<Recovered, RecoverError>
-    ensures recovered { IfSome (D.told disk.old) (λ d. IfOk result (HasRecovered number d.content)) }
+    ensures recovered { IfSome (R.held disk.old) (λ file. IfOk result (HasRecovered number file)) }
     // Of what `recover` answers only what has an end that the mode accepts.
-    ensures accepted { IfSome (D.told disk.old) (λ d. IfOk result
-        (λ r. Accepts number mode d.content r.end.at r.end.why)) }
+    ensures accepted { IfSome (R.held disk.old) (λ file. IfOk result
+        (λ r. Accepts number mode file r.end.at r.end.why)) }
     // A refusal is true too: recovery does end at this place for this reason, and the mode doesn't accept that. No
     // clause says which ends a crash leaves.
-    ensures damage { IfSome (D.told disk.old) (λ d. IfErr result (TellsDamage number mode d.content)) }
+    ensures damage { IfSome (R.held disk.old) (λ file. IfErr result (TellsDamage number mode file)) }
     ensures log { IfErr result IsOfFirstLog }
     ensures numbered { IfOk result (λ r. IsNumbered r.map r.last) }
-    ensures worked { OnOk result (D.faults disk.new ≡ D.faults disk.old) }
+    ensures worked { OnOk result (R.failures disk.new ≡ R.failures disk.old) }
     // `Damage` comes only with no fault counted, and never in the mode `Point`. The other errors are those of
     // `recover`.
-    ensures error { IfErr result (IsRecoverError mode (D.faults disk.old) (D.faults disk.new)) }
-    ensures disk { OnlyReads ⟦<D as Disk>⟧ disk.old disk.new }
+    ensures error { IfErr result (IsRecoverError mode (R.failures disk.old) (R.failures disk.new)) }
+    ensures disk { R.only_reads disk.old disk.new }
 {
     let recovered = recover(alloc, disk, number)?;
     let End { at, why } = recovered.end;

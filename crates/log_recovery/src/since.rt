@@ -1,14 +1,13 @@
 //! The records of a log from a sequence on, as `GetUpdatesSince` of RocksDB's include/rocksdb/db.h gives them.
 
 ghost use Rattle.std.specs.Prelude.{◌≡◌, IfOk, IfErr, IfSome, OnOk};
-ghost use Rattle.log_reader.specs.OnlyReads.{OnlyReads};
 ghost use Rattle.log_recovery.specs.declared.modes.Mode.TheVariants.{Point};
 ghost use Rattle.log_recovery.specs.Recovering.{IsRecoverError};
 ghost use Rattle.log_recovery.specs.Updating.{HasUpdates};
 
 use crate::picked::{Picked, Updates};
 use crate::recovery::{End, RecoverError};
-use base_devices::Disk;
+use base_devices::ReadAt;
 use log_reader::{LogReader, Next};
 use std::alloc::Global;
 
@@ -17,17 +16,17 @@ use std::alloc::Global;
 ///
 /// The error is `Fault` where a read failed, and `NoMemory` where there was no memory for a block or a record. It is
 /// never `Damage`.
-pub fn updates<D: Disk>(
+pub fn updates<R: ReadAt>(
     alloc: Global,
-    disk: &mut D,
+    disk: &mut R,
     number: Option<u32>,
     since: u64,
     upto: u64,
 ) -> Result<Updates, RecoverError>
-    ensures updates { IfSome (D.told disk.old) (λ d. IfOk result (HasUpdates number d.content since upto)) }
-    ensures worked { OnOk result (D.faults disk.new ≡ D.faults disk.old) }
-    ensures error { IfErr result (IsRecoverError Point (D.faults disk.old) (D.faults disk.new)) }
-    ensures disk { OnlyReads ⟦<D as Disk>⟧ disk.old disk.new }
+    ensures updates { IfSome (R.held disk.old) (λ file. IfOk result (HasUpdates number file since upto)) }
+    ensures worked { OnOk result (R.failures disk.new ≡ R.failures disk.old) }
+    ensures error { IfErr result (IsRecoverError Point (R.failures disk.old) (R.failures disk.new)) }
+    ensures disk { R.only_reads disk.old disk.new }
 {
     let mut log = LogReader::open(alloc, number)?;
     let mut picked = Picked::new(alloc);

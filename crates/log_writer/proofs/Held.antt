@@ -11,10 +11,11 @@ use Rattle.log_writer.specs.Crashes.{KeepsSafe, reach_with, MayBeLeft, HoldsUpTo
 use Rattle.log_writer.specs.Words.{disk_of, number_of, len_of, fault_of}
 use Rattle.log_writer.specs.Opening.{MayBeLeftOf, HasKeptBytes, HasBegun}
 use Rattle.log_writer.specs.Adding.{GroupCall, record_of_call, Adds}
-use Rattle.log_writer.specs.Written.{Wrote, no_call, one_more, IsWritten, if_worked, first_fault, written_by, begun_by, HaveSynced, HoldsCalls, HoldsSynced, Stands}
+use Rattle.log_writer.specs.Reads.{WasRead}
+use Rattle.log_writer.specs.Written.{Wrote, no_call, one_more, read, IsWritten, if_worked, first_fault, written_by, begun_by, HaveSynced, HoldsCalls, HoldsSynced, Stands}
 use Rattle.log_writer.proofs.Calls.{written_more, begun_more, begun_written, written_len, none_more}
 use Rattle.log_writer.proofs.Keeping.{after_more, after_front, after_shorter}
-use Rattle.log_writer.proofs.Putting.{leaves_so, leaves_more}
+use Rattle.log_writer.proofs.Putting.{keeps_image, leaves_so, leaves_more, leaves_time}
 use Rattle.log_writer.proofs.Standing.{len_after, stands_first, stands_written}
 use Rattle.log_writer.proofs.Surviving.{Laws, safe_begins}
 
@@ -82,6 +83,13 @@ held_dead b reached calls c count image dead failed holds = λ k e at worked ask
 record IsHeld (b : Beginning) (reached : ℕ) (calls : List GroupCall) (image : List ℕ) : Type 0 where
   holds : HoldsSynced b reached calls image
   within : length image ≤ farthest b reached calls
+
+-- It is known of each image that a crash may leave now.
+held_now : (b : Beginning) (reached : ℕ) (calls : List GroupCall) (a : Option Disk) (image : List ℕ) → IfSome a (λ d. (safe : ℕ) × HoldsCalls b d calls safe) → IsSomeAnd a (λ d. d.reach ≤ farthest b reached calls) → IfSome a (λ d. IsImage d image) → IsHeld b reached calls image
+held_now b reached calls None image holds reach is = absurd reach
+held_now b reached calls (Some x) image holds reach is =
+    let within : length image ≤ farthest b reached calls = omega (arith, is.no_longer, reach) in
+    record { holds = holds_synced b reached x calls holds.0 image holds.1 (keeps_image x image is); within = within }
 
 -- A call that puts its record after those of calls that all worked.
 module _ (b : Beginning) (reached : ℕ) (calls : List GroupCall) (c : GroupCall) (len : ℕ) (number : Option ℕ) (none : first_fault calls ≡ None) (same : number ≡ b.number) (len_is : len ≡ length (text_after b (written_by calls))) where
@@ -171,10 +179,25 @@ module _ {D : Type 0} {ghosts : Ghosts D} (laws : Laws ghosts) (b : Beginning) (
                 (λ image h. record { holds = held_dead b first.reach calls c count image dead kept.0 h.holds; within = let h_within = h.within in omega (arith, h_within, len) });
           })
 
+  -- reading changes nothing of it
+  held_read : (calls : List GroupCall) (now new : LogWriter D ghosts) → Stands b calls now → Held calls now → WasRead now new → Held calls new
+  held_read calls now new stands held r =
+      let a : Option Disk = ghosts.told (disk_of now) in
+      let Q : List ℕ → Type 0 = λ image. IfSome a (λ d. IsImage d image) in
+      let leaves : LeavesOnly ghosts.moment ghosts.from ghosts.since (disk_of now) (disk_of new) Q =
+      leaves_time ghosts (disk_of now) (disk_of new) Q (laws.only_now (disk_of now)) r.disk.time (λ image is. is) (λ image is. subst (λ (t : Option Disk). IfSome t (λ d. IsImage d image)) r.disk.same is) in
+      record {
+        reach = subst (λ (t : Option Disk). IsSomeAnd t (λ d. d.reach ≤ farthest b first.reach calls)) (sym r.disk.same) held.reach;
+        leaves = leaves_more ghosts.moment ghosts.from ghosts.since (IsHeld b first.reach calls) Q disk (disk_of now) (disk_of new) held.leaves leaves
+            (λ image is. held_now b first.reach calls a image stands.told held.reach is);
+      }
+
   held_calls : (begun : LogWriter D ghosts) (calls : List GroupCall) (new : LogWriter D ghosts) → HasBegun b disk begun → Wrote begun calls new → Held calls new
   held_calls begun calls new has no_call = held_first begun has
   held_calls begun calls new has (one_more {calls = before} {now = now} c wrote adds) =
       held_call before c now new (stands_written laws.is_disk b begun before now (stands_first b disk begun has) wrote) (held_calls begun before now has wrote) adds
+  held_calls begun calls new has (read {now = now} wrote r) =
+      held_read calls now new (stands_written laws.is_disk b begun calls now (stands_first b disk begun has) wrote) (held_calls begun calls now has wrote) r
 
   held_all : (calls : List GroupCall) (log : LogWriter D ghosts) → IsWritten b disk calls log → LeavesOnly ghosts.moment ghosts.from ghosts.since disk (disk_of log) (HoldsSynced b first.reach calls)
   held_all calls log is =

@@ -5,6 +5,8 @@ pub mod Keeping
 pub mod Calls
 pub mod Standing
 pub mod Surviving
+pub mod Reading
+pub mod Counting
 pub mod Held
 pub mod Beginning
 pub mod Filling
@@ -22,3 +24,6 @@ pub mod SetJoining
 pub mod SetEnd
 pub mod SetHeld
 pub mod SetUnused
+pub mod ReadContents
+pub mod ReadFront
+pub mod ReadsIn

@@ -1,11 +1,12 @@
 -- The bytes of a group, member by member.
-use Rattle.std.proofs.Common.{◌≡◌, ℕ, ◌+◌, ◌-◌, ◌<◌, ◌≤◌, List, [], ◌∷◌, ◌++◌, length, take, drop, get_or, refl, sym, ◌∙◌, ap, arith, append_assoc, cond}
+use Rattle.std.proofs.Common.{◌≡◌, ℕ, zero, suc, ◌+◌, ◌-◌, ◌^◌, ◌<◌, ◌≤◌, List, [], ◌∷◌, ◌++◌, length, take, drop, get_or, refl, sym, ◌∙◌, ap, subst, arith, append_assoc, cond}
 use Rattle.std.proofs.Math.Seq.{take-append-add, drop-append-add}
 use Rattle.std.proofs.lemmas.Grind.{flat_map-append}
 use Rattle.std.proofs.lemmas.List.Sums.{sum_by-append, sum_by-cons}
 use Rattle.std.proofs.lemmas.List.{take_all, append-nil}
-use Rattle.std.specs.List.{flat_map}
-use Rattle.model_base.specs.Batch.{Record, record_bytes, is_counted, count_of, body, header, batch}
+use Rattle.std.specs.List.{AllByRecursion, flat_map}
+use Rattle.model_base.specs.Batch.{Record, record_bytes, is_counted, count_of, body, header, batch, IsReadable, IsBatch}
+use Rattle.model_base.specs.History.{max_sequence}
 use Rattle.log_batch.specs.Contents.{Contents}
 use Rattle.log_writer.specs.Groups.{batches_of, counts_of, bodies_of, record_of_group}
 
@@ -57,3 +58,35 @@ only_member [] m first one e s = absurd (omega (arith, one))
 only_member (x ∷ []) m first one e s =
     ap (λ (n : ℕ). batch n m.records) s ∙ (ap (λ (c : Contents). batch first c.records) e ∙ ap (batch first) (sym (append-nil x.records)))
 only_member (x ∷ y ∷ ms) m first one e s = absurd (omega (arith, one))
+
+-- Each addition of the member can be read back.
+abbrev pub IsReadableMember : Contents → Type 0
+IsReadableMember m = AllByRecursion IsReadable m.records
+
+-- what holds of the first elements of a list holds of one more
+pub all_take_more : {A : Type 0} (P : A → Type 0) (xs : List A) (i : ℕ) (x : A) → AllByRecursion P (take i xs) → i < length xs → x ≡ get_or xs i x → P x → AllByRecursion P (take (i + 1) xs)
+all_take_more P [] i x all within is one = absurd (omega (arith, within))
+all_take_more P (y ∷ ys) zero x all within is one = (subst P is one, tt)
+all_take_more P (y ∷ ys) (suc i) x all within is one =
+    let e : suc (i + 1) ≡ suc i + 1 = omega arith in
+    subst (λ (n : ℕ). AllByRecursion P (take n (y ∷ ys))) e (all.0, all_take_more P ys i x all.1 (omega (arith, within)) is one)
+
+both_all : {A : Type 0} (P : A → Type 0) (xs ys : List A) → AllByRecursion P xs → AllByRecursion P ys → AllByRecursion P (xs ++ ys)
+both_all P [] ys first second = second
+both_all P (x ∷ xs) ys first second = (first.0, both_all P xs ys first.1 second)
+
+readable_joined : (members : List Contents) → AllByRecursion IsReadableMember members → AllByRecursion IsReadable (joined members)
+unfolding joined
+readable_joined [] all = tt
+readable_joined (m ∷ ms) all = both_all IsReadable m.records (joined ms) all.0 (readable_joined ms all.1)
+
+-- so the group's record is a batch
+pub group_is_batch : (first : ℕ) (members : List Contents) → counts_of members < 2 ^ 32 → first + counts_of members - 1 ≤ max_sequence → AllByRecursion IsReadableMember members
+    → IsBatch (record_of_group first members) first (flat_map (λ (records : List Record). records) (batches_of members))
+unfolding joined
+group_is_batch first members few run all = record {
+  spelled = refl;
+  readable = readable_joined members all;
+  sequence_fits = omega (arith, run);
+  count_fits = omega (arith, counts_joined members, few);
+}

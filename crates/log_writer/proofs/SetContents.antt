@@ -15,7 +15,9 @@ use Rattle.log_writer.specs.Sets.{full_of, current_of, later_of}
 use Rattle.log_writer.specs.SetSplits.{AreFilled, IsSplit, until_fault}
 use Rattle.log_writer.specs.SetCrashes.{HasOpenedSet}
 use Rattle.log_writer.specs.SetContents.{HoldsBegun, HoldLogs}
+use Rattle.log_writer.specs.Reads.{WasRead}
 use Rattle.log_writer.proofs.Cutting.{one_cut}
+use Rattle.log_writer.proofs.Reading.{zip_none}
 use Rattle.log_writer.proofs.Surviving.{Laws}
 use Rattle.log_writer.proofs.SetStates.{written_append, IsOn, on_opened, on_more, on_stands, on_content, filled_content, filled_len}
 use Rattle.log_writer.proofs.SetRecords.{alive_calls, filled_alive, joined, joined_alive, written_joined, begun_append, until_written, until_begun, same_written, same_begun}
@@ -82,7 +84,7 @@ module _ {D : Type 0} {ghosts : Ghosts D} (laws : Laws ghosts) where
     on_current = on_more laws [] s.own s.last (current_of last) (all_back (IsOn laws []) s.started (s.last ∷ later_of last) on_all).0 s.wrote
 
     pub full_is : full_of last ≡ s.filled
-    full_is = s.full ∙ ap (λ (l : List (LogWriter D ghosts)). l ++ s.filled) has.none_full
+    full_is = s.full ∙ ap (λ (l : List (LogWriter D ghosts)). l ++ s.filled) (zip_none WasRead (full_of opened) s.kept s.were_read has.none_full)
 
     pub parts_alive : AllByRecursion (λ (part : List GroupCall). first_fault part ≡ None) s.parts
     parts_alive = filled_alive s.started s.parts s.filled s.are_filled

@@ -10,12 +10,14 @@ use Rattle.log_writer.specs.declared.set.LogSet.{LogSet}
 use Rattle.log_writer.specs.Words.{disk_of}
 use Rattle.log_writer.specs.Opening.{HasOpened}
 use Rattle.log_writer.specs.Adding.{GroupCall}
+use Rattle.log_writer.specs.Reads.{WasRead}
 use Rattle.log_writer.specs.Written.{no_call, written_by, begun_by, HaveSynced, HoldsCalls}
 use Rattle.log_writer.specs.Sets.{full_of, current_of, later_of, logs_of, fault_in}
 use Rattle.log_writer.specs.SetSplits.{AreFilled, IsSplit}
 use Rattle.log_writer.specs.SetCrashes.{HasOpenedSet, AreSafeAfterFirst, LeavesFront}
 use Rattle.log_writer.proofs.Beginning.{opened_begins}
 use Rattle.log_writer.proofs.Keeping.{only_image}
+use Rattle.log_writer.proofs.Reading.{zip_none, filled_then_read, left_while_read}
 use Rattle.log_writer.proofs.Surviving.{Laws}
 use Rattle.log_writer.proofs.SetFronts.{IsWholeNow, FromFirst, done, current, front_first}
 use Rattle.log_writer.proofs.SetStates.{IsAt, IsUnused, is_on, holds, filled_whole, logs_from, from_current}
@@ -79,17 +81,20 @@ module _ {D : Type 0} {ghosts : Ghosts D} (laws : Laws ghosts) where
   open_from (disk ∷ disks) log later safe opened = record { first = opened_at disk log safe.0.0 safe.0.1 opened.0; others = all_unused disks later safe.1 opened.1 }
 
   -- the logs that were full before
-  pub chain : (safe : ℕ) (started : List (LogWriter D ghosts)) (parts : List (List GroupCall)) (news olds others : List (LogWriter D ghosts)) (logs : List (List (List ℕ))) → AreFilled started parts news → AllByRecursion (IsAt laws []) started → FromFirst safe olds others logs
-      → FromFirst (certain_in parts safe) (news ++ olds) (news ++ others) (map written_by parts ++ logs)
+  pub chain : (safe : ℕ) (started : List (LogWriter D ghosts)) (parts : List (List GroupCall)) (mids news olds others : List (LogWriter D ghosts)) (logs : List (List (List ℕ))) → AreFilled started parts mids → AllZip WasRead mids news → AllByRecursion (IsAt laws []) started → FromFirst safe olds others logs
+      → FromFirst (certain_in parts safe) (mids ++ olds) (news ++ others) (map written_by parts ++ logs)
   unfolding certain_in
-  chain safe [] [] [] olds others logs are at on = on
-  chain safe [] [] (n ∷ news) olds others logs are at on = absurd are
-  chain safe [] (p ∷ parts) news olds others logs are at on = absurd are
-  chain safe (s ∷ started) [] news olds others logs are at on = absurd are
-  chain safe (s ∷ started) (p ∷ parts) [] olds others logs are at on = absurd are
-  chain safe (s ∷ started) (p ∷ parts) (n ∷ news) olds others logs are at on =
-      let full : IsWholeNow n (written_by p) = filled_whole laws s at.0 p n are.0 in
-      done (written_by p) full (λ image left. full image (laws.only_now (disk_of n) image left.0 left.1)) (chain safe started parts news olds others logs are.1 at.1 on)
+  chain safe [] [] [] [] olds others logs are were at on = on
+  chain safe [] [] [] (n ∷ news) olds others logs are were at on = absurd were
+  chain safe [] [] (m ∷ mids) news olds others logs are were at on = absurd are
+  chain safe [] (p ∷ parts) mids news olds others logs are were at on = absurd are
+  chain safe (s ∷ started) [] mids news olds others logs are were at on = absurd are
+  chain safe (s ∷ started) (p ∷ parts) [] news olds others logs are were at on = absurd are
+  chain safe (s ∷ started) (p ∷ parts) (m ∷ mids) [] olds others logs are were at on = absurd were
+  chain safe (s ∷ started) (p ∷ parts) (m ∷ mids) (n ∷ news) olds others logs are were at on =
+      let was : IsWholeNow m (written_by p) = filled_whole laws s at.0 p m are.0 in
+      let full : IsWholeNow n (written_by p) = filled_whole laws s at.0 p n (filled_then_read s p m n are.0 were.0) in
+      done (written_by p) was full (λ image left. was image (left_while_read laws m n were.0 image left)) (chain safe started parts mids news olds others logs are.1 were.1 at.1 on)
 
   module _ (disks : List D) (opened between last : LogSet D ghosts) (before after : List GroupCall) (safe_disks : AreSafeAfterFirst ghosts disks) (has : HasOpenedSet disks opened) (first : IsSplit opened before between) (second : IsSplit between after last) where
     all_open : IsOpen (current_of opened) (later_of opened)
@@ -132,10 +137,11 @@ module _ {D : Type 0} {ghosts : Ghosts D} (laws : Laws ghosts) where
     unfolding contents certain
     leaves_front images left =
         let on = from_current laws first.own held.0 (current_of between) (later_of between) second.started second.parts second.filled second.last second.own (current_of last) (later_of last) second.begun now_at held.1 unused second.are_filled second.wrote in
-        let all = chain held.0 first.started first.parts first.filled (current_of between ∷ later_of between) (second.filled ++ current_of last ∷ later_of last) (logs_from laws first.own second.parts second.own (later_of last)) first.are_filled
+        let full : full_of between ≡ first.filled = first.full ∙ ap (λ (l : List (LogWriter D ghosts)). l ++ first.filled) (zip_none WasRead (full_of opened) first.kept first.were_read has.none_full) in
+        let were_read : AllZip WasRead first.filled second.kept = subst (λ (l : List (LogWriter D ghosts)). AllZip WasRead l second.kept) full second.were_read in
+        let all = chain held.0 first.started first.parts first.filled second.kept (current_of between ∷ later_of between) (second.filled ++ current_of last ∷ later_of last) (logs_from laws first.own second.parts second.own (later_of last)) first.are_filled were_read
         (all_front (IsAt laws []) first.started (first.last ∷ later_of between) at_all) (current on) in
-        let full : full_of between ≡ first.filled = first.full ∙ ap (λ (l : List (LogWriter D ghosts)). l ++ first.filled) has.none_full in
         let olds : first.filled ++ (current_of between ∷ later_of between) ≡ logs_of between = ap (λ (l : List (LogWriter D ghosts)). l ++ current_of between ∷ later_of between) (sym full) in
-        let news : first.filled ++ (second.filled ++ current_of last ∷ later_of last) ≡ logs_of last =
-        sym (append_assoc first.filled second.filled (current_of last ∷ later_of last)) ∙ ap (λ (l : List (LogWriter D ghosts)). l ++ current_of last ∷ later_of last) (ap (λ (l : List (LogWriter D ghosts)). l ++ second.filled) (sym full) ∙ sym second.full) in
+        let news : second.kept ++ (second.filled ++ current_of last ∷ later_of last) ≡ logs_of last =
+        sym (append_assoc second.kept second.filled (current_of last ∷ later_of last)) ∙ ap (λ (l : List (LogWriter D ghosts)). l ++ current_of last ∷ later_of last) (sym second.full) in
         front_first certain (logs_of between) (logs_of last) contents images (subst (λ (z : List (LogWriter D ghosts) × List (LogWriter D ghosts)). FromFirst (certain_in first.parts held.0) z.0 z.1 (map written_by first.parts ++ logs_from laws first.own second.parts second.own (later_of last))) (λ i. (olds i, news i)) all) left

@@ -2,22 +2,26 @@
 -- records are cut into logs.
 use Rattle.std.proofs.Common.{◌≡◌, ℕ, List, [], ◌∷◌, ◌++◌, map, Option, Some, None, IfSome, refl, sym, ◌∙◌, ap, subst, append_assoc, append-nil}
 use Rattle.std.specs.List.{AllByRecursion, AllZip}
+use Rattle.base_devices.specs.Disk.{Disk}
 use Rattle.base_devices.specs.declared.disk.Disk.{Ghosts}
 use Rattle.model_base.specs.Log.{new_log}
-use Rattle.log_laws.specs.Fronts.{HaveFront}
+use Rattle.log_laws.specs.Fronts.{plain_text, HaveFront}
 use Rattle.log_writer.specs.declared.writer.LogWriter.{LogWriter}
 use Rattle.log_writer.specs.declared.set.LogSet.{LogSet}
 use Rattle.log_writer.specs.Words.{disk_of}
 use Rattle.log_writer.specs.Adding.{GroupCall}
+use Rattle.log_writer.specs.Reads.{WasRead}
+use Rattle.log_writer.specs.ReadLaws.{none_were_read, set_not_read, set_read_on, set_begun_read}
 use Rattle.log_writer.specs.Written.{no_call, first_fault, written_by, begun_by, HaveSynced, HoldsCalls}
-use Rattle.log_writer.specs.Sets.{full_of, current_of, later_of, logs_of, fault_in, WroteSet}
+use Rattle.log_writer.specs.Sets.{full_of, current_of, later_of, logs_of, begun_in, fault_in, SetWasRead, WroteSet}
 use Rattle.log_writer.specs.Sets as sets
 use Rattle.log_writer.specs.SetSplits.{until_fault, IsSplit}
-use Rattle.log_writer.specs.SetCrashes.{IsLeftNow, AreLeft, here, later, HasOpenedSet, AreSafeAfterFirst, LeavesFront}
+use Rattle.log_writer.specs.SetCrashes.{IsLeftNow, HasOpenedSet, AreSafeAfterFirst, LeavesFront}
 use Rattle.log_writer.specs.SetContents.{HoldsBegun, HoldLogs}
 use Rattle.log_writer.specs.SetWritten.{disks_of, begun_logs}
 use Rattle.log_writer.proofs.Calls.{none_more, synced_more}
 use Rattle.log_writer.proofs.Cutting.{one_begun}
+use Rattle.log_writer.proofs.Reading.{same_lens, all_were_read, all_left_read}
 use Rattle.log_writer.proofs.Surviving.{Laws}
 use Rattle.log_writer.proofs.SetFronts.{IsFresh, FromFirst, current, front_now}
 use Rattle.log_writer.proofs.SetStates.{IsAt, IsUnused, is_on, holds, all_fresh, current_last}
@@ -29,18 +33,20 @@ use Rattle.log_writer.proofs.Splitting.{until_more, until_none, split_so}
 
 -- With one call more: after a fault it failed too.
 module _ {D : Type 0} {ghosts : Ghosts D} where
-  -- calls that come after a fault change nothing
-  pub dead_calls : (old : LogSet D ghosts) (calls : List GroupCall) (new : LogSet D ghosts) (count : ℕ) → fault_in old ≡ Some count → WroteSet old calls new → new ≡ old
-  dead_calls old calls new count dead sets.no_call = refl
+  -- calls that come after a fault change nothing, but the logs may be read
+  pub dead_calls : (old : LogSet D ghosts) (calls : List GroupCall) (new : LogSet D ghosts) (count : ℕ) → fault_in old ≡ Some count → WroteSet old calls new → SetWasRead old new
+  dead_calls old calls new count dead sets.no_call = set_not_read old
   dead_calls old calls new count dead (sets.one_more {calls = before} {now = now} c wrote adds) =
-      let same : now ≡ old = dead_calls old before now count dead wrote in
-      let kept = subst (λ (f : Option ℕ). IfSome f (λ n. (c.failed ≡ Some n) × (new ≡ now))) (ap fault_in same ∙ dead) adds.dead in
-      kept.1 ∙ same
+      let r : SetWasRead old now = dead_calls old before now count dead wrote in
+      let kept = subst (λ (f : Option ℕ). IfSome f (λ n. (c.failed ≡ Some n) × (new ≡ now))) (r.fault ∙ dead) adds.dead in
+      subst (λ (set : LogSet D ghosts). SetWasRead old set) (sym kept.1) r
+  dead_calls old calls new count dead (sets.read {now = now} wrote r) = set_read_on old now new (dead_calls old calls now count dead wrote) r
 
   pub wrote_more : (a b c : LogSet D ghosts) (calls more : List GroupCall) → WroteSet a calls b → WroteSet b more c → WroteSet a (calls ++ more) c
   wrote_more a b c calls more first sets.no_call = subst (λ (l : List GroupCall). WroteSet a l b) (sym (append-nil calls)) first
   wrote_more a b c calls more first (sets.one_more {calls = before} {now = now} call wrote adds) =
       subst (λ (l : List GroupCall). WroteSet a l c) (append_assoc calls before (call ∷ [])) (sets.one_more call (wrote_more a b now calls before first wrote) adds)
+  wrote_more a b c calls more first (sets.read {now = now} wrote r) = sets.read (wrote_more a b now calls more first wrote) r
 
   -- so those that synced are among those up to the first that failed
   synced_set : (old : LogSet D ghosts) (calls : List GroupCall) (new : LogSet D ghosts) (n : ℕ) → fault_in old ≡ None → WroteSet old calls new → HaveSynced (until_fault calls) n → HaveSynced calls n
@@ -59,14 +65,18 @@ module _ {D : Type 0} {ghosts : Ghosts D} where
           let same : until_fault (before ++ c ∷ []) ≡ until_fault before = until_none before c count (sym fault ∙ dead) in
           synced_more before c n (so_far (subst (λ (l : List GroupCall). HaveSynced l n) same have))
           (λ ok asked. let wrong : ◌≡◌ {A = Option ℕ} None (Some count) = sym ok ∙ kept.0 in absurd (cc))
+  synced_set old calls new n none (sets.read {now = now} wrote r) have = synced_set old calls now n none wrote have
+
+  -- what the disks of full logs hold they held before they were read
+  texts_back : (olds news : List (LogWriter D ghosts)) (texts : List (List (List ℕ))) → AllZip WasRead olds news → AllZip (λ (log : LogWriter D ghosts) (records : List (List ℕ)). IfSome (ghosts.told (disk_of log)) (λ d. d.content ≡ plain_text records)) news texts
+      → AllZip (λ (log : LogWriter D ghosts) (records : List (List ℕ)). IfSome (ghosts.told (disk_of log)) (λ d. d.content ≡ plain_text records)) olds texts
+  texts_back [] [] texts all hold = hold
+  texts_back [] (n ∷ news) texts all hold = absurd all
+  texts_back (o ∷ olds) [] texts all hold = absurd all
+  texts_back (o ∷ olds) (n ∷ news) [] all hold = absurd hold
+  texts_back (o ∷ olds) (n ∷ news) (t ∷ texts) all hold = (subst (λ (told : Option Disk). IfSome told (λ d. d.content ≡ plain_text t)) all.0.disk.same hold.0, texts_back olds news texts all.1 hold.1)
 
 module _ {D : Type 0} {ghosts : Ghosts D} (laws : Laws ghosts) where
-  -- between two calls a crash leaves what it may leave now
-  pub left_still : (disks : List D) (images : List (List ℕ)) → AreLeft ghosts disks disks images → AllZip (IsLeftNow ghosts) disks images
-  left_still [] images left = elim left [ ]
-  left_still (disk ∷ disks) images (here {image = i} {images = others} left nows) = (laws.only_now disk i left.0 left.1, nows)
-  left_still (disk ∷ disks) images (later {image = i} {images = others} now left) = (now, left_still disks others left)
-
   module _ (disks : List D) (opened : LogSet D ghosts) (safe_disks : AreSafeAfterFirst ghosts disks) (has : HasOpenedSet disks opened) where
     -- at the end of calls, whether one failed or not
     module _ (calls : List GroupCall) (now : LogSet D ghosts) (s : IsSplit opened calls now) where
@@ -90,7 +100,7 @@ module _ {D : Type 0} {ghosts : Ghosts D} (laws : Laws ghosts) where
       here_now =
           let unused : List (List (List ℕ)) = map (λ (log : LogWriter D ghosts). []) (later_of now) in
           let one = current_last laws s.own (current_of now) at held.0 held.1 [] (current_of now) (later_of now) unused no_call fresh in
-          let all = chain laws held.0 s.started s.parts s.filled (current_of now ∷ later_of now) (current_of now ∷ later_of now) (begun_by (s.own ++ []) ∷ unused) s.are_filled (all_front (IsAt laws []) s.started (s.last ∷ later_of now) at_all) (current one) in
+          let all = chain laws held.0 s.started s.parts s.filled s.filled (current_of now ∷ later_of now) (current_of now ∷ later_of now) (begun_by (s.own ++ []) ∷ unused) s.are_filled (none_were_read s.filled) (all_front (IsAt laws []) s.started (s.last ∷ later_of now) at_all) (current one) in
           let logs : s.filled ++ current_of now ∷ later_of now ≡ logs_of now = ap (λ (l : List (LogWriter D ghosts)). l ++ current_of now ∷ later_of now) (sym (full_is laws disks opened now calls has s)) in
           let same : map written_by s.parts ++ begun_by (s.own ++ []) ∷ unused ≡ map written_by s.parts ++ begun_by s.own ∷ unused = ap (λ (l : List GroupCall). map written_by s.parts ++ begun_by l ∷ unused) (append-nil s.own) in
           subst (λ (z : List (LogWriter D ghosts) × List (List (List ℕ))). FromFirst (certain_in s.parts held.0) z.0 z.0 z.1) (λ i. (logs i, same i)) all
@@ -123,9 +133,9 @@ module _ {D : Type 0} {ghosts : Ghosts D} (laws : Laws ghosts) where
             subst (λ (logs : List (List (List ℕ))). LeavesFront between last n logs) (j.logs ∙ one_begun last (before ++ after) h hold) (leaves_front laws disks opened between last before after safe_disks has first second),
           )
 
-      -- after a fault
-      dead_front : (count : ℕ) → fault_in between ≡ Some count → (hold : HoldLogs between (before ++ after)) → (safe : ℕ) × HaveSynced before safe × LeavesFront between between safe (begun_logs hold)
-      dead_front count dead hold =
+      -- after a fault the logs are only read
+      dead_front : (count : ℕ) → fault_in between ≡ Some count → (set : LogSet D ghosts) → SetWasRead between set → (hold : HoldLogs set (before ++ after)) → (safe : ℕ) × HaveSynced before safe × LeavesFront between set safe (begun_logs hold)
+      dead_front count dead set r hold =
           let fault : first_fault before ≡ Some count = sym (split_so opened before between has.fault wrote).fault ∙ dead in
           let same = none_more before after count fault in
           let h : HoldLogs between before = record {
@@ -134,17 +144,21 @@ module _ {D : Type 0} {ghosts : Ghosts D} (laws : Laws ghosts) where
             begun = hold.begun;
             all_written = hold.all_written ∙ same.written;
             all_begun = hold.all_begun ∙ same.begun;
-            lens = hold.lens;
-            full_hold = hold.full_hold;
-            current_holds = subst (λ (f : Option ℕ). IfSome (ghosts.told (disk_of (current_of between))) (HoldsBegun hold.written hold.begun f)) same.fault hold.current_holds;
-            later_hold = hold.later_hold;
+            lens = sym (same_lens (begun_in between) (begun_in set) (set_begun_read between set r)) ∙ hold.lens;
+            full_hold = texts_back (full_of between) (full_of set) hold.full r.full hold.full_hold;
+            current_holds = subst (λ (z : Option ℕ × Option Disk). IfSome z.1 (HoldsBegun hold.written hold.begun z.0)) (λ i. (same.fault i, r.current.disk.same i)) hold.current_holds;
+            later_hold = subst (AllByRecursion (λ (log : LogWriter D ghosts). IfSome (ghosts.told (disk_of log)) (λ d. d.content ≡ []))) r.later hold.later_hold;
           } in
-          let end = at_end before between wrote h in
-          (end.0, end.1, λ images left. end.2 images (left_still (disks_of between) images left))
+          let end = at_end before between wrote h in (
+            end.0,
+            end.1,
+            λ images left. subst (λ (l : List (LogWriter D ghosts)). HaveFront end.0 (hold.full ++ hold.begun ∷ map (λ (log : LogWriter D ghosts). []) l) images) (sym r.later)
+                (end.2 images (all_left_read laws (logs_of between) (logs_of set) images (all_were_read between set r) left)),
+          )
 
       pub any_moment : WroteSet between after last → (hold : HoldLogs last (before ++ after)) → (safe : ℕ) × HaveSynced before safe × LeavesFront between last safe (begun_logs hold)
       any_moment more = by_fault (fault_in between) refl
         where
           by_fault : (f : Option ℕ) → fault_in between ≡ f → (hold : HoldLogs last (before ++ after)) → (safe : ℕ) × HaveSynced before safe × LeavesFront between last safe (begun_logs hold)
           by_fault None none = alive_front more none
-          by_fault (Some count) dead = subst (λ (set : LogSet D ghosts). (hold : HoldLogs set (before ++ after)) → (safe : ℕ) × HaveSynced before safe × LeavesFront between set safe (begun_logs hold)) (sym (dead_calls between after last count dead more)) (dead_front count dead)
+          by_fault (Some count) dead = dead_front count dead last (dead_calls between after last count dead more)

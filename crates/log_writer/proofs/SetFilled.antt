@@ -9,7 +9,7 @@ use Rattle.log_writer.specs.declared.set.LogSet.{LogSet}
 use Rattle.log_writer.specs.Words.{disk_of, len_of}
 use Rattle.log_writer.specs.Adding.{GroupCall, record_of_call}
 use Rattle.log_writer.specs.Written.{if_worked, first_fault, written_by}
-use Rattle.log_writer.specs.Sets.{counted, current_of, later_of, limit_of, fault_in, HasRoom, GoesOn, AddsHere, AddsOver, here, next, stuck, AddsTo, WroteSet, no_call, one_more}
+use Rattle.log_writer.specs.Sets.{counted, current_of, later_of, limit_of, fault_in, HasRoom, GoesOn, AddsHere, AddsOver, here, next, stuck, AddsTo, SetWasRead, WroteSet, no_call, one_more, read}
 use Rattle.log_writer.specs.SetSplits.{IsSplit}
 use Rattle.log_writer.specs.SetCrashes.{HasOpenedSet}
 use Rattle.log_writer.specs.SetContents.{HoldLogs}
@@ -19,7 +19,7 @@ use Rattle.log_writer.proofs.Setting.{stuck_adds}
 use Rattle.log_writer.proofs.SetContents.{on_current, hold_logs}
 use Rattle.log_writer.proofs.SetRecords.{alive_calls}
 use Rattle.log_writer.proofs.SetStates.{on_stands}
-use Rattle.log_writer.proofs.Splitting.{more_here, more_next, more_dead, split_none}
+use Rattle.log_writer.proofs.Splitting.{more_here, more_next, more_dead, split_none, split_read}
 use Rattle.log_writer.proofs.Surviving.{Laws}
 
 -- the log is full by its last record
@@ -101,6 +101,15 @@ module _ {D : Type 0} {ghosts : Ghosts D} (laws : Laws ghosts) (disks : List D) 
     unfolding more_dead
     filled_dead c count dead = record { split = more_dead opened calls now c count f.split dead; limit = f.limit; are_full = f.are_full; room = f.room }
 
+    filled_read : (new : LogSet D ghosts) → SetWasRead now new → Filled calls new
+    unfolding split_read
+    filled_read new r = record {
+      split = split_read opened calls now new f.split r;
+      limit = r.limit ∙ f.limit;
+      are_full = f.are_full;
+      room = λ some. f.room (omega (arith, some, ap length r.later));
+    }
+
     filled_more : (new : LogSet D ghosts) (c : GroupCall) → AddsTo c now new → Filled (calls ++ c ∷ []) new
     filled_more new c adds = by_fault (fault_in now) refl adds.dead
       where
@@ -126,6 +135,7 @@ module _ {D : Type 0} {ghosts : Ghosts D} (laws : Laws ghosts) (disks : List D) 
   filled_all : (calls : List GroupCall) (now : LogSet D ghosts) → WroteSet opened calls now → Filled calls now
   filled_all calls now no_call = filled_none
   filled_all calls now (one_more {calls = before} {now = old} c wrote adds) = filled_more before old (filled_all before old wrote) now c adds
+  filled_all calls now (read {now = old} wrote r) = filled_read calls old (filled_all calls old wrote) now r
 
   pub filled_set : (calls : List GroupCall) (now : LogSet D ghosts) → WroteSet opened calls now → (hold : HoldLogs now calls) → AreFilledTo (limit_of opened) (length (later_of now)) (hold.full ++ hold.written ∷ [])
   unfolding hold_logs

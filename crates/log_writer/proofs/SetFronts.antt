@@ -19,8 +19,8 @@ module _ {D : Type 0} {ghosts : Ghosts D} where
   abbrev pub IsWholeNow : LogWriter D ghosts → List (List ℕ) → Type 0
   IsWholeNow log records = (image : List ℕ) → IsLeftNow ghosts (disk_of log) image → image ≡ plain_text records
 
-  abbrev pub IsWholeStill : LogWriter D ghosts → List (List ℕ) → Type 0
-  IsWholeStill log records = (image : List ℕ) → IsLeftBetween ghosts (disk_of log) (disk_of log) image → image ≡ plain_text records
+  abbrev pub IsWholeStill : LogWriter D ghosts → LogWriter D ghosts → List (List ℕ) → Type 0
+  IsWholeStill old new records = (image : List ℕ) → IsLeftBetween ghosts (disk_of old) (disk_of new) image → image ≡ plain_text records
 
   -- nothing was written to the log, and a crash leaves nothing of it
   pub record IsFresh (log : LogWriter D ghosts) : Type 0 where
@@ -34,10 +34,10 @@ module _ {D : Type 0} {ghosts : Ghosts D} where
     last : {safe : ℕ} {old new : LogWriter D ghosts} {olds : List (LogWriter D ghosts)} {logs : List (List (List ℕ))} (records : List (List ℕ)) → safe ≤ length records → BeginsNow old (take safe records) → BeginsBetween old new (take safe records)
         → BeginsNow new (take safe records) → AllByRecursion IsFresh olds → FromCurrent safe (old ∷ olds) (new ∷ olds) (records ∷ logs)
 
-  -- all logs: those that were full before, and then these
+  -- all logs: those that were full before, and may have been read since, and then these
   pub data FromFirst : ℕ → List (LogWriter D ghosts) → List (LogWriter D ghosts) → List (List (List ℕ)) → Type 0 where
-    done : {safe : ℕ} {log : LogWriter D ghosts} {olds news : List (LogWriter D ghosts)} {logs : List (List (List ℕ))} (records : List (List ℕ)) → IsWholeNow log records → IsWholeStill log records → FromFirst safe olds news logs
-        → FromFirst (length records + safe) (log ∷ olds) (log ∷ news) (records ∷ logs)
+    done : {safe : ℕ} {old new : LogWriter D ghosts} {olds news : List (LogWriter D ghosts)} {logs : List (List (List ℕ))} (records : List (List ℕ)) → IsWholeNow old records → IsWholeNow new records → IsWholeStill old new records → FromFirst safe olds news logs
+        → FromFirst (length records + safe) (old ∷ olds) (new ∷ news) (records ∷ logs)
     current : {safe : ℕ} {olds news : List (LogWriter D ghosts)} {logs : List (List (List ℕ))} → FromCurrent safe olds news logs → FromFirst safe olds news logs
 
   pub none_now : (logs : List (LogWriter D ghosts)) (images : List (List ℕ)) → AllByRecursion IsFresh logs → AllZip (IsLeftNow ghosts) (map (λ (log : LogWriter D ghosts). disk_of log) logs) images → AllByRecursion (λ (other : List ℕ). other ≡ []) images
@@ -66,8 +66,8 @@ module _ {D : Type 0} {ghosts : Ghosts D} where
 
   -- what a crash left before the time began
   front_before : (safe : ℕ) (olds news : List (LogWriter D ghosts)) (logs : List (List (List ℕ))) (images : List (List ℕ)) → FromFirst safe olds news logs → AllZip (IsLeftNow ghosts) (map (λ (log : LogWriter D ghosts). disk_of log) olds) images → AreFront safe logs images
-  front_before safe olds news logs [] (done records full still on) nows = absurd nows
-  front_before safe olds news logs (i ∷ images) (done {olds = more} {news = newer} {logs = rest} records full still on) nows = whole (full i nows.0) (front_before _ more newer rest images on nows.1)
+  front_before safe olds news logs [] (done records was full still on) nows = absurd nows
+  front_before safe olds news logs (i ∷ images) (done {olds = more} {news = newer} {logs = rest} records was full still on) nows = whole (was i nows.0) (front_before _ more newer rest images on nows.1)
   front_before safe olds news logs images (current c) nows = by_current safe olds news logs images c nows
     where
       by_current : (safe : ℕ) (olds news : List (LogWriter D ghosts)) (logs : List (List (List ℕ))) (images : List (List ℕ)) → FromCurrent safe olds news logs → AllZip (IsLeftNow ghosts) (map (λ (log : LogWriter D ghosts). disk_of log) olds) images → AreFront safe logs images
@@ -78,9 +78,9 @@ module _ {D : Type 0} {ghosts : Ghosts D} where
 
   pub front_first : (safe : ℕ) (olds news : List (LogWriter D ghosts)) (logs : List (List (List ℕ))) (images : List (List ℕ)) → FromFirst safe olds news logs
       → AreLeft ghosts (map (λ (log : LogWriter D ghosts). disk_of log) olds) (map (λ (log : LogWriter D ghosts). disk_of log) news) images → HaveFront safe logs images
-  front_first safe olds news logs images (done {safe = n} {olds = more} {news = newer} {logs = rest} records full still on) (here {image = i} {images = others} left nows) =
+  front_first safe olds news logs images (done {safe = n} {olds = more} {news = newer} {logs = rest} records was full still on) (here {image = i} {images = others} left nows) =
       record { certain = length records + n; enough = omega arith; front = whole (still i left) (front_before n more newer rest others on nows) }
-  front_first safe olds news logs images (done {safe = n} {olds = more} {news = newer} {logs = rest} records full still on) (later {image = i} {images = others} left lefts) =
+  front_first safe olds news logs images (done {safe = n} {olds = more} {news = newer} {logs = rest} records was full still on) (later {image = i} {images = others} left lefts) =
       let t = front_first n more newer rest others on lefts in
       record { certain = length records + t.certain; enough = omega (arith, t.enough); front = whole (full i left) t.front }
   front_first safe olds news logs images (current c) left = front_current safe olds news logs images c left
@@ -96,8 +96,8 @@ module _ {D : Type 0} {ghosts : Ghosts D} where
       record { certain = safe; enough = omega arith; front = within some (begins_now i nows.0) (none_now more images fresh nows.1) }
 
   pub front_now : (safe : ℕ) (olds news : List (LogWriter D ghosts)) (logs : List (List (List ℕ))) (images : List (List ℕ)) → FromFirst safe olds news logs → AllZip (IsLeftNow ghosts) (map (λ (log : LogWriter D ghosts). disk_of log) news) images → HaveFront safe logs images
-  front_now safe olds news logs [] (done records full still on) nows = absurd nows
-  front_now safe olds news logs (i ∷ images) (done {safe = n} {olds = more} {news = newer} {logs = rest} records full still on) nows =
+  front_now safe olds news logs [] (done records was full still on) nows = absurd nows
+  front_now safe olds news logs (i ∷ images) (done {safe = n} {olds = more} {news = newer} {logs = rest} records was full still on) nows =
       let t = front_now n more newer rest images on nows.1 in
       record { certain = length records + t.certain; enough = omega (arith, t.enough); front = whole (full i nows.0) t.front }
   front_now safe olds news logs images (current c) nows = now_current safe olds news logs images c nows

@@ -20,8 +20,9 @@ use Rattle.log_writer.specs.SetWritten.{HoldEach, disks_of}
 use Rattle.log_writer.proofs.Beginning.{opened_begins}
 use Rattle.log_writer.proofs.Held.{held_so, holds_synced}
 use Rattle.log_writer.proofs.Keeping.{after_front, image_keeps, left_safe, only_image}
-use Rattle.log_writer.proofs.Putting.{leaves_more}
+use Rattle.log_writer.proofs.Putting.{leaves_more, leaves_time}
 use Rattle.log_writer.proofs.Surviving.{Laws}
+use Rattle.log_writer.specs.ReadLaws.{not_read}
 use Rattle.log_writer.proofs.SetStates.{IsAt, is_on, holds, filled_whole}
 use Rattle.log_writer.proofs.SetCrashes.{opened_at}
 use Rattle.log_writer.proofs.SetContents.{logs_opened, full_is}
@@ -86,16 +87,28 @@ module _ {D : Type 0} {ghosts : Ghosts D} (laws : Laws ghosts) where
       held_now : (image : List ℕ) → IsLeftNow ghosts (disk_of new) image → HoldsSynced new_log reach calls image
       held_now image left = kept_holds image (image_keeps (ghosts.told (disk_of new)) image left)
 
+    filled_now : (new : LogWriter D ghosts) → IsFilled log calls new → (image : List ℕ) → IsLeftNow ghosts (disk_of new) image → HoldsSynced new_log reach calls image
+    filled_now new is image left = holds_whole reach calls image (filled_whole laws log (opened_at laws disk log d tells opened) calls new is image left)
+
     module _ (new : LogWriter D ghosts) (is : IsFilled log calls new) where
+      synced_filled : IsFilled log calls is.synced
+      synced_filled = record { written = is.written; wrote = is.wrote; alive = is.alive; synced = is.synced; syncs = is.syncs; was_read = not_read is.synced }
+
+      synced_leaves : LeavesOnly ghosts.moment ghosts.from ghosts.since disk (disk_of is.synced) (HoldsSynced new_log reach calls)
+      synced_leaves =
+          let P : List ℕ → Type 0 = HoldsSynced new_log reach calls in
+          let Q : List ℕ → Type 0 = MayBeLeft (ghosts.told (disk_of is.written)) 0 in
+          leaves_more ghosts.moment ghosts.from ghosts.since P Q disk (disk_of is.written) (disk_of is.synced) (leaves is.written is.wrote) is.syncs.put.crash
+          (λ image left. kept_holds is.written is.wrote image (left_safe (ghosts.told (disk_of is.written)) 0 image left))
+
       filled_leaves : LeavesOnly ghosts.moment ghosts.from ghosts.since disk (disk_of new) (HoldsSynced new_log reach calls)
       filled_leaves =
           let P : List ℕ → Type 0 = HoldsSynced new_log reach calls in
-          let Q : List ℕ → Type 0 = MayBeLeft (ghosts.told (disk_of is.written)) 0 in
-          leaves_more ghosts.moment ghosts.from ghosts.since P Q disk (disk_of is.written) (disk_of new) (leaves is.written is.wrote) is.syncs.put.crash
-          (λ image left. kept_holds is.written is.wrote image (left_safe (ghosts.told (disk_of is.written)) 0 image left))
-
-      filled_now : (image : List ℕ) → IsLeftNow ghosts (disk_of new) image → HoldsSynced new_log reach calls image
-      filled_now image left = holds_whole reach calls image (filled_whole laws log (opened_at laws disk log d tells opened) calls new is image left)
+          let Q : List ℕ → Type 0 = IsLeftNow ghosts (disk_of is.synced) in
+          let r = is.was_read.disk in
+          leaves_more ghosts.moment ghosts.from ghosts.since P Q disk (disk_of is.synced) (disk_of new) synced_leaves
+          (leaves_time ghosts (disk_of is.synced) (disk_of new) Q (laws.only_now (disk_of is.synced)) r.time (λ image left. left) (λ image left. subst (λ (t : Option Disk). IfSome t (λ x. IsImage x image)) r.same left))
+          (filled_now is.synced synced_filled)
 
   abbrev HasReach : D → ℕ → Type 0
   HasReach disk reach = IfSome (ghosts.told disk) (λ d. d.reach ≡ reach)

@@ -7,9 +7,12 @@ use Rattle.base_devices.specs.declared.disk.Disk.{Ghosts}
 use Rattle.log_writer.specs.declared.writer.LogWriter.{LogWriter}
 use Rattle.log_writer.specs.declared.set.LogSet.{LogSet}
 use Rattle.log_writer.specs.Adding.{GroupCall}
+use Rattle.log_writer.specs.Reads.{WasRead}
+use Rattle.log_writer.specs.ReadLaws.{were_read_on}
 use Rattle.log_writer.specs.Written.{Wrote, if_worked, first_fault, written_by, begun_by}
 use Rattle.log_writer.specs.Sets.{full_of, current_of, later_of, fault_in}
 use Rattle.log_writer.specs.SetSplits.{IsSameCall, until_fault, IsFilled, AreFilled, IsSplit}
+use Rattle.log_writer.proofs.Reading.{AreCut, zip_cut, all_filled_then_read}
 use Rattle.log_writer.proofs.Surviving.{Laws}
 use Rattle.log_writer.proofs.SetRecords.{joined}
 use Rattle.log_writer.proofs.SetStates.{wrote_append, logs_of_parts, logs_from}
@@ -70,24 +73,31 @@ module _ {D : Type 0} {ghosts : Ghosts D} (laws : Laws ghosts) where
     both_until : until_fault (before ++ after) ≡ until_fault before ++ until_fault after
     both_until = until_append before after none
 
+    -- the logs that were full in between: those that were full before, and those that the earlier calls filled
+    in_two : (kept : List (LogWriter D ghosts)) → AllZip WasRead (full_of between) kept → AreCut WasRead first.kept first.filled kept
+    in_two kept were_read = zip_cut WasRead first.kept first.filled kept (subst (λ (l : List (LogWriter D ghosts)). AllZip WasRead l kept) first.full were_read)
+
     -- by what the logs are that the later calls filled
-    join_parts : (started : List (LogWriter D ghosts)) (last : LogWriter D ghosts) (begun : current_of between ∷ later_of between ≡ started ++ last ∷ later_of new) (filled : List (LogWriter D ghosts)) (full : full_of new ≡ full_of between ++ filled) (parts : List (List GroupCall))
+    join_parts : (started : List (LogWriter D ghosts)) (last : LogWriter D ghosts) (begun : current_of between ∷ later_of between ≡ started ++ last ∷ later_of new) (kept : List (LogWriter D ghosts)) (were_read : AllZip WasRead (full_of between) kept) (filled : List (LogWriter D ghosts)) (full : full_of new ≡ kept ++ filled) (parts : List (List GroupCall))
         (are : AreFilled started parts filled) (own : List GroupCall) (wrote : Wrote last own (current_of new)) (same : AllZip IsSameCall (until_fault after) (joined parts ++ own)) (fault : fault_in new ≡ first_fault after)
-        → IsJoined old between new before after first (record { started = started; last = last; begun = begun; filled = filled; full = full; parts = parts; are_filled = are; own = own; wrote = wrote; same = same; fault = fault })
+        → IsJoined old between new before after first (record { started = started; last = last; begun = begun; kept = kept; were_read = were_read; filled = filled; full = full; parts = parts; are_filled = are; own = own; wrote = wrote; same = same; fault = fault })
     unfolding logs_from
-    join_parts [] last begun [] full [] are own wrote same fault =
+    join_parts [] last begun kept were_read [] full [] are own wrote same fault =
         let head : last ≡ current_of between = cc in
         let tail : later_of between ≡ later_of new = cc in
         let all : List GroupCall = joined first.parts in
+        let c = in_two kept were_read in
         record {
           split = record {
             started = first.started;
             last = first.last;
             begun = first.begun ∙ ap (λ (l : List (LogWriter D ghosts)). first.started ++ first.last ∷ l) tail;
-            filled = first.filled;
-            full = full ∙ (append-nil (full_of between) ∙ first.full);
+            kept = c.first;
+            were_read = were_read_on (full_of old) first.kept c.first first.were_read c.of_front;
+            filled = c.others;
+            full = full ∙ (append-nil kept ∙ c.cut);
             parts = first.parts;
-            are_filled = first.are_filled;
+            are_filled = all_filled_then_read first.started first.parts first.filled c.others first.are_filled c.of_back;
             own = first.own ++ own;
             wrote = wrote_append laws first.last (current_of between) (current_of new) first.own own first.wrote (subst (λ (l : LogWriter D ghosts). Wrote l own (current_of new)) head wrote);
             same = subst (λ (z : List GroupCall × List GroupCall). AllZip IsSameCall z.0 z.1) (λ i. (sym both_until i, append_assoc all first.own own i))
@@ -96,11 +106,11 @@ module _ {D : Type 0} {ghosts : Ghosts D} (laws : Laws ghosts) where
           };
           logs = refl;
         }
-    join_parts [] last begun (n ∷ filled) full [] are own wrote same fault = absurd are
-    join_parts [] last begun filled full (p ∷ parts) are own wrote same fault = absurd are
-    join_parts (s ∷ started) last begun filled full [] are own wrote same fault = absurd are
-    join_parts (s ∷ started) last begun [] full (p ∷ parts) are own wrote same fault = absurd are
-    join_parts (s ∷ started) last begun (n ∷ filled) full (p ∷ parts) are own wrote same fault =
+    join_parts [] last begun kept were_read (n ∷ filled) full [] are own wrote same fault = absurd are
+    join_parts [] last begun kept were_read filled full (p ∷ parts) are own wrote same fault = absurd are
+    join_parts (s ∷ started) last begun kept were_read filled full [] are own wrote same fault = absurd are
+    join_parts (s ∷ started) last begun kept were_read [] full (p ∷ parts) are own wrote same fault = absurd are
+    join_parts (s ∷ started) last begun kept were_read (n ∷ filled) full (p ∷ parts) are own wrote same fault =
         let head : s ≡ current_of between = cc in
         let tail : later_of between ≡ started ++ last ∷ later_of new = cc in
         let all : List GroupCall = joined first.parts in
@@ -108,18 +118,24 @@ module _ {D : Type 0} {ghosts : Ghosts D} (laws : Laws ghosts) where
           written = are.0.written;
           wrote = wrote_append laws first.last (current_of between) are.0.written first.own p first.wrote (subst (λ (l : LogWriter D ghosts). Wrote l p are.0.written) head are.0.wrote);
           alive = are.0.alive;
+          synced = are.0.synced;
           syncs = are.0.syncs;
+          was_read = are.0.was_read;
         } in
+        let c = in_two kept were_read in
+        let filled_before = all_filled_then_read first.started first.parts first.filled c.others first.are_filled c.of_back in
         let flat : joined (first.parts ++ (first.own ++ p) ∷ parts) ≡ all ++ ((first.own ++ p) ++ joined parts) = flat_map-append (λ (part : List GroupCall). part) first.parts ((first.own ++ p) ∷ parts) in
         record {
           split = record {
             started = first.started ++ first.last ∷ started;
             last = last;
             begun = first.begun ∙ (ap (λ (l : List (LogWriter D ghosts)). first.started ++ first.last ∷ l) tail ∙ sym (append_assoc first.started (first.last ∷ started) (last ∷ later_of new)));
-            filled = first.filled ++ n ∷ filled;
-            full = full ∙ (ap (λ (l : List (LogWriter D ghosts)). l ++ n ∷ filled) first.full ∙ append_assoc (full_of old) first.filled (n ∷ filled));
+            kept = c.first;
+            were_read = were_read_on (full_of old) first.kept c.first first.were_read c.of_front;
+            filled = c.others ++ n ∷ filled;
+            full = full ∙ (ap (λ (l : List (LogWriter D ghosts)). l ++ n ∷ filled) c.cut ∙ append_assoc c.first c.others (n ∷ filled));
             parts = first.parts ++ (first.own ++ p) ∷ parts;
-            are_filled = filled_append first.started first.parts first.filled (first.last ∷ started) ((first.own ++ p) ∷ parts) (n ∷ filled) first.are_filled (one, are.1);
+            are_filled = filled_append first.started first.parts c.others (first.last ∷ started) ((first.own ++ p) ∷ parts) (n ∷ filled) filled_before (one, are.1);
             own = own;
             wrote = wrote;
             same = subst (λ (z : List GroupCall × List GroupCall). AllZip IsSameCall z.0 z.1) (λ i. (sym both_until i, (regroup all first.own p (joined parts) own ∙ ap (λ (l : List GroupCall). l ++ own) (sym flat)) i))
@@ -133,4 +149,4 @@ module _ {D : Type 0} {ghosts : Ghosts D} (laws : Laws ghosts) where
 
   pub join : (old between new : LogSet D ghosts) (before after : List GroupCall) (first : IsSplit old before between) → fault_in between ≡ None → (second : IsSplit between after new) → IsJoined old between new before after first second
   join old between new before after first alive second =
-      join_parts old between new before after first alive second.started second.last second.begun second.filled second.full second.parts second.are_filled second.own second.wrote second.same second.fault
+      join_parts old between new before after first alive second.started second.last second.begun second.kept second.were_read second.filled second.full second.parts second.are_filled second.own second.wrote second.same second.fault

@@ -8,7 +8,7 @@ use Rattle.log_laws.specs.Fronts.{records_in}
 use Rattle.log_writer.specs.declared.writer.LogWriter.{LogWriter}
 use Rattle.log_writer.specs.Words.{fault_of}
 use Rattle.log_writer.specs.Adding.{GroupCall, record_of_call, text_at_end, Grows, Stops}
-use Rattle.log_writer.specs.Written.{Wrote, no_call, one_more, if_worked, first_fault, written_by, begun_by, HaveSynced}
+use Rattle.log_writer.specs.Written.{Wrote, no_call, one_more, read, if_worked, first_fault, written_by, begun_by, HaveSynced}
 use Rattle.log_writer.specs.Sets.{counted}
 use Rattle.log_writer.specs.SetSplits.{IsSameCall, until_fault, AreFilled}
 use Rattle.log_writer.proofs.Calls.{first_more, written_len}
@@ -90,6 +90,7 @@ module _ {D : Type 0} {ghosts : Ghosts D} where
       by_fault : (fault_of now ≡ None → first_fault before ≡ None) → (f : Option ℕ) → fault_of now ≡ f → IfSome f (λ count. (c.failed ≡ Some count) × (new ≡ now)) → first_fault (before ++ c ∷ []) ≡ None
       by_fault earlier None none kept = first_more before c (earlier none) ∙ by_answer c.failed (adds.kept none)
       by_fault earlier (Some n) dead kept = let wrong : ◌≡◌ {A = Option ℕ} None (Some n) = sym alive ∙ (ap fault_of kept.1 ∙ dead) in absurd (cc)
+  alive_calls old calls new (read {now = now} wrote r) alive = alive_calls old calls now wrote (sym r.fault ∙ alive)
 
   -- none of the calls failed that filled logs
   pub filled_alive : (olds : List (LogWriter D ghosts)) (parts : List (List GroupCall)) (news : List (LogWriter D ghosts)) → AreFilled olds parts news → AllByRecursion (λ (part : List GroupCall). first_fault part ≡ None) parts

@@ -12,13 +12,13 @@ use Rattle.log_writer.specs.Crashes.{KeepsWhatWasSafe}
 use Rattle.log_writer.specs.Puts.{StandPut, StaysInFront}
 use Rattle.log_writer.specs.Opening.{HasOpened}
 use Rattle.log_writer.specs.Adding.{GroupCall, record_of_call, answer_of}
-use Rattle.log_writer.specs.Written.{Wrote, no_call, one_more, IsWritten, if_worked, first_fault, written_by, begun_by, HoldsCalls, IsTextOver, Stands}
+use Rattle.log_writer.specs.Written.{Wrote, no_call, one_more, read, IsWritten, if_worked, first_fault, written_by, begun_by, HoldsCalls, IsTextOver, Stands}
 use Rattle.log_writer.specs.SetSplits.{IsFilled, AreFilled}
 use Rattle.log_writer.proofs.Beginning.{opened_begins}
 use Rattle.log_writer.proofs.Calls.{begun_front, begun_written}
 use Rattle.log_writer.proofs.Keeping.{only_image, image_keeps}
 use Rattle.log_writer.proofs.Standing.{stands_so, text_over}
-use Rattle.log_writer.proofs.Surviving.{Laws, Survives, survives, survives_put, survives_more, safe_before, safe_begins}
+use Rattle.log_writer.proofs.Surviving.{Laws, Survives, survives, survives_put, survives_read, survives_more, safe_before, safe_begins}
 use Rattle.log_writer.proofs.SetFronts.{BeginsBetween, BeginsNow, IsWholeNow, IsFresh, FromCurrent, filled, last}
 
 -- what calls wrote, and then others
@@ -71,6 +71,7 @@ module _ {D : Type 0} {ghosts : Ghosts D} (laws : Laws ghosts) where
   wrote_append a b c calls more first no_call = subst (λ (l : List GroupCall). Wrote a l b) (sym (append-nil calls)) first
   wrote_append a b c calls more first (one_more {calls = before} {now = now} call wrote adds) =
       subst (λ (l : List GroupCall). Wrote a l c) (append_assoc calls before (call ∷ [])) (one_more call (wrote_append a b now calls before first wrote) adds)
+  wrote_append a b c calls more first (read {now = now} wrote r) = read (wrote_append a b now calls more first wrote) r
 
   -- the log began on an empty disk, which tells what it is, and was written by these calls
   pub record IsAt (calls : List GroupCall) (log : LogWriter D ghosts) : Type 0 where
@@ -119,8 +120,9 @@ module _ {D : Type 0} {ghosts : Ghosts D} (laws : Laws ghosts) where
       now_whole : IsWholeNow new (written_by (calls ++ own))
       now_whole image left =
           let tells = told_still (ghosts.told (disk_of old)) (ghosts.told (disk_of is.written)) at.d StaysInFront (survives laws old own is.written is.wrote).stays at.tells in
-          whole_image (plain_text (written_by (calls ++ own))) image (ghosts.told (disk_of at.is.begun)) (ghosts.told (disk_of is.written)) (ghosts.told (disk_of new)) tells.0 tells.1
-          (text_over laws.is_disk new_log at.disk at.is.begun (calls ++ own) is.written at.is.has_begun (wrote_append at.is.begun old is.written calls own at.is.wrote is.wrote) no_fault) at.bare is.syncs.put.are_put left
+          let synced = subst (λ (t : Option Disk). IfSome t (λ d. IsImage d image)) is.was_read.disk.same left in
+          whole_image (plain_text (written_by (calls ++ own))) image (ghosts.told (disk_of at.is.begun)) (ghosts.told (disk_of is.written)) (ghosts.told (disk_of is.synced)) tells.0 tells.1
+          (text_over laws.is_disk new_log at.disk at.is.begun (calls ++ own) is.written at.is.has_begun (wrote_append at.is.begun old is.written calls own at.is.wrote is.wrote) no_fault) at.bare is.syncs.put.are_put synced
 
     module _ (safe : ℕ) (held : HoldsCalls new_log at.d calls safe) where
       begins_now : BeginsNow old (take safe (written_by calls))
@@ -154,8 +156,9 @@ module _ {D : Type 0} {ghosts : Ghosts D} (laws : Laws ghosts) where
       current_filled own new olds news logs is fresh on =
           let mid : LogWriter D ghosts = is.written in
           let first : Survives laws old mid = survives laws old own mid is.wrote in
-          let second : Survives laws mid new = survives_put laws mid new [] true (answer_of None) is.syncs.put in
-          let s : Survives laws old new = survives_more laws old mid new first second in
+          let second : Survives laws mid is.synced = survives_put laws mid is.synced [] true (answer_of None) is.syncs.put in
+          let third : Survives laws is.synced new = survives_read laws is.synced new is.was_read in
+          let s : Survives laws old new = survives_more laws old is.synced new (survives_more laws old mid is.synced first second) third in
           let all = written_by (calls ++ own) in
           let begun : begun_by (calls ++ own) ≡ all = begun_written (calls ++ own) (no_fault own new is) in
           let front = begun_front calls own in
@@ -255,8 +258,9 @@ module _ {D : Type 0} {ghosts : Ghosts D} (laws : Laws ghosts) where
 
     pub filled_content : IfSome (ghosts.told (disk_of new)) (λ y. y.content ≡ plain_text (written_by calls))
     filled_content =
-        synced_content (plain_text (written_by calls)) (ghosts.told (disk_of is.written)) (ghosts.told (disk_of new))
-        (on_content calls is.written on_written (sym (on_stands calls is.written on_written).fault ∙ is.alive)) is.syncs.put.are_put
+        subst (λ (t : Option Disk). IfSome t (λ y. y.content ≡ plain_text (written_by calls))) (sym is.was_read.disk.same)
+        (synced_content (plain_text (written_by calls)) (ghosts.told (disk_of is.written)) (ghosts.told (disk_of is.synced))
+        (on_content calls is.written on_written (sym (on_stands calls is.written on_written).fault ∙ is.alive)) is.syncs.put.are_put)
 
     pub filled_len : len_of new ≡ length (plain_text (written_by calls))
-    filled_len = is.syncs.len ∙ (on_stands calls is.written on_written).len
+    filled_len = is.was_read.len ∙ (is.syncs.len ∙ (on_stands calls is.written on_written).len)

@@ -11,6 +11,7 @@ use Rattle.log_writer.specs.Words.{disk_of}
 use Rattle.log_writer.specs.Opening.{HasOpened}
 use Rattle.log_writer.specs.Adding.{GroupCall}
 use Rattle.log_writer.specs.Written.{written_by, begun_by}
+use Rattle.log_writer.specs.Reads.{WasRead}
 use Rattle.log_writer.specs.Sets.{full_of, current_of, later_of, logs_of, begun_in, fault_in, WroteSet}
 use Rattle.log_writer.specs.SetSplits.{AreFilled, IsSplit}
 use Rattle.log_writer.specs.SetCrashes.{IsLeftNow, IsLeftBetween, AreLeft, here, later, HasOpenedSet, AreSafeAfterFirst}
@@ -20,7 +21,8 @@ use Rattle.log_writer.proofs.Cutting.{one_begun}
 use Rattle.log_writer.proofs.Keeping.{only_image}
 use Rattle.log_writer.proofs.SetContents.{logs_opened, full_is, hold_logs}
 use Rattle.log_writer.proofs.SetCrashes.{all_back, opened_at, opened_unused}
-use Rattle.log_writer.proofs.SetEnd.{dead_calls, wrote_more, left_still}
+use Rattle.log_writer.proofs.Reading.{as_many_begun, all_were_read, all_left_read}
+use Rattle.log_writer.proofs.SetEnd.{dead_calls, wrote_more}
 use Rattle.log_writer.proofs.SetFronts.{IsFresh, none_now, none_still}
 use Rattle.log_writer.proofs.SetStates.{filled_whole}
 use Rattle.log_writer.proofs.Splitting.{split_so}
@@ -228,7 +230,7 @@ module _ {D : Type 0} {ghosts : Ghosts D} (laws : Laws ghosts) where
           let logs : logs_of between ≡ front ++ later_of last =
           ap (λ (l : List (LogWriter D ghosts)). full_of between ++ l) (second.begun ∙ sym (append_assoc second.started (second.last ∷ []) (later_of last))) ∙ sym (append_assoc (full_of between) (second.started ++ second.last ∷ []) (later_of last)) in
           let long : length front ≡ length (begun_in last) =
-          omega (arith, length-append (full_of between) (second.started ++ second.last ∷ []), length-append second.started (second.last ∷ []), length-append (full_of last) (current_of last ∷ []), ap length second.full, length-append (full_of between) second.filled, filled_long second.started second.parts second.filled second.are_filled) in
+          omega (arith, length-append (full_of between) (second.started ++ second.last ∷ []), length-append second.started (second.last ∷ []), length-append (full_of last) (current_of last ∷ []), ap length second.full, length-append second.kept second.filled, zip_long WasRead (full_of between) second.kept second.were_read, filled_long second.started second.parts second.filled second.are_filled) in
           unused_since (before ++ after) last (wrote_more opened between last before after wrote more) front (disks_of between) images (ap (λ (l : List (LogWriter D ghosts)). map (λ (x : LogWriter D ghosts). disk_of x) l) logs) long left
 
       pub unused_between : WroteSet between after last → (images : List (List ℕ)) → AreLeft ghosts (disks_of between) (disks_of last) images → AllByRecursion IsNothing (drop (length (begun_in last)) images)
@@ -236,5 +238,7 @@ module _ {D : Type 0} {ghosts : Ghosts D} (laws : Laws ghosts) where
         where
           by_fault : (f : Option ℕ) → fault_in between ≡ f → (images : List (List ℕ)) → AreLeft ghosts (disks_of between) (disks_of last) images → AllByRecursion IsNothing (drop (length (begun_in last)) images)
           by_fault None none = unused_alive more none
-          by_fault (Some count) dead = subst (λ (set : LogSet D ghosts). (images : List (List ℕ)) → AreLeft ghosts (disks_of between) (disks_of set) images → AllByRecursion IsNothing (drop (length (begun_in set)) images)) (sym (dead_calls between after last count dead more))
-              (λ images left. unused_now before between wrote images (left_still laws (disks_of between) images left))
+          by_fault (Some count) dead = λ images left.
+              let r = dead_calls between after last count dead more in
+              subst (λ (n : ℕ). AllByRecursion IsNothing (drop n images)) (sym (as_many_begun between last r))
+              (unused_now before between wrote images (all_left_read laws (logs_of between) (logs_of last) images (all_were_read between last r) left))

@@ -30,6 +30,7 @@ module _ {D : Type 0} {ghosts : Ghosts D} where
               (puts_cut ghosts (disk_of (current_of old)) (disk_of (current_of new)) [] (text_at_end d (current_of old)) d.sync n (answer_of (Some n)) refl
               (puts_err ghosts (disk_of (current_of old)) (disk_of (current_of new)) [] true false n (answer_of (Some n)) refl s.fails.put));
           kept = λ e. subst (λ (f : Option ℕ). MatchOption f (Grows (text_at_end d (current_of old)) (current_of old) (current_of new)) (Stops (current_of old) (current_of new))) (sym fails) s.fails.stops;
+          batch = λ worked. let wrong : ◌≡◌ {A = Option ℕ} None (Some n) = sym worked ∙ fails in absurd (cc);
         };
         later = s.later;
         limit = s.limit;

@@ -7,11 +7,14 @@ use Rattle.log_writer.specs.declared.writer.LogWriter.{LogWriter}
 use Rattle.log_writer.specs.declared.set.LogSet.{LogSet}
 use Rattle.log_writer.specs.Words.{disk_of}
 use Rattle.log_writer.specs.Adding.{GroupCall}
-use Rattle.log_writer.specs.Written.{no_call, one_more, if_worked, first_fault}
-use Rattle.log_writer.specs.Sets.{counted, full_of, current_of, later_of, fault_in, GoesOn, AddsHere, AddsOver, here, next, stuck, AddsTo, WroteSet}
+use Rattle.log_writer.specs.Reads.{WasRead}
+use Rattle.log_writer.specs.ReadLaws.{not_read, none_were_read, were_read_on}
+use Rattle.log_writer.specs.Written.{no_call, one_more, read, if_worked, first_fault}
+use Rattle.log_writer.specs.Sets.{counted, full_of, current_of, later_of, fault_in, GoesOn, AddsHere, AddsOver, here, next, stuck, AddsTo, SetWasRead, WroteSet}
 use Rattle.log_writer.specs.Sets as sets
 use Rattle.log_writer.specs.SetSplits.{IsSameCall, until_fault, IsFilled, AreFilled, IsSplit}
 use Rattle.log_writer.proofs.Calls.{first_more, none_more}
+use Rattle.log_writer.proofs.Reading.{zip_cut, all_filled_then_read}
 use Rattle.log_writer.proofs.Setting.{stuck_adds}
 
 pub zip_more : {A B : Type 0} (R : A → B → Type 0) (xs : List A) (ys : List B) (x : A) (y : B) → AllZip R xs ys → R x y → AllZip R (xs ++ x ∷ []) (ys ++ y ∷ [])
@@ -62,6 +65,8 @@ module _ {D : Type 0} {ghosts : Ghosts D} where
         started = s.started;
         last = s.last;
         begun = s.begun ∙ ap (λ (l : List (LogWriter D ghosts)). s.started ++ s.last ∷ l) (sym a.later);
+        kept = s.kept;
+        were_read = s.were_read;
         filled = s.filled;
         full = a.full ∙ s.full;
         parts = s.parts;
@@ -84,10 +89,19 @@ module _ {D : Type 0} {ghosts : Ghosts D} where
         started = s.started ++ s.last ∷ [];
         last = current_of between;
         begun = s.begun ∙ (ap (λ (l : List (LogWriter D ghosts)). s.started ++ s.last ∷ l) (g.later ∙ ap (λ (l : List (LogWriter D ghosts)). current_of between ∷ l) (sym a.later)) ∙ sym (append_assoc s.started (s.last ∷ []) (current_of between ∷ later_of new)));
+        kept = s.kept;
+        were_read = s.were_read;
         filled = s.filled ++ g.synced ∷ [];
-        full = a.full ∙ (g.full ∙ (ap (λ (l : List (LogWriter D ghosts)). l ++ g.synced ∷ []) s.full ∙ append_assoc (full_of old) s.filled (g.synced ∷ [])));
+        full = a.full ∙ (g.full ∙ (ap (λ (l : List (LogWriter D ghosts)). l ++ g.synced ∷ []) s.full ∙ append_assoc s.kept s.filled (g.synced ∷ [])));
         parts = s.parts ++ s.own ∷ [];
-        are_filled = filled_more s.started s.parts s.filled s.last s.own g.synced s.are_filled (record { written = current_of now; wrote = s.wrote; alive = now.alive alive; syncs = g.syncs });
+        are_filled = filled_more s.started s.parts s.filled s.last s.own g.synced s.are_filled (record {
+          written = current_of now;
+          wrote = s.wrote;
+          alive = now.alive alive;
+          synced = g.synced;
+          syncs = g.syncs;
+          was_read = not_read g.synced;
+        });
         own = d ∷ [];
         wrote = one_more d no_call a.adds;
         same = subst (λ (z : List GroupCall × List GroupCall). AllZip IsSameCall z.0 z.1) (λ i. (sym (until_more calls c none) i, ap (λ (l : List GroupCall). l ++ d ∷ []) (sym flat) i))
@@ -103,6 +117,8 @@ module _ {D : Type 0} {ghosts : Ghosts D} where
         started = s.started;
         last = s.last;
         begun = s.begun;
+        kept = s.kept;
+        were_read = s.were_read;
         filled = s.filled;
         full = s.full;
         parts = s.parts;
@@ -125,12 +141,34 @@ module _ {D : Type 0} {ghosts : Ghosts D} where
       by_fault None alive kept = by_over alive (adds.put alive)
       by_fault (Some count) dead kept = subst (λ (set : LogSet D ghosts). IsSplit old (calls ++ c ∷ []) set) (sym kept.1) (more_dead old calls now c count s dead)
 
+  -- the logs were read
+  unfoldable pub split_read : (old : LogSet D ghosts) (calls : List GroupCall) (now new : LogSet D ghosts) → IsSplit old calls now → SetWasRead now new → IsSplit old calls new
+  split_read old calls now new s r =
+      let p = zip_cut WasRead s.kept s.filled (full_of new) (subst (λ (l : List (LogWriter D ghosts)). AllZip WasRead l (full_of new)) s.full r.full) in
+      record {
+        started = s.started;
+        last = s.last;
+        begun = s.begun ∙ ap (λ (l : List (LogWriter D ghosts)). s.started ++ s.last ∷ l) (sym r.later);
+        kept = p.first;
+        were_read = were_read_on (full_of old) s.kept p.first s.were_read p.of_front;
+        filled = p.others;
+        full = p.cut;
+        parts = s.parts;
+        are_filled = all_filled_then_read s.started s.parts s.filled p.others s.are_filled p.of_back;
+        own = s.own;
+        wrote = read s.wrote r.current;
+        same = s.same;
+        fault = r.fault ∙ s.fault;
+      }
+
   -- no calls
   unfoldable pub split_none : (old : LogSet D ghosts) → fault_in old ≡ None → IsSplit old [] old
   split_none old alive = record {
     started = [];
     last = current_of old;
     begun = refl;
+    kept = full_of old;
+    were_read = none_were_read (full_of old);
     filled = [];
     full = sym (append-nil (full_of old));
     parts = [];
@@ -144,3 +182,4 @@ module _ {D : Type 0} {ghosts : Ghosts D} where
   pub split_so : (old : LogSet D ghosts) (calls : List GroupCall) (new : LogSet D ghosts) → fault_in old ≡ None → WroteSet old calls new → IsSplit old calls new
   split_so old calls new alive sets.no_call = split_none old alive
   split_so old calls new alive (sets.one_more {calls = before} {now = now} c wrote adds) = split_more old before now new c (split_so old before now alive wrote) adds
+  split_so old calls new alive (sets.read {now = now} wrote r) = split_read old calls now new (split_so old calls now alive wrote) r

@@ -13,7 +13,8 @@ use Rattle.log_writer.specs.Puts.{IsSynced, StandPut, StaysInFront, IsPutInPart,
 use Rattle.log_writer.specs.Words.{disk_of, number_of, len_of, fault_of}
 use Rattle.log_writer.specs.Opening.{HasKeptBytes, HasBegun}
 use Rattle.log_writer.specs.Adding.{GroupCall, record_of_call, answer_of, Grows, Stops, Adds}
-use Rattle.log_writer.specs.Written.{Wrote, no_call, one_more, IsWritten, if_worked, first_fault, written_by, HaveSynced, HoldsCalls, IsTextOver, Stands}
+use Rattle.log_writer.specs.Reads.{WasRead}
+use Rattle.log_writer.specs.Written.{Wrote, no_call, one_more, read, IsWritten, if_worked, first_fault, written_by, HaveSynced, HoldsCalls, IsTextOver, Stands}
 use Rattle.log_writer.proofs.Calls.{first_more, written_more, begun_more, written_len, none_more, synced_more, synced_all}
 use Rattle.log_writer.proofs.Keeping.{after_more, after_none, after_shorter}
 use Rattle.log_writer.proofs.Putting.{put_len, put_there}
@@ -237,10 +238,20 @@ stands_first {ghosts = ghosts} b disk log begun = record {
   told = told_first b (ghosts.told disk) (ghosts.told (disk_of log)) begun.told;
 }
 
+-- reading changes nothing of it
+pub stands_read : {D : Type 0} {ghosts : Ghosts D} (b : Beginning) (calls : List GroupCall) (now new : LogWriter D ghosts) → Stands b calls now → WasRead now new → Stands b calls new
+stands_read {ghosts = ghosts} b calls now new stands r = record {
+  number_is = r.number ∙ stands.number_is;
+  fault = r.fault ∙ stands.fault;
+  len = r.len ∙ stands.len;
+  told = subst (λ (t : Option Disk). IfSome t (λ d. (safe : ℕ) × HoldsCalls b d calls safe)) (sym r.disk.same) stands.told;
+}
+
 module _ {D : Type 0} {ghosts : Ghosts D} (is_disk : (disk : D) → IfSome (ghosts.told disk) IsDisk) (b : Beginning) where
   pub stands_written : (begun : LogWriter D ghosts) (calls : List GroupCall) (log : LogWriter D ghosts) → Stands b [] begun → Wrote begun calls log → Stands b calls log
   stands_written begun calls log first no_call = first
   stands_written begun calls log first (one_more {calls = before} {now = now} c wrote adds) = stands_more is_disk b before c now log (stands_written begun before now first wrote) adds
+  stands_written begun calls log first (read {now = now} wrote r) = stands_read b calls now log (stands_written begun calls now first wrote) r
 
   pub stands_so : (disk : D) (calls : List GroupCall) (log : LogWriter D ghosts) → IsWritten b disk calls log → Stands b calls log
   stands_so disk calls log is = stands_written is.begun calls log (stands_first b disk is.begun is.has_begun) is.wrote
@@ -304,3 +315,5 @@ module _ {D : Type 0} {ghosts : Ghosts D} (is_disk : (disk : D) → IfSome (ghos
       (subst (λ (m : Option ℕ). Told (ghosts.told (disk_of now)) (ghosts.told (disk_of log)) (λ x y. ArePut x y (record_text m (len_of now) (record_of_call c)) c.sync (answer_of c.failed))) stands.number_is (adds.put is_none).are_put) in
       over_call b (ghosts.told (disk_of begun)) (ghosts.told (disk_of now)) (ghosts.told (disk_of log)) before c (len_of now) both.0 both.1 stands.len stands.told
       (text_over disk begun before now has wrote both.0) put
+  text_over disk begun calls log has (read {now = now} wrote r) none =
+      subst (λ (t : Option Disk). Told (ghosts.told (disk_of begun)) t (IsTextOver (text_after b (written_by calls)))) (sym r.disk.same) (text_over disk begun calls now has wrote none)

@@ -12,11 +12,12 @@ use Rattle.log_writer.specs.Crashes.{safe_len, KeepsSafe, KeepsWhatWasSafe, Keep
 use Rattle.log_writer.specs.Puts.{StaysInFront, ArePut, Puts}
 use Rattle.log_writer.specs.Words.{disk_of, number_of, len_of, fault_of}
 use Rattle.log_writer.specs.Adding.{GroupCall, record_of_call, answer_of, Adds}
-use Rattle.log_writer.specs.Written.{Wrote, no_call, one_more, IsWritten, written_by, begun_by, HoldsCalls, HasCauseSince}
+use Rattle.log_writer.specs.Reads.{WasRead}
+use Rattle.log_writer.specs.Written.{Wrote, no_call, one_more, read, IsWritten, written_by, begun_by, HoldsCalls, HasCauseSince}
 use Rattle.log_writer.specs.FaultLaws.{Caused, caused_calls}
 use Rattle.log_writer.proofs.Calls.{begun_front}
-use Rattle.log_writer.proofs.Keeping.{after_front, after_shorter, front_kept, keeps_prefix, leaves_safe, leaves_same}
-use Rattle.log_writer.proofs.Putting.{told_more, told_is, leaves_so, leaves_more, stays_more, stays_self, put_stays, keeps_before, keeps_image}
+use Rattle.log_writer.proofs.Keeping.{after_front, after_shorter, front_kept, image_keeps, keeps_prefix, leaves_safe, leaves_same}
+use Rattle.log_writer.proofs.Putting.{told_more, told_is, leaves_so, leaves_more, leaves_time, stays_more, stays_self, put_stays, keeps_before, keeps_image}
 
 put_stays_so : {T E : Type 0} (x y : Disk) (bytes : List ℕ) (sync : Bool) (r : Result T E) → IsDisk x → ArePut x y bytes sync r → StaysInFront x y
 put_stays_so x y bytes sync (Ok t) is put = put_stays x y bytes sync is put
@@ -64,6 +65,17 @@ module _ {D : Type 0} {ghosts : Ghosts D} (laws : Laws ghosts) where
       by_fault None is_none kept = survives_put old new (record_text (number_of old) (len_of old) (record_of_call c)) c.sync (answer_of c.failed) (adds.put is_none)
       by_fault (Some count) is_some kept = subst (λ (log : LogWriter D ghosts). Survives old log) (sym kept.1) (survives_none old)
 
+  -- reading changes nothing
+  pub survives_read : (old new : LogWriter D ghosts) → WasRead old new → Survives old new
+  survives_read old new r =
+      let told = ghosts.told (disk_of old) in
+      record {
+        stays = subst (λ (t : Option Disk). Told told t StaysInFront) (sym r.disk.same) (told_none told);
+        leaves = leaves_time ghosts (disk_of old) (disk_of new) (KeepsWhatWasSafe told) (laws.only_now (disk_of old)) r.disk.time (image_keeps told)
+            (λ image is. image_keeps told image (subst (λ (t : Option Disk). IfSome t (λ d. IsImage d image)) r.disk.same is));
+        later = r.disk.later;
+      }
+
   pub survives_more : (a b c : LogWriter D ghosts) → Survives a b → Survives b c → Survives a c
   survives_more a b c first second = record {
     stays = told_more (ghosts.told (disk_of a)) (ghosts.told (disk_of b)) (ghosts.told (disk_of c)) first.stays second.stays stays_more;
@@ -75,6 +87,7 @@ module _ {D : Type 0} {ghosts : Ghosts D} (laws : Laws ghosts) where
   pub survives : (old : LogWriter D ghosts) (calls : List GroupCall) (new : LogWriter D ghosts) → Wrote old calls new → Survives old new
   survives old calls new no_call = survives_none old
   survives old calls new (one_more {calls = before} {now = now} c wrote adds) = survives_more old now new (survives old before now wrote) (survives_call c now new adds)
+  survives old calls new (read {now = now} wrote r) = survives_more old now new (survives old calls now wrote) (survives_read now new r)
 
   -- a fault came in one of the calls since the log was opened
   pub caused : (b : Beginning) (disk : D) (calls : List GroupCall) (log : LogWriter D ghosts) → IsWritten b disk calls log → HasCauseSince disk log
@@ -82,10 +95,9 @@ module _ {D : Type 0} {ghosts : Ghosts D} (laws : Laws ghosts) where
       let first : Caused (ghosts.faults disk) is.begun = record {
         later = omega (arith, (is.has_begun).no_fault);
         rose = subst (λ (f : Option ℕ). IfSome f (λ n. Rose (ghosts.faults disk) n × (n ≤ ghosts.faults (disk_of is.begun)))) (sym (is.has_begun).fault) tt;
-        no_fault = λ none. (is.has_begun).no_fault;
       } in
       let since : Caused (ghosts.faults disk) log = caused_calls (ghosts.faults disk) is.begun calls log first is.wrote in
-      record { later = since.later; rose = since.rose; no_fault = since.no_fault }
+      record { later = since.later; rose = since.rose }
 
 -- Each image begins with the text of the records that were safe.
 pub safe_begins : (b : Beginning) (d : Disk) (calls : List GroupCall) (safe : ℕ) (image : List ℕ) → HoldsCalls b d calls safe → KeepsSafe d image → BeginsWith (text_after b (take safe (written_by calls))) image

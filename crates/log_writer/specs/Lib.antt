@@ -4,12 +4,17 @@ pub mod Words
 pub mod Opening
 pub mod Groups
 pub mod Adding
+pub mod Reads
 pub mod Written
 pub mod GroupLogs
+pub mod CountedFaults
 pub mod FaultLaws
 pub mod Sets
 pub mod SetFaultLaws
 pub mod SetCrashes
+pub mod ReadableLogs
+pub mod ReadLaws
+pub mod TellLaws
 pub mod SetSplits
 pub mod SetContents
 pub mod SetOpening

@@ -1,11 +1,13 @@
 -- A set of logs, each on a disk of its own, which are written one after another; and what `add_group` does to it.
 use Rattle.std.specs.Prelude.{◌≡◌, ◌⊎◌, ℕ, ◌-◌, ◌^◌, ◌<◌, ◌≤◌, min, List, [], ◌∷◌, ◌++◌, length, map, sum, sum_by, Option, Some, None, IfSome}
+use Rattle.std.specs.List.{AllZip}
 use Rattle.base_devices.specs.declared.disk.Disk.{Ghosts}
 use Rattle.model_base.specs.LogContents.{GroupCall}
 use Rattle.log_writer.specs.declared.writer.LogWriter.{LogWriter}
 use Rattle.log_writer.specs.declared.set.LogSet.{LogSet}
 use Rattle.log_writer.specs.Words.{disk_of, len_of}
 use Rattle.log_writer.specs.Adding.{Adds, Syncs, FailsToSync}
+use Rattle.log_writer.specs.Reads.{WasRead}
 
 -- how many calls of these logs' disks have failed in all; the count stops at the greatest u64
 abbrev pub count_in : {D : Type 0} {ghosts : Ghosts D} → List (LogWriter D ghosts) → ℕ
@@ -33,6 +35,10 @@ module _ {D : Type 0} {ghosts : Ghosts D} where
   -- all its logs, in their order
   abbrev pub logs_of : LogSet D ghosts → List (LogWriter D ghosts)
   logs_of s = full_of s ++ current_of s ∷ later_of s
+
+  -- which of them is read, counted from 0
+  abbrev pub chosen_of : LogSet D ghosts → ℕ
+  chosen_of s = s.chosen
 
   -- those that have begun
   abbrev pub begun_in : LogSet D ghosts → List (LogWriter D ghosts)
@@ -97,11 +103,21 @@ module _ {D : Type 0} {ghosts : Ghosts D} where
     pub dead : IfSome (fault_in old) (λ count. (c.failed ≡ Some count) × (new ≡ old))
     pub put : fault_in old ≡ None → AddsOver c old new
 
-  -- these calls, one after another, took the set from what it was to what it is
+  -- The logs that have begun were read, and the set is as it was; but another log may be chosen to be read.
+  pub record SetWasRead (old new : LogSet D ghosts) : Type 0 where
+    pub full : AllZip WasRead (full_of old) (full_of new)
+    pub current : WasRead (current_of old) (current_of new)
+    pub later : later_of new ≡ later_of old
+    pub limit : limit_of new ≡ limit_of old
+    pub fault : fault_in new ≡ fault_in old
+
+  -- These calls, one after another, took the set from what it was to what it is. It may have been read in between.
   pub data WroteSet (old : LogSet D ghosts) : List GroupCall → LogSet D ghosts → Type 0 where
     no_call : WroteSet old [] old
     one_more : {calls : List GroupCall} {now new : LogSet D ghosts} (c : GroupCall)
         → WroteSet old calls now → AddsTo c now new → WroteSet old (calls ++ c ∷ []) new
+    read : {calls : List GroupCall} {now new : LogSet D ghosts}
+        → WroteSet old calls now → SetWasRead now new → WroteSet old calls new
 
   -- the set has room for a group, as it was or in its next log
   pub data MakesRoom (old new : LogSet D ghosts) : Type 0 where

@@ -12,13 +12,16 @@ use Rattle.log_writer.specs.Words.{disk_of, number_of, len_of, fault_of}
 use Rattle.log_writer.specs.Crashes.{HoldsUpTo}
 use Rattle.log_writer.specs.Opening.{HasBegun}
 use Rattle.log_writer.specs.Adding.{GroupCall, record_of_call, Adds}
+use Rattle.log_writer.specs.Reads.{WasRead}
 
--- these calls, one after another, took the log from what it was to what it is
+-- These calls, one after another, took the log from what it was to what it is. It may have been read in between.
 pub data Wrote {D : Type 0} {ghosts : Ghosts D} (old : LogWriter D ghosts)
     : List GroupCall → LogWriter D ghosts → Type 0 where
   no_call : Wrote old [] old
   one_more : {calls : List GroupCall} {now new : LogWriter D ghosts} (c : GroupCall)
       → Wrote old calls now → Adds c now new → Wrote old (calls ++ c ∷ []) new
+  read : {calls : List GroupCall} {now new : LogWriter D ghosts}
+      → Wrote old calls now → WasRead now new → Wrote old calls new
 
 -- the log began like this on the disk, and these calls wrote it
 pub record IsWritten {D : Type 0} {ghosts : Ghosts D} (b : Beginning) (disk : D) (calls : List GroupCall)
@@ -99,8 +102,7 @@ abbrev pub IsTextOver : List ℕ → Disk → Disk → Type 0
 IsTextOver t before now = now.content ≡ t ++ drop (length t) before.content
 
 -- since the log was opened on this disk, the disk's count of faults hasn't fallen; if the log has a fault, the count
--- rose to the fault's count, and is at least that now; if it has none, the count is as before
+-- rose to the fault's count, and is at least that now
 pub record HasCauseSince {D : Type 0} {ghosts : Ghosts D} (disk : D) (log : LogWriter D ghosts) : Type 0 where
   pub later : ghosts.faults disk ≤ ghosts.faults (disk_of log)
   pub rose : IfSome (fault_of log) (λ count. Rose (ghosts.faults disk) count × (count ≤ ghosts.faults (disk_of log)))
-  pub no_fault : fault_of log ≡ None → ghosts.faults (disk_of log) ≡ ghosts.faults disk

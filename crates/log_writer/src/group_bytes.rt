@@ -1,8 +1,10 @@
 //! The bytes of a group's record, which are spread over its members.
 
-ghost use Rattle.std.specs.Prelude.{◌≡◌, ◌+◌, ◌≤◌, ◌<◌, ◌^◌, ◌++◌, length, take, drop};
+ghost use Rattle.std.specs.Prelude.{◌≡◌, ◌+◌, ◌-◌, ◌≤◌, ◌<◌, ◌^◌, ◌++◌, length, take, drop, flat_map};
 ghost use Rattle.model_base.specs.Batch as model;
-ghost use Rattle.log_writer.specs.Groups.{counts_of, body_lens_of, bodies_of};
+ghost use Rattle.model_base.specs.Batch.{IsBatch};
+ghost use Rattle.model_base.specs.History.{max_sequence};
+ghost use Rattle.log_writer.specs.Groups.{batches_of, counts_of, body_lens_of, bodies_of, record_of_group};
 
 use log_batch::{Batch, HEADER_LEN};
 use std::marker::Model;
@@ -64,6 +66,20 @@ fn body_of(member: &Batch) -> &[u8]
     ensures { result.now ≡ model.body member.now.records }
 {
     &member.bytes()[HEADER_LEN..]
+}
+
+/// The record of this group is a batch: each of its additions can be read back. That is all that this call says: it
+/// does nothing.
+pub(crate) fn assure_batch(first: u64, members: &[Batch])
+    requires counts { counts_of members.now < 2 ^ 32 }
+    requires run { first + counts_of members.now - 1 ≤ max_sequence }
+    ensures { IsBatch (record_of_group first members.now) first
+        (flat_map (λ records. records) (batches_of members.now)) }
+{
+    // The additions of the members so far can be read back.
+    for member in members {
+        drop(member.records());
+    }
 }
 
 /// How many sequences a group takes.

@@ -4,7 +4,7 @@ ghost use Rattle.std.specs.Prelude.{◌≡◌, ◌+◌, ◌-◌, ◌^◌, ◌<�
 ghost use Rattle.model_base.specs.History.{max_sequence};
 ghost use Rattle.log_writer.specs.Groups.{counts_of, body_lens_of};
 ghost use Rattle.log_writer.specs.Adding.{call_of, count_of_fault};
-ghost use Rattle.log_writer.specs.GroupLogs.{CameInCalls};
+ghost use Rattle.log_writer.specs.GroupLogs.{CameInCall, CameInCalls};
 
 use crate::{Fault, LogSet, LogWriter};
 use base_devices::Disk;
@@ -17,9 +17,14 @@ use log_batch::Batch;
 pub trait GroupLog {
     ghost use Rattle.std.specs.Prelude.{ℕ, List, Option};
     ghost use Rattle.model_base.specs.LogContents.{GroupCall};
+    ghost use Rattle.model_base.specs.Recovery.{Logged};
 
-    /// These calls of `add_group`, and no others, have turned the first log into the second one.
+    /// These calls of `add_group`, and no others, have turned the first log into the second one. It may have been read
+    /// between them.
     ghost wrote: { Self → List GroupCall → Self → Type 0 };
+
+    /// As it was opened it has these batches, and nothing else; and its disks tell what they hold.
+    ghost keeps: { Self → List Logged → Type 0 };
 
     /// Its length: the bytes that it kept, and those of the groups that were written whole.
     ghost len: { Self → ℕ };
@@ -41,7 +46,10 @@ pub trait GroupLog {
             → wrote opened (calls ++ call_of first members.now sync result ∷ []) self.new }
         ensures fault { fault self.old ≡ None → fault self.new ≡ count_of_fault result }
         ensures dead { IfSome (fault self.old)
-            (λ count. (count_of_fault result ≡ Some count) × (self.new ≡ self.old)) };
+            (λ count. (count_of_fault result ≡ Some count) × (self.new ≡ self.old)) }
+        // The disks have counted a fault where the call failed, and else none.
+        ensures cause { fault self.old ≡ None
+            → CameInCall (faults self.old) (faults self.new) (count_of_fault result) };
 
     /// The length of the log: the bytes that it kept, and those of the groups that were written whole.
     fn len(&self) -> u64
@@ -50,6 +58,10 @@ pub trait GroupLog {
     /// The count of the fault that ended the log, if one did.
     fn fault(&self) -> Option<u64>
         ensures { result ≡ fault self.now };
+
+    /// How many calls of its disks have failed, or the greatest `u64` where they are more.
+    fn faults(&self) -> u64
+        ensures { result ≡ faults self.now };
 
     /// No call leaves a log as it is.
     ghost no_call: { (log : Self) → wrote log [] log };
@@ -63,8 +75,11 @@ impl<D: Disk> GroupLog for LogWriter<D> {
     ghost use Rattle.log_writer.specs.Words.{disk_of, len_of, fault_of};
     ghost use Rattle.log_writer.specs.Written.{Wrote, no_call};
     ghost use Rattle.log_writer.specs.FaultLaws.{caused_in_calls};
+    ghost use Rattle.log_writer.specs.ReadableLogs.{KeepsBatches};
 
     ghost wrote = { λ old calls new. Wrote old calls new };
+
+    ghost keeps = { λ log batches. KeepsBatches log batches };
 
     ghost len = { λ log. len_of log };
 
@@ -87,14 +102,21 @@ impl<D: Disk> GroupLog for LogWriter<D> {
     fn fault(&self) -> Option<u64> {
         self.fault()
     }
+
+    fn faults(&self) -> u64 {
+        self.faults()
+    }
 }
 
 impl<D: Disk> GroupLog for LogSet<D> {
     ghost use Rattle.log_writer.specs.Sets.{WroteSet, count_in, fault_in, len_in, logs_of};
     ghost use Rattle.log_writer.specs.Sets as sets;
     ghost use Rattle.log_writer.specs.SetFaultLaws.{caused_in_set};
+    ghost use Rattle.log_writer.specs.ReadableLogs.{SetKeepsNone};
 
     ghost wrote = { λ old calls new. WroteSet old calls new };
+
+    ghost keeps = { λ set batches. SetKeepsNone set batches };
 
     ghost len = { λ set. len_in set };
 
@@ -116,5 +138,9 @@ impl<D: Disk> GroupLog for LogSet<D> {
 
     fn fault(&self) -> Option<u64> {
         self.fault()
+    }
+
+    fn faults(&self) -> u64 {
+        self.faults()
     }
 }

@@ -9,6 +9,10 @@ ghost use Rattle.log_writer.specs.declared.writer.LogWriter.{LogWriter as Log};
 ghost use Rattle.log_writer.specs.Words.{disk_of};
 ghost use Rattle.log_writer.specs.Opening.{HasOpened, HasReused, HasResumed, HasBegun};
 ghost use Rattle.log_writer.specs.Adding.{GroupCall, Adds};
+ghost use Rattle.log_writer.specs.Reads.{WasRead};
+ghost use Rattle.log_writer.specs.ReadableLogs.{AreBatches, IsTextOf, IsTold, KeepsBatches, SetKeepsNone};
+ghost use Rattle.std.specs.List.{AllByRecursion};
+ghost use Rattle.model_base.specs.Recovery.{Logged};
 ghost use Rattle.log_writer.specs.Crashes.{KeepsPrefix};
 ghost use Rattle.log_writer.specs.declared.set.LogSet.{LogSet as Set};
 ghost use Rattle.log_writer.specs.Sets.{WroteSet, fault_in};
@@ -31,14 +35,31 @@ pub fn beginnings<D: Disk>()
         → IfSome (D.told disk) (λ d. take (length b.kept) d.content ≡ b.kept) → HasBegun b disk log }
 {}
 
+/// What a log has as it is opened, where its disk tells what it holds: nothing, or the batches of which the bytes that it
+/// keeps are the text.
+pub fn kept_at_first<D: Disk>()
+    ensures opened { (disk : D) (log : Log D ⟦<D as Disk>⟧) → IsTold ⟦<D as Disk>⟧ disk → HasOpened disk log
+        → KeepsBatches log [] }
+    ensures reused { (disk : D) (n : ℕ) (log : Log D ⟦<D as Disk>⟧) → IsTold ⟦<D as Disk>⟧ disk
+        → HasReused disk n log → KeepsBatches log [] }
+    ensures resumed { (disk : D) (b : Beginning) (log : Log D ⟦<D as Disk>⟧) (batches : List Logged)
+        → IsTold ⟦<D as Disk>⟧ disk → HasResumed disk (length b.kept) b.number log
+        → IfSome (D.told disk) (λ d. take (length b.kept) d.content ≡ b.kept)
+        → IsTextOf b.number b.kept batches → AreBatches batches → KeepsBatches log batches }
+    ensures set { (disks : List D) (set : Set D ⟦<D as Disk>⟧) → AllByRecursion (IsTold ⟦<D as Disk>⟧) disks
+        → HasOpenedSet disks set → SetKeepsNone set [] }
+{}
+
 /// A log that has begun is written by no calls, and each call after that makes it one that is written by one call
-/// more. What the log has then is what it kept and what the calls wrote.
+/// more. It may be read in between. What the log has then is what it kept and what the calls wrote.
 pub fn written_by_calls<D: Disk>()
     ensures no_call { (b : Beginning) (disk : D) (log : Log D ⟦<D as Disk>⟧)
         → HasBegun b disk log → IsWritten b disk [] log }
     ensures one_more { (b : Beginning) (disk : D) (calls : List GroupCall) (c : GroupCall)
         (now new : Log D ⟦<D as Disk>⟧) → IsWritten b disk calls now → Adds c now new
         → IsWritten b disk (calls ++ c ∷ []) new }
+    ensures read { (b : Beginning) (disk : D) (calls : List GroupCall) (now new : Log D ⟦<D as Disk>⟧)
+        → IsWritten b disk calls now → WasRead now new → IsWritten b disk calls new }
     // The disk has what the calls wrote after what the log kept, and the log has their first fault.
     ensures stands { (b : Beginning) (disk : D) (calls : List GroupCall) (log : Log D ⟦<D as Disk>⟧)
         → IsWritten b disk calls log → Stands b calls log }
@@ -46,8 +67,7 @@ pub fn written_by_calls<D: Disk>()
     ensures content { (b : Beginning) (disk : D) (calls : List GroupCall) (begun log : Log D ⟦<D as Disk>⟧)
         → HasBegun b disk begun → Wrote begun calls log → first_fault calls ≡ None
         → Told (D.told (disk_of begun)) (D.told (disk_of log)) (IsTextOver (text_after b (written_by calls))) }
-    // A log has a fault only where the disk has counted one since, and the disk has counted none while the log has
-    // none.
+    // A log has a fault only where the disk has counted one since.
     ensures cause { (b : Beginning) (disk : D) (calls : List GroupCall) (log : Log D ⟦<D as Disk>⟧)
         → IsWritten b disk calls log → HasCauseSince disk log }
 {}

@@ -33,6 +33,8 @@ mod group_bytes;
 mod group_log;
 mod laws;
 mod puts;
+mod readable_log;
+mod reads;
 mod set;
 mod set_laws;
 mod set_opening;
@@ -42,8 +44,9 @@ pub use errors::{Fault, OpenError};
 pub use group_log::GroupLog;
 pub use laws::{
     beginnings, calls_of_each_log, contents_of_sets, crashes_between_calls, crashes_of_sets,
-    written_by_calls,
+    kept_at_first, written_by_calls,
 };
+pub use readable_log::ReadableLog;
 pub use set::LogSet;
 pub use set_laws::{one_cut_of_sets, sets_are_filled, synced_in_sets};
 pub use writer::LogWriter;

@@ -6,8 +6,9 @@ ghost use Rattle.std.proofs.Props.{props};
 ghost use Rattle.log_writer.specs.Words.{len_of, fault_of};
 
 use crate::counts::{count_faults, move_disks};
+use crate::reads::read_in;
 use crate::{Fault, LogWriter};
-use base_devices::Disk;
+use base_devices::{Disk, Failed, ReadAt};
 use log_batch::Batch;
 use std::mem;
 
@@ -31,6 +32,8 @@ pub struct LogSet<D: Disk> {
     pub(crate) fault: Option<u64>,
     /// Room for the disks, for when they are given back.
     pub(crate) room: Vec<D>,
+    /// Which log is read, counted from 0.
+    pub(crate) chosen: usize,
     ghost lens_are: { lens.items ≡ map len_of full.items ++ len_of current ∷ [] },
     ghost alive: { fault ≡ None → fault_of current ≡ None } by { Prim.hlevel props },
     ghost fresh: { AllByRecursion (λ log. fault_of log ≡ None) later.items } by { Prim.hlevel props },
@@ -45,7 +48,7 @@ impl<D: Disk> LogSet<D> {
     ghost use Rattle.model_base.specs.History.{max_sequence};
     ghost use Rattle.log_writer.specs.Groups.{counts_of, body_lens_of};
     ghost use Rattle.log_writer.specs.Adding.{call_of, count_of_fault};
-    ghost use Rattle.log_writer.specs.Sets.{AddsHere, AddsTo, GoesOn, HasRoom, IsStuck, MakesRoom, begun_in, full_of, current_of, later_of, logs_of, limit_of, fault_in, len_in};
+    ghost use Rattle.log_writer.specs.Sets.{AddsHere, AddsTo, GoesOn, HasRoom, IsStuck, MakesRoom, SetWasRead, begun_in, chosen_of, count_in, full_of, current_of, later_of, logs_of, limit_of, fault_in, len_in};
     ghost use Rattle.log_writer.specs.Words.{disk_of, len_of};
 
     /// Writes a group of batches as one record, to the current log, or to the next one where the current log is full
@@ -171,6 +174,29 @@ impl<D: Disk> LogSet<D> {
         self.fault
     }
 
+    /// How many calls of all its disks have failed, or the greatest `u64` where they are more.
+    pub(crate) fn faults(&self) -> u64
+        ensures { result ≡ count_in (logs_of self.now) }
+    {
+        count_faults(&self.full, &self.current, &self.later)
+    }
+
+    /// How many logs it has.
+    pub(crate) fn many(&self) -> usize
+        ensures { result ≡ length (logs_of self.now) }
+    {
+        self.full.len() + 1 + self.later.len()
+    }
+
+    /// Chooses the log that is read.
+    pub(crate) fn choose(&mut self, which: usize)
+        ensures chosen { chosen_of self.new ≡ which }
+        ensures was_read { SetWasRead self.old self.new }
+        ensures counts { count_in (logs_of self.new) ≡ count_in (logs_of self.old) }
+    {
+        self.chosen = which;
+    }
+
     /// The disks as they are, in their order. It takes no memory.
     pub fn into_disks(self) -> Vec<D>
         ensures { result.items ≡ map disk_of (logs_of self) }
@@ -193,6 +219,7 @@ impl<D: Disk> LogSet<D> {
             limit: _,
             fault: _,
             mut room,
+            chosen: _,
         } = self;
         move_disks(&mut full, &mut room);
         full.destroy_empty();
@@ -200,5 +227,36 @@ impl<D: Disk> LogSet<D> {
         move_disks(&mut later, &mut room);
         later.destroy_empty();
         (room, lens)
+    }
+}
+
+/// The log that is chosen is read, up to its end; the first one, until another one is chosen. A log that has not begun
+/// has nothing to read.
+impl<D: Disk> ReadAt for LogSet<D> {
+    ghost use Rattle.log_writer.specs.Sets.{count_in, logs_of};
+    ghost use Rattle.log_writer.specs.ReadableLogs.{ChosenWasRead, chosen_held};
+    ghost use Rattle.log_writer.specs.ReadLaws.{chosen_not_read, chosen_read_on, chosen_keeps, chosen_counts};
+
+    ghost held = { λ set. chosen_held set };
+
+    ghost failures = { λ set. count_in (logs_of set) };
+
+    ghost only_reads = { λ a b. ChosenWasRead a b };
+
+    ghost reads_none = { λ set. chosen_not_read set };
+
+    ghost reads_on = { λ a b c first second. chosen_read_on a b c first second };
+
+    ghost reads_keep = { λ a b r. chosen_keeps a b r };
+
+    ghost reads_count = { λ a b r. chosen_counts a b r };
+
+    /// It is that of all its disks.
+    fn failure_count(&self) -> u64 {
+        self.faults()
+    }
+
+    fn read_at(&mut self, at: u64, buf: &mut [u8]) -> Result<usize, Failed> {
+        read_in(&mut self.full, &mut self.current, self.chosen, at, buf)
     }
 }

@@ -111,6 +111,7 @@ impl<D: Disk> LogSet<D> {
             limit,
             fault: None,
             room: looked,
+            chosen: 0,
         })
     }
 }

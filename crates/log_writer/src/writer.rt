@@ -3,9 +3,10 @@
 ghost use Rattle.std.specs.Prelude.{◌≡◌, ◌≤◌, vec_len, IfOk, IfSome, None};
 ghost use Rattle.std.proofs.Props.{props};
 
+use crate::group_bytes::assure_batch;
 use crate::puts::{keep, put_group, sync_if};
 use crate::{Fault, OpenError};
-use base_devices::Disk;
+use base_devices::{Disk, Failed, ReadAt};
 use log_batch::Batch;
 use log_block::BLOCK_LEN;
 use model_base::NoMemory;
@@ -168,7 +169,7 @@ impl<D: Disk> LogWriter<D> {
         requires run { first + counts_of members.now - 1 ≤ max_sequence }
         requires lens { body_lens_of members.now < 2 ^ 63 }
         // The record is in the log, and safe if a sync was asked; or the log is as it was, with any bytes after it, and
-        // takes no more.
+        // takes no more. What is written is a batch, so recovery can keep it.
         ensures adds { Adds (call_of first members.now sync result) self.old self.new }
         ensures no_fault { OnOk result (D.faults (disk_of self.new) ≡ D.faults (disk_of self.old)) }
         // A leader that writes its group needs no answer for want of memory.
@@ -182,6 +183,7 @@ impl<D: Disk> LogWriter<D> {
             OnOk result (IsTrue sync
             → IsDurable ⟦<D as Disk>⟧ (number_of self.old) (disk_of self.old) (disk_of self.new) record_bytes) }
     {
+        assure_batch(first, members);
         if let Some(count) = self.fault {
             return Err(Fault { count });
         }
@@ -269,6 +271,40 @@ impl<D: Disk> LogWriter<D> {
             fault: _,
         } = self;
         disk
+    }
+}
+
+/// The log is read up to its end, which is that of the last group that was written whole. What a group whose write
+/// failed has left after it is never read.
+impl<D: Disk> ReadAt for LogWriter<D> {
+    ghost use Rattle.log_writer.specs.Words.{disk_of};
+    ghost use Rattle.log_writer.specs.Reads.{WasRead, held_in};
+    ghost use Rattle.log_writer.specs.ReadLaws.{not_read, read_on, read_keeps, read_counts};
+
+    ghost held = { λ log. held_in log };
+
+    ghost failures = { λ log. D.faults (disk_of log) };
+
+    ghost only_reads = { λ a b. WasRead a b };
+
+    ghost reads_none = { λ log. not_read log };
+
+    ghost reads_on = { λ a b c first second. read_on a b c first second };
+
+    ghost reads_keep = { λ a b r. read_keeps a b r };
+
+    ghost reads_count = { λ a b r. read_counts a b r };
+
+    fn failure_count(&self) -> u64 {
+        self.disk.faults()
+    }
+
+    fn read_at(&mut self, at: u64, buf: &mut [u8]) -> Result<usize, Failed> {
+        if at >= self.len {
+            return Ok(0);
+        }
+        let some = (self.len - at).min(buf.len() as u64) as usize;
+        self.disk.read(at, &mut buf[..some])
     }
 }
 

@@ -18,7 +18,7 @@ none_empty ([] ∷ parts) (c ∷ calls) h = absurd (cc h.0.some)
 none_empty ((e ∷ es) ∷ parts) (c ∷ calls) h = (omega arith, none_empty parts calls h.1)
 
 -- a call's record is that of its entries
-same_record : (part : List Entry) (c : GroupCall) → WroteEntries part c → record_of_call c ≡ record_of_entries part
+pub same_record : (part : List Entry) (c : GroupCall) → WroteEntries part c → record_of_call c ≡ record_of_entries part
 same_record [] c h = absurd (cc h.some)
 same_record (e ∷ es) c h = let first : e.first ≡ c.first = cc h.some in ap (group_record c.first) h.batches ∙ ap (λ n. group_record n (map (λ (x : Entry). x.records) (e ∷ es))) (sym first)
 

@@ -21,7 +21,7 @@ use Rattle.model_accounts.proofs.Passing.{went_none, went_more, has_run}
 -- What can be seen
 
 pub whole : Saw (sight_of (first_version ∷ second_version ∷ [])) one_batch
-whole = record { start = refl; opening = refl; entries = one_entry ∷ []; begins = ([], refl); groups = (one_entry ∷ [], [], refl, refl, refl); controller_calls = ([], refl) }
+whole = record { start = refl; opening = refl; entries = one_entry ∷ []; begins = ([], refl); groups = (one_entry ∷ [], [], refl, refl, refl); controller_calls = ([], refl); log_reads = tt }
 
 -- the first entries of a history of one entry make all of its versions, or none
 not_half : (first rest : List Entry) → first ++ rest ≡ one_entry ∷ [] → made_by versions_of_entry first ≡ first_version ∷ [] → ⊥
@@ -49,7 +49,8 @@ wrote = record {
   ends = refl;
   asked = refl;
   attempts = refl;
-  seen = record { start = refl; opening = refl; published = (after.seen.published, refl); controller_calls = (after.seen.controller_calls, refl) };
+  read_faults = refl;
+  seen = record { start = refl; opening = refl; published = (after.seen.published, refl); controller_calls = (after.seen.controller_calls, refl); log_reads = ([], refl) };
   some = lit≤ tt;
   passed = refl;
   free = refl;
@@ -61,7 +62,7 @@ wrote = record {
 }
 
 gives_back : GivesBack after after
-gives_back = record { number = refl; mine = refl; ends = refl; asked = refl; attempts = refl; seen = sees_self after.seen }
+gives_back = record { number = refl; mine = refl; ends = refl; asked = refl; attempts = refl; read_faults = refl; seen = sees_self after.seen }
 
 has_run_once : HasRun settings 1 commands calls after
 has_run_once =
@@ -123,6 +124,7 @@ closing = record {
   is_trace = record {
     start = refl;
     opening = refl;
+    kept = refl;
     entries = (record { counted = refl; some = lit≤ tt; first = refl; fits = lit≤ tt }, tt);
     logged = record { cut = refl; none_empty = (lit≤ tt, tt); runs = (tt, tt) };
     controller_calls = (refl, tt);
@@ -135,6 +137,8 @@ closing = record {
   each = each;
   last_is = refl;
   fault_is = tt;
+  read_faults = tt;
+  counted = λ no_fault none. refl;
 }
   where
     of_client : IsAccountOf one_batch (one_group ∷ []) ((one_entry ∷ []) ∷ []) None after

@@ -73,7 +73,7 @@ are_groups = record {
 -- The closing
 
 seen : Saw pair_sight pair_trace
-seen = record { start = refl; opening = refl; entries = pair_trace.entries; begins = ([], refl); groups = (pair_trace.entries, [], refl, refl, refl); controller_calls = ([], refl) }
+seen = record { start = refl; opening = refl; entries = pair_trace.entries; begins = ([], refl); groups = (pair_trace.entries, [], refl, refl, refl); controller_calls = ([], refl); log_reads = tt }
 
 abbrev OfTrace : Account → Type 0
 OfTrace a = IsAccountOf pair_trace (pair_group ∷ []) (pair_trace.entries ∷ []) None a
@@ -83,6 +83,7 @@ closing = record {
   is_trace = record {
     start = refl;
     opening = refl;
+    kept = refl;
     entries = (record { counted = refl; some = lit≤ tt; first = refl; fits = lit≤ tt }, (record { counted = refl; some = lit≤ tt; first = refl; fits = lit≤ tt }, tt));
     logged = record { cut = refl; none_empty = (lit≤ tt, tt); runs = ((record { counted = refl; some = lit≤ tt; first = refl; fits = lit≤ tt }, tt), tt) };
     controller_calls = (refl, tt);
@@ -95,6 +96,8 @@ closing = record {
   each = each;
   last_is = refl;
   fault_is = tt;
+  read_faults = tt;
+  counted = λ no_fault none. refl;
 }
   where
     first : OfTrace (account_with first_records (entry_with 1 1 first_records) 2)

@@ -1,18 +1,24 @@
 -- A client's calls, one after another, and how they end.
-use Rattle.std.proofs.Common.{ℕ, List, [], ◌∷◌, ◌++◌, refl, sym, ◌∙◌, subst, arith}
+use Rattle.std.proofs.Common.{◌≡◌, ℕ, List, [], ◌∷◌, ◌++◌, refl, ap, sym, ◌∙◌, subst, arith, append_assoc, append-nil}
 use Rattle.model_base.specs.Batch.{Record}
 use Rattle.model_base.specs.Map.{Pairs}
 use Rattle.model_base.specs.Trace.{Settings}
 use Rattle.model_base.specs.Progress.{fresh}
 use Rattle.model_base.specs.Runs.{Run, whole, cut_off, commands_of}
 use Rattle.model_base.specs.Calls.{Command, Reply, Call, no_memory}
+use Rattle.model_base.specs.Outcomes.{read_fault_of, read_faults_of}
 use Rattle.model_base.proofs.Runs.{run_more}
 use Rattle.model_accounts.specs.Accounts.{Account, newcomer, progress_at, GivesBack}
 use Rattle.model_accounts.specs.ClientRuns.{Goes, Lacks, Went, HasRun}
 use Rattle.model_accounts.proofs.Seeing.{saw_earlier, sees_on}
 
 pub went_none : (settings : Settings) (start : ℕ) (opening : Pairs) (number : ℕ) → Went settings [] (newcomer start opening number) []
-went_none settings start opening number = record { seen_up_to = 0; shown = omega arith; run = λ trace is_history saw. refl }
+went_none settings start opening number = record { seen_up_to = 0; shown = omega arith; read_faults = refl; run = λ trace is_history saw. refl }
+
+-- the counts of faults of these calls and of one more
+one_more : (calls : List Call) (c : Call) → read_faults_of (calls ++ c ∷ []) ≡ read_faults_of calls ++ read_fault_of c.reply
+one_more [] c = append-nil (read_fault_of c.reply)
+one_more (d ∷ calls) c = ap (λ ns. read_fault_of d.reply ++ ns) (one_more calls c) ∙ sym (append_assoc (read_fault_of d.reply) (read_faults_of calls) (read_fault_of c.reply))
 
 pub went_more : (settings : Settings) (calls : List Call) (v : Account) (before : List Record) (c : Command) (r : Reply) (w : Account) (after : List Record)
     → Went settings calls v before → Goes settings v before c r w after → Went settings (calls ++ record { command = c; reply = r } ∷ []) w after
@@ -22,6 +28,7 @@ went_more settings calls v before c r w after so_far goes =
     record {
       seen_up_to = next.0;
       shown = next.1;
+      read_faults = goes.read_faults ∙ (ap (λ ns. ns ++ read_fault_of r) so_far.read_faults ∙ sym (one_more calls last));
       run = λ trace is_history saw. subst (λ (n : ℕ). Run settings trace n fresh (calls ++ last ∷ []) (progress_at w after next.0)) (sym goes.number) (
           run_more settings trace v.number fresh calls (progress_at v before so_far.seen_up_to) last (progress_at w after next.0)
           (so_far.run trace is_history (saw_earlier v.seen w.seen goes.seen trace saw)) (next.2 trace is_history saw));
@@ -37,6 +44,7 @@ has_run settings calls v pending w went back = record {
   mine = back.mine;
   asked = back.asked;
   attempts = back.attempts;
+  read_faults = back.read_faults ∙ went.read_faults;
 }
 
 -- the last call found no memory
@@ -51,4 +59,5 @@ has_run_short settings calls v pending last rest u w went lacks back = record {
   mine = back.mine ∙ lacks.keeps.mine;
   asked = rw (← lacks.keeps.asked) back.asked;
   attempts = back.attempts ∙ lacks.keeps.attempts;
+  read_faults = back.read_faults ∙ (lacks.keeps.read_faults ∙ (went.read_faults ∙ (sym (append-nil (read_faults_of calls)) ∙ sym (one_more calls (record { command = last; reply = no_memory })))));
 }

@@ -1,8 +1,10 @@
 -- What was seen of a trace at some time, and what was seen of it before that.
 use Rattle.std.proofs.Common.{◌≡◌, ℕ, ◌≤◌, List, [], ◌∷◌, ◌++◌, length, map, refl, ap, sym, ◌∙◌, subst, arith, append_assoc}
 use mathlib.Core.List.{IsPrefix}
+use Rattle.std.specs.List.{AllByRecursion}
 use Rattle.model_base.specs.History.{Entry, IsHistory, last_of as last_of_entry, last_sequence, map_over}
 use Rattle.model_base.specs.Map.{Pairs, after_records}
+use Rattle.model_base.specs.Replies.{IsLogRead}
 use Rattle.model_base.specs.Trace.{Trace}
 use Rattle.model_base.proofs.Prefixes.{prefix_self, prefix_trans}
 use Rattle.table_rule.specs.declared.content.MemberVersions.{MemberVersions}
@@ -17,7 +19,7 @@ use Rattle.model_accounts.proofs.Versions.{versions_reach, after_append, after_e
 -- Earlier and later
 
 pub sees_self : (v : Sight) → Sees v v
-sees_self v = record { start = refl; opening = refl; published = begins_same v.published; controller_calls = prefix_self v.controller_calls }
+sees_self v = record { start = refl; opening = refl; published = begins_same v.published; controller_calls = prefix_self v.controller_calls; log_reads = prefix_self v.log_reads }
 
 pub sees_on : (u v w : Sight) → Sees u v → Sees v w → Sees u w
 sees_on u v w a b = record {
@@ -25,6 +27,7 @@ sees_on u v w a b = record {
   opening = b.opening ∙ a.opening;
   published = begins_trans u.published v.published w.published a.published b.published;
   controller_calls = prefix_trans u.controller_calls v.controller_calls w.controller_calls a.controller_calls b.controller_calls;
+  log_reads = prefix_trans u.log_reads v.log_reads w.log_reads a.log_reads b.log_reads;
 }
 
 -- the last sequence that was seen published doesn't fall
@@ -46,15 +49,23 @@ cut entries (g ∷ some) groups are begins =
 -- if the groups that were seen published are the first ones of all published groups, they may have been seen of the
 -- trace whose entries made all those
 pub saw_published : (trace : Trace) (history : List (List MemberVersions)) → Images versions_of_entry trace.entries history → (sight : Sight) → sight.start ≡ trace.start → sight.opening ≡ trace.opening
-    → Begins sight.published history → IsPrefix sight.controller_calls trace.controller_calls → Saw sight trace
-saw_published trace history are sight start opening begins calls =
+    → Begins sight.published history → IsPrefix sight.controller_calls trace.controller_calls → AllByRecursion (IsLogRead trace) sight.log_reads → Saw sight trace
+saw_published trace history are sight start opening begins calls reads =
     let first = cut trace.entries sight.published history are begins in
-    record { start = start; opening = opening; entries = first.0; begins = first.1; groups = first.2; controller_calls = calls }
+    record { start = start; opening = opening; entries = first.0; begins = first.1; groups = first.2; controller_calls = calls; log_reads = reads }
 
 -- if some versions made the map before these groups, then these versions and the groups' ones make the map that was
 -- seen
 pub seen_of_all : (sight : Sight) (before : List Version) → sight.opening ≡ map_of_versions before → map_of_versions (before ++ versions_of sight.published) ≡ map_seen sight
 seen_of_all sight before is = after_append [] before (versions_of sight.published) ∙ ap (λ (m : Pairs). after_records m (map record_of (versions_of sight.published))) (sym is)
+
+-- what holds of all elements holds of those of a prefix
+all_of_first : {A : Type 0} (P : A → Type 0) (xs rest : List A) → AllByRecursion P (xs ++ rest) → AllByRecursion P xs
+all_of_first P [] rest all = tt
+all_of_first P (x ∷ xs) rest all = (all.0, all_of_first P xs rest all.1)
+
+all_of_prefix : {A : Type 0} (P : A → Type 0) (xs ys : List A) → IsPrefix xs ys → AllByRecursion P ys → AllByRecursion P xs
+all_of_prefix P xs ys p all = all_of_first P xs p.0 (subst (AllByRecursion P) (sym p.1) all)
 
 -- what was seen earlier may have been seen of the same trace
 pub saw_earlier : (v w : Sight) → Sees v w → (trace : Trace) → Saw w trace → Saw v trace
@@ -67,6 +78,7 @@ saw_earlier v w sees trace saw =
       begins = prefix_trans first.0 saw.entries trace.entries first.1 saw.begins;
       groups = first.2;
       controller_calls = prefix_trans v.controller_calls w.controller_calls trace.controller_calls sees.controller_calls saw.controller_calls;
+      log_reads = all_of_prefix (IsLogRead trace) v.log_reads w.log_reads sees.log_reads saw.log_reads;
     }
 
 -- What was seen published was made by the trace's first entries

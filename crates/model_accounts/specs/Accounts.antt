@@ -8,6 +8,7 @@ use Rattle.model_base.specs.History.{Entry}
 use Rattle.model_base.specs.Map.{Pairs}
 use Rattle.model_base.specs.Controller.{Action}
 use Rattle.model_base.specs.Tokens.{holds_stop, given_back}
+use Rattle.model_base.specs.Counts.{Rose}
 use Rattle.model_base.specs.Trace.{Settings}
 use Rattle.model_base.specs.Attempts.{Attempt, WriteStatus, succeeded, with_attempt, knows_log_failed}
 use Rattle.model_base.specs.Progress.{Progress, next_entry, early_refusal}
@@ -15,13 +16,15 @@ use Rattle.model_base.specs.Replies.{IsLater, AreFullBelow, MayRefuse, IsKeptOut
 use Rattle.model_accounts.specs.Sights.{Sight, unseen, last_seen, map_seen, Sees}
 
 -- One client: its accepted batches, for each of them the last sequence of its group, its calls of the controller that
--- were answered `done`, its commits that leaders took into their groups, and what it has seen of the run
+-- were answered `done`, its commits that leaders took into their groups, the counts of faults with which its reads of
+-- the log failed, and what it has seen of the run
 pub record Account : Type 0 where
   pub number : ℕ
   pub mine : List Entry
   pub ends : List ℕ
   pub asked : List Action
   pub attempts : List Attempt
+  pub read_faults : List ℕ
   pub seen : Sight
 
 abbrev pub newcomer : ℕ → Pairs → ℕ → Account
@@ -31,6 +34,7 @@ newcomer start opening number = record {
   ends = [];
   asked = [];
   attempts = [];
+  read_faults = [];
   seen = unseen start opening;
 }
 
@@ -53,6 +57,7 @@ pub record Keeps (v w : Account) : Type 0 where
   pub ends : w.ends ≡ v.ends
   pub asked : w.asked ≡ v.asked
   pub attempts : w.attempts ≡ v.attempts
+  pub read_faults : w.read_faults ≡ v.read_faults
   pub seen : Sees v.seen w.seen
 
 -- A batch was accepted: one entry more. It had passed the early checks, and the client held no stop token and didn't
@@ -66,6 +71,7 @@ pub record Wrote (settings : Settings) (v : Account) (records : List Record) (ho
   pub ends : w.ends ≡ v.ends ++ group_last ∷ []
   pub asked : w.asked ≡ v.asked
   pub attempts : w.attempts ≡ with_attempt v.attempts records how (Some succeeded)
+  pub read_faults : w.read_faults ≡ v.read_faults
   pub seen : Sees v.seen w.seen
   pub some : 1 ≤ count_of records
   pub passed : early_refusal settings.families settings.batch_bytes (holds_stop v.asked) records how ≡ None
@@ -90,6 +96,7 @@ pub record IsRefused (v : Account) (records : List Record) (how : WriteOptions) 
   pub ends : w.ends ≡ v.ends
   pub asked : w.asked ≡ v.asked
   pub attempts : w.attempts ≡ with_attempt v.attempts records how status
+  pub read_faults : w.read_faults ≡ v.read_faults
   pub seen : Sees v.seen w.seen
 
 -- after the early checks a commit may also find no memory, and then the client has done nothing more
@@ -106,6 +113,30 @@ pub record Reads (at : ℕ) (answers : Pairs → Type 0) (w : Account) : Type 0 
   pub at_is : at ≡ last_seen w.seen
   pub answer : answers (map_seen w.seen)
 
+-- A read of the log from the sequence s on: it is at the last sequence that the client has now seen published, and these
+-- are its records. Whether they are right shows at the closing, as with all that a client has seen.
+pub record ReadsLog (v : Account) (s at : ℕ) (records : List (List ℕ)) (w : Account) : Type 0 where
+  pub number : w.number ≡ v.number
+  pub mine : w.mine ≡ v.mine
+  pub ends : w.ends ≡ v.ends
+  pub asked : w.asked ≡ v.asked
+  pub attempts : w.attempts ≡ v.attempts
+  pub read_faults : w.read_faults ≡ v.read_faults
+  pub seen : Sees v.seen w.seen
+  pub at_is : at ≡ last_seen w.seen
+  pub read : w.seen.log_reads ≡ v.seen.log_reads ++ record { since = s; at = at; records = records } ∷ []
+
+-- A read of the log failed: the disk's count of faults rose, to this one.
+pub record FailsToRead (settings : Settings) (v : Account) (count : ℕ) (w : Account) : Type 0 where
+  pub number : w.number ≡ v.number
+  pub mine : w.mine ≡ v.mine
+  pub ends : w.ends ≡ v.ends
+  pub asked : w.asked ≡ v.asked
+  pub attempts : w.attempts ≡ v.attempts
+  pub read_faults : w.read_faults ≡ v.read_faults ++ count ∷ []
+  pub seen : Sees v.seen w.seen
+  pub rose : Rose settings.opened count
+
 -- the client made this call of the controller, after all that it had seen
 pub record Asks (v : Account) (action : Action) (w : Account) : Type 0 where
   pub number : w.number ≡ v.number
@@ -113,6 +144,7 @@ pub record Asks (v : Account) (action : Action) (w : Account) : Type 0 where
   pub ends : w.ends ≡ v.ends
   pub asked : w.asked ≡ v.asked ++ action ∷ []
   pub attempts : w.attempts ≡ v.attempts
+  pub read_faults : w.read_faults ≡ v.read_faults
   pub seen : Sees v.seen w.seen
   pub place : ℕ
   pub is_later : IsLater w.seen.controller_calls (length v.seen.controller_calls) place
@@ -125,4 +157,5 @@ pub record GivesBack (v w : Account) : Type 0 where
   pub ends : w.ends ≡ v.ends
   pub asked : w.asked ≡ v.asked ++ given_back v.asked
   pub attempts : w.attempts ≡ v.attempts
+  pub read_faults : w.read_faults ≡ v.read_faults
   pub seen : Sees v.seen w.seen

@@ -7,6 +7,7 @@ use Rattle.model_base.specs.Progress.{Progress, fresh}
 use Rattle.model_base.specs.Replies.{MayFindNoMemory}
 use Rattle.model_base.specs.Runs.{Step, Run, IsTranscript}
 use Rattle.model_base.specs.Calls.{Command, Reply, Call}
+use Rattle.model_base.specs.Outcomes.{read_fault_of, read_faults_of}
 use Rattle.model_accounts.specs.Sights.{last_seen, Sees, InEachTrace}
 use Rattle.model_accounts.specs.Accounts.{Account, Keeps, progress_at}
 
@@ -15,6 +16,7 @@ use Rattle.model_accounts.specs.Accounts.{Account, Keeps, progress_at}
 pub record Goes (settings : Settings) (v : Account) (before : List Record) (command : Command) (reply : Reply)
     (w : Account) (after : List Record) : Type 0 where
   pub number : w.number ≡ v.number
+  pub read_faults : w.read_faults ≡ v.read_faults ++ read_fault_of reply
   pub seen : Sees v.seen w.seen
   pub step : (shown : ℕ) → shown ≤ last_seen v.seen → (seen_up_to : ℕ) × (seen_up_to ≤ last_seen w.seen)
       × InEachTrace w.seen (λ trace. Step settings trace v.number (progress_at v before shown) command reply
@@ -34,6 +36,7 @@ with_call calls command reply = calls ++ record { command = command; reply = rep
 pub record Went (settings : Settings) (calls : List Call) (a : Account) (pending : List Record) : Type 0 where
   pub seen_up_to : ℕ
   pub shown : seen_up_to ≤ last_seen a.seen
+  pub read_faults : a.read_faults ≡ read_faults_of calls
   pub run : InEachTrace a.seen (λ trace. Run settings trace a.number fresh calls (progress_at a pending seen_up_to))
 
 -- All calls of a client, as far as it alone can tell: they are a transcript in each trace of which it may have seen
@@ -46,6 +49,7 @@ pub record HasRun (settings : Settings) (client : ℕ) (commands : List Command)
   pub mine : a.mine ≡ end.mine
   pub asked : a.asked ≡ end.asked ++ given_back end.asked
   pub attempts : a.attempts ≡ end.attempts
+  pub read_faults : a.read_faults ≡ read_faults_of calls
 
 -- each client has run its part of the script
 pub record HaveRun (settings : Settings) (script : List (List Command)) (transcripts : List (List Call))

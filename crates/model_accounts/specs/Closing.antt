@@ -1,12 +1,14 @@
 -- What the closing of a write path says about all its clients.
-use Rattle.std.specs.Prelude.{◌≡◌, ℕ, ◌+◌, ◌≤◌, List, length, map, Option, Some, slice_get, IfSome}
+use Rattle.std.specs.Prelude.{◌≡◌, ℕ, ◌+◌, ◌≤◌, List, [], length, map, flat_map, Option, Some, None, slice_get, IfSome}
 use Rattle.model_base.specs.History.{Entry, last_sequence}
 use Rattle.model_base.specs.Counts.{Rose}
 use Rattle.model_base.specs.Tokens.{tokens_of}
+use Rattle.model_base.specs.Recovery.{Logged}
+use Rattle.model_base.specs.Settings.{with_kept}
 use Rattle.model_base.specs.Trace.{Trace, Settings}
 use Rattle.model_base.specs.Attempts.{Attempt}
 use Rattle.model_base.specs.Groups.{Group, AreGroups, AreStatuses}
-use Rattle.model_base.specs.Outcomes.{entries_of_client, IsTrace}
+use Rattle.model_base.specs.Outcomes.{entries_of_client, IsTrace, AreOwnFaults}
 use Rattle.model_base.specs.LogContents.{GroupCall}
 use Rattle.model_runs.specs.Written.{WritesLog}
 use Rattle.model_accounts.specs.Sights.{Saw}
@@ -33,12 +35,17 @@ pub record IsAccountOf (trace : Trace) (groups : List Group) (parts : List (List
 abbrev pub all_attempts : List Account → List (List Attempt)
 all_attempts accounts = map (λ (a : Account). a.attempts) accounts
 
+-- the counts of faults with which reads of the log failed
+abbrev pub all_read_faults : List Account → List ℕ
+all_read_faults accounts = flat_map (λ (a : Account). a.read_faults) accounts
+
 -- if the log has a fault, the disk's count of faults rose to it in this run
 abbrev pub RoseInRun : Settings → ℕ → Option ℕ → Type 0
 RoseInRun settings ended fault = IfSome fault (λ count. Rose settings.opened count × (count ≤ ended))
 
 -- There was one trace, and there were groups of commits, each of which made a part of the trace's entries. The accounts
--- are what each client did and saw of these.
+-- are what each client did and saw of these. Each fault of the log or of a read of it is a count of its own. Where there
+-- was none, the disk has counted none.
 pub record IsClosing (settings : Settings) (ended : ℕ) (trace : Trace) (groups : List Group) (accounts : List Account)
     (last : ℕ) (fault : Option ℕ) : Type 0 where
   pub is_trace : IsTrace settings trace
@@ -48,10 +55,13 @@ pub record IsClosing (settings : Settings) (ended : ℕ) (trace : Trace) (groups
   pub each : (i : ℕ) (a : Account) → slice_get accounts i ≡ Some a → IsAccountOf trace groups parts fault a
   pub last_is : last ≡ last_sequence trace.start trace.entries
   pub fault_is : RoseInRun settings ended fault
+  pub read_faults : AreOwnFaults ended fault (all_read_faults accounts)
+  pub counted : fault ≡ None → all_read_faults accounts ≡ [] → ended ≡ settings.opened
 
 -- There is one trace of all that the clients did and saw, and the log was written by just the calls that wrote this
--- trace's history.
-abbrev pub HasOneTrace : Settings → ℕ → List Account → ℕ → Option ℕ → (List GroupCall → Type 0) → Type 0
-HasOneTrace settings ended accounts last fault wrote = (trace : Trace) × (groups : List Group)
-    × IsClosing settings ended trace groups accounts last fault
+-- trace's history. The log kept these batches before, or it isn't known which.
+abbrev pub HasOneTrace : Settings → Option (List Logged) → ℕ → List Account → ℕ → Option ℕ
+    → (List GroupCall → Type 0) → Type 0
+HasOneTrace settings kept ended accounts last fault wrote = (trace : Trace) × (groups : List Group)
+    × IsClosing (with_kept kept settings) ended trace groups accounts last fault
     × WritesLog settings.group_bytes wrote trace (all_attempts accounts) fault

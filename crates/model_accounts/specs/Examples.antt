@@ -20,7 +20,7 @@ abbrev pub settings : Settings
 settings = record {
   start = 0;
   opening = [];
-  kept = [];
+  kept = None;
   clients = 1;
   families = 1;
   group_bytes = 1048576;
@@ -51,6 +51,7 @@ one_batch = record {
   start = 0;
   opening = [];
   entries = one_entry ∷ [];
+  kept = None;
   logged = (one_entry ∷ []) ∷ [];
   controller_calls = one_delay ∷ [];
 }
@@ -76,6 +77,7 @@ sight_of versions = record {
   opening = [];
   published = (record { member = 1; versions = versions } ∷ []) ∷ [];
   controller_calls = one_delay ∷ [];
+  log_reads = [];
 }
 
 -- the client's account before its commit, and after it
@@ -131,6 +133,7 @@ pair_trace = record {
   start = 0;
   opening = [];
   entries = entry_with 1 1 first_records ∷ entry_with 2 2 second_records ∷ [];
+  kept = None;
   logged = (entry_with 1 1 first_records ∷ entry_with 2 2 second_records ∷ []) ∷ [];
   controller_calls = pair_delay ∷ [];
 }
@@ -148,7 +151,7 @@ pair_published =
     record { member = 1; versions = first_version ∷ [] } ∷ record { member = 2; versions = second_version ∷ [] } ∷ []
 
 abbrev pub pair_sight : Sight
-pair_sight = record { start = 0; opening = []; published = pair_published ∷ []; controller_calls = pair_delay ∷ [] }
+pair_sight = record { start = 0; opening = []; published = pair_published ∷ []; controller_calls = pair_delay ∷ []; log_reads = [] }
 
 -- the account of a client that wrote these records as this entry, and learned that its group ends at `group_last`
 abbrev pub account_with : List Record → Entry → ℕ → Account
@@ -158,6 +161,7 @@ account_with records entry group_last = record {
   ends = group_last ∷ [];
   asked = [];
   attempts = attempt_with records ∷ [];
+  read_faults = [];
   seen = pair_sight;
 }
 

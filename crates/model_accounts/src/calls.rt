@@ -3,7 +3,7 @@
 ghost use Rattle.std.specs.Prelude.{◌≡◌, ◌+◌, ◌++◌, ℕ, true, false, List, [], ◌∷◌, Option, Some, None, map};
 ghost use Rattle.model_base.specs.declared.write.WriteOptions.{WriteOptions};
 ghost use Rattle.model_base.specs.declared.write.Refusal.{Refusal};
-ghost use Rattle.model_base.specs.declared.write.Refusal.TheVariants.{NoMemory, NoFamily};
+ghost use Rattle.model_base.specs.declared.write.Refusal.TheVariants.{NoMemory, NoFamily, SelfStop};
 ghost use Rattle.model_base.specs.Batch.{Record, count_of};
 ghost use Rattle.model_base.specs.declared.key.Key.{Key};
 ghost use Rattle.model_base.specs.Map.{Rows, value_at, rows_within};
@@ -11,9 +11,9 @@ ghost use Rattle.model_base.specs.Progress.{first_missing};
 ghost use Rattle.model_base.specs.Controller as controller;
 ghost use Rattle.model_base.specs.Tokens.{holds_stop, holds_slow};
 ghost use Rattle.model_base.specs.Trace.{Settings};
-ghost use Rattle.model_base.specs.Calls.{add, clear, commit, get, many, scan, stop, unstop, slow, unslow};
-ghost use Rattle.model_base.specs.Calls.{quiet, accepted, refused, found, found_each, rows, done, held, not_held};
-ghost use Rattle.model_accounts.specs.Accounts.{Account, Keeps, Wrote, Refuses, Reads, Asks};
+ghost use Rattle.model_base.specs.Calls.{add, clear, commit, get, many, scan, updates, stop, unstop, slow, unslow};
+ghost use Rattle.model_base.specs.Calls.{quiet, accepted, refused, found, found_each, rows, updates_found, read_failed, done, held, not_held};
+ghost use Rattle.model_accounts.specs.Accounts.{Account, Keeps, Wrote, Refuses, Reads, ReadsLog, FailsToRead, Asks};
 ghost use Rattle.model_accounts.specs.ClientRuns.{Goes, Lacks};
 
 /// A record that is added, a batch that is emptied, and a commit with its answer.
@@ -68,6 +68,21 @@ pub fn refused_reads_are_steps()
         (family : ℕ) (w : Account)
         → first_missing settings.families (named ∷ []) ≡ Some family → Keeps v w
         → Goes settings v pending (scan named lo hi) (refused (NoFamily family)) w pending }
+{}
+
+/// A read of the log with its records, at the last sequence that the client has then seen published; or it failed, or the
+/// client holds a stop token, or there was no memory.
+pub fn reads_of_the_log_are_steps()
+    ensures found { (settings : Settings) (v : Account) (pending : List Record) (s at : ℕ) (records : List (List ℕ))
+        (w : Account) → holds_stop v.asked ≡ false → ReadsLog v s at records w
+        → Goes settings v pending (updates s) (updates_found at records) w pending }
+    ensures failed { (settings : Settings) (v : Account) (pending : List Record) (s count : ℕ) (w : Account)
+        → holds_stop v.asked ≡ false → FailsToRead settings v count w
+        → Goes settings v pending (updates s) (read_failed count) w pending }
+    ensures refused { (settings : Settings) (v : Account) (pending : List Record) (s : ℕ) (w : Account)
+        → holds_stop v.asked ≡ true → Keeps v w → Goes settings v pending (updates s) (refused SelfStop) w pending }
+    ensures out_of_memory { (settings : Settings) (v : Account) (pending : List Record) (s : ℕ) (w : Account)
+        → holds_stop v.asked ≡ false → Keeps v w → Lacks settings v pending (updates s) w }
 {}
 
 /// A stop token is taken or given back, or is already held, or isn't held.

@@ -7,6 +7,8 @@ ghost use Rattle.model_base.specs.Batch.{Record, group_record};
 ghost use Rattle.model_base.specs.History.{Entry, RunsFollow, logged_entries};
 ghost use Rattle.model_base.specs.Grouping.{group_len};
 ghost use Rattle.model_base.specs.Controller.{ControllerCall};
+ghost use Rattle.model_base.specs.Recovery.{Logged};
+ghost use Rattle.model_base.specs.Settings.{with_kept};
 ghost use Rattle.model_base.specs.Trace.{Trace, Settings};
 ghost use Rattle.model_base.specs.Attempts.{Attempt, slowed};
 ghost use Rattle.model_base.specs.Groups.{Member, Group, AreGroups, Holds};
@@ -14,7 +16,7 @@ ghost use Rattle.model_base.specs.Progress.{Progress};
 ghost use Rattle.model_base.specs.Runs.{IsTranscript};
 ghost use Rattle.model_base.specs.Script.{Script};
 ghost use Rattle.model_base.specs.Calls.{Command, Call, Outcome};
-ghost use Rattle.model_base.specs.Outcomes.{outcome_of, IsLegalIn, AreOwnFaults, read_faults_in};
+ghost use Rattle.model_base.specs.Outcomes.{outcome_of, IsLegalIn};
 ghost use Rattle.model_base.specs.LogContents.{GroupCall, AreGroupsOf, records_of, record_of_call};
 ghost use Rattle.model_runs.specs.Lost.{IsLost, IsLostGroup, IsFaultedBatch};
 ghost use Rattle.model_runs.specs.Crashes.{HasSync};
@@ -25,16 +27,17 @@ ghost use Rattle.model_accounts.specs.Led.{Led, groups_of, AreLed};
 ghost use Rattle.model_runs.specs.Written.{WroteEntries, AreLost};
 ghost use Rattle.model_accounts.specs.Answered.{IsAmong};
 
-/// If each client has run its part of the script, the closing says that their accounts are parts of one trace, and reads
-/// of the log failed only with faults of their own, the outcome is legal.
+/// If each client has run its part of the script, and the closing says that their accounts are parts of one trace, the
+/// outcome is legal, whatever the log had kept before: what a client is told doesn't depend on it, only whether its reads
+/// of the log are right.
 pub fn closed_runs_are_legal()
-    ensures legal { (settings : Settings) (ended : ℕ) (script : Script) (calls : List (List Call))
+    ensures legal { (settings : Settings) (kept : Option (List Logged)) (ended : ℕ) (script : Script) (calls : List (List Call))
         (accounts : List Account) (trace : Trace) (groups : List Group) (last : ℕ) (log_lens : List ℕ)
         (fault : Option ℕ)
         → settings.clients ≡ length script → HaveRun settings script calls accounts
-        → AreOwnFaults ended fault (read_faults_in calls)
-        → IsClosing settings ended trace groups accounts last fault
-        → IsLegalIn settings ended script trace (all_attempts accounts) (outcome_of trace calls last log_lens fault) }
+        → IsClosing (with_kept kept settings) ended trace groups accounts last fault
+        → IsLegalIn (with_kept kept settings) ended script trace (all_attempts accounts)
+        (outcome_of trace calls last log_lens fault) }
 {}
 
 /// The groups of an outcome, from what the holder of the log knew, one leader after another.

@@ -25,8 +25,8 @@ mod runs;
 mod sights;
 
 pub use calls::{
-    commits_are_steps, reads_are_steps, refused_reads_are_steps, slowdowns_are_steps,
-    stops_are_steps,
+    commits_are_steps, reads_are_steps, reads_of_the_log_are_steps, refused_reads_are_steps,
+    slowdowns_are_steps, stops_are_steps,
 };
 pub use closings::{attempts_are_shown, closed_runs_are_legal, led_groups, logs_hold_the_history};
 pub use examples::{entries_of_groups, one_commit, two_in_a_group, whole_batches_alone};

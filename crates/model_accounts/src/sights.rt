@@ -2,7 +2,9 @@
 
 ghost use Rattle.std.specs.Prelude.{◌≡◌, ◌≤◌, List, ◌++◌};
 ghost use mathlib.Core.List.{IsPrefix};
+ghost use Rattle.std.specs.List.{AllByRecursion};
 ghost use Rattle.model_base.specs.History.{IsHistory, last_sequence, map_over};
+ghost use Rattle.model_base.specs.Replies.{IsLogRead};
 ghost use Rattle.model_base.specs.Trace.{Trace};
 ghost use Rattle.table_rule.specs.declared.content.MemberVersions.{MemberVersions};
 ghost use Rattle.table_rule.specs.declared.content.Version.{Version};
@@ -20,13 +22,15 @@ pub fn earlier_sights()
 {}
 
 /// If the groups that a client has seen published are the first ones of all that were published, it may have seen them
-/// of each trace whose entries made all those groups and whose controller's calls begin with the ones that it saw.
+/// of each trace whose entries made all those groups, whose controller's calls begin with the ones that it saw, and in
+/// which its reads of the log were right.
 pub fn sights_of_the_table()
     ensures saw { (trace : Trace) (history : List (List MemberVersions))
         → Images versions_of_entry trace.entries history
         → (sight : Sight) → sight.start ≡ trace.start → sight.opening ≡ trace.opening
         → Begins sight.published history
-        → IsPrefix sight.controller_calls trace.controller_calls → Saw sight trace }
+        → IsPrefix sight.controller_calls trace.controller_calls
+        → AllByRecursion (IsLogRead trace) sight.log_reads → Saw sight trace }
     // if some versions made the map before the first group, then these and the published ones make the map that was
     // seen
     ensures map { (sight : Sight) (before : List Version) → sight.opening ≡ map_of_versions before

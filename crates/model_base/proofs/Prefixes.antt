@@ -23,7 +23,7 @@ pub prefix_at : {A : Type 0} (xs ys : List A) → IsPrefix xs ys → (i : ℕ) (
 prefix_at xs ys p i x h = ap (λ zs. slice_get zs i) (sym p.1) ∙ at_front xs p.0 i x h
 
 pub begins_self : (v : Trace) → Begins v v
-begins_self v = record { start = refl; opening = refl; entries = prefix_self v.entries; logged = prefix_self v.logged; controller_calls = prefix_self v.controller_calls }
+begins_self v = record { start = refl; opening = refl; kept = refl; entries = prefix_self v.entries; logged = prefix_self v.logged; controller_calls = prefix_self v.controller_calls }
 
 pub begins_trans : (u v w : Trace) → Begins u v → Begins v w → Begins u w
-begins_trans u v w a b = record { start = a.start ∙ b.start; opening = a.opening ∙ b.opening; entries = prefix_trans u.entries v.entries w.entries a.entries b.entries; logged = prefix_trans u.logged v.logged w.logged a.logged b.logged; controller_calls = prefix_trans u.controller_calls v.controller_calls w.controller_calls a.controller_calls b.controller_calls }
+begins_trans u v w a b = record { start = a.start ∙ b.start; opening = a.opening ∙ b.opening; kept = a.kept ∙ b.kept; entries = prefix_trans u.entries v.entries w.entries a.entries b.entries; logged = prefix_trans u.logged v.logged w.logged a.logged b.logged; controller_calls = prefix_trans u.controller_calls v.controller_calls w.controller_calls a.controller_calls b.controller_calls }

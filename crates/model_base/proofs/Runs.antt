@@ -1,17 +1,19 @@
 -- Runs of calls: what holds in a trace holds in a longer one; and one more call.
-use Rattle.std.proofs.Common.{◌≡◌, ℕ, ◌≤◌, Bool, true, false, Option, Some, None, List, [], ◌∷◌, ◌++◌, map, MatchOption, refl, ap, sym, ◌∙◌, subst, arith, append_assoc}
+use Rattle.std.proofs.Common.{IfSome, ◌≡◌, ℕ, ◌≤◌, Bool, true, false, Option, Some, None, List, [], ◌∷◌, ◌++◌, map, MatchOption, refl, ap, sym, ◌∙◌, subst, arith, append_assoc}
 use mathlib.Core.List.{IsPrefix}
 use Rattle.model_base.specs.declared.write.WriteOptions.{WriteOptions}
 use Rattle.model_base.specs.declared.write.Refusal.{Refusal}
 use Rattle.model_base.specs.declared.write.Refusal.TheVariants as no
 use Rattle.model_base.specs.Map.{Key, Pairs}
-use Rattle.model_base.specs.History.{last_sequence, map_over}
+use Rattle.model_base.specs.History.{Entry, IsUpTo, last_sequence, map_over}
+use Rattle.model_base.specs.Recovery.{Logged}
+use Rattle.model_base.specs.Since.{LogRead, records_in, since}
 use Rattle.model_base.specs.Controller.{ControllerCall, Action, Look}
 use Rattle.model_base.specs.Trace.{Trace, Begins, Settings}
 use Rattle.model_base.specs.Attempts.{WriteStatus, succeeded, slowed, faulted, full}
 use Rattle.model_base.specs.Tokens.{holds_stop}
 use Rattle.model_base.specs.Progress.{Progress, fresh, first_missing, early_refusal}
-use Rattle.model_base.specs.Replies.{IsLater, WasHeldUp, LooksAway, IsTold, MayRefuse, IsKeptOut, IsAttempted, ReadsAt, IsDone, Gets, GetsMany, Scans, IfThere, ReadsLog, Updates, Stops, Unstops, Slows, Unslows, Replies, Stays}
+use Rattle.model_base.specs.Replies.{IsLater, WasHeldUp, LooksAway, IsTold, MayRefuse, IsKeptOut, IsAttempted, ReadsAt, IsDone, Gets, GetsMany, Scans, IfThere, IsLogRead, ReadsLog, Updates, Stops, Unstops, Slows, Unslows, Replies, Stays}
 use Rattle.model_base.specs.Runs.{Step, Run, IsTranscript, whole, cut_off}
 use Rattle.model_base.specs.Calls.{Command, add, clear, commit, get, many, scan, updates, stop, unstop, slow, unslow, Reply, accepted, refused, found, found_each, rows, updates_found, read_failed, done, held, not_held, Call}
 use Rattle.model_base.proofs.Prefixes.{prefix_at, prefix_length, prefix_trans}
@@ -72,16 +74,19 @@ module _ (v w : Trace) (b : Begins v w) where
   attempted_in client p how (refused why) q s = (s.0, refuse_in v.controller_calls w.controller_calls b.controller_calls client p p.seen_up_to q.known (omega arith) how why s.0 s.1, s.2, s.3)
   attempted_in client p how _ q s = absurd s
 
+  up_to_in : (at : ℕ) (front : List Entry) → IsUpTo v.start v.entries at front → IsUpTo w.start w.entries at front
+  up_to_in at front s =
+      let rest = b.entries.0 in
+      record {
+        rest = s.rest ++ rest;
+        split = sym b.entries.1 ∙ (ap (λ xs. xs ++ rest) s.split ∙ append_assoc front s.rest rest);
+        ends = s.ends ∙ ap (λ n. last_sequence n front) b.start;
+      }
+
   reads_in : (p : Progress) (at : ℕ) (answers : Pairs → Type 0) (q : Progress) → ReadsAt v p at answers q → ReadsAt w p at answers q
   reads_in p at answers q s = record {
     front = s.front;
-    is_front = (
-        let rest = b.entries.0 in
-        record {
-          rest = s.is_front.rest ++ rest;
-          split = sym b.entries.1 ∙ (ap (λ xs. xs ++ rest) s.is_front.split ∙ append_assoc s.front s.is_front.rest rest);
-          ends = s.is_front.ends ∙ ap (λ n. last_sequence n s.front) b.start;
-        });
+    is_front = up_to_in at s.front s.is_front;
     not_below = s.not_below;
     answer = subst (λ m. answers (map_over m s.front)) b.opening s.answer;
     after = s.after;
@@ -102,18 +107,21 @@ module _ (v w : Trace) (b : Begins v w) where
   there_in : (settings : Settings) (named : List ℕ) (p : Progress) (r : Reply) (q : Progress) (X Y : Type 0) → (X → Y) → IfThere settings named p r q X → IfThere settings named p r q Y
   there_in settings named p r q X Y f s = in_none {A = ℕ} X Y (λ family. (r ≡ refused (no.NoFamily family)) × Stays p q) (first_missing settings.families named) f s
 
-  reads_log_in : (settings : Settings) (p : Progress) (n at : ℕ) (records : List (List ℕ)) (q : Progress) → ReadsLog settings v p n at records q → ReadsLog settings w p n at records q
-  unfolding reads_in
-  reads_log_in settings p n at records q s = record {
-    reads = reads_in p at _ q s.reads;
+  log_read_in : (r : LogRead) → IsLogRead v r → IsLogRead w r
+  log_read_in r s = record {
+    front = s.front;
+    is_front = up_to_in r.at s.front s.is_front;
     groups = s.groups;
     in_log = prefix_trans s.groups v.logged w.logged s.in_log b.logged;
     up_to = s.up_to;
-    answer = s.answer;
+    answer = subst (λ (k : Option (List Logged)). IfSome k (λ kept. r.records ≡ since r.since r.at (records_in kept s.groups))) b.kept s.answer;
   }
 
+  reads_log_in : (p : Progress) (n at : ℕ) (records : List (List ℕ)) (q : Progress) → ReadsLog v p n at records q → ReadsLog w p n at records q
+  reads_log_in p n at records q s = record { reads = reads_in p at _ q s.reads; right = log_read_in _ s.right }
+
   updates_in : (settings : Settings) (p : Progress) (n : ℕ) (r : Reply) (q : Progress) → Updates settings v p n r q → Updates settings w p n r q
-  updates_in settings p n (updates_found at records) q s = (s.0, reads_log_in settings p n at records q s.1)
+  updates_in settings p n (updates_found at records) q s = (s.0, reads_log_in p n at records q s.1)
   updates_in settings p n (read_failed count) q s = s
   updates_in settings p n (refused why) q s = s
   updates_in settings p n _ q s = absurd s

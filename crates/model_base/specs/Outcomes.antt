@@ -1,5 +1,5 @@
 -- The outcome of a run is legal: its replies are those of a plain map, at points of one history.
-use Rattle.std.specs.Prelude.{◌≡◌, ℕ, ◌+◌, ◌≤◌, IsTrue, List, ◌++◌, length, filter, flat_map, [], ◌∷◌, ◌≢◌, ◌<◌, ◌-◌, ◌^◌, ⊤, Option, Some, slice_get, ◌==◌, IfSome}
+use Rattle.std.specs.Prelude.{◌≡◌, ℕ, ◌+◌, ◌≤◌, IsTrue, List, ◌++◌, length, filter, flat_map, [], ◌∷◌, ◌≢◌, ◌<◌, ◌-◌, ◌^◌, ⊤, Option, Some, None, slice_get, ◌==◌, IfSome}
 use Rattle.std.specs.List.{AllByRecursion}
 use Rattle.model_base.specs.History.{Entry, IsHistory, last_sequence, map_over}
 use Rattle.model_base.specs.Counts.{Rose}
@@ -26,8 +26,11 @@ abbrev pub read_fault_of : Reply → List ℕ
 read_fault_of (read_failed count) = count ∷ []
 read_fault_of other = []
 
+abbrev pub read_faults_of : List Call → List ℕ
+read_faults_of calls = flat_map (λ (c : Call). read_fault_of c.reply) calls
+
 abbrev pub read_faults_in : List (List Call) → List ℕ
-read_faults_in transcripts = flat_map (λ calls. flat_map (λ (c : Call). read_fault_of c.reply) calls) transcripts
+read_faults_in transcripts = flat_map read_faults_of transcripts
 
 -- The disk had reached each of these counts, and none of them is the log's fault or comes twice. That they differ isn't
 -- said of the greatest u64, at which the count stays.
@@ -42,6 +45,7 @@ AreOwnFaults ended fault (count ∷ counts) = (count ≤ ended)
 pub record IsTrace (settings : Settings) (trace : Trace) : Type 0 where
   pub start : trace.start ≡ settings.start
   pub opening : trace.opening ≡ settings.opening
+  pub kept : trace.kept ≡ settings.kept
   pub entries : IsHistory trace.start trace.entries
   pub logged : AreGroupsOf trace.entries trace.logged
   pub controller_calls : IsControllerHistory trace.controller_calls
@@ -79,6 +83,8 @@ pub record IsLegalIn (settings : Settings) (ended : ℕ) (script : List (List Co
   pub state : o.state ≡ map_over trace.opening trace.entries
   pub fault : IfSome o.fault (λ count. Rose settings.opened count × (count ≤ ended))
   pub read_faults : AreOwnFaults ended o.fault (read_faults_in o.transcripts)
+  -- where neither the log nor a read of it has a fault, the disk has counted none in the run
+  pub counted : o.fault ≡ None → read_faults_in o.transcripts ≡ [] → ended ≡ settings.opened
 
 -- the outcome of a trace, with the clients' calls, the last sequence, the lengths of the logs and their fault
 abbrev pub outcome_of : Trace → List (List Call) → ℕ → List ℕ → Option ℕ → Outcome

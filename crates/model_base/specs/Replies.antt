@@ -1,5 +1,5 @@
 -- Which replies a client may get, and what its progress is after them.
-use Rattle.std.specs.Prelude.{◌≡◌, ◌≢◌, ◌⊎◌, Bool, ℕ, ◌+◌, ◌<◌, ◌≤◌, true, false, List, [], ◌∷◌, ◌++◌, map, max, Option, Some, None, slice_get, MatchOption, ⊤}
+use Rattle.std.specs.Prelude.{◌≡◌, ◌≢◌, ◌⊎◌, Bool, ℕ, ◌+◌, ◌<◌, ◌≤◌, true, false, List, [], ◌∷◌, ◌++◌, map, max, Option, Some, None, slice_get, IfSome, MatchOption, ⊤}
 use Rattle.std.specs.List.{AllByRecursion}
 use mathlib.Core.List.{IsPrefix}
 use Rattle.model_base.specs.declared.write.WriteOptions.{WriteOptions}
@@ -16,7 +16,7 @@ use Rattle.model_base.specs.Attempts.{Attempt, WriteStatus, succeeded, slowed, f
 use Rattle.model_base.specs.Progress.{Progress, next_entry, first_missing, early_refusal}
 use Rattle.model_base.specs.Counts.{Rose}
 use Rattle.model_base.specs.LogContents.{AreGroupsOf}
-use Rattle.model_base.specs.Since.{records_in, since}
+use Rattle.model_base.specs.Since.{LogRead, records_in, since}
 use Rattle.model_base.specs.Calls.{Command, add, clear, commit, get, many, scan, updates, stop, unstop, slow, unslow, Reply, quiet, accepted, refused, found, found_each, rows, updates_found, read_failed, done, held, not_held}
 
 -- Refusals
@@ -178,21 +178,27 @@ abbrev pub Scans : Trace → Progress → ℕ → List ℕ → List ℕ → Repl
 Scans trace p family lo hi (rows at pairs) q = ReadsAt trace p at (λ m. pairs ≡ rows_within family lo hi m) q
 Scans trace p family lo hi other q = ⊥
 
--- A read of the log at a boundary. Its records up to there have all logged entries up to there, and those are answered
--- that begin or go on at the sequence s or a later one.
-pub record ReadsLog (settings : Settings) (trace : Trace) (p : Progress) (s at : ℕ) (records : List (List ℕ))
-    (q : Progress) : Type 0 where
-  pub reads : ReadsAt trace p at (λ _. ⊤) q
+-- A read of the log was right: it was at a boundary, the log's first groups have all logged entries up to there and no
+-- other, and it gave those records up to there that begin or go on at its sequence or a later one. That is said where it
+-- is known which batches the log had kept.
+pub record IsLogRead (trace : Trace) (r : LogRead) : Type 0 where
+  pub front : List Entry
+  pub is_front : IsUpTo trace.start trace.entries r.at front
   pub groups : List (List Entry)
   pub in_log : IsPrefix groups trace.logged
-  pub up_to : AreGroupsOf reads.front groups
-  pub answer : records ≡ since s at (records_in settings.kept groups)
+  pub up_to : AreGroupsOf front groups
+  pub answer : IfSome trace.kept (λ kept. r.records ≡ since r.since r.at (records_in kept groups))
+
+-- a read of the log from the sequence s on, at a boundary that isn't below any sequence that the client was shown
+pub record ReadsLog (trace : Trace) (p : Progress) (s at : ℕ) (records : List (List ℕ)) (q : Progress) : Type 0 where
+  pub reads : ReadsAt trace p at (λ _. ⊤) q
+  pub right : IsLogRead trace (record { since = s; at = at; records = records })
 
 -- The log's records from a sequence on. Or the client holds a stop token; or the log's disk failed, so that its count
 -- of faults rose (`IsLegalIn` says more of it).
 abbrev pub Updates : Settings → Trace → Progress → ℕ → Reply → Progress → Type 0
 Updates settings trace p s (updates_found at records) q = (holds_stop p.asked ≡ false)
-    × ReadsLog settings trace p s at records q
+    × ReadsLog trace p s at records q
 Updates settings trace p s (refused why) q = (why ≡ no.SelfStop) × (holds_stop p.asked ≡ true) × Stays p q
 Updates settings trace p s (read_failed count) q = (holds_stop p.asked ≡ false) × Rose settings.opened count × Stays p q
 Updates settings trace p s other q = ⊥

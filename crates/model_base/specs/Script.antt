@@ -149,7 +149,7 @@ family_forms =
     ∷ record { word = codes "fscan"; rest = in_family (λ f. two_words (λ lo hi. command (scan f lo hi))) }
     ∷ []
 
--- the log's records from a sequence on (no client's section has this line yet)
+-- the log's records from a sequence on
 abbrev pub update_forms : List CommandForm
 update_forms = record { word = codes "updates"; rest = one_number (λ s. command (updates s)) } ∷ []
 
@@ -162,7 +162,7 @@ token_forms =
     ∷ record { word = codes "unslow"; rest = no_word (command unslow) }
     ∷ []
 
--- records of every kind, `clear`, `commit` with its flags, and every read
+-- records of every kind, `clear`, `commit` with its flags, and every read, of the log too
 abbrev pub client_forms : List CommandForm
 client_forms =
     record { word = codes "client"; rest = one_number section }
@@ -173,7 +173,7 @@ client_forms =
     ∷ record { word = codes "clear"; rest = no_word (command clear) }
     ∷ record { word = codes "commit"; rest = commit_flags }
     ∷ record { word = codes "get"; rest = one_word (λ k. command (get (key_at 0 k))) }
-    ∷ read_forms ++ family_forms
+    ∷ read_forms ++ (family_forms ++ update_forms)
 
 -- every line that a client's section may have
 abbrev pub whole_forms : List CommandForm

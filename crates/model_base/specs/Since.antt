@@ -6,6 +6,12 @@ use Rattle.model_base.specs.History.{Entry}
 use Rattle.model_base.specs.LogContents.{record_of_entries}
 use Rattle.model_base.specs.Recovery.{Logged, logged_bytes}
 
+-- a read of the log: from which sequence on, up to which one, and the records that it gave
+pub record LogRead : Type 0 where
+  pub since : ℕ
+  pub at : ℕ
+  pub records : List (List ℕ)
+
 -- a record of the log: its first sequence, how many it takes, and its bytes
 pub record LogRecord : Type 0 where
   pub first : ℕ

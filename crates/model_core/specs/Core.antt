@@ -1,6 +1,6 @@
 -- The write path as a state machine: a log queue, a group in hand, a memtable queue and a table
 -- (RocksDB's db/write_thread.cc; RocksDB wiki, "Pipelined Write").
-use Rattle.std.specs.Prelude.{ℕ, zero, suc, ◌+◌, ◌-◌, Bool, true, false, List, [], ◌∷◌, ◌++◌, length, map, filter, filter_map, take_while, nat_le, ◌==◌, if◌then◌else◌, Option, Some, None, is_some, slice_get, slice_set, option_map}
+use Rattle.std.specs.Prelude.{ℕ, zero, suc, ◌+◌, ◌-◌, Bool, true, false, List, [], ◌∷◌, ◌++◌, length, take, drop, map, filter, filter_map, take_while, nat_le, ◌==◌, if◌then◌else◌, Option, Some, None, is_some, slice_get, slice_set, option_map}
 use Rattle.std.specs.List.{list_any}
 use Rattle.model_base.specs.declared.group.Item.{Item}
 use Rattle.model_base.specs.declared.write.WriteOptions.{WriteOptions}
@@ -8,11 +8,12 @@ use Rattle.model_base.specs.declared.write.Refusal.{Refusal}
 use Rattle.model_base.specs.declared.write.Refusal.TheVariants as no
 use Rattle.model_base.specs.Batch.{Record, count_of, size_of_batch}
 use Rattle.model_base.specs.Map.{Pairs, value_at, rows_within}
-use Rattle.model_base.specs.History.{Entry, max_sequence, last_of, map_of, flag_of}
+use Rattle.model_base.specs.History.{Entry, max_sequence, last_of, logged_entries, map_of, flag_of}
+use Rattle.model_base.specs.Since.{records_in, since}
 use Rattle.std.specs.Option.{option_map_or}
 use Rattle.model_base.specs.declared.key.Key.{Key}
 use Rattle.model_base.specs.Progress.{first_missing, early_refusal}
-use Rattle.model_base.specs.Calls.{Command, add, clear, get, many, scan, Reply, quiet, accepted, refused, found, found_each, rows, Call}
+use Rattle.model_base.specs.Calls.{Command, add, clear, commit, get, many, scan, updates, Reply, quiet, accepted, refused, found, found_each, rows, updates_found, Call}
 
 pub record Options : Type 0 where
   pub pipelined : Bool
@@ -21,11 +22,13 @@ pub record Options : Type 0 where
   pub batch_bytes : ℕ
   pub start : ℕ
 
--- a batch on its way: its client, how it should be written, its records, and its answer, once it has one
+-- A batch on its way: its client, how it should be written, its records, and its answer, once it has one. Or a read of
+-- the log from the sequence `since` on, with an empty batch.
 pub record Writer : Type 0 where
   pub client : ℕ
   pub options : WriteOptions
   pub records : List Record
+  pub since : Option ℕ
   pub answer : Option Reply
 
 -- a client: its lines that are left, the records of its batch, its calls with their replies, and whether it is idle: an
@@ -127,7 +130,19 @@ after_reply client command reply = record client {
 -- Batches
 
 abbrev pub item_of : Writer → Item
-item_of w = record { size = size_of_batch w.records; options = w.options; alone = false }
+item_of w = record { size = size_of_batch w.records; options = w.options; alone = is_some w.since }
+
+-- a read of the log waits like a write that may wait
+abbrev pub plain_options : WriteOptions
+plain_options = record { sync = false; no_log = false; no_slowdown = false }
+
+-- the client's line that made the writer
+abbrev pub line_of : WriteOptions → Option ℕ → Command
+line_of options None = commit options
+line_of options (Some n) = updates n
+
+abbrev pub command_of : Writer → Command
+command_of w = line_of w.options w.since
 
 -- the checks before a batch is linked; the core knows no write controller, so nobody holds a token
 abbrev pub refusal_of : Options → WriteOptions → List Record → Option Refusal
@@ -153,6 +168,11 @@ may_link log None = true
 abbrev pub leads : ℕ → List Writer → Bool
 leads c [] = false
 leads c (w ∷ ws) = w.client == c
+
+-- a group of one writer that reads the log
+abbrev pub is_alone : List Writer → Bool
+is_alone [] = false
+is_alone (w ∷ ws) = is_some w.since
 
 -- Runs
 
@@ -220,6 +240,23 @@ abbrev pub runners : List Writer → List ℕ
 runners ws = map (λ w. w.client) (filter has_run ws)
 
 -- Reads
+
+-- the logged entries, cut into groups of these lengths
+abbrev pub cut_by : List ℕ → List Entry → List (List Entry)
+cut_by [] entries = []
+cut_by (n ∷ lengths) entries = take n entries ∷ cut_by lengths (drop n entries)
+
+abbrev pub log_groups : State → List (List Entry)
+log_groups s = cut_by s.groups (logged_entries s.entries)
+
+-- The answer to a read of the log has its sequence alone. The records up to there are looked up as the client gets its
+-- reply: a group that is logged meanwhile has later sequences.
+abbrev pub read_at : ℕ → Reply
+read_at last = updates_found last []
+
+abbrev pub reply_told : State → Option ℕ → Reply → Reply
+reply_told s (Some n) (updates_found at records) = updates_found at (since n at (records_in [] (log_groups s)))
+reply_told s other reply = reply
 
 abbrev pub published_map : State → Pairs
 published_map s = map_of (take_while (λ x. nat_le (last_of x) s.last) s.entries)

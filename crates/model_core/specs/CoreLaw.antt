@@ -1,10 +1,10 @@
 -- What holds of the core after every event.
-use Rattle.std.specs.Prelude.{◌≡◌, ◌⊎◌, ℕ, ◌<◌, true, false, IsTrue, List, [], ◌∷◌, ◌++◌, length, map, filter, flat_map, count_by, Contains, ⊤, ◌==◌, if◌then◌else◌, Some, IsSome}
+use Rattle.std.specs.Prelude.{◌≡◌, ◌⊎◌, ℕ, ◌<◌, Bool, true, false, IsTrue, List, [], ◌∷◌, ◌++◌, length, drop, map, filter, flat_map, count_by, Contains, ⊤, ◌==◌, if◌then◌else◌, Some, None, IsSome}
 use Rattle.std.specs.List.{AllByRecursion, AllZip}
 use Rattle.model_core.specs.declared.event.Event.{Event}
 use Rattle.model_core.specs.declared.event.Event.TheVariants as e
 use Rattle.model_base.specs.Batch.{count_of}
-use Rattle.model_base.specs.History.{Entry, IsHistory, RunsFollow, IsUpTo, last_sequence, last_of, logged_entries, flag_of}
+use Rattle.model_base.specs.History.{Entry, IsHistory, RunsFollow, IsUpTo, last_sequence, last_of, logged_entries, is_logged, flag_of}
 use Rattle.model_base.specs.Calls.{accepted}
 use Rattle.model_core.specs.Core.{Options, Writer, Client, LogPhase, free, led, built, stalled, in_log, marked, handed, TablePhase, still, launched, published, State, client_at, leads, has_run, table_group, among, runners}
 
@@ -69,11 +69,47 @@ unpublished_writers o s published = if o.pipelined then writers_in (tail_of s.se
 unpublished_writers o s still = writers_in s.second ++ hand_with_runs s.log
 unpublished_writers o s (launched ins fin) = writers_in s.second ++ hand_with_runs s.log
 
+-- those groups
+abbrev pub group_with_runs : LogPhase → List (List Writer)
+group_with_runs (in_log ws) = ws ∷ []
+group_with_runs (marked ws) = ws ∷ []
+group_with_runs free = []
+group_with_runs (led c) = []
+group_with_runs (built ws) = []
+group_with_runs (stalled ws) = []
+group_with_runs (handed c) = []
+
+abbrev pub unpublished_groups : Options → State → TablePhase → List (List Writer)
+unpublished_groups o s published = if o.pipelined then drop 1 s.second ++ group_with_runs s.log else []
+unpublished_groups o s still = s.second ++ group_with_runs s.log
+unpublished_groups o s (launched ins fin) = s.second ++ group_with_runs s.log
+
 -- the entry is that of a group's member that has a run
 pub record IsEntryOf (w : Writer) (x : Entry) : Type 0 where
   pub client : x.client ≡ w.client
   pub flag : x.flag ≡ flag_of w.options
   pub run : w.answer ≡ Some (accepted x.first (last_of x) x.records)
+
+-- entries of a group: whether the log has them, and that it has all of them or none
+abbrev pub is_logged_group : List Entry → Bool
+is_logged_group [] = false
+is_logged_group (x ∷ xs) = is_logged x.flag
+
+abbrev pub IsLoggedAsOne : List Entry → Type 0
+IsLoggedAsOne xs = logged_entries xs ≡ (if is_logged_group xs then xs else [])
+
+-- The log's groups (`parts`) are first some that have the logged ones of the entries up to the published sequence
+-- (`front`), and then those of the groups that aren't published yet and are logged, whose entries are the others
+-- (`rest`).
+pub record AreParts (o : Options) (s : State) (front rest : List Entry) (parts : List (List Entry)) : Type 0 where
+  pub before : List (List Entry)
+  pub cut : logged_entries front ≡ flat_map (λ p. p) before
+  pub ahead : List (List Entry)
+  pub each : AllZip (λ (ws : List Writer) xs. AllZip IsEntryOf (filter has_run ws) xs)
+      (unpublished_groups o s s.table) ahead
+  pub all : rest ≡ flat_map (λ p. p) ahead
+  pub as_one : AllByRecursion IsLoggedAsOne ahead
+  pub split : parts ≡ before ++ filter is_logged_group ahead
 
 -- A launched or published group has members. Each client that has inserted has a run in the launched group, and each
 -- one that has finished has inserted.
@@ -102,6 +138,24 @@ abbrev pub SameLogFlag : List Writer → Type 0
 SameLogFlag [] = ⊤
 SameLogFlag (w ∷ ws) = AllByRecursion (λ (v : Writer). v.options.no_log ≡ w.options.no_log) ws
 
+-- none of these reads the log
+abbrev pub AreWrites : List Writer → Type 0
+AreWrites ws = AllByRecursion (λ (w : Writer). w.since ≡ None) ws
+
+-- it has something to write, or reads the log
+abbrev pub HasWork : Writer → Type 0
+HasWork w = w.since ≡ None → 0 < count_of w.records
+
+-- a writer that reads the log is in hand as the only one of its group, and its group is neither stalled nor in the log
+abbrev pub ReadAlone : LogPhase → Type 0
+ReadAlone (built ws) = (length ws ≡ 1) ⊎ AreWrites ws
+ReadAlone (stalled ws) = AreWrites ws
+ReadAlone (in_log ws) = AreWrites ws
+ReadAlone (marked ws) = AreWrites ws
+ReadAlone free = ⊤
+ReadAlone (led c) = ⊤
+ReadAlone (handed c) = ⊤
+
 pub record IsCore (o : Options) (s : State) : Type 0 where
   -- each client is idle, or waits in just one place, once
   pub once : (c : ℕ) (client : Client) → client_at s c ≡ Some client
@@ -110,9 +164,10 @@ pub record IsCore (o : Options) (s : State) : Type 0 where
   pub led_is_first : LedIsFirst s.log s.queue
   pub single_stage : o.pipelined ≡ false → s.second ≡ []
   pub unmarked : o.pipelined ≡ false → IsUnmarked s.log
-  -- the writers in hand and in the queue have something to write, and a group in hand is logged as a whole or not at
-  -- all
-  pub counted : AllByRecursion (λ (w : Writer). 0 < count_of w.records) (hand s.log ++ s.queue)
+  -- the writers in hand and in the queue have something to write, or read the log, which they do alone; and a group in
+  -- hand is logged as a whole or not at all
+  pub counted : AllByRecursion HasWork (hand s.log ++ s.queue)
+  pub alone : ReadAlone s.log
   pub one_log_flag : SameLogFlag (hand s.log)
   -- the entries that got runs are a history, up to the sequence that was given last
   pub is_history : IsHistory o.start s.entries
@@ -133,6 +188,7 @@ pub record IsCore (o : Options) (s : State) : Type 0 where
   pub groups : s.groups ≡ map length parts
   pub none_empty : AllByRecursion (λ p. 0 < length p) parts
   pub runs : AllByRecursion RunsFollow parts
+  pub at_boundary : AreParts o s front is_boundary.rest parts
 
 -- What an event keeps
 

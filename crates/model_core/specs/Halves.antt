@@ -1,12 +1,12 @@
 -- A state in two halves: where the writers are, and the memtable. Most events move one half and leave the other alone.
-use Rattle.std.specs.Prelude.{◌≡◌, ◌⊎◌, ℕ, Bool, true, false, not, ◌==◌, List, [], ◌∷◌, ◌++◌, take, drop, filter, find, Some, if◌then◌else◌}
+use Rattle.std.specs.Prelude.{◌≡◌, ◌≢◌, ◌⊎◌, ℕ, Bool, true, false, not, ◌==◌, List, [], ◌∷◌, ◌++◌, take, drop, filter, find, Some, None, if◌then◌else◌}
 use Rattle.std.specs.List.{list_any}
 use Rattle.model_core.specs.declared.event.Event.{Event}
 use Rattle.model_core.specs.declared.event.Event.TheVariants as e
 use Rattle.model_base.specs.declared.write.Refusal.TheVariants as no
 use Rattle.model_base.specs.History.{Entry}
 use Rattle.model_base.specs.Calls.{refused}
-use Rattle.model_core.specs.Core.{Options, Writer, LogPhase, free, led, built, stalled, in_log, marked, handed, TablePhase, still, launched, published, State, with_runs, has_run, all_answered, table_group}
+use Rattle.model_core.specs.Core.{Options, Writer, LogPhase, free, led, built, stalled, in_log, marked, handed, TablePhase, still, launched, published, State, read_at, with_runs, has_run, all_answered, table_group}
 use Rattle.model_core.specs.Step.{entry_ahead, group_last, group_size, leave, left_queue, without_table_group}
 
 -- where the writers are: in the log's queue, with the log, in the groups that wait for the memtable, or gone with an
@@ -38,7 +38,7 @@ moves_list (e.Publish m) = false
 moves_list (e.Read c) = false
 moves_list other = true
 
--- which events may change the memtable: those from a group's launch to its exit
+-- which events may change the memtable: those from a group's launch to its exit; the exit of a read of the log doesn't
 abbrev pub moves_table : Event → Bool
 moves_table (e.Launch c) = true
 moves_table (e.Insert m) = true
@@ -56,7 +56,9 @@ TableStep o (e.Finish m) s new = (ins fin : List ℕ) × (s.table ≡ launched i
     × (new ≡ record (table_half_of s) { phase = launched ins (fin ++ m ∷ []) })
 TableStep o (e.Publish m) s new = (ins fin : List ℕ) × (s.table ≡ launched ins fin)
     × (new ≡ record { phase = published; inserted = s.inserted; last = group_last s.last (table_group o s) })
-TableStep o (e.Exit c) s new = (s.table ≡ published) × (new ≡ record (table_half_of s) { phase = still })
+-- the exit of a group that was published; one that has read the log leaves the memtable alone
+TableStep o (e.Exit c) s new = ((s.table ≡ published) × (new ≡ record (table_half_of s) { phase = still }))
+    ⊎ (new ≡ table_half_of s)
 TableStep o other s new = new ≡ table_half_of s
 
 -- the group in hand has left with its answers, and the log is free
@@ -95,7 +97,10 @@ ListStep o (e.Boundary c) s new = (ws : List Writer) × (s.log ≡ in_log ws)
 ListStep o (e.Second c) s new = (ws : List Writer) × (s.log ≡ marked ws)
     × (new ≡ record (list_half_of s) { log = handed c; second = s.second ++ ws ∷ [] })
 ListStep o (e.Next c) s new = (s.log ≡ handed c) × (new ≡ record (list_half_of s) { log = free })
-ListStep o (e.Exit c) s new = new ≡ list_half_of (leave (without_table_group o s) (table_group o s))
+ListStep o (e.Since c) s new = (w : Writer) × (s.log ≡ built (w ∷ [])) × (w.client ≡ c) × (w.since ≢ None)
+    × (new ≡ record (list_half_of s) { log = built (record w { answer = Some (read_at s.last) } ∷ []) })
+ListStep o (e.Exit c) s new = (new ≡ list_half_of (leave (without_table_group o s) (table_group o s)))
+    ⊎ ((w : Writer) × (s.log ≡ built (w ∷ [])) × (w.client ≡ c) × (w.since ≢ None) × (new ≡ left_with s (w ∷ [])))
 ListStep o (e.Complete m) s new =
     new ≡ record (list_half_of s) { leaving = filter (λ (w : Writer). not (w.client == m)) s.leaving }
 ListStep o other s new = new ≡ list_half_of s

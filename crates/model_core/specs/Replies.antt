@@ -10,10 +10,12 @@ use Rattle.model_base.specs.Map.{Pairs, value_at, rows_within}
 use Rattle.model_base.specs.History.{Entry, IsHistory, IsUpTo, IsBoundary, map_of, max_sequence}
 use Rattle.model_base.specs.declared.key.Key.{Key}
 use Rattle.model_base.specs.Progress.{first_missing, early_refusal, next_entry, batch_after}
+use Rattle.model_base.specs.LogContents.{AreGroupsOf}
+use Rattle.model_base.specs.Since.{records_in, since}
 use Rattle.model_base.specs.Runs.{commands_of}
 use Rattle.model_base.specs.Outcomes.{entries_of_client}
-use Rattle.model_base.specs.Calls.{Command, add, clear, commit, get, many, scan, updates, stop, unstop, slow, unslow, Reply, quiet, accepted, refused, found, found_each, rows, Call}
-use Rattle.model_core.specs.Core.{Options, Client, State, client_at}
+use Rattle.model_base.specs.Calls.{Command, add, clear, commit, get, many, scan, updates, stop, unstop, slow, unslow, Reply, quiet, accepted, refused, found, found_each, rows, updates_found, Call}
+use Rattle.model_core.specs.Core.{Options, Client, State, client_at, log_groups}
 
 -- The greatest sequence that a client has seen published, by its reads and by its accepted commits
 abbrev pub seen_with : ℕ → Reply → ℕ
@@ -21,6 +23,7 @@ seen_with seen (accepted first last records) = max seen last
 seen_with seen (found at v) = max seen at
 seen_with seen (found_each at vs) = max seen at
 seen_with seen (rows at pairs) = max seen at
+seen_with seen (updates_found at records) = max seen at
 seen_with seen other = seen
 
 abbrev pub seen_up_to : List Call → ℕ
@@ -63,6 +66,19 @@ GetsMany o s before keys other = ⊥
 abbrev pub Scans : Options → State → List Call → ℕ → List ℕ → List ℕ → Reply → Type 0
 Scans o s before family lo hi (rows at pairs) = ReadsAt o s before at (λ m. pairs ≡ rows_within family lo hi m)
 Scans o s before family lo hi other = ⊥
+
+-- A read of the log, at such a boundary: its groups up to there have all logged entries up to there and no other, and the
+-- records of those are given that begin or go on at the sequence n or a later one.
+pub record ReadsLog (o : Options) (s : State) (before : List Call) (n at : ℕ) (records : List (List ℕ)) : Type 0 where
+  pub reads : ReadsAt o s before at (λ m. ⊤)
+  pub groups : List (List Entry)
+  pub in_log : IsPrefix groups (log_groups s)
+  pub up_to : AreGroupsOf reads.front groups
+  pub answer : records ≡ since n at (records_in [] groups)
+
+abbrev pub Updates : Options → State → List Call → ℕ → Reply → Type 0
+Updates o s before n (updates_found at records) = ReadsLog o s before n at records
+Updates o s before n other = ⊥
 
 -- Why a commit that passed the early checks may be refused: the log has failed; or there was no room for its run after
 -- a boundary, not below what its client has seen, and the client didn't know that the log has failed; or the commit may
@@ -113,7 +129,7 @@ MayReply o s before (many keys) reply =
     IfThere o (map (λ (k : Key). k.family) keys) reply (GetsMany o s before keys reply)
 MayReply o s before (scan family lo hi) reply =
     IfThere o (family ∷ []) reply (Scans o s before family lo hi reply)
-MayReply o s before (updates s0) reply = ⊥
+MayReply o s before (updates n) reply = Updates o s before n reply
 MayReply o s before stop reply = ⊥
 MayReply o s before unstop reply = ⊥
 MayReply o s before (slow rate) reply = ⊥
@@ -157,7 +173,8 @@ pub record AreRepliesOf (o : Options) (plans : List (List Command)) (s : State) 
   pub each : (c : ℕ) (lines : List Command) (client : Client) → lines_at plans c ≡ Some lines
       → client_at s c ≡ Some client → IsAnswered o s c lines client
 
--- if this is the reply to a read, the read was at this sequence or a later one
+-- If this is the reply to a read of the map, the read was at this sequence or a later one. A read of the log is answered
+-- before its client gets the answer.
 abbrev pub IsFrom : ℕ → Reply → Type 0
 IsFrom last (found at v) = last ≤ at
 IsFrom last (found_each at vs) = last ≤ at

@@ -1,5 +1,5 @@
 -- The text of a script with a schedule: the script's lines, the line `schedule`, and a line for each event.
-use Rattle.std.specs.Prelude.{ℕ, Bool, false, ◌&&◌, List, [], ◌∷◌, ◌++◌, length, fold, Option, Some, None, Result, Ok, Err, codes, bytes_eq, nat_lt, nat_le, ◌==◌, if◌then◌else◌, option_and_then, find}
+use Rattle.std.specs.Prelude.{ℕ, Bool, ◌&&◌, List, [], ◌∷◌, ◌++◌, length, fold, Option, Some, None, Result, Ok, Err, codes, bytes_eq, nat_lt, nat_le, ◌==◌, if◌then◌else◌, option_and_then, find}
 use Rattle.std.specs.List.{enumerate_from}
 use Rattle.model_base.specs.declared.script.ScriptFault.TheVariants.{Long, Byte, Word, Form, NoClient, NoSchedule}
 use Rattle.model_base.specs.Script.{Script, Read, ◌>>=◌, Grammar, Fault, at_line, lines_of, words_of, are_plain, is_passed_over, number_of, line_of, with_line, is_first}

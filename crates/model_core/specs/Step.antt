@@ -1,5 +1,5 @@
 -- Each event of the core: when it may come, and what it does.
-use Rattle.std.specs.Prelude.{ℕ, ◌+◌, Bool, true, false, not, ◌&&◌, List, [], ◌∷◌, ◌++◌, length, take, drop, map, fold, filter, nat_lt, ◌==◌, if◌then◌else◌, Option, Some, None, find}
+use Rattle.std.specs.Prelude.{ℕ, ◌+◌, Bool, true, false, not, ◌&&◌, List, [], ◌∷◌, ◌++◌, length, take, drop, map, fold, filter, nat_lt, ◌==◌, if◌then◌else◌, Option, Some, None, is_some, find}
 use Rattle.std.specs.List.{list_any, list_all}
 use Rattle.model_core.specs.declared.event.Event.{Event}
 use Rattle.model_core.specs.declared.event.Event.TheVariants as e
@@ -9,20 +9,26 @@ use Rattle.model_base.specs.declared.write.Refusal.TheVariants as no
 use Rattle.model_base.specs.Batch.{Record}
 use Rattle.model_base.specs.History.{Entry, last_sequence}
 use Rattle.model_base.specs.Grouping.{group_len}
-use Rattle.model_base.specs.Calls.{Command, commit, Reply, accepted, refused}
-use Rattle.model_core.specs.Core.{Options, Writer, Client, LogPhase, free, led, built, stalled, in_log, marked, handed, TablePhase, still, launched, published, State, opening_state, client_at, with_client, next_call, after_reply, item_of, refusal_of, refusal_in, may_link, stall_refusal, leads, with_runs, has_run, all_answered, entries_of, table_group, among, runners, read_reply}
+use Rattle.model_base.specs.Calls.{Command, commit, updates, Reply, accepted, refused}
+use Rattle.model_core.specs.Core.{Options, Writer, Client, LogPhase, free, led, built, stalled, in_log, marked, handed, TablePhase, still, launched, published, State, opening_state, client_at, with_client, next_call, after_reply, item_of, refusal_of, refusal_in, may_link, stall_refusal, plain_options, command_of, read_at, reply_told, is_alone, leads, with_runs, has_run, all_answered, entries_of, table_group, among, runners, read_reply}
 
 -- an event may come only if this is true
 abbrev pub when : Bool → State → Option State
 when true s = Some s
 when false s = None
 
--- link c: c is idle and its next call is a commit. It is refused at once, or its writer goes to the end of the queue.
--- While a leader stalls writes no writer comes
+-- link c: c is idle and its next call is a commit or a read of the log. A commit is refused at once, or its writer goes
+-- to the end of the queue, as that of a read does. While a leader stalls writes no writer comes
 abbrev pub link_with : Options → State → ℕ → Client → WriteOptions → Option Refusal → State
 link_with o s c client how (Some why) = with_client s c (after_reply client (commit how) (refused why))
 link_with o s c client how None = record (with_client s c (record client { idle = false })) {
-  queue = s.queue ++ record { client = c; options = how; records = client.added; answer = None } ∷ [];
+  queue = s.queue ++ record { client = c; options = how; records = client.added; since = None; answer = None } ∷ [];
+}
+
+abbrev pub link_read : State → ℕ → Client → ℕ → State
+link_read s c client n = record (with_client s c (record client { idle = false })) {
+  queue = s.queue
+      ++ record { client = c; options = plain_options; records = []; since = Some n; answer = None } ∷ [];
 }
 
 abbrev pub link_or_refuse : Options → State → ℕ → Client → WriteOptions → Option Refusal → Option State
@@ -31,6 +37,7 @@ link_or_refuse o s c client how why = when (may_link s.log why) (link_with o s c
 abbrev pub link_call : Options → State → ℕ → Client → Option Command → Option State
 link_call o s c client (Some (commit how)) =
     link_or_refuse o s c client how (refusal_in s.log how (refusal_of o how client.added))
+link_call o s c client (Some (updates n)) = when (may_link s.log None) (link_read s c client n)
 link_call o s c client other = None
 
 abbrev pub link : Options → State → ℕ → Option Client → Option State
@@ -54,8 +61,8 @@ build o s c (led d) = when (c == d) (record s {
 })
 build o s c other = None
 
--- log c: c leads the group that was built, and the log hasn't failed. The members get runs; if no run fits, all of them
--- leave
+-- log c: c leads the group that was built, which writes, and the log hasn't failed. The members get runs; if no run
+-- fits, all of them leave
 abbrev pub is_unlogged : List Writer → Bool
 is_unlogged [] = false
 is_unlogged (w ∷ ws) = w.options.no_log
@@ -76,13 +83,14 @@ logged_group s ws =
     if list_any has_run ws then with_group s ws (entries_of s ws) else record (leave s ws) { log = free }
 
 abbrev pub log_group : State → ℕ → LogPhase → Option State
-log_group s c (built ws) = when (leads c ws && not s.log_failed) (logged_group s (with_runs s.assigned ws))
+log_group s c (built ws) =
+    when (leads c ws && not (is_alone ws) && not s.log_failed) (logged_group s (with_runs s.assigned ws))
 log_group s c other = None
 
--- fault c: c leads the group that was built. All its members leave, and the log has failed
+-- fault c: c leads the group that was built, which writes. All its members leave, and the log has failed
 abbrev pub fault : State → ℕ → LogPhase → Option State
 fault s c (built ws) =
-    when (leads c ws) (record (leave s (all_answered (refused (no.LogFault 1)) ws)) { log = free; log_failed = true })
+    when (leads c ws && not (is_alone ws)) (record (leave s (all_answered (refused (no.LogFault 1)) ws)) { log = free; log_failed = true })
 fault s c other = None
 
 -- refuse c: c leads the group that was built, and the group may not be slowed down. All its members leave
@@ -95,9 +103,10 @@ refuse s c why (built ws) =
     when (leads c ws && is_no_slowdown ws) (record (leave s (all_answered (refused why) ws)) { log = free })
 refuse s c why other = None
 
--- stall c: c leads the group that was built, and the group may be slowed down. Until `unstall c` its log isn't written
+-- stall c: c leads the group that was built, which writes and may be slowed down. Until `unstall c` its log isn't written
 abbrev pub stall : State → ℕ → LogPhase → Option State
-stall s c (built ws) = when (leads c ws && not (is_no_slowdown ws)) (record s { log = stalled ws })
+stall s c (built ws) =
+    when (leads c ws && not (is_alone ws) && not (is_no_slowdown ws)) (record s { log = stalled ws })
 stall s c other = None
 
 abbrev pub unstall : State → ℕ → LogPhase → Option State
@@ -171,14 +180,31 @@ publish o s m (launched ins fin) = when (is_last m fin && list_all (λ c. among 
     (record s { table = published; last = group_last s.last (table_group o s) })
 publish o s m other = None
 
--- exit c: the table's group is published, and c leads it. Its members leave
+-- since c: c leads the group that was built, alone, and reads the log. It is answered at the published sequence
+abbrev pub answer_read : State → Writer → Option ℕ → Option Reply → Option State
+answer_read s w (Some n) None = Some (record s { log = built (record w { answer = Some (read_at s.last) } ∷ []) })
+answer_read s w other answer = None
+
+abbrev pub read_log : State → ℕ → LogPhase → Option State
+read_log s c (built (w ∷ [])) = if w.client == c then answer_read s w w.since w.answer else None
+read_log s c other = None
+
+-- exit c: the table's group is published, and c leads it. Its members leave. Or c has read the log, and leaves
+abbrev pub has_read : ℕ → Writer → Bool
+has_read c w = (w.client == c) && is_some w.since && is_some w.answer
+
+abbrev pub exit_reader : State → ℕ → LogPhase → Option State
+exit_reader s c (built (w ∷ [])) = when (has_read c w) (record (leave s (w ∷ [])) { log = free })
+exit_reader s c other = None
+
 abbrev pub without_table_group : Options → State → State
 without_table_group o s = if o.pipelined then record s { second = drop 1 s.second } else record s { log = free }
 
 abbrev pub exit : Options → State → ℕ → TablePhase → Option State
-exit o s c published =
-    when (leads c (table_group o s)) (record (leave (without_table_group o s) (table_group o s)) { table = still })
-exit o s c other = None
+exit o s c published = if leads c (table_group o s)
+    then Some (record (leave (without_table_group o s) (table_group o s)) { table = still })
+    else exit_reader s c s.log
+exit o s c other = exit_reader s c s.log
 
 -- complete m: m has left with its answer. After `ok` its batch is new and empty, after a refusal it is as it was
 abbrev pub added_after : Reply → List Record → List Record
@@ -186,14 +212,15 @@ added_after (accepted a b records) added = []
 added_after other added = added
 
 abbrev pub after_completion : Client → Writer → Reply → Client
-after_completion client w reply = record (after_reply client (commit w.options) reply) {
+after_completion client w reply = record (after_reply client (command_of w) reply) {
   added = added_after reply client.added;
 }
 
 abbrev pub complete_with : State → ℕ → Option Client → Writer → Option Reply → Option State
-complete_with s m (Some client) w (Some reply) = Some (record (with_client s m (after_completion client w reply)) {
-  leaving = filter (λ (x : Writer). not (x.client == m)) s.leaving;
-})
+complete_with s m (Some client) w (Some reply) = Some (record (with_client s m
+    (after_completion client w (reply_told s w.since reply))) {
+      leaving = filter (λ (x : Writer). not (x.client == m)) s.leaving;
+    })
 complete_with s m other w reply = None
 
 abbrev pub complete : State → ℕ → Option Writer → Option State
@@ -232,6 +259,7 @@ step o s (e.Launch c) = launch o s c s.table
 step o s (e.Insert m) = insert o s m s.table
 step o s (e.Finish m) = finish s m s.table
 step o s (e.Publish m) = publish o s m s.table
+step o s (e.Since c) = read_log s c s.log
 step o s (e.Exit c) = exit o s c s.table
 step o s (e.Complete m) = complete s m (find (λ (w : Writer). w.client == m) s.leaving)
 step o s (e.Read c) = read o s c (client_at s c)

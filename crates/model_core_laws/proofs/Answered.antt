@@ -8,8 +8,8 @@ use Rattle.model_core.specs.declared.event.Event.TheVariants as e
 use Rattle.model_base.specs.Outcomes.{entries_of_client}
 use Rattle.model_base.specs.Runs.{commands_of}
 use Rattle.model_base.specs.Progress.{next_entry, batch_after}
-use Rattle.model_base.specs.Calls.{Command, commit, Reply, quiet, accepted, refused, found, found_each, rows, updates_found, read_failed, done, held, not_held, no_memory, Call}
-use Rattle.model_core.specs.Core.{Options, Writer, Client, State, opening_state, idle_client, client_at}
+use Rattle.model_base.specs.Calls.{Command, Reply, quiet, accepted, refused, found, found_each, rows, updates_found, read_failed, done, held, not_held, no_memory, Call}
+use Rattle.model_core.specs.Core.{Options, Writer, Client, State, opening_state, idle_client, client_at, line_of, command_of}
 use Rattle.model_core.specs.Step.{step, replay}
 use Rattle.model_core.specs.CoreLaw.{IsCore, hand, writers_in, waiting_clients}
 use Rattle.model_core.specs.Replies.{entries_told, AreRight, IsOnItsWay, IsAnswered, lines_at, AreRepliesOf}
@@ -18,6 +18,7 @@ use Rattle.model_core_laws.proofs.Opening.{opening}
 use Rattle.model_core_laws.proofs.Tables.{times, there, there_append, times_cons, waiting_parts}
 use Rattle.model_core_laws.proofs.Told.{Told, Waits, IsAnswer, IsToldSoFar, writers}
 use Rattle.model_core_laws.proofs.ToldByLink.{told_by_link}
+use Rattle.model_core_laws.proofs.ToldBySince.{told_by_since}
 use Rattle.model_core_laws.proofs.ToldByStall.{told_by_stall, told_by_leave, told_by_unstall}
 use Rattle.model_core_laws.proofs.ToldByRead.{told_by_read}
 use Rattle.model_core_laws.proofs.ToldByComplete.{told_by_complete}
@@ -86,6 +87,7 @@ told_by_each o plans s t (e.Launch c) told is core = told_by_launch o plans s t 
 told_by_each o plans s t (e.Insert m) told is core = told_by_insert o plans s t m told is core
 told_by_each o plans s t (e.Finish m) told is core = told_by_finish o plans s t m told is core
 told_by_each o plans s t (e.Publish m) told is core = told_by_publish o plans s t m told is core
+told_by_each o plans s t (e.Since c) told is core = told_by_since o plans s t c told is core
 told_by_each o plans s t (e.Exit c) told is core = told_by_exit o plans s t c told is core
 told_by_each o plans s t (e.Complete m) told is core = told_by_complete o plans s t m told is core
 told_by_each o plans s t (e.Read c) told is core = told_by_read o plans s t c told is core
@@ -106,16 +108,16 @@ member_of P c (w ∷ ws) some all = by (w.client == c) refl (member_of P c ws)
     by false other later = later (let e = times_cons c w.client (map (λ (v : Writer). v.client) ws) in let f : cond {A = ℕ} (w.client == c) 1 0 ≡ 0 = cond-false {A = ℕ} (w.client == c) 1 0 other in omega arith) all.1
 
 -- a client's entries, by the answer with which its writer waits
-by_answer : (o : Options) (s : State) (c : ℕ) (client : Client) (w : Writer) → client.idle ≡ false → w.client ≡ c → w.records ≡ batch_after client.calls → (answer : Option Reply) → IsAnswer o s client w answer
-    → (entries_of_client c s.entries ≡ entries_told c client.calls) ⊎ IsOnItsWay s c client (commit w.options ∷ client.left)
+by_answer : (o : Options) (s : State) (c : ℕ) (client : Client) (w : Writer) → client.idle ≡ false → w.client ≡ c → (w.since ≡ None → w.records ≡ batch_after client.calls) → (answer : Option Reply) → IsAnswer o s client w answer
+    → (entries_of_client c s.entries ≡ entries_told c client.calls) ⊎ IsOnItsWay s c client (command_of w ∷ client.left)
 by_answer o s c client w waits same batch None is = inl (subst (λ c. entries_of_client c s.entries ≡ entries_told c client.calls) same is)
 by_answer o s c client w waits same batch (Some (accepted first last records)) is = inr (record {
   waits = waits;
   how = w.options;
   after = client.left;
-  next = refl;
+  next = ap (λ since. line_of w.options since ∷ client.left) is.4;
   first = first;
-  entries = subst (λ records. entries_of_client c s.entries ≡ entries_told c client.calls ++ next_entry c (entries_told c client.calls) w.options first records ∷ []) batch
+  entries = subst (λ records. entries_of_client c s.entries ≡ entries_told c client.calls ++ next_entry c (entries_told c client.calls) w.options first records ∷ []) (batch is.4)
       (subst (λ c. entries_of_client c s.entries ≡ entries_told c client.calls ++ next_entry c (entries_told c client.calls) w.options first w.records ∷ []) same is.2);
 })
 by_answer o s c client w waits same batch (Some (refused why)) is = inl (subst (λ c. entries_of_client c s.entries ≡ entries_told c client.calls) same is.1)
@@ -123,7 +125,7 @@ by_answer o s c client w waits same batch (Some quiet) is = absurd is
 by_answer o s c client w waits same batch (Some (found at v)) is = absurd is
 by_answer o s c client w waits same batch (Some (found_each at vs)) is = absurd is
 by_answer o s c client w waits same batch (Some (rows at pairs)) is = absurd is
-by_answer o s c client w waits same batch (Some (updates_found at records)) is = absurd is
+by_answer o s c client w waits same batch (Some (updates_found at records)) is = inl (subst (λ c. entries_of_client c s.entries ≡ entries_told c client.calls) same is.entries)
 by_answer o s c client w waits same batch (Some (read_failed count)) is = absurd is
 by_answer o s c client w waits same batch (Some done) is = absurd is
 by_answer o s c client w waits same batch (Some held) is = absurd is
@@ -138,13 +140,13 @@ waiting_answered o plans s c lines client at is waits told =
     let d = there_append c ((writers_in s.second ++ hand s.log) ++ s.queue) s.leaving in let e = there_append c (writers_in s.second ++ hand s.log) s.queue in let f = there_append c (writers_in s.second) (hand s.log) in
     let member = member_of (Waits o plans s) c (writers s) (omega arith) told.waits in let w = member.0 in let wait = member.2 in
     let same : wait.client ≡ client = (let there : client_at s c ≡ Some wait.client = subst (λ c. client_at s c ≡ Some wait.client) member.1 wait.there in cc) in
-    let rest : List Command = commit w.options ∷ client.left in
+    let rest : List Command = command_of w ∷ client.left in
     record {
       rest = rest;
-      asked = subst (λ (x : Client). lines ≡ commands_of x.calls ++ commit w.options ∷ x.left) same (wait.asked lines (subst (λ c. lines_at plans c ≡ Some lines) (sym member.1) at));
+      asked = subst (λ (x : Client). lines ≡ commands_of x.calls ++ command_of w ∷ x.left) same (wait.asked lines (subst (λ c. lines_at plans c ≡ Some lines) (sym member.1) at));
       right = (told.each c client is).right;
       seen_published = (told.each c client is).seen_published;
-      entries = by_answer o s c client w waits member.1 (wait.batch ∙ ap (λ (x : Client). batch_after x.calls) same) w.answer (subst (λ (x : Client). IsAnswer o s x w w.answer) same wait.answer);
+      entries = by_answer o s c client w waits member.1 (λ writes. wait.batch writes ∙ ap (λ (x : Client). batch_after x.calls) same) w.answer (subst (λ (x : Client). IsAnswer o s x w w.answer) same wait.answer);
     }
 
 answered_client : (o : Options) (plans : List (List Command)) (s : State) (c : ℕ) (lines : List Command) (client : Client) → lines_at plans c ≡ Some lines → client_at s c ≡ Some client → Told o plans s → IsAnswered o s c lines client

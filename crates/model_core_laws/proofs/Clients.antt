@@ -1,12 +1,12 @@
 -- What the laws of the clients' events share: a client's place, and its calls.
-use Rattle.std.proofs.Common.{◌≡◌, ℕ, zero, suc, ◌-◌, ◌<◌, List, [], ◌∷◌, ◌++◌, slice_get, slice_set, filter, Some, is_some, IsSome, if◌then◌else◌, ◌⊎◌, inl, inr, refl, ap, sym, ◌∙◌, subst, arith}
+use Rattle.std.proofs.Common.{◌≡◌, ℕ, zero, suc, ◌-◌, List, [], ◌∷◌, ◌++◌, slice_get, slice_set, filter, Some, is_some, IsSome, if◌then◌else◌, ◌⊎◌, inl, inr, refl, ap, sym, ◌∙◌, subst, arith}
 use Rattle.std.specs.List.{AllByRecursion, AllZip}
 use Rattle.std.proofs.lemmas.Bool.{cases_eq}
-use Rattle.model_base.specs.Batch.{Record, count_of}
+use Rattle.model_base.specs.Batch.{Record}
 use Rattle.model_base.specs.Calls.{Command, add, clear, Call}
 use Rattle.model_core.specs.Core.{Options, Writer, Client, TablePhase, still, launched, published, State, client_at, with_client, ahead, has_run}
-use Rattle.model_core.specs.CoreLaw.{IsCore, LedIsFirst, IsTable, IsEntryOf, hand, unpublished_writers, waiting_clients}
-use Rattle.model_core_laws.proofs.Tables.{times}
+use Rattle.model_core.specs.CoreLaw.{IsCore, HasWork, LedIsFirst, IsTable, IsEntryOf, hand, unpublished_writers, unpublished_groups, waiting_clients}
+use Rattle.model_core_laws.proofs.Tables.{times, parts_same}
 
 -- going ahead to the next call leaves a client idle
 pub ahead_idle : (calls : List Call) (added : List Record) (left : List Command) (client : Client) → (ahead calls added left client).client.idle ≡ client.idle
@@ -79,12 +79,17 @@ same_table o s clients queue leaving still is = is
 same_table o s clients queue leaving (launched ins fin) is = is
 same_table o s clients queue leaving published is = is
 
+same_groups : (o : Options) (s : State) (clients : List Client) (queue leaving : List Writer) (table : TablePhase) → unpublished_groups o s table ≡ unpublished_groups o (with_places s clients queue leaving) table
+same_groups o s clients queue leaving still = refl
+same_groups o s clients queue leaving (launched ins fin) = refl
+same_groups o s clients queue leaving published = refl
+
 -- the law needs no more than who waits where
 pub places : (o : Options) (s : State) (clients : List Client) (queue leaving : List Writer)
     → ((c : ℕ) (client : Client) → client_at (with_places s clients queue leaving) c ≡ Some client → times c (waiting_clients (with_places s clients queue leaving)) ≡ (if client.idle then 0 else 1))
     → AllByRecursion (λ c. IsSome (client_at (with_places s clients queue leaving) c)) (waiting_clients (with_places s clients queue leaving))
     → LedIsFirst s.log queue
-    → AllByRecursion (λ (w : Writer). 0 < count_of w.records) (hand s.log ++ queue)
+    → AllByRecursion HasWork (hand s.log ++ queue)
     → IsCore o s → IsCore o (with_places s clients queue leaving)
 places o s clients queue leaving once there led counted core = record {
   once = once;
@@ -93,6 +98,7 @@ places o s clients queue leaving once there led counted core = record {
   single_stage = core.single_stage;
   unmarked = core.unmarked;
   counted = counted;
+  alone = core.alone;
   one_log_flag = core.one_log_flag;
   is_history = core.is_history;
   assigned = core.assigned;
@@ -108,4 +114,5 @@ places o s clients queue leaving once there led counted core = record {
   groups = core.groups;
   none_empty = core.none_empty;
   runs = core.runs;
+  at_boundary = parts_same o s (with_places s clients queue leaving) core.front core.is_boundary.rest core.parts (same_groups o s clients queue leaving s.table) core.at_boundary;
 }

@@ -1,5 +1,5 @@
 -- Which half of a state each event leaves alone, and how the memtable's events change the memtable's half.
-use Rattle.std.proofs.Common.{◌≡◌, ℕ, ◌==◌, Bool, true, false, not, List, [], ◌∷◌, ◌++◌, take, drop, find, filter, Option, Some, None, if◌then◌else◌, inl, inr, refl, ap, sym, ◌∙◌, subst}
+use Rattle.std.proofs.Common.{◌≡◌, ℕ, ◌==◌, Bool, true, false, not, List, [], ◌∷◌, ◌++◌, take, drop, find, filter, Option, Some, None, is_some, ◌≢◌, ◌&&◌, if◌then◌else◌, inl, inr, refl, ap, sym, ◌∙◌, subst}
 use Rattle.std.proofs.lemmas.Bool.{eqb-true}
 use Rattle.std.specs.List.{list_any}
 use Rattle.model_core.specs.declared.event.Event.{Event}
@@ -7,19 +7,22 @@ use Rattle.model_core.specs.declared.event.Event.TheVariants as e
 use Rattle.model_base.specs.declared.write.WriteOptions.{WriteOptions}
 use Rattle.model_base.specs.declared.write.Refusal.{Refusal}
 use Rattle.model_base.specs.declared.write.Refusal.TheVariants as no
-use Rattle.model_base.specs.Calls.{Command, commit, Reply, refused}
-use Rattle.model_core.specs.Core.{Options, Writer, Client, LogPhase, free, led, built, stalled, in_log, marked, handed, TablePhase, still, launched, published, State, client_at, with_client, next_call, after_reply, refusal_of, refusal_in, may_link, stall_refusal, with_runs, has_run, all_answered, table_group, read_reply}
-use Rattle.model_core.specs.Step.{when, step, link, link_call, link_with, elect, build, group_size, log_group, logged_group, leave, fault, refuse, stall, unstall, leave_queue, leave_with, left_queue, boundary, to_second, next, launch, insert, entry_ahead, finish, publish, group_last, exit, without_table_group, complete, complete_with, after_completion, read, read_call, read_with}
+use Rattle.model_base.specs.Calls.{Command, commit, updates, Reply, refused}
+use Rattle.model_core.specs.Core.{Options, Writer, Client, LogPhase, free, led, built, stalled, in_log, marked, handed, TablePhase, still, launched, published, State, client_at, with_client, next_call, after_reply, refusal_of, refusal_in, may_link, stall_refusal, plain_options, read_at, reply_told, leads, with_runs, has_run, all_answered, table_group, read_reply}
+use Rattle.model_core.specs.Step.{when, step, link, link_call, link_with, link_read, read_log, answer_read, exit_reader, has_read, elect, build, group_size, log_group, logged_group, leave, fault, refuse, stall, unstall, leave_queue, leave_with, left_queue, boundary, to_second, next, launch, insert, entry_ahead, finish, publish, group_last, exit, without_table_group, complete, complete_with, after_completion, read, read_call, read_with}
 use Rattle.model_core.specs.Halves.{list_half_of, table_half_of, moves_list, moves_table, TableStep, ListStep, logged_with}
 use Rattle.model_core_laws.proofs.Tables.{when_some}
+use Rattle.model_core_laws.proofs.Lists.{and_parts}
 
 -- what holds of each state that a client's event may lead to holds of the one that it leads to
 
-by_link : (P : State → Type 0) (o : Options) (s t : State) (c : ℕ) → ((client : Client) (how : WriteOptions) (why : Option Refusal) → P (link_with o s c client how why)) → link o s c (client_at s c) ≡ Some t → P t
-by_link P o s t c holds came = by_client (client_at s c) came
+by_link : (P : State → Type 0) (o : Options) (s t : State) (c : ℕ) → ((client : Client) (how : WriteOptions) (why : Option Refusal) → P (link_with o s c client how why))
+    → ((client : Client) (n : ℕ) → P (link_read s c client n)) → link o s c (client_at s c) ≡ Some t → P t
+by_link P o s t c holds reads came = by_client (client_at s c) came
   where
     by_call : (client : Client) (call : Option Command) → link_call o s c client call ≡ Some t → P t
     by_call client (Some (commit how)) came = let why = refusal_in s.log how (refusal_of o how client.added) in subst P (when_some (may_link s.log why) (link_with o s c client how why) t came).1 (holds client how why)
+    by_call client (Some (updates n)) came = subst P (when_some (may_link s.log None) (link_read s c client n) t came).1 (reads client n)
     by_call client (Some other) came = absurd (cc)
     by_call client None came = absurd (cc)
 
@@ -57,7 +60,7 @@ by_complete P s t m holds came = by_writer (find (λ (w : Writer). w.client == m
   where
     by_client : (w : Writer) (client : Option Client) (reply : Option Reply) → complete_with s m client w reply ≡ Some t → P t
     by_client w (Some client) (Some reply) came =
-        let new = after_completion client w reply in
+        let new = after_completion client w (reply_told s w.since reply) in
         let left = filter (λ (x : Writer). not (x.client == m)) s.leaving in
         let after : record (with_client s m new) { leaving = left } ≡ t = cc in
         subst P after (holds new)
@@ -78,8 +81,11 @@ when_holds : (P : State → Type 0) (b : Bool) (u t : State) → when b u ≡ So
 when_holds P b u t came holds = subst P (when_some b u t came).1 holds
 
 linked : (o : Options) (s : State) (c : ℕ) (client : Client) (how : WriteOptions) (why : Option Refusal) → Moves o (e.Link c) s (link_with o s c client how why)
-linked o s c client how None = (refl, inr (record { client = c; options = how; records = client.added; answer = None }, refl, refl))
+linked o s c client how None = (refl, inr (record { client = c; options = how; records = client.added; since = None; answer = None }, refl, refl))
 linked o s c client how (Some why) = (refl, inl refl)
+
+linked_read : (o : Options) (s : State) (c : ℕ) (client : Client) (n : ℕ) → Moves o (e.Link c) s (link_read s c client n)
+linked_read o s c client n = (refl, inr (record { client = c; options = plain_options; records = []; since = Some n; answer = None }, refl, refl))
 
 by_elect : (o : Options) (s t : State) (c : ℕ) (phase : LogPhase) → s.log ≡ phase → elect s c phase ≡ Some t → Moves o (e.Elect c) s t
 by_elect o s t c free is came =
@@ -243,17 +249,63 @@ left_same : (s : State) (pipelined : Bool) (ws : List Writer)
 left_same s true ws = refl
 left_same s false ws = refl
 
+-- a read of the log, and its exit
+some_since : (since : Option ℕ) → is_some since ≡ true → since ≢ None
+some_since (Some n) e = λ never. absurd (cc)
+some_since None e = absurd (cc)
+
+by_since : (o : Options) (s t : State) (c : ℕ) (phase : LogPhase) → s.log ≡ phase → read_log s c phase ≡ Some t → Moves o (e.Since c) s t
+by_since o s t c (built (w ∷ [])) is came = by_client (w.client == c) refl came
+  where
+    by_answer : w.client ≡ c → (since : Option ℕ) (answer : Option Reply) → w.since ≡ since → answer_read s w since answer ≡ Some t → Moves o (e.Since c) s t
+    by_answer here (Some n) None reads came =
+        let after : record s { log = built (record w { answer = Some (read_at s.last) } ∷ []) } ≡ t = cc in
+        subst (Moves o (e.Since c) s) after (refl, (w, is, here, some_since w.since (rw reads refl), refl))
+    by_answer here (Some n) (Some reply) reads came = absurd (cc)
+    by_answer here None answer reads came = absurd (cc)
+
+    by_client : (b : Bool) → (w.client == c) ≡ b → (if b then answer_read s w w.since w.answer else None) ≡ Some t → Moves o (e.Since c) s t
+    by_client true here came = by_answer (eqb-true w.client c here) w.since w.answer refl came
+    by_client false here came = absurd (cc)
+by_since o s t c (built []) is came = absurd (cc)
+by_since o s t c (built (w ∷ v ∷ ws)) is came = absurd (cc)
+by_since o s t c free is came = absurd (cc)
+by_since o s t c (led d) is came = absurd (cc)
+by_since o s t c (in_log ws) is came = absurd (cc)
+by_since o s t c (stalled ws) is came = absurd (cc)
+by_since o s t c (marked ws) is came = absurd (cc)
+by_since o s t c (handed d) is came = absurd (cc)
+
+by_reader : (o : Options) (s t : State) (c : ℕ) (phase : LogPhase) → s.log ≡ phase → exit_reader s c phase ≡ Some t → Moves o (e.Exit c) s t
+by_reader o s t c (built (w ∷ [])) is came =
+    let u : State = record (leave s (w ∷ [])) { log = free } in
+    let h = when_some (has_read c w) u t came in
+    let parts = and_parts (w.client == c) (is_some w.since) (and_parts ((w.client == c) && is_some w.since) (is_some w.answer) h.0).0 in
+    subst (Moves o (e.Exit c) s) h.1 (inr refl, inr (w, is, eqb-true w.client c parts.0, some_since w.since parts.1, refl))
+by_reader o s t c (built []) is came = absurd (cc)
+by_reader o s t c (built (w ∷ v ∷ ws)) is came = absurd (cc)
+by_reader o s t c free is came = absurd (cc)
+by_reader o s t c (led d) is came = absurd (cc)
+by_reader o s t c (in_log ws) is came = absurd (cc)
+by_reader o s t c (stalled ws) is came = absurd (cc)
+by_reader o s t c (marked ws) is came = absurd (cc)
+by_reader o s t c (handed d) is came = absurd (cc)
+
 by_exit : (o : Options) (s t : State) (c : ℕ) (phase : TablePhase) → s.table ≡ phase → exit o s c phase ≡ Some t → Moves o (e.Exit c) s t
-by_exit o s t c published is came =
-    let u : State = record (leave (without_table_group o s) (table_group o s)) { table = still } in
-    when_holds (Moves o (e.Exit c) s) _ u t came ((is, left_same s o.pipelined (table_group o s)), refl)
-by_exit o s t c still is came = absurd (cc)
-by_exit o s t c (launched ins fin) is came = absurd (cc)
+by_exit o s t c published is came = by_leader (leads c (table_group o s)) came
+  where
+    by_leader : (b : Bool) → (if b then Some (record (leave (without_table_group o s) (table_group o s)) { table = still }) else exit_reader s c s.log) ≡ Some t → Moves o (e.Exit c) s t
+    by_leader true came =
+        let after : record (leave (without_table_group o s) (table_group o s)) { table = still } ≡ t = cc in
+        subst (Moves o (e.Exit c) s) after (inl (is, left_same s o.pipelined (table_group o s)), inl refl)
+    by_leader false came = by_reader o s t c s.log refl came
+by_exit o s t c still is came = by_reader o s t c s.log refl came
+by_exit o s t c (launched ins fin) is came = by_reader o s t c s.log refl came
 
 -- Every event
 
 moves : (o : Options) (s t : State) (event : Event) → step o s event ≡ Some t → Moves o event s t
-moves o s t (e.Link c) came = by_link (Moves o (e.Link c) s) o s t c (linked o s c) came
+moves o s t (e.Link c) came = by_link (Moves o (e.Link c) s) o s t c (linked o s c) (linked_read o s c) came
 moves o s t (e.Elect c) came = by_elect o s t c s.log refl came
 moves o s t (e.Build c) came = by_build o s t c s.log refl came
 moves o s t (e.Log c) came = by_log o s t c s.log refl came
@@ -269,6 +321,7 @@ moves o s t (e.Launch c) came = by_launch o s t c s.table refl came
 moves o s t (e.Insert m) came = by_insert o s t m s.table refl came
 moves o s t (e.Finish m) came = by_finish o s t m s.table refl came
 moves o s t (e.Publish m) came = by_publish o s t m s.table refl came
+moves o s t (e.Since c) came = by_since o s t c s.log refl came
 moves o s t (e.Exit c) came = by_exit o s t c s.table refl came
 moves o s t (e.Complete m) came = by_complete (Moves o (e.Complete m) s) s t m (λ client. (refl, refl)) came
 moves o s t (e.Read c) came = by_read (Moves o (e.Read c) s) o s t c (λ client. (refl, refl)) came
@@ -296,6 +349,7 @@ list_events_leave_table o s t (e.Launch c) none came = absurd (cc)
 list_events_leave_table o s t (e.Insert m) none came = absurd (cc)
 list_events_leave_table o s t (e.Finish m) none came = absurd (cc)
 list_events_leave_table o s t (e.Publish m) none came = absurd (cc)
+list_events_leave_table o s t (e.Since c) none came = table_step o s t (e.Since c) came
 list_events_leave_table o s t (e.Exit c) none came = absurd (cc)
 list_events_leave_table o s t (e.Complete m) none came = table_step o s t (e.Complete m) came
 list_events_leave_table o s t (e.Read c) none came = table_step o s t (e.Read c) came

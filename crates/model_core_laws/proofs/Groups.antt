@@ -1,13 +1,13 @@
 -- The writers that a leader takes from the queue are all to be logged, or none of them is.
-use Rattle.std.proofs.Common.{◌≡◌, ℕ, zero, suc, ◌+◌, ◌-◌, Bool, true, false, List, [], ◌∷◌, length, map, take, Some, slice_get, refl, sym, ◌∙◌, subst, arith, if◌then◌else◌}
+use Rattle.std.proofs.Common.{◌≡◌, ℕ, zero, suc, ◌+◌, ◌-◌, Bool, true, false, not, ◌⊎◌, inl, inr, List, [], ◌∷◌, length, map, take, Option, Some, None, is_some, slice_get, refl, sym, ◌∙◌, subst, arith, if◌then◌else◌}
 use Rattle.std.specs.List.{AllByRecursion, take_while, range_with_len}
 use Rattle.std.proofs.lemmas.List.Sums.{take_while-cons}
 use Rattle.std.proofs.lemmas.Option.{slice_get-map}
 use Rattle.model_base.specs.declared.group.Item.{Item}
 use Rattle.model_base.specs.Grouping.{same_bool, size_of, fits, fits_at, group_len}
-use Rattle.model_core.specs.Core.{Writer, item_of}
-use Rattle.model_core.specs.CoreLaw.{SameLogFlag}
-use Rattle.model_core_laws.proofs.Lists.{and_parts}
+use Rattle.model_core.specs.Core.{Writer, item_of, is_alone}
+use Rattle.model_core.specs.CoreLaw.{SameLogFlag, AreWrites}
+use Rattle.model_core_laws.proofs.Lists.{all_weaker, and_parts}
 
 same_bools : (a b : Bool) → same_bool a b ≡ true → a ≡ b
 same_bools true true e = refl
@@ -68,6 +68,35 @@ one_flag max [] = empty (group_len max [])
     empty zero = tt
     empty (suc n) = tt
 one_flag max (w ∷ ws) = let g = grouped (λ (w v : Writer). v.options.no_log ≡ w.options.no_log) logs_alike max w ws in rw g.1 g.2
+
+-- both write: who reads the log takes nobody into its group, and goes into none
+unread : (since : Option ℕ) → not (is_some since) ≡ true → since ≡ None
+unread None e = refl
+unread (Some n) e = absurd (cc)
+
+writes_alike : (max : ℕ) (w v : Writer) (total : ℕ) → fits max (item_of w) total (item_of v) ≡ true → (w.since ≡ None) × (v.since ≡ None)
+writes_alike max w v total fit =
+    let both = (and_parts _ _ (and_parts _ _ (and_parts _ _ (and_parts _ _ fit).0).0).0).0 in
+    (unread w.since (and_parts _ _ both).0, unread v.since (and_parts _ _ both).1)
+
+alone_or_writes : (w : Writer) (vs : List Writer) → AllByRecursion (λ (v : Writer). (w.since ≡ None) × (v.since ≡ None)) vs → (length (w ∷ vs) ≡ 1) ⊎ AreWrites (w ∷ vs)
+alone_or_writes w [] a = inl refl
+alone_or_writes w (v ∷ vs) a = inr (a.0.0, (a.0.1, all_weaker (λ (v : Writer). (w.since ≡ None) × (v.since ≡ None)) (λ (v : Writer). v.since ≡ None) (λ v both. both.1) vs a.1))
+
+pub read_alone : (max : ℕ) (ws : List Writer) → (length (take (group_len max (map item_of ws)) ws) ≡ 1) ⊎ AreWrites (take (group_len max (map item_of ws)) ws)
+read_alone max [] = inr (empty (group_len max []))
+  where
+    empty : (n : ℕ) → AreWrites (take n [])
+    empty zero = tt
+    empty (suc n) = tt
+read_alone max (w ∷ ws) = let g = grouped (λ (w v : Writer). (w.since ≡ None) × (v.since ≡ None)) writes_alike max w ws in rw g.1 (alone_or_writes w (take g.0 ws) g.2)
+
+-- a group whose leader writes is one of writers that write
+pub are_writes : (ws : List Writer) → (length ws ≡ 1) ⊎ AreWrites ws → not (is_alone ws) ≡ true → AreWrites ws
+are_writes [] alone e = tt
+are_writes (w ∷ []) alone e = (unread w.since e, tt)
+are_writes (w ∷ v ∷ ws) (inl one) e = absurd (omega arith)
+are_writes (w ∷ v ∷ ws) (inr writes) e = writes
 
 -- a group may be slowed down as a whole, or not at all
 abbrev pub SameSlowdown : List Writer → Type 0

@@ -20,6 +20,7 @@ use Rattle.model_core_laws.proofs.KeptByLink.{kept_by_link}
 use Rattle.model_core_laws.proofs.KeptByLog.{kept_by_log}
 use Rattle.model_core_laws.proofs.KeptByPublish.{kept_by_publish}
 use Rattle.model_core_laws.proofs.KeptByRead.{kept_by_read}
+use Rattle.model_core_laws.proofs.KeptBySince.{kept_by_since}
 use Rattle.model_core_laws.proofs.KeptByStall.{kept_by_stall, kept_by_leave, kept_by_unstall}
 use Rattle.model_core_laws.proofs.Opening.{opening}
 use Rattle.model_core_laws.proofs.Tables.{AddsNobody}
@@ -45,6 +46,7 @@ kept o s t (e.Launch c) core is = nobody_added o s t (e.Launch c) (λ order. ord
 kept o s t (e.Insert m) core is = nobody_added o s t (e.Insert m) (λ order. order) (kept_by_insert o s t m core is)
 kept o s t (e.Finish m) core is = nobody_added o s t (e.Finish m) (λ order. order) (kept_by_finish o s t m core is)
 kept o s t (e.Publish m) core is = nobody_added o s t (e.Publish m) (λ order. order) (kept_by_publish o s t m core is)
+kept o s t (e.Since c) core is = nobody_added o s t (e.Since c) (λ order. order) (kept_by_since o s t c core is)
 kept o s t (e.Exit c) core is = nobody_added o s t (e.Exit c) (λ order. order) (kept_by_exit o s t c core is)
 kept o s t (e.Complete m) core is = nobody_added o s t (e.Complete m) (λ order. order) (kept_by_complete o s t m core is)
 kept o s t (e.Read c) core is = nobody_added o s t (e.Read c) (λ order. order) (kept_by_read o s t c core is)

@@ -1,13 +1,12 @@
 -- Building a group keeps the core's law.
-use Rattle.std.proofs.Common.{◌≡◌, ℕ, ◌==◌, ◌<◌, ◌++◌, map, take, drop, Some, refl, ap, sym, subst, append_assoc}
+use Rattle.std.proofs.Common.{◌≡◌, ℕ, ◌==◌, ◌++◌, map, take, drop, Some, refl, ap, sym, subst, append_assoc}
 use Rattle.std.specs.List.{AllByRecursion, filter}
 use Rattle.std.proofs.lemmas.List.{take-append-drop, append-nil}
-use Rattle.model_base.specs.Batch.{count_of}
 use Rattle.model_core.specs.Core.{Options, Writer, LogPhase, free, led, built, stalled, in_log, marked, handed, State, has_run, table_group}
 use Rattle.model_core.specs.Step.{build, group_size}
-use Rattle.model_core.specs.CoreLaw.{IsCore, hand, in_order, writers_in, HasInserted}
-use Rattle.model_core_laws.proofs.Groups.{one_flag}
-use Rattle.model_core_laws.proofs.Relined.{lined, relined, same_line, same_table, same_unpublished, kept_order}
+use Rattle.model_core.specs.CoreLaw.{IsCore, hand, in_order, writers_in, HasInserted, HasWork}
+use Rattle.model_core_laws.proofs.Groups.{one_flag, read_alone}
+use Rattle.model_core_laws.proofs.Relined.{lined, relined, same_line, same_table, same_unpublished, same_groups, kept_order}
 use Rattle.model_core_laws.proofs.Tables.{AddsNobody, when_some}
 
 -- the state after the queue's first n writers became the group in hand
@@ -25,9 +24,11 @@ built_keeps o s d is core = let n = group_size o s in let t = built_of s n in le
         led = tt;
         single = core.single_stage;
         unmarked = λ one. tt;
-        counted = subst (AllByRecursion (λ (w : Writer). 0 < count_of w.records)) whole core.counted;
+        counted = subst (AllByRecursion HasWork) whole core.counted;
+        alone = read_alone o.group_bytes s.queue;
         one_log_flag = one_flag o.group_bytes s.queue;
         ahead = same_unpublished o s t s.table refl (rw is);
+        groups_ahead = same_groups o s t s.table refl (rw is);
         is_table = same_table o s t s.table group core.is_table;
         has_inserted = subst (λ ws. AllByRecursion (HasInserted s.inserted s.table) (filter has_run ws)) group core.has_inserted;
       }) core,

@@ -2,7 +2,7 @@
 use Rattle.std.proofs.Common.{◌≡◌, ℕ, ◌≤◌, Bool, true, false, not, cond, ◌==◌, List, [], ◌∷◌, map, filter, find, Option, Some, None, if◌then◌else◌, refl, ap, sym, ◌∙◌, subst, arith}
 use Rattle.std.proofs.lemmas.Bool.{ne_eqb, eqb-true, cond-true, cond-false}
 use Rattle.model_base.specs.Calls.{Reply}
-use Rattle.model_core.specs.Core.{Options, Writer, Client, State, client_at, with_client}
+use Rattle.model_core.specs.Core.{Options, Writer, Client, State, client_at, with_client, reply_told}
 use Rattle.model_core.specs.Step.{complete, complete_with, after_completion}
 use Rattle.model_core.specs.CoreLaw.{IsCore, in_order, waiting_clients}
 use Rattle.model_core_laws.proofs.Clients.{still_there, once_after, places}
@@ -85,8 +85,8 @@ kept_by_complete o s t m core e = by_writer (find (λ (w : Writer). w.client == 
   where
     by_client : (w : Writer) → find (λ (x : Writer). x.client == m) s.leaving ≡ Some w → (client : Option Client) → client_at s m ≡ client → (reply : Option Reply) → complete_with s m client w reply ≡ Some t → IsCore o t × AddsNobody s t
     by_client w left (Some client) is (Some reply) e =
-        let done : record (with_client s m (after_completion client w reply)) { leaving = without m s.leaving } ≡ t = cc in
-        subst (λ (x : State). IsCore o x × AddsNobody s x) done (completing o s m client (after_completion client w reply) w is refl left core)
+        let done : record (with_client s m (after_completion client w (reply_told s w.since reply))) { leaving = without m s.leaving } ≡ t = cc in
+        subst (λ (x : State). IsCore o x × AddsNobody s x) done (completing o s m client (after_completion client w (reply_told s w.since reply)) w is refl left core)
     by_client w left (Some client) is None e = absurd (cc)
     by_client w left None is reply e = absurd (cc)
 

@@ -1,13 +1,14 @@
--- The exit of a published group keeps the core's law.
-use Rattle.std.proofs.Common.{◌≡◌, ℕ, ◌<◌, Bool, true, false, List, [], ◌∷◌, ◌++◌, length, map, filter, Some, IsSome, inl, refl, ap, sym, ◌∙◌, subst, arith, append_assoc, le_of_eq}
+-- The exit of a published group, and of who has read the log, keeps the core's law.
+use Rattle.std.proofs.Common.{◌≡◌, ℕ, ◌<◌, Bool, true, false, List, [], ◌∷◌, ◌++◌, length, map, filter, if◌then◌else◌, Some, IsSome, inl, refl, ap, sym, ◌∙◌, subst, arith, append_assoc, le_of_eq}
 use Rattle.std.specs.List.{AllByRecursion, AllZip}
 use Rattle.std.proofs.lemmas.List.{map-append}
 use Rattle.model_base.specs.History.{Entry}
 use Rattle.model_core.specs.Core.{Options, Writer, Client, LogPhase, free, led, built, stalled, in_log, marked, handed, TablePhase, still, launched, published, State, client_at, leads, has_run, table_group}
-use Rattle.model_core.specs.Step.{exit, leave, without_table_group}
+use Rattle.model_core.specs.Step.{exit, exit_reader, has_read, leave, without_table_group}
 use Rattle.model_core.specs.CoreLaw.{IsCore, HasInserted, IsEntryOf, IsSubsequence, writers_in, hand, waiting_clients, in_order}
+use Rattle.model_core_laws.proofs.KeptByLeaving.{left_core, left_of}
 use Rattle.model_core_laws.proofs.Lists.{all_back}
-use Rattle.model_core_laws.proofs.Tables.{AddsNobody, when_some, all_fewer, subsequence_self, subsequence_after, keeps, with_table, times, there_append, waiting_parts, some_led}
+use Rattle.model_core_laws.proofs.Tables.{AddsNobody, when_some, all_fewer, subsequence_self, subsequence_after, keeps, with_table, times, there_append, waiting_parts, some_led, parts_same}
 
 -- the state once the group has left
 abbrev exited : Options → State → State
@@ -50,6 +51,7 @@ module _ (o : Options) (s : State) (ws : List Writer) (wss : List (List Writer))
     single_stage = λ e. absurd (cc);
     unmarked = λ e. absurd (cc);
     counted = core.counted;
+    alone = core.alone;
     one_log_flag = core.one_log_flag;
     is_history = core.is_history;
     assigned = core.assigned;
@@ -65,6 +67,7 @@ module _ (o : Options) (s : State) (ws : List Writer) (wss : List (List Writer))
     groups = core.groups;
     none_empty = core.none_empty;
     runs = core.runs;
+    at_boundary = parts_same (record o { pipelined = true }) before after core.front core.is_boundary.rest core.parts refl core.at_boundary;
   }
 
   order_of_second : AddsNobody before after
@@ -98,6 +101,7 @@ module _ (o : Options) (s : State) (second : List (List Writer)) (ws : List Writ
     single_stage = core.single_stage;
     unmarked = λ e. tt;
     counted = all_back _ ws s.queue core.counted;
+    alone = tt;
     one_log_flag = tt;
     is_history = core.is_history;
     assigned = core.assigned;
@@ -113,6 +117,7 @@ module _ (o : Options) (s : State) (second : List (List Writer)) (ws : List Writ
     groups = core.groups;
     none_empty = core.none_empty;
     runs = core.runs;
+    at_boundary = parts_same (record o { pipelined = false }) with_log with_free core.front core.is_boundary.rest core.parts (sym (ap (λ wss. wss ++ []) (core.single_stage refl))) core.at_boundary;
   }
 
   order_of_log : AddsNobody with_log with_free
@@ -133,16 +138,34 @@ exiting o s false second (stalled ws) some core = absurd (omega arith)
 exiting o s false second (marked ws) some core = absurd (omega arith)
 exiting o s false second (handed c) some core = absurd (omega arith)
 
+-- who has read the log leaves, as the only one of its group
+reader_left : (o : Options) (s t : State) (c : ℕ) (phase : LogPhase) → s.log ≡ phase → IsCore o s → exit_reader s c phase ≡ Some t → IsCore o t × AddsNobody s t
+reader_left o s t c (built (w ∷ [])) is core e =
+    let h = when_some (has_read c w) (left_of s (w ∷ []) s.log_failed) t e in
+    subst (λ t. IsCore o t × AddsNobody s t) h.1 (left_core o s (w ∷ []) (w ∷ []) s.log_failed is refl (λ was. was) core)
+reader_left o s t c (built []) is core e = absurd (cc)
+reader_left o s t c (built (w ∷ v ∷ ws)) is core e = absurd (cc)
+reader_left o s t c free is core e = absurd (cc)
+reader_left o s t c (led d) is core e = absurd (cc)
+reader_left o s t c (stalled ws) is core e = absurd (cc)
+reader_left o s t c (in_log ws) is core e = absurd (cc)
+reader_left o s t c (marked ws) is core e = absurd (cc)
+reader_left o s t c (handed d) is core e = absurd (cc)
+
 -- the event at a state whose table is published
 at_published : (o : Options) (s t : State) (c : ℕ) → IsCore o (with_table s published) → exit o (with_table s published) c published ≡ Some t → IsCore o t × AddsNobody (with_table s published) t
 at_published o s t c core e =
-    let h = when_some (leads c (table_group o s)) (exited o (with_table s published)) t e in
-    subst (λ (x : State). IsCore o x × AddsNobody (with_table s published) x) h.1 (exiting o s o.pipelined s.second s.log (some_led c (table_group o s) h.0) core)
+    by_leader (leads c (table_group o s)) refl e
+  where
+    by_leader : (b : Bool) → leads c (table_group o s) ≡ b → (if b then Some (exited o (with_table s published)) else exit_reader (with_table s published) c s.log) ≡ Some t → IsCore o t × AddsNobody (with_table s published) t
+    by_leader true is e = let after : exited o (with_table s published) ≡ t = cc in
+        subst (λ (x : State). IsCore o x × AddsNobody (with_table s published) x) after (exiting o s o.pipelined s.second s.log (some_led c (table_group o s) is) core)
+    by_leader false is e = reader_left o (with_table s published) t c s.log refl core e
 
 pub kept_by_exit : (o : Options) (s t : State) (c : ℕ) → IsCore o s → exit o s c s.table ≡ Some t → IsCore o t × AddsNobody s t
 kept_by_exit o s t c core e = by_phase s.table refl e
   where
     by_phase : (phase : TablePhase) → s.table ≡ phase → exit o s c phase ≡ Some t → IsCore o t × AddsNobody s t
     by_phase published is e = subst (λ (x : State). IsCore o x → exit o x c published ≡ Some t → IsCore o t × AddsNobody x t) (sym (ap (with_table s) is)) (at_published o s t c) core e
-    by_phase still is e = absurd (cc)
-    by_phase (launched ins fin) is e = absurd (cc)
+    by_phase still is e = reader_left o s t c s.log refl core e
+    by_phase (launched ins fin) is e = reader_left o s t c s.log refl core e

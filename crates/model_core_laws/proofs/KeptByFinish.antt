@@ -5,7 +5,7 @@ use Rattle.model_core.specs.Core.{Options, TablePhase, still, launched, publishe
 use Rattle.model_core.specs.Step.{finish}
 use Rattle.model_core.specs.CoreLaw.{IsCore}
 use Rattle.model_core_laws.proofs.Lists.{all_append}
-use Rattle.model_core_laws.proofs.Tables.{AddsNobody, when_some, with_table, keeps_with_table}
+use Rattle.model_core_laws.proofs.Tables.{AddsNobody, when_some, with_table, keeps_with_table, parts_same}
 
 -- the law at a state with a launched group
 finishing : (o : Options) (s : State) (m : ℕ) (ins fin : List ℕ) → among m ins ≡ true → IsCore o (with_table s (launched ins fin)) → IsCore o (with_table s (launched ins (fin ++ m ∷ [])))
@@ -16,6 +16,7 @@ finishing o s m ins fin is core = record {
   single_stage = core.single_stage;
   unmarked = core.unmarked;
   counted = core.counted;
+  alone = core.alone;
   one_log_flag = core.one_log_flag;
   is_history = core.is_history;
   assigned = core.assigned;
@@ -31,6 +32,7 @@ finishing o s m ins fin is core = record {
   groups = core.groups;
   none_empty = core.none_empty;
   runs = core.runs;
+  at_boundary = parts_same o _ _ _ _ _ refl core.at_boundary;
 }
 
 pub kept_by_finish : (o : Options) (s t : State) (m : ℕ) → IsCore o s → finish s m s.table ≡ Some t → IsCore o t × AddsNobody s t

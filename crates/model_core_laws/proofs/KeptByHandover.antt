@@ -5,7 +5,7 @@ use Rattle.std.proofs.lemmas.List.{append-nil}
 use Rattle.std.proofs.lemmas.List.Concat.{flat_map-append}
 use Rattle.model_core.specs.Core.{Options, Writer, LogPhase, free, led, built, stalled, in_log, marked, handed, TablePhase, still, launched, published, State, leads, has_run, table_group, first_group}
 use Rattle.model_core.specs.Step.{boundary, to_second, next}
-use Rattle.model_core.specs.CoreLaw.{IsCore, IsTable, hand, hand_with_runs, in_order, writers_in, unpublished_writers, HasInserted}
+use Rattle.model_core.specs.CoreLaw.{IsCore, IsTable, hand, hand_with_runs, group_with_runs, in_order, writers_in, unpublished_writers, unpublished_groups, HasInserted}
 use Rattle.model_core_laws.proofs.KeptByElect.{rephased}
 use Rattle.model_core_laws.proofs.Lists.{all_back, all_of, and_parts}
 use Rattle.model_core_laws.proofs.Relined.{lined, relined, same_line, same_table, kept_order}
@@ -20,7 +20,7 @@ kept_by_boundary o s t c core e = by_phase s.log refl e
   where
     by_phase : (phase : LogPhase) → s.log ≡ phase → boundary o s c phase ≡ Some t → IsCore o t × AddsNobody s t
     by_phase (in_log ws) is e = let h = when_some (o.pipelined && leads c ws) (record s { log = marked ws }) t e in let two = (and_parts o.pipelined (leads c ws) h.0).0 in
-        subst (λ t. IsCore o t × AddsNobody s t) h.1 (rephased o s (marked ws) (ap hand is) (ap hand_with_runs is) (same_first o s (marked ws) two) tt (λ one. absurd (cc)) core)
+        subst (λ t. IsCore o t × AddsNobody s t) h.1 (rephased o s (marked ws) (ap hand is) (ap hand_with_runs is) (ap group_with_runs is) (same_first o s (marked ws) two) tt (λ one. absurd (cc)) (rw is at core.alone) core)
     by_phase free is e = absurd (cc)
     by_phase (led d) is e = absurd (cc)
     by_phase (built ws) is e = absurd (cc)
@@ -33,7 +33,7 @@ kept_by_next o s t c core e = by_phase s.log refl e
   where
     by_phase : (phase : LogPhase) → s.log ≡ phase → next s c phase ≡ Some t → IsCore o t × AddsNobody s t
     by_phase (handed d) is e = let h = when_some (c == d) (record s { log = free }) t e in
-        subst (λ t. IsCore o t × AddsNobody s t) h.1 (rephased o s free (ap hand is) (ap hand_with_runs is) (rw is) tt (λ e. tt) core)
+        subst (λ t. IsCore o t × AddsNobody s t) h.1 (rephased o s free (ap hand is) (ap hand_with_runs is) (ap group_with_runs is) (rw is) tt (λ e. tt) tt core)
     by_phase free is e = absurd (cc)
     by_phase (led d) is e = absurd (cc)
     by_phase (built ws) is e = absurd (cc)
@@ -79,6 +79,15 @@ ahead_kept o s c ws two log published is = by_second s.second refl (rw two at is
     by_second [] e some = absurd (omega arith)
     by_second (v ∷ vs) e some = rw (e, two, log) (rw (joined_more vs ws) (sym (append-nil (writers_in vs ++ ws))))
 
+groups_kept : (o : Options) (s : State) (c : ℕ) (ws : List Writer) → o.pipelined ≡ true → s.log ≡ marked ws → (table : TablePhase) → IsTable o s table → unpublished_groups o s table ≡ unpublished_groups o (second_of s c ws) table
+groups_kept o s c ws two log still is = rw log (sym (append-nil (s.second ++ ws ∷ [])))
+groups_kept o s c ws two log (launched ins fin) is = rw log (sym (append-nil (s.second ++ ws ∷ [])))
+groups_kept o s c ws two log published is = by_second s.second refl (rw two at is)
+  where
+    by_second : (wss : List (List Writer)) → s.second ≡ wss → 0 < length (first_group wss) → unpublished_groups o s published ≡ unpublished_groups o (second_of s c ws) published
+    by_second [] e some = absurd (omega arith)
+    by_second (v ∷ vs) e some = rw (e, two, log) (sym (append-nil (vs ++ ws ∷ [])))
+
 seconded : (o : Options) (s : State) (c : ℕ) (ws : List Writer) → s.log ≡ marked ws → o.pipelined ≡ true → IsCore o s → IsCore o (second_of s c ws) × AddsNobody s (second_of s c ws)
 seconded o s c ws log two core = let e = same_order s c ws log in (
   relined o s (s.second ++ ws ∷ []) (handed c) s.queue s.leaving s.log_failed (record {
@@ -87,8 +96,10 @@ seconded o s c ws log two core = let e = same_order s c ws log in (
     single = λ one. absurd (cc);
     unmarked = λ one. tt;
     counted = all_back _ (hand s.log) s.queue core.counted;
+    alone = tt;
     one_log_flag = tt;
     ahead = ahead_kept o s c ws two log s.table core.is_table;
+    groups_ahead = groups_kept o s c ws two log s.table core.is_table;
     is_table = table_kept o s c ws two s.table core.is_table;
     has_inserted = inserted_kept o s c ws two s.table core.is_table core.has_inserted;
   }) core,

@@ -8,7 +8,7 @@ use Rattle.model_core.specs.Step.{insert, entry_ahead}
 use Rattle.model_core.specs.CoreLaw.{IsCore, HasInserted, IsInsertedAhead, IsEntryOf}
 use Rattle.model_core_laws.proofs.Histories.{history_above, history_right}
 use Rattle.model_core_laws.proofs.Lists.{all_weaker, all_append, all_contained, zip_right, all_weaker_at, all_filtered, contains_filtered}
-use Rattle.model_core_laws.proofs.Tables.{AddsNobody, when_some, among_push, among_last, among_cases, with_table, keeps_with_table, cut_ahead, members}
+use Rattle.model_core_laws.proofs.Tables.{AddsNobody, when_some, among_push, among_last, among_cases, with_table, keeps_with_table, cut_ahead, members, parts_same}
 
 -- a member's entry is above the published sequence
 entry_of_member : (o : Options) (s : State) (ins fin : List ℕ) (w : Writer) → IsCore o (with_table s (launched ins fin)) → Contains (members o s) w → (x : Entry) × IsEntryOf w x × Contains s.entries x × (s.last < x.first)
@@ -53,6 +53,7 @@ module _ (o : Options) (s : State) (m : ℕ) (ins fin : List ℕ) (is : among m 
     single_stage = core.single_stage;
     unmarked = core.unmarked;
     counted = core.counted;
+    alone = core.alone;
     one_log_flag = core.one_log_flag;
     is_history = core.is_history;
     assigned = core.assigned;
@@ -75,6 +76,7 @@ module _ (o : Options) (s : State) (m : ℕ) (ins fin : List ℕ) (is : among m 
     groups = core.groups;
     none_empty = core.none_empty;
     runs = core.runs;
+    at_boundary = parts_same o _ _ _ _ _ refl core.at_boundary;
   }
 
 pub kept_by_insert : (o : Options) (s t : State) (m : ℕ) → IsCore o s → insert o s m s.table ≡ Some t → IsCore o t × AddsNobody s t

@@ -6,7 +6,7 @@ use Rattle.model_core.specs.Core.{Options, Writer, TablePhase, still, launched, 
 use Rattle.model_core.specs.Step.{launch}
 use Rattle.model_core.specs.CoreLaw.{IsCore, HasInserted, IsInsertedAhead}
 use Rattle.model_core_laws.proofs.Lists.{all_weaker}
-use Rattle.model_core_laws.proofs.Tables.{AddsNobody, when_some, some_led, with_table, keeps_with_table}
+use Rattle.model_core_laws.proofs.Tables.{AddsNobody, when_some, some_led, with_table, keeps_with_table, parts_same}
 
 -- nobody has inserted yet
 none_inserted : (inserted : List Entry) (ws : List Writer) → AllByRecursion (HasInserted inserted (launched [] [])) ws
@@ -22,6 +22,7 @@ launching o s c first core = record {
   single_stage = core.single_stage;
   unmarked = core.unmarked;
   counted = core.counted;
+  alone = core.alone;
   one_log_flag = core.one_log_flag;
   is_history = core.is_history;
   assigned = core.assigned;
@@ -37,6 +38,7 @@ launching o s c first core = record {
   groups = core.groups;
   none_empty = core.none_empty;
   runs = core.runs;
+  at_boundary = parts_same o _ _ _ _ _ refl core.at_boundary;
 }
   where
     ahead_of : (x : Entry) → Contains core.front x ⊎ IsInsertedAhead still x → Contains core.front x ⊎ IsInsertedAhead (launched [] []) x

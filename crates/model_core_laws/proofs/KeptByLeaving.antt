@@ -1,15 +1,15 @@
 -- A fault, a refusal and a group without a run keep the core's law: all members leave with their answers.
-use Rattle.std.proofs.Common.{◌≡◌, ℕ, ◌&&◌, Bool, true, List, [], ◌∷◌, ◌++◌, map, Some, refl, ap, ◌∙◌, subst, append_assoc, arith}
+use Rattle.std.proofs.Common.{◌≡◌, ℕ, ◌&&◌, not, Bool, true, List, [], ◌∷◌, ◌++◌, map, Some, refl, ap, ◌∙◌, subst, append_assoc, arith}
 use Rattle.std.specs.List.{AllByRecursion, filter, count_by}
 use Rattle.std.proofs.lemmas.List.{map-append, append-nil}
 use Rattle.model_base.specs.declared.write.Refusal.{Refusal}
 use Rattle.model_base.specs.declared.write.Refusal.TheVariants as no
 use Rattle.model_base.specs.Calls.{Reply, refused}
-use Rattle.model_core.specs.Core.{Options, Writer, LogPhase, free, led, built, stalled, in_log, marked, handed, State, leads, has_run, table_group, all_answered}
+use Rattle.model_core.specs.Core.{Options, Writer, LogPhase, free, led, built, stalled, in_log, marked, handed, State, leads, has_run, is_alone, table_group, all_answered}
 use Rattle.model_core.specs.Step.{fault, refuse, is_no_slowdown}
 use Rattle.model_core.specs.CoreLaw.{IsCore, IsSubsequence, hand, in_order, waiting_clients, writers_in, HasInserted}
 use Rattle.model_core_laws.proofs.Lists.{all_append, all_front, all_back, count_append}
-use Rattle.model_core_laws.proofs.Relined.{SameMembers, lined, relined, same_table, same_unpublished}
+use Rattle.model_core_laws.proofs.Relined.{SameMembers, lined, relined, same_table, same_unpublished, same_groups}
 use Rattle.model_core_laws.proofs.Tables.{AddsNobody, subsequence_self, subsequence_after, subsequence_both, when_some}
 
 abbrev pub client_of : Writer → ℕ
@@ -66,8 +66,10 @@ left_core o s us ws log_failed is e more core = let t = left_of s ws log_failed 
     single = core.single_stage;
     unmarked = λ one. tt;
     counted = all_back _ (hand s.log) s.queue core.counted;
+    alone = tt;
     one_log_flag = tt;
     ahead = same_unpublished o s t s.table refl (rw is);
+    groups_ahead = same_groups o s t s.table refl (rw is);
     is_table = same_table o s t s.table group core.is_table;
     has_inserted = subst (λ ws. AllByRecursion (HasInserted s.inserted s.table) (filter has_run ws)) group core.has_inserted;
   }) core,
@@ -82,7 +84,7 @@ pub kept_by_fault : (o : Options) (s t : State) (c : ℕ) → IsCore o s → fau
 kept_by_fault o s t c core e = by_phase s.log refl e
   where
     by_phase : (phase : LogPhase) → s.log ≡ phase → fault s c phase ≡ Some t → IsCore o t × AddsNobody s t
-    by_phase (built ws) is e = let answered = all_answered (refused (no.LogFault 1)) ws in let h = when_some (leads c ws) (left_of s answered true) t e in
+    by_phase (built ws) is e = let answered = all_answered (refused (no.LogFault 1)) ws in let h = when_some (leads c ws && not (is_alone ws)) (left_of s answered true) t e in
         subst (λ t. IsCore o t × AddsNobody s t) h.1 (left_core o s ws answered true is (answered_clients (refused (no.LogFault 1)) ws) (λ was. refl) core)
     by_phase free is e = absurd (cc)
     by_phase (led d) is e = absurd (cc)

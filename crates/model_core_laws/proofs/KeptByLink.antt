@@ -8,11 +8,11 @@ use Rattle.model_base.specs.declared.write.Refusal.{Refusal}
 use Rattle.model_base.specs.declared.write.Refusal.TheVariants as no
 use Rattle.model_base.specs.Batch.{Record, count_of}
 use Rattle.model_base.specs.Progress.{early_refusal}
-use Rattle.model_base.specs.Calls.{Command, commit, refused}
+use Rattle.model_base.specs.Calls.{Command, commit, updates, refused}
 use Rattle.model_core.specs.declared.event.Event.TheVariants.{Link}
-use Rattle.model_core.specs.Core.{Options, Writer, Client, LogPhase, free, led, built, stalled, in_log, marked, handed, State, client_at, with_client, next_call, after_reply, refusal_of, refusal_in, may_link, among}
-use Rattle.model_core.specs.Step.{link, link_call, link_with}
-use Rattle.model_core.specs.CoreLaw.{IsCore, Keeps, LedIsFirst, writers_in, hand, in_order, waiting_clients}
+use Rattle.model_core.specs.Core.{Options, Writer, Client, LogPhase, free, led, built, stalled, in_log, marked, handed, State, client_at, with_client, next_call, after_reply, refusal_of, refusal_in, may_link, plain_options, among}
+use Rattle.model_core.specs.Step.{link, link_call, link_with, link_read}
+use Rattle.model_core.specs.CoreLaw.{IsCore, HasWork, Keeps, LedIsFirst, writers_in, hand, in_order, waiting_clients}
 use Rattle.model_core_laws.proofs.Clients.{ahead_idle, replaced, still_there, once_after, places}
 use Rattle.model_core_laws.proofs.KeptByRead.{kept_idle}
 use Rattle.model_core_laws.proofs.Lists.{all_weaker, all_append}
@@ -51,9 +51,10 @@ none_early log how None e = refl
 none_early log how (Some why) e = e
 
 -- a client that was idle now waits after the others
-module _ (o : Options) (s : State) (c : ℕ) (old client : Client) (how : WriteOptions) (is : client_at s c ≡ Some old) (idle : old.idle ≡ true) (some : 0 < count_of client.added) (core : IsCore o s) where
+module _ (o : Options) (s : State) (c : ℕ) (old client : Client) (how : WriteOptions) (records : List Record) (since : Option ℕ) (is : client_at s c ≡ Some old) (idle : old.idle ≡ true)
+    (some : since ≡ None → 0 < count_of records) (core : IsCore o s) where
   abbrev writer : Writer
-  writer = record { client = c; options = how; records = client.added; answer = None }
+  writer = record { client = c; options = how; records = records; since = since; answer = None }
 
   abbrev waits : Client
   waits = record client { idle = false }
@@ -97,7 +98,7 @@ module _ (o : Options) (s : State) (c : ℕ) (old client : Client) (how : WriteO
       (once_after s after c old waits is refl one_now others)
       within
       (still_first s.log s.queue writer core.led_is_first)
-      (subst (λ ws. AllByRecursion (λ (w : Writer). 0 < count_of w.records) ws) (append_assoc (hand s.log) s.queue (writer ∷ []))
+      (subst (λ ws. AllByRecursion HasWork ws) (append_assoc (hand s.log) s.queue (writer ∷ []))
       (all_append _ (hand s.log ++ s.queue) (writer ∷ []) core.counted (some, tt)))
       core
 
@@ -115,12 +116,17 @@ kept_by_link o s t c core e = by_client (client_at s c) refl e
         ((kept_idle o s c old (after_reply client (commit how) (refused why)) is was refl core).0, record { order = inl refl; log_failed = λ failed. (refl, failed) })
     by_refusal old client is was now how None refusal e =
         let some = something o.families o.batch_bytes client.added how (none_early s.log how (refusal_of o how client.added) refusal) in
-        subst (λ (x : State). IsCore o x × Keeps (Link c) s x) e (linking o s c old client how is was some core, keeps_linking o s c old client how is was some core)
+        subst (λ (x : State). IsCore o x × Keeps (Link c) s x) e (linking o s c old client how client.added None is was (λ _. some) core, keeps_linking o s c old client how client.added None is was (λ _. some) core)
 
     by_call : (old client : Client) → client_at s c ≡ Some old → old.idle ≡ true → client.idle ≡ true → (call : Option Command) → link_call o s c client call ≡ Some t → IsCore o t × Keeps (Link c) s t
     by_call old client is was now (Some (commit how)) e =
         let why = refusal_in s.log how (refusal_of o how client.added) in
         by_refusal old client is was now how why refl (when_some (may_link s.log why) (link_with o s c client how why) t e).1
+    by_call old client is was now (Some (updates n)) e =
+        let h = when_some (may_link s.log None) (link_read s c client n) t e in
+        let none : Some n ≡ None → 0 < count_of [] = λ never. absurd (cc) in
+        subst (λ (x : State). IsCore o x × Keeps (Link c) s x) h.1
+        (linking o s c old client plain_options [] (Some n) is was none core, keeps_linking o s c old client plain_options [] (Some n) is was none core)
     by_call old client is was now (Some other) e = absurd (cc)
     by_call old client is was now None e = absurd (cc)
 

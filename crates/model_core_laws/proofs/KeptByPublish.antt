@@ -1,16 +1,18 @@
 -- Publishing a group keeps the core's law.
-use Rattle.std.proofs.Common.{◌≡◌, ℕ, ◌≤◌, Bool, true, ◌&&◌, List, [], ◌∷◌, ◌++◌, map, filter, Contains, Option, Some, None, ◌⊎◌, inl, inr, refl, ap, sym, ◌∙◌, subst, arith, append_assoc}
-use Rattle.std.specs.List.{AllByRecursion, AllZip, list_all}
+use Rattle.std.proofs.Common.{◌≡◌, ℕ, ◌≤◌, Bool, true, false, if◌then◌else◌, ◌&&◌, length, List, [], ◌∷◌, ◌++◌, map, filter, Contains, Option, Some, None, ◌⊎◌, inl, inr, refl, ap, sym, ◌∙◌, subst, arith, append_assoc}
+use Rattle.std.specs.List.{AllByRecursion, AllZip, flat_map, list_all}
 use Rattle.std.proofs.lemmas.Bool.{and_parts}
-use Rattle.std.proofs.lemmas.List.Elements.{Contains-append_left, Contains-append_right, Contains-append_cases}
+use Rattle.std.proofs.lemmas.List.Elements.{filter-append, Contains-append_left, Contains-append_right, Contains-append_cases}
+use Rattle.std.proofs.lemmas.List.{append-nil}
+use Rattle.std.proofs.lemmas.List.Concat.{flat_map-append}
 use Rattle.model_base.specs.Calls.{Reply, accepted}
-use Rattle.model_base.specs.History.{Entry, IsHistory, last_sequence, last_of}
+use Rattle.model_base.specs.History.{Entry, IsHistory, last_sequence, last_of, logged_entries, is_logged}
 use Rattle.model_core.specs.Core.{Options, Writer, TablePhase, still, launched, published, State, has_run, table_group, among, runners}
 use Rattle.model_core.specs.Step.{publish, is_last, group_last}
-use Rattle.model_core.specs.CoreLaw.{IsCore, HasInserted, IsInsertedAhead, IsEntryOf, writers_in, hand_with_runs, unpublished_writers}
+use Rattle.model_core.specs.CoreLaw.{IsCore, HasInserted, IsInsertedAhead, IsLoggedAsOne, AreParts, IsEntryOf, is_logged_group, writers_in, hand_with_runs, unpublished_writers, unpublished_groups}
 use Rattle.model_core_laws.proofs.Histories.{last_sequence_append, same_entry}
-use Rattle.model_core_laws.proofs.Lists.{all_weaker, all_append, all_contained, all_at, contains_cases, zip_left, all_weaker_at}
-use Rattle.model_core_laws.proofs.Tables.{AddsNobody, when_some, among_from_all, among_from_times, cut_ahead, times_among, times_here, times_cons, in_hand_once, with_table, keeps_with_table, groups_split, members, there, there_append, there_filtered, waiting_parts, waits_once}
+use Rattle.model_core_laws.proofs.Lists.{all_weaker, all_append, append_parts, zip_length, all_contained, all_at, contains_cases, zip_left, all_weaker_at}
+use Rattle.model_core_laws.proofs.Tables.{AddsNobody, when_some, among_from_all, among_from_times, cut_ahead, times_among, times_here, times_cons, in_hand_once, with_table, keeps_with_table, groups_split, groups_cut, members, there, there_append, there_filtered, waiting_parts, waits_once}
 
 -- a group ends where the last of its runs does
 pub group_ends : (last : ℕ) (ws : List Writer) (xs : List Entry) → AllZip IsEntryOf (filter has_run ws) xs → group_last last ws ≡ last_sequence last xs
@@ -125,6 +127,7 @@ module _ (o : Options) (s : State) (ins fin : List ℕ) (done : list_all (λ c. 
     single_stage = core.single_stage;
     unmarked = core.unmarked;
     counted = core.counted;
+    alone = core.alone;
     one_log_flag = core.one_log_flag;
     is_history = core.is_history;
     assigned = core.assigned;
@@ -146,7 +149,32 @@ module _ (o : Options) (s : State) (ins fin : List ℕ) (done : list_all (λ c. 
     groups = core.groups;
     none_empty = core.none_empty;
     runs = core.runs;
+    at_boundary = published_parts core.at_boundary.ahead core.at_boundary.all core.at_boundary.as_one core.at_boundary.split
+        (subst (λ wss. AllZip (λ (ws : List Writer) (xs : List Entry). AllZip IsEntryOf (filter has_run ws) xs) wss core.at_boundary.ahead) (groups_cut o s core.single_stage core.is_table.0) core.at_boundary.each);
   }
+    where
+      -- the first group ahead is the published one
+      published_parts : (ahead : List (List Entry)) → core.is_boundary.rest ≡ flat_map (λ p. p) ahead → AllByRecursion IsLoggedAsOne ahead → core.parts ≡ core.at_boundary.before ++ filter is_logged_group ahead
+          → AllZip (λ (ws : List Writer) (xs : List Entry). AllZip IsEntryOf (filter has_run ws) xs) (table_group o s ∷ unpublished_groups o s published) ahead
+          → AreParts o (record (with_table s published) { last = group_last s.last (table_group o s) }) (core.front ++ own) behind core.parts
+      published_parts [] all as_one parts each = absurd each
+      published_parts (x ∷ xs) all as_one parts each =
+          let same_length : length own ≡ length x = sym (zip_length IsEntryOf (members o s) own (cut_ahead o s ins fin core).at_front) ∙ zip_length IsEntryOf (members o s) x each.0 in
+          let same = append_parts own x behind (flat_map (λ p. p) xs) same_length (sym (cut_ahead o s ins fin core).whole ∙ all) in record {
+            before = core.at_boundary.before ++ filter is_logged_group (x ∷ []);
+            cut = filter-append (λ (e : Entry). is_logged e.flag) core.front own ∙ (ap (λ ys. ys ++ logged_entries own) core.at_boundary.cut
+                ∙ (ap (λ ys. flat_map (λ p. p) core.at_boundary.before ++ ys) (ap logged_entries same.0 ∙ (as_one.0 ∙ one (is_logged_group x) refl))
+                ∙ sym (flat_map-append (λ (p : List Entry). p) core.at_boundary.before (filter is_logged_group (x ∷ [])))));
+            ahead = xs;
+            each = each.1;
+            all = same.1;
+            as_one = as_one.1;
+            split = parts ∙ (ap (λ ps. core.at_boundary.before ++ ps) (filter-append is_logged_group (x ∷ []) xs) ∙ sym (append_assoc core.at_boundary.before (filter is_logged_group (x ∷ [])) (filter is_logged_group xs)));
+          }
+        where
+          one : (b : Bool) → is_logged_group x ≡ b → (if is_logged_group x then x else []) ≡ flat_map (λ p. p) (filter is_logged_group (x ∷ []))
+          one true is = rw is (sym (append-nil x))
+          one false is = rw is refl
 
 pub kept_by_publish : (o : Options) (s t : State) (m : ℕ) → IsCore o s → publish o s m s.table ≡ Some t → IsCore o t × AddsNobody s t
 kept_by_publish o s t m core e = by_phase s.table refl e

@@ -1,26 +1,27 @@
 -- The events `Stall`, `Leave` and `Unstall` keep the core's law.
-use Rattle.std.proofs.Common.{◌≡◌, ℕ, ◌+◌, ◌<◌, ◌≤◌, ◌==◌, ◌&&◌, Bool, true, false, not, cond, List, [], ◌∷◌, ◌++◌, map, find, Option, Some, None, inl, refl, ap, sym, ◌∙◌, subst, arith}
+use Rattle.std.proofs.Common.{◌≡◌, ℕ, ◌+◌, ◌≤◌, ◌==◌, ◌&&◌, Bool, true, false, not, cond, List, [], ◌∷◌, ◌++◌, map, find, Option, Some, None, inl, inr, refl, ap, sym, ◌∙◌, subst, arith}
 use Rattle.std.specs.List.{AllByRecursion}
 use Rattle.std.proofs.lemmas.Bool.{eqb-true, eqb-false, cond-true, cond-false}
 use Rattle.model_base.specs.declared.write.Refusal.{Refusal}
-use Rattle.model_base.specs.Batch.{count_of}
 use Rattle.model_base.specs.Calls.{refused}
-use Rattle.model_core.specs.Core.{Options, Writer, LogPhase, free, led, built, stalled, in_log, marked, handed, State, leads}
+use Rattle.model_core.specs.Core.{Options, Writer, LogPhase, free, led, built, stalled, in_log, marked, handed, State, leads, is_alone}
 use Rattle.model_core.specs.Step.{stall, unstall, leave_queue, leave_with, left_queue, is_no_slowdown}
-use Rattle.model_core.specs.CoreLaw.{IsCore, IsSubsequence, LedIsFirst, hand, hand_with_runs, in_order, waiting_clients, writers_in}
+use Rattle.model_core.specs.CoreLaw.{IsCore, IsSubsequence, HasWork, LedIsFirst, hand, hand_with_runs, group_with_runs, in_order, waiting_clients, writers_in}
 use Rattle.model_core_laws.proofs.Clients.{places}
+use Rattle.model_core_laws.proofs.Groups.{are_writes}
 use Rattle.model_core_laws.proofs.KeptByComplete.{without, found_there, none_without, others_without}
 use Rattle.model_core_laws.proofs.KeptByElect.{rephased}
 use Rattle.model_core_laws.proofs.KeptByLeaving.{client_of, order_parts}
-use Rattle.model_core_laws.proofs.Lists.{all_append, all_front, all_back, all_weaker, all_filtered}
+use Rattle.model_core_laws.proofs.Lists.{all_append, all_front, all_back, all_weaker, all_filtered, and_parts}
 use Rattle.model_core_laws.proofs.Tables.{AddsNobody, all_fewer, keeps, subsequence_after, subsequence_both, times, times_cons, there, there_append, waiting_parts, waits_once, when_some}
 
 pub kept_by_stall : (o : Options) (s t : State) (c : ℕ) → IsCore o s → stall s c s.log ≡ Some t → IsCore o t × AddsNobody s t
 kept_by_stall o s t c core e = by_phase s.log refl e
   where
     by_phase : (phase : LogPhase) → s.log ≡ phase → stall s c phase ≡ Some t → IsCore o t × AddsNobody s t
-    by_phase (built ws) is e = let h = when_some (leads c ws && not (is_no_slowdown ws)) (record s { log = stalled ws }) t e in
-        subst (λ t. IsCore o t × AddsNobody s t) h.1 (rephased o s (stalled ws) (ap hand is) (ap hand_with_runs is) (rw is) tt (λ e. tt) core)
+    by_phase (built ws) is e = let h = when_some (leads c ws && not (is_alone ws) && not (is_no_slowdown ws)) (record s { log = stalled ws }) t e in
+        let writes = are_writes ws (rw is at core.alone) (and_parts _ _ (and_parts _ _ h.0).0).1 in
+        subst (λ t. IsCore o t × AddsNobody s t) h.1 (rephased o s (stalled ws) (ap hand is) (ap hand_with_runs is) (ap group_with_runs is) (rw is) tt (λ e. tt) writes core)
     by_phase free is e = absurd (cc)
     by_phase (led d) is e = absurd (cc)
     by_phase (stalled ws) is e = absurd (cc)
@@ -33,7 +34,7 @@ kept_by_unstall o s t c core e = by_phase s.log refl e
   where
     by_phase : (phase : LogPhase) → s.log ≡ phase → unstall s c phase ≡ Some t → IsCore o t × AddsNobody s t
     by_phase (stalled ws) is e = let h = when_some (leads c ws) (record s { log = built ws }) t e in
-        subst (λ t. IsCore o t × AddsNobody s t) h.1 (rephased o s (built ws) (ap hand is) (ap hand_with_runs is) (rw is) tt (λ e. tt) core)
+        subst (λ t. IsCore o t × AddsNobody s t) h.1 (rephased o s (built ws) (ap hand is) (ap hand_with_runs is) (ap group_with_runs is) (rw is) tt (λ e. tt) (inr (rw is at core.alone)) core)
     by_phase free is e = absurd (cc)
     by_phase (led d) is e = absurd (cc)
     by_phase (built ws) is e = absurd (cc)
@@ -95,9 +96,9 @@ module _ (o : Options) (s : State) (m : ℕ) (why : Refusal) (w : Writer) (ws : 
           let g : there n (without m s.queue) ≡ there n s.queue = others_without m n s.queue (eqb-false m n apart) in
           omega (arith, a, b, d, f, g, one)
 
-  counted : AllByRecursion (λ (x : Writer). 0 < count_of x.records) (hand s.log ++ without m s.queue)
+  counted : AllByRecursion HasWork (hand s.log ++ without m s.queue)
   counted = all_append _ (hand s.log) (without m s.queue) (all_front _ (hand s.log) s.queue core.counted)
-      (all_filtered (λ (x : Writer). 0 < count_of x.records) (λ (x : Writer). not (x.client == m)) s.queue (all_weaker (λ (x : Writer). 0 < count_of x.records) (λ (x : Writer). not (x.client == m) ≡ true → 0 < count_of x.records) (λ x some _. some) s.queue (all_back _ (hand s.log) s.queue core.counted)))
+      (all_filtered HasWork (λ (x : Writer). not (x.client == m)) s.queue (all_weaker HasWork (λ (x : Writer). not (x.client == m) ≡ true → HasWork x) (λ x work _. work) s.queue (all_back _ (hand s.log) s.queue core.counted)))
 
   order : IsSubsequence (in_order after) (in_order s)
   order =

@@ -14,8 +14,8 @@ use Rattle.model_base.specs.declared.key.Key.{Key}
 use Rattle.model_base.specs.Map.{value_at, rows_within}
 use Rattle.model_base.specs.Progress.{first_missing}
 use Rattle.model_base.specs.Calls.{Command, add, clear, commit, get, many, scan, updates, stop, unstop, slow, unslow, Reply, quiet, accepted, refused, found, found_each, rows, updates_found, read_failed, done, held, not_held, no_memory, Call}
-use Rattle.model_core.specs.Core.{Options, Writer, Client, LogPhase, free, led, built, stalled, in_log, marked, handed, TablePhase, still, launched, published, State, opening_state, client_at, with_client, next_call, ahead, after_reply, refusal_of, refusal_in, may_link, stall_refusal, published_map, if_there, read_reply, leads, has_run, with_runs, entries_of, table_group, runners, among, all_answered}
-use Rattle.model_core.specs.Step.{step, replay, after_event, Replayed, link, link_call, link_with, elect, build, group_size, log_group, logged_group, fault, refuse, is_no_slowdown, stall, unstall, leave_queue, leave_with, left_queue, boundary, to_second, next, launch, insert, entry_ahead, finish, publish, is_last, group_last, exit, leave, without_table_group, complete, complete_with, after_completion, read, read_call, read_with, when}
+use Rattle.model_core.specs.Core.{Options, Writer, Client, LogPhase, free, led, built, stalled, in_log, marked, handed, TablePhase, still, launched, published, State, opening_state, client_at, with_client, is_alone, read_at, command_of, reply_told, next_call, ahead, after_reply, refusal_of, refusal_in, may_link, stall_refusal, published_map, if_there, read_reply, leads, has_run, with_runs, entries_of, table_group, runners, among, all_answered}
+use Rattle.model_core.specs.Step.{read_log, answer_read, exit_reader, has_read, link_read, step, replay, after_event, Replayed, link, link_call, link_with, elect, build, group_size, log_group, logged_group, fault, refuse, is_no_slowdown, stall, unstall, leave_queue, leave_with, left_queue, boundary, to_second, next, launch, insert, entry_ahead, finish, publish, is_last, group_last, exit, leave, without_table_group, complete, complete_with, after_completion, read, read_call, read_with, when}
 use Rattle.model_core.specs.CoreLaw.{IsCore, hand, writers_in}
 use Rattle.model_core.specs.Replies.{IsFrom, IsLater}
 use Rattle.model_core_laws.proofs.Lists.{all_append, all_weaker, all_back}
@@ -93,7 +93,7 @@ later_logged s ws true is = rw is (later_lines s _ refl (entries_of s ws, refl) 
 later_logged s ws false is = rw is (later_lines s _ refl (same_history s) (omega arith))
 
 by_log : (s t : State) (c : ℕ) (phase : LogPhase) → log_group s c phase ≡ Some t → IsLater s t
-by_log s t c (built ws) e = later_when s (logged_group s (with_runs s.assigned ws)) t (leads c ws && not s.log_failed) e (later_logged s (with_runs s.assigned ws) (list_any has_run (with_runs s.assigned ws)) refl)
+by_log s t c (built ws) e = later_when s (logged_group s (with_runs s.assigned ws)) t (leads c ws && not (is_alone ws) && not s.log_failed) e (later_logged s (with_runs s.assigned ws) (list_any has_run (with_runs s.assigned ws)) refl)
 by_log s t c free e = absurd (cc)
 by_log s t c (led d) e = absurd (cc)
 by_log s t c (in_log ws) e = absurd (cc)
@@ -103,7 +103,7 @@ by_log s t c (handed d) e = absurd (cc)
 
 by_fault : (s t : State) (c : ℕ) (phase : LogPhase) → fault s c phase ≡ Some t → IsLater s t
 by_fault s t c (built ws) e = let u : State = record (leave s (all_answered (refused (no.LogFault 1)) ws)) { log = free; log_failed = true } in
-    later_when s u t (leads c ws) e (later_lines s u refl (same_history s) (omega arith))
+    later_when s u t (leads c ws && not (is_alone ws)) e (later_lines s u refl (same_history s) (omega arith))
 by_fault s t c free e = absurd (cc)
 by_fault s t c (led d) e = absurd (cc)
 by_fault s t c (in_log ws) e = absurd (cc)
@@ -122,7 +122,7 @@ by_refuse s t c why (marked ws) e = absurd (cc)
 by_refuse s t c why (handed d) e = absurd (cc)
 
 by_stall : (s t : State) (c : ℕ) (phase : LogPhase) → stall s c phase ≡ Some t → IsLater s t
-by_stall s t c (built ws) e = later_when s (record s { log = stalled ws }) t (leads c ws && not (is_no_slowdown ws)) e (later_lines s (record s { log = stalled ws }) refl (same_history s) (omega arith))
+by_stall s t c (built ws) e = later_when s (record s { log = stalled ws }) t (leads c ws && not (is_alone ws) && not (is_no_slowdown ws)) e (later_lines s (record s { log = stalled ws }) refl (same_history s) (omega arith))
 by_stall s t c free e = absurd (cc)
 by_stall s t c (led d) e = absurd (cc)
 by_stall s t c (stalled ws) e = absurd (cc)
@@ -206,10 +206,49 @@ later_exited : (s : State) (pipelined : Bool) (ws : List Writer) → IsLater s (
 later_exited s true ws = later_lines s _ refl (same_history s) (omega arith)
 later_exited s false ws = later_lines s _ refl (same_history s) (omega arith)
 
+-- a read of the log
+by_since : (s t : State) (c : ℕ) (phase : LogPhase) → read_log s c phase ≡ Some t → IsLater s t
+by_since s t c (built (w ∷ [])) e = by_client (w.client == c) e
+  where
+    by_answer : (since : Option ℕ) (answer : Option Reply) → answer_read s w since answer ≡ Some t → IsLater s t
+    by_answer (Some n) None e =
+        let u : State = record s { log = built (record w { answer = Some (read_at s.last) } ∷ []) } in let after : u ≡ t = cc in
+        subst (IsLater s) after (later_lines s u refl (same_history s) (omega arith))
+    by_answer (Some n) (Some reply) e = absurd (cc)
+    by_answer None answer e = absurd (cc)
+
+    by_client : (b : Bool) → (if b then answer_read s w w.since w.answer else None) ≡ Some t → IsLater s t
+    by_client true e = by_answer w.since w.answer e
+    by_client false e = absurd (cc)
+by_since s t c (built []) e = absurd (cc)
+by_since s t c (built (w ∷ v ∷ ws)) e = absurd (cc)
+by_since s t c free e = absurd (cc)
+by_since s t c (led d) e = absurd (cc)
+by_since s t c (stalled ws) e = absurd (cc)
+by_since s t c (in_log ws) e = absurd (cc)
+by_since s t c (marked ws) e = absurd (cc)
+by_since s t c (handed d) e = absurd (cc)
+
+by_reader : (s t : State) (c : ℕ) (phase : LogPhase) → exit_reader s c phase ≡ Some t → IsLater s t
+by_reader s t c (built (w ∷ [])) e = let u : State = record (leave s (w ∷ [])) { log = free } in
+    later_when s u t (has_read c w) e (later_lines s u refl (same_history s) (omega arith))
+by_reader s t c (built []) e = absurd (cc)
+by_reader s t c (built (w ∷ v ∷ ws)) e = absurd (cc)
+by_reader s t c free e = absurd (cc)
+by_reader s t c (led d) e = absurd (cc)
+by_reader s t c (stalled ws) e = absurd (cc)
+by_reader s t c (in_log ws) e = absurd (cc)
+by_reader s t c (marked ws) e = absurd (cc)
+by_reader s t c (handed d) e = absurd (cc)
+
 by_exit : (o : Options) (s t : State) (c : ℕ) (phase : TablePhase) → exit o s c phase ≡ Some t → IsLater s t
-by_exit o s t c published e = later_when s (record (leave (without_table_group o s) (table_group o s)) { table = still }) t (leads c (table_group o s)) e (later_exited s o.pipelined (table_group o s))
-by_exit o s t c still e = absurd (cc)
-by_exit o s t c (launched ins fin) e = absurd (cc)
+by_exit o s t c published e = by_leader (leads c (table_group o s)) e
+  where
+    by_leader : (b : Bool) → (if b then Some (record (leave (without_table_group o s) (table_group o s)) { table = still }) else exit_reader s c s.log) ≡ Some t → IsLater s t
+    by_leader true e = let after : record (leave (without_table_group o s) (table_group o s)) { table = still } ≡ t = cc in subst (IsLater s) after (later_exited s o.pipelined (table_group o s))
+    by_leader false e = by_reader s t c s.log e
+by_exit o s t c still e = by_reader s t c s.log e
+by_exit o s t c (launched ins fin) e = by_reader s t c s.log e
 
 -- The events of one client
 
@@ -263,6 +302,8 @@ by_link o s t c e = by_client (client_at s c) refl e
     by_call old is (Some (commit how)) e =
         let why = refusal_in s.log how (refusal_of o how (next_call old).client.added) in
         by_refusal old is how why (when_some (may_link s.log why) (link_with o s c (next_call old).client how why) t e).1
+    by_call old is (Some (updates n)) e = subst (IsLater s) (when_some (may_link s.log None) (link_read s c (next_call old).client n) t e).1
+        (later_client s (link_read s c (next_call old).client n) c old (record (next_call old).client { idle = false }) is refl refl refl (next_told s.last old))
     by_call old is (Some other) e = absurd (cc)
     by_call old is None e = absurd (cc)
 
@@ -331,12 +372,28 @@ answer_from o s client w (Some quiet) reply e is = absurd is
 answer_from o s client w (Some (found at v)) reply e is = absurd is
 answer_from o s client w (Some (found_each at vs)) reply e is = absurd is
 answer_from o s client w (Some (rows at pairs)) reply e is = absurd is
-answer_from o s client w (Some (updates_found at records)) reply e is = absurd is
+answer_from o s client w (Some (updates_found at records)) reply e is = let f : updates_found at records ≡ reply = cc in subst (IsFrom s.last) f tt
 answer_from o s client w (Some (read_failed count)) reply e is = absurd is
 answer_from o s client w (Some done) reply e is = absurd is
 answer_from o s client w (Some held) reply e is = absurd is
 answer_from o s client w (Some not_held) reply e is = absurd is
 answer_from o s client w (Some no_memory) reply e is = absurd is
+
+-- and it is told with its records
+told_from : (s : State) (since : Option ℕ) (reply : Reply) → IsFrom s.last reply → IsFrom s.last (reply_told s since reply)
+told_from s None reply is = is
+told_from s (Some n) (updates_found at records) is = tt
+told_from s (Some n) (accepted first last records) is = is
+told_from s (Some n) (refused why) is = is
+told_from s (Some n) quiet is = is
+told_from s (Some n) (found at v) is = is
+told_from s (Some n) (found_each at vs) is = is
+told_from s (Some n) (rows at pairs) is = is
+told_from s (Some n) (read_failed count) is = is
+told_from s (Some n) done is = is
+told_from s (Some n) held is = is
+told_from s (Some n) not_held is = is
+told_from s (Some n) no_memory is = is
 
 by_complete : (o : Options) (plans : List (List Command)) (s t : State) (m : ℕ) → Told o plans s → complete s m (find (λ (w : Writer). w.client == m) s.leaving) ≡ Some t → IsLater s t
 by_complete o plans s t m so_far e = by_writer (find (λ (w : Writer). w.client == m) s.leaving) refl e
@@ -345,9 +402,9 @@ by_complete o plans s t m so_far e = by_writer (find (λ (w : Writer). w.client 
     by_client w left (Some client) is (Some reply) answer e =
         let waits = (found_is m s.leaving w left).1 (Waits o plans s) (all_back (Waits o plans s) ((writers_in s.second ++ hand s.log) ++ s.queue) s.leaving so_far.waits) in
         let from = answer_from o s waits.client w w.answer reply answer waits.answer in
-        let u : State = record (with_client s m (after_completion client w reply)) { leaving = filter (λ (x : Writer). not (x.client == m)) s.leaving } in let after : u ≡ t = cc in
-        subst (IsLater s) after (later_client s u m client (after_completion client w reply) is refl refl refl
-        (told_one_more s.last client.calls client.calls (record { command = commit w.options; reply = reply }) from ([], append-nil client.calls, tt)))
+        let u : State = record (with_client s m (after_completion client w (reply_told s w.since reply))) { leaving = filter (λ (x : Writer). not (x.client == m)) s.leaving } in let after : u ≡ t = cc in
+        subst (IsLater s) after (later_client s u m client (after_completion client w (reply_told s w.since reply)) is refl refl refl
+        (told_one_more s.last client.calls client.calls (record { command = command_of w; reply = reply_told s w.since reply }) (told_from s w.since reply from) ([], append-nil client.calls, tt)))
     by_client w left (Some client) is None answer e = absurd (cc)
     by_client w left None is reply answer e = absurd (cc)
 
@@ -372,6 +429,7 @@ later_each o plans s t (e.Launch c) so_far is = by_launch o s t c s.table is
 later_each o plans s t (e.Insert m) so_far is = by_insert o s t m s.table is
 later_each o plans s t (e.Finish m) so_far is = by_finish s t m s.table is
 later_each o plans s t (e.Publish m) so_far is = by_publish o s t m s.table refl so_far.core is
+later_each o plans s t (e.Since c) so_far is = by_since s t c s.log is
 later_each o plans s t (e.Exit c) so_far is = by_exit o s t c s.table is
 later_each o plans s t (e.Complete m) so_far is = by_complete o plans s t m so_far is
 later_each o plans s t (e.Read c) so_far is = by_read o s t c is

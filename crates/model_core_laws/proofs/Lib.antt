@@ -18,10 +18,12 @@ pub mod KeptByLink
 pub mod KeptByLog
 pub mod KeptByPublish
 pub mod KeptByRead
+pub mod KeptBySince
 pub mod KeptByStall
 pub mod Later
 pub mod Lists
 pub mod Opening
+pub mod ReadLog
 pub mod Ready
 pub mod Relined
 pub mod Runs
@@ -35,6 +37,7 @@ pub mod ToldByLines
 pub mod ToldByLink
 pub mod ToldByLog
 pub mod ToldByRead
+pub mod ToldBySince
 pub mod ToldByStall
 pub mod WrongReplies
 pub mod WrongStates

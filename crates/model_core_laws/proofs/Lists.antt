@@ -2,7 +2,7 @@
 use Rattle.std.proofs.Common.{◌≡◌, ◌+◌, List, [], ◌∷◌, ◌++◌, Bool, true, false, filter, refl, ap, ◌∙◌, subst, inl, inr, arith, if◌then◌else◌, ◌&&◌}
 use Rattle.std.specs.List.{AllByRecursion, AllZip, count_by}
 use Rattle.std.proofs.lemmas.List.Sums.{sum_by-append}
-use Rattle.std.proofs.Common.{◌≡◌, zero, suc, ◌+◌, Bool, true, false, cond, List, [], ◌∷◌, ◌++◌, filter, count_by, Contains, if◌then◌else◌, ◌⊎◌, inl, inr, refl, ap, ◌∙◌, subst, arith}
+use Rattle.std.proofs.Common.{◌≡◌, zero, suc, ◌+◌, Bool, true, false, cond, List, [], ◌∷◌, ◌++◌, length, filter, count_by, Contains, if◌then◌else◌, ◌⊎◌, inl, inr, refl, ap, ◌∙◌, subst, arith}
 use Rattle.std.specs.List.{AllByRecursion, AllZip}
 use Rattle.std.proofs.lemmas.List.Elements.{All-from_recursion, recursion_from_All, All-contains, All-contains_itself, Contains-append_right}
 use Rattle.std.proofs.lemmas.List.Sums.{sum_by-append}
@@ -116,6 +116,23 @@ zip_left {A = A} R (x ∷ xs) (v ∷ ys) y h is = elim (contains_cases v ys y is
 ]
 
 -- Counts
+
+-- lists that are joined alike, where the first ones have the same length
+pub append_parts : {A : Type 0} (xs us ys vs : List A) → length xs ≡ length us → xs ++ ys ≡ us ++ vs → (xs ≡ us) × (ys ≡ vs)
+append_parts [] [] ys vs n e = (refl, e)
+append_parts [] (u ∷ us) ys vs n e = absurd (omega arith)
+append_parts (x ∷ xs) [] ys vs n e = absurd (omega arith)
+append_parts (x ∷ xs) (u ∷ us) ys vs n e =
+    let first : x ≡ u = cc in
+    let more : xs ++ ys ≡ us ++ vs = cc in
+    let rest = append_parts xs us ys vs (omega arith) more in
+    (cc (first, rest.0), rest.1)
+
+pub zip_length : {A B : Type 0} (R : A → B → Type 0) (xs : List A) (ys : List B) → AllZip R xs ys → length xs ≡ length ys
+zip_length R [] [] a = refl
+zip_length R [] (y ∷ ys) a = absurd a
+zip_length R (x ∷ xs) [] a = absurd a
+zip_length R (x ∷ xs) (y ∷ ys) a = let more = zip_length R xs ys a.1 in omega arith
 
 pub count_append : {X : Type 0} (p : X → Bool) (xs ys : List X) → count_by p (xs ++ ys) ≡ count_by p xs + count_by p ys
 count_append p xs ys = sum_by-append (λ x. if p x then 1 else 0) xs ys

@@ -22,6 +22,7 @@ opening o plans = record {
   single_stage = λ e. refl;
   unmarked = λ e. tt;
   counted = tt;
+  alone = tt;
   one_log_flag = tt;
   is_history = tt;
   assigned = refl;
@@ -37,4 +38,5 @@ opening o plans = record {
   groups = refl;
   none_empty = tt;
   runs = tt;
+  at_boundary = record { before = []; cut = refl; ahead = []; each = tt; all = refl; as_one = tt; split = refl };
 }

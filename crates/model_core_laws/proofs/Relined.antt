@@ -1,10 +1,9 @@
 -- Events that move writers, and change neither clients, entries nor the table.
-use Rattle.std.proofs.Common.{◌≡◌, ℕ, ◌<◌, Bool, true, false, List, [], ◌++◌, filter, ap, sym, ◌∙◌, subst, ◌==◌}
+use Rattle.std.proofs.Common.{◌≡◌, ℕ, Bool, true, false, List, [], ◌++◌, filter, ap, sym, ◌∙◌, subst, ◌==◌}
 use Rattle.std.specs.List.{AllByRecursion, AllZip, count_by}
-use Rattle.model_base.specs.Batch.{count_of}
 use Rattle.model_core.specs.Core.{Options, Writer, LogPhase, TablePhase, still, launched, published, State, has_run, table_group}
-use Rattle.model_core.specs.CoreLaw.{IsCore, IsSubsequence, IsTable, IsUnmarked, LedIsFirst, SameLogFlag, HasInserted, IsEntryOf, hand, hand_with_runs, waiting_clients, in_order, unpublished_writers}
-use Rattle.model_core_laws.proofs.Tables.{AddsNobody, subsequence_self}
+use Rattle.model_core.specs.CoreLaw.{IsCore, IsSubsequence, IsTable, IsUnmarked, LedIsFirst, SameLogFlag, HasWork, ReadAlone, HasInserted, IsEntryOf, hand, hand_with_runs, waiting_clients, in_order, unpublished_writers, group_with_runs, unpublished_groups}
+use Rattle.model_core_laws.proofs.Tables.{AddsNobody, parts_same, subsequence_self}
 
 -- the state with its writers in other places
 abbrev pub lined : State → List (List Writer) → LogPhase → List Writer → List Writer → Bool → State
@@ -24,9 +23,11 @@ pub record AreInPlace (o : Options) (s t : State) : Type 1 where
   pub led : LedIsFirst t.log t.queue
   pub single : o.pipelined ≡ false → t.second ≡ []
   pub unmarked : o.pipelined ≡ false → IsUnmarked t.log
-  pub counted : AllByRecursion (λ (w : Writer). 0 < count_of w.records) (hand t.log ++ t.queue)
+  pub counted : AllByRecursion HasWork (hand t.log ++ t.queue)
+  pub alone : ReadAlone t.log
   pub one_log_flag : SameLogFlag (hand t.log)
   pub ahead : unpublished_writers o s s.table ≡ unpublished_writers o t s.table
+  pub groups_ahead : unpublished_groups o s s.table ≡ unpublished_groups o t s.table
   pub is_table : IsTable o t s.table
   pub has_inserted : AllByRecursion (HasInserted s.inserted s.table) (filter has_run (table_group o t))
 
@@ -39,6 +40,7 @@ relined o s second log queue leaving log_failed places core = record {
   single_stage = places.single;
   unmarked = places.unmarked;
   counted = places.counted;
+  alone = places.alone;
   one_log_flag = places.one_log_flag;
   is_history = core.is_history;
   assigned = core.assigned;
@@ -54,6 +56,7 @@ relined o s second log queue leaving log_failed places core = record {
   groups = core.groups;
   none_empty = core.none_empty;
   runs = core.runs;
+  at_boundary = parts_same o s (lined s second log queue leaving log_failed) core.front core.is_boundary.rest core.parts places.groups_ahead core.at_boundary;
 }
 
 -- what holds of the group in the table still holds, since the group is the same
@@ -66,6 +69,11 @@ pub same_unpublished : (o : Options) (s t : State) (table : TablePhase) → s.se
 same_unpublished o s t still e f = rw (e, f)
 same_unpublished o s t (launched ins fin) e f = rw (e, f)
 same_unpublished o s t published e f = rw (e, f)
+
+pub same_groups : (o : Options) (s t : State) (table : TablePhase) → s.second ≡ t.second → group_with_runs s.log ≡ group_with_runs t.log → unpublished_groups o s table ≡ unpublished_groups o t table
+same_groups o s t still e f = rw (e, f)
+same_groups o s t (launched ins fin) e f = rw (e, f)
+same_groups o s t published e f = rw (e, f)
 
 -- the line stays as it is, and so nobody is added to it
 pub kept_order : (s t : State) → in_order s ≡ in_order t → (s.log_failed ≡ true → (t.entries ≡ s.entries) × (t.log_failed ≡ true)) → AddsNobody s t

@@ -11,7 +11,7 @@ use Rattle.model_base.specs.History.{max_sequence, IsHistory, logged_entries, fl
 use Rattle.model_base.specs.Calls.{accepted, refused}
 use Rattle.model_core.specs.Core.{Writer, State, with_runs, has_run, run_of, entry_of, entries_of}
 use Rattle.model_core.specs.Step.{is_unlogged}
-use Rattle.model_core.specs.CoreLaw.{IsEntryOf, SameLogFlag}
+use Rattle.model_core.specs.CoreLaw.{IsEntryOf, SameLogFlag, AreWrites, HasWork}
 
 -- a member whose run fits, and one whose run doesn't
 abbrev pub taken : ℕ → Writer → Writer
@@ -44,6 +44,20 @@ Counts w = 0 < count_of w.records
 pub still_counted : (last : ℕ) (ws : List Writer) → AllByRecursion Counts ws → AllByRecursion Counts (with_runs last ws)
 still_counted = by_members (λ last ws vs. AllByRecursion Counts ws → AllByRecursion Counts vs) (λ last a. tt)
     (λ last w ws vs fits more a. (a.0, more a.1)) (λ last w ws vs full more a. (a.0, more a.1))
+
+-- a group that writes still does
+pub still_writes : (last : ℕ) (ws : List Writer) → AreWrites ws → AreWrites (with_runs last ws)
+still_writes = by_members (λ last ws vs. AreWrites ws → AreWrites vs) (λ last a. tt)
+    (λ last w ws vs fits more a. (a.0, more a.1)) (λ last w ws vs full more a. (a.0, more a.1))
+
+-- and each of its members has something to write
+pub counts_of : (ws : List Writer) → AreWrites ws → AllByRecursion HasWork ws → AllByRecursion Counts ws
+counts_of [] writes a = tt
+counts_of (w ∷ ws) writes a = (a.0 writes.0, counts_of ws writes.1 a.1)
+
+pub work_of : (ws : List Writer) → AllByRecursion Counts ws → AllByRecursion HasWork ws
+work_of [] a = tt
+work_of (w ∷ ws) a = (λ writes. a.0, work_of ws a.1)
 
 abbrev pub AllLogAs : Bool → List Writer → Type 0
 AllLogAs b ws = AllByRecursion (λ (v : Writer). v.options.no_log ≡ b) ws

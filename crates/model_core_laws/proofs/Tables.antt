@@ -8,7 +8,7 @@ use Rattle.std.proofs.lemmas.List.Folds.{list_any-append}
 use Rattle.std.proofs.lemmas.Bool.{or_cases, or_left, or_right, eqb-true, eq-eqb, cond-true, cond-false, cases_lt}
 use Rattle.model_base.specs.History.{Entry}
 use Rattle.model_core.specs.Core.{Options, Writer, Client, client_at, leads, LogPhase, free, led, built, stalled, in_log, marked, handed, TablePhase, launched, published, State, has_run, table_group, in_hand, among}
-use Rattle.model_core.specs.CoreLaw.{IsCore, IsSubsequence, in_order, waiting_clients, writers_in, hand, hand_with_runs, unpublished_writers, IsEntryOf}
+use Rattle.model_core.specs.CoreLaw.{IsCore, IsSubsequence, in_order, waiting_clients, writers_in, hand, hand_with_runs, unpublished_writers, group_with_runs, unpublished_groups, AreParts, IsEntryOf}
 use Rattle.model_core.specs.Step.{when}
 use Rattle.model_core_laws.proofs.Lists.{Parted, parted}
 
@@ -196,6 +196,34 @@ cut_ahead o s ins fin core =
     let split = groups_split o s core.single_stage core.is_table.0 in
     parted IsEntryOf (members o s) (filter has_run (unpublished_writers o s published)) core.is_boundary.rest
     (subst (λ ws. AllZip IsEntryOf ws core.is_boundary.rest) (ap (filter has_run) split ∙ filter-append has_run (table_group o s) (unpublished_writers o s published)) core.ahead)
+
+-- the log's parts stay at the boundary where the same groups aren't published
+pub parts_same : (o : Options) (s t : State) (front rest : List Entry) (parts : List (List Entry)) → unpublished_groups o s s.table ≡ unpublished_groups o t t.table → AreParts o s front rest parts → AreParts o t front rest parts
+parts_same o s t front rest parts e is = record {
+  before = is.before;
+  cut = is.cut;
+  ahead = is.ahead;
+  each = subst (λ wss. AllZip (λ (ws : List Writer) (xs : List Entry). AllZip IsEntryOf (filter has_run ws) xs) wss is.ahead) e is.each;
+  all = is.all;
+  as_one = is.as_one;
+  split = is.split;
+}
+
+-- the launched group is the first of those that aren't published
+pub groups_cut : (o : Options) (s : State) → (o.pipelined ≡ false → s.second ≡ []) → 0 < length (table_group o s) → s.second ++ group_with_runs s.log ≡ table_group o s ∷ unpublished_groups o s published
+groups_cut o s single some = by o.pipelined s.second s.log single some
+  where
+    by : (pipelined : Bool) (second : List (List Writer)) (log : LogPhase) → (pipelined ≡ false → second ≡ []) → 0 < length (table_group (record o { pipelined = pipelined }) (record s { second = second; log = log }))
+        → second ++ group_with_runs log ≡ table_group (record o { pipelined = pipelined }) (record s { second = second; log = log }) ∷ unpublished_groups (record o { pipelined = pipelined }) (record s { second = second; log = log }) published
+    by true [] log single some = absurd (omega arith)
+    by true (ws ∷ wss) log single some = refl
+    by false second (in_log ws) single some = rw (single refl) refl
+    by false second free single some = absurd (omega arith)
+    by false second (led c) single some = absurd (omega arith)
+    by false second (built ws) single some = absurd (omega arith)
+    by false second (stalled ws) single some = absurd (omega arith)
+    by false second (marked ws) single some = absurd (omega arith)
+    by false second (handed c) single some = absurd (omega arith)
 
 -- a group that has a leader isn't empty
 pub some_led : (c : ℕ) (ws : List Writer) → leads c ws ≡ true → 0 < length ws

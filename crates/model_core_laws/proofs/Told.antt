@@ -1,5 +1,6 @@
 -- What stays true of the clients' calls while events come.
 use Rattle.std.proofs.Common.{◌≡◌, ℕ, zero, suc, ◌+◌, ◌≤◌, true, false, List, [], ◌∷◌, ◌++◌, length, map, Option, Some, None, is_some, IsSome, slice_get, MatchOption, ◌==◌, refl, ap, sym, ◌∙◌, append_assoc, arith}
+use mathlib.Core.List.{IsPrefix}
 use Rattle.std.specs.List.{AllByRecursion}
 use Rattle.std.proofs.lemmas.List.{append-nil}
 use Rattle.std.proofs.lemmas.List.Elements.{filter-append}
@@ -12,11 +13,13 @@ use Rattle.model_base.specs.Batch.{count_of}
 use Rattle.model_base.specs.History.{Entry, IsUpTo}
 use Rattle.model_base.specs.Progress.{first_missing, early_refusal, next_entry, batch_after}
 use Rattle.model_base.specs.Runs.{commands_of}
+use Rattle.model_base.specs.LogContents.{AreGroupsOf}
 use Rattle.model_base.specs.Outcomes.{entries_of_client}
+use Rattle.model_base.proofs.Prefixes.{prefix_trans}
 use Rattle.model_base.specs.Calls.{Command, add, clear, commit, get, many, scan, updates, stop, unstop, slow, unslow, Reply, quiet, accepted, refused, found, found_each, rows, updates_found, read_failed, done, held, not_held, no_memory, Call}
-use Rattle.model_core.specs.Core.{Options, Writer, Client, LogPhase, free, led, built, stalled, in_log, marked, handed, State, client_at}
+use Rattle.model_core.specs.Core.{Options, Writer, Client, LogPhase, free, led, built, stalled, in_log, marked, handed, State, client_at, plain_options, command_of, log_groups}
 use Rattle.model_core.specs.CoreLaw.{IsCore, hand, writers_in}
-use Rattle.model_core.specs.Replies.{seen_up_to, knows_log_failed, entries_told, ReadsAt, Gets, GetsMany, Scans, IfThere, IsHandled, MayRefuse, MayReply, AreRight, lines_at}
+use Rattle.model_core.specs.Replies.{seen_up_to, knows_log_failed, entries_told, ReadsAt, Gets, GetsMany, Scans, Updates, IfThere, IsHandled, MayRefuse, MayReply, AreRight, lines_at}
 use Rattle.model_core_laws.proofs.Groups.{SameSlowdown}
 use Rattle.model_core_laws.proofs.Lists.{all_append, all_weaker}
 
@@ -34,6 +37,10 @@ unanswered (in_log ws) queue = queue
 unanswered (marked ws) queue = queue
 unanswered (handed c) queue = queue
 
+-- a writer that writes has no answer yet
+abbrev pub HasNoAnswer : Writer → Type 0
+HasNoAnswer w = w.since ≡ None → w.answer ≡ None
+
 -- a built group may be slowed down as a whole, or not at all
 abbrev pub IsOneKind : LogPhase → Type 0
 IsOneKind (built ws) = SameSlowdown ws
@@ -44,18 +51,32 @@ IsOneKind (in_log ws) = Unit {0}
 IsOneKind (marked ws) = Unit {0}
 IsOneKind (handed c) = Unit {0}
 
+-- What the answer of a read of the log says: it was made at a sequence that was published, and the log has groups of its
+-- own for the logged entries up to there.
+pub record IsReadAnswer (o : Options) (s : State) (client : Client) (w : Writer) (at : ℕ) : Type 0 where
+  pub from : ℕ
+  pub reads : w.since ≡ Some from
+  pub not_below : seen_up_to client.calls ≤ at
+  pub published : at ≤ s.last
+  pub front : List Entry
+  pub is_front : IsUpTo o.start s.entries at front
+  pub groups : List (List Entry)
+  pub in_log : IsPrefix groups (log_groups s)
+  pub up_to : AreGroupsOf front groups
+  pub entries : entries_of_client w.client s.entries ≡ entries_told w.client client.calls
+
 -- what a writer's answer says of its client's entries
 abbrev pub IsAnswer : Options → State → Client → Writer → Option Reply → Type 0
 IsAnswer o s client w None = entries_of_client w.client s.entries ≡ entries_told w.client client.calls
 IsAnswer o s client w (Some (accepted first last records)) = (records ≡ w.records) × (last + 1 ≡ first + count_of w.records)
     × (entries_of_client w.client s.entries ≡ entries_told w.client client.calls ++ next_entry w.client (entries_told w.client client.calls) w.options first w.records ∷ [])
-    × (knows_log_failed client.calls ≡ false)
-IsAnswer o s client w (Some (refused why)) = MayRefuse o s client.calls w.options why × (entries_of_client w.client s.entries ≡ entries_told w.client client.calls)
+    × (knows_log_failed client.calls ≡ false) × (w.since ≡ None)
+IsAnswer o s client w (Some (refused why)) = MayRefuse o s client.calls w.options why × (entries_of_client w.client s.entries ≡ entries_told w.client client.calls) × (w.since ≡ None)
 IsAnswer o s client w (Some quiet) = ⊥
 IsAnswer o s client w (Some (found at v)) = ⊥
 IsAnswer o s client w (Some (found_each at vs)) = ⊥
 IsAnswer o s client w (Some (rows at pairs)) = ⊥
-IsAnswer o s client w (Some (updates_found at records)) = ⊥
+IsAnswer o s client w (Some (updates_found at records)) = IsReadAnswer o s client w at
 IsAnswer o s client w (Some (read_failed count)) = ⊥
 IsAnswer o s client w (Some done) = ⊥
 IsAnswer o s client w (Some held) = ⊥
@@ -65,10 +86,20 @@ IsAnswer o s client w (Some no_memory) = ⊥
 pub record Waits (o : Options) (plans : List (List Command)) (s : State) (w : Writer) : Type 0 where
   pub client : Client
   pub there : client_at s w.client ≡ Some client
-  pub batch : w.records ≡ batch_after client.calls
-  pub passed : early_refusal o.families o.batch_bytes false w.records w.options ≡ None
-  pub asked : (lines : List Command) → lines_at plans w.client ≡ Some lines → lines ≡ commands_of client.calls ++ commit w.options ∷ client.left
+  pub batch : w.since ≡ None → w.records ≡ batch_after client.calls
+  pub passed : w.since ≡ None → early_refusal o.families o.batch_bytes false w.records w.options ≡ None
+  -- a read of the log waits like a write that may wait
+  pub plain : (n : ℕ) → w.since ≡ Some n → w.options ≡ plain_options
+  pub asked : (lines : List Command) → lines_at plans w.client ≡ Some lines → lines ≡ commands_of client.calls ++ command_of w ∷ client.left
   pub answer : IsAnswer o s client w w.answer
+
+-- a writer that may not be slowed down writes
+pub slow_writes : (o : Options) (plans : List (List Command)) (s : State) (w : Writer) → Waits o plans s w → w.options.no_slowdown ≡ true → w.since ≡ None
+slow_writes o plans s w is quick = by w.since refl
+  where
+    by : (since : Option ℕ) → w.since ≡ since → since ≡ None
+    by None reads = refl
+    by (Some n) reads = absurd (let plain : w.options.no_slowdown ≡ false = ap (λ (how : WriteOptions). how.no_slowdown) (is.plain n reads) in cc)
 
 pub record IsToldSoFar (o : Options) (plans : List (List Command)) (s : State) (c : ℕ) (client : Client) : Type 0 where
   pub added : client.added ≡ batch_after client.calls
@@ -84,7 +115,7 @@ pub record Told (o : Options) (plans : List (List Command)) (s : State) : Type 0
   pub each : (c : ℕ) (client : Client) → client_at s c ≡ Some client → IsToldSoFar o plans s c client
   pub of_clients : AllByRecursion (λ (x : Entry). IsSome (client_at s x.client)) s.entries
   pub waits : AllByRecursion (Waits o plans s) (writers s)
-  pub none : AllByRecursion (λ (w : Writer). w.answer ≡ None) (unanswered s.log s.queue)
+  pub none : AllByRecursion HasNoAnswer (unanswered s.log s.queue)
   pub one_kind : IsOneKind s.log
 
 -- Replies that were right stay right when the history grows and when the log fails.
@@ -95,6 +126,7 @@ up_to_more start entries xs at front is = record { rest = is.rest ++ xs; split =
 pub record Grows (s t : State) : Type 0 where
   pub new : List Entry
   pub entries : t.entries ≡ s.entries ++ new
+  pub logged : IsPrefix (log_groups s) (log_groups t)
   pub log_failed : s.log_failed ≡ true → t.log_failed ≡ true
   pub last : s.last ≤ t.last
 
@@ -176,6 +208,27 @@ scans_more o s t grows before family lo hi held m = m
 scans_more o s t grows before family lo hi not_held m = m
 scans_more o s t grows before family lo hi no_memory m = m
 
+updates_more : (o : Options) (s t : State) → Grows s t → (before : List Call) (n : ℕ) (reply : Reply) → Updates o s before n reply → Updates o t before n reply
+unfolding reads_more
+updates_more o s t grows before n (updates_found at records) m = record {
+  reads = reads_more o s t grows before at (λ m. Unit {0}) m.reads;
+  groups = m.groups;
+  in_log = prefix_trans m.groups (log_groups s) (log_groups t) m.in_log grows.logged;
+  up_to = m.up_to;
+  answer = m.answer;
+}
+updates_more o s t grows before n (accepted first last records) m = m
+updates_more o s t grows before n (refused why) m = m
+updates_more o s t grows before n quiet m = m
+updates_more o s t grows before n (found at v) m = m
+updates_more o s t grows before n (found_each at vs) m = m
+updates_more o s t grows before n (rows at pairs) m = m
+updates_more o s t grows before n (read_failed count) m = m
+updates_more o s t grows before n done m = m
+updates_more o s t grows before n held m = m
+updates_more o s t grows before n not_held m = m
+updates_more o s t grows before n no_memory m = m
+
 there_more : (o : Options) (named : List ℕ) (reply : Reply) (X Y : Type 0) → (X → Y) → IfThere o named reply X → IfThere o named reply Y
 there_more o named reply X Y more m = by (first_missing o.families named) m
   where
@@ -190,7 +243,7 @@ reply_more o s t grows before (commit how) reply m = commits_more o s t grows be
 reply_more o s t grows before (get key) reply m = there_more o (key.family ∷ []) reply _ _ (gets_more o s t grows before key reply) m
 reply_more o s t grows before (many keys) reply m = there_more o (map (λ (k : Key). k.family) keys) reply _ _ (many_more o s t grows before keys reply) m
 reply_more o s t grows before (scan family lo hi) reply m = there_more o (family ∷ []) reply _ _ (scans_more o s t grows before family lo hi reply) m
-reply_more o s t grows before (updates n) reply m = m
+reply_more o s t grows before (updates n) reply m = updates_more o s t grows before n reply m
 reply_more o s t grows before stop reply m = m
 reply_more o s t grows before unstop reply m = m
 reply_more o s t grows before (slow rate) reply m = m
@@ -205,13 +258,24 @@ own_same c s t grows none = ap (entries_of_client c) grows.entries ∙ (filter-a
 
 pub answer_same : (o : Options) (s t : State) (client : Client) (w : Writer) (answer : Option Reply) (grows : Grows s t) → entries_of_client w.client grows.new ≡ [] → IsAnswer o s client w answer → IsAnswer o t client w answer
 answer_same o s t client w None grows none is = own_same w.client s t grows none ∙ is
-answer_same o s t client w (Some (accepted first last records)) grows none is = (is.0, is.1, own_same w.client s t grows none ∙ is.2, is.3)
-answer_same o s t client w (Some (refused why)) grows none is = (refusal_more o s t grows client.calls w.options why is.0, own_same w.client s t grows none ∙ is.1)
+answer_same o s t client w (Some (accepted first last records)) grows none is = (is.0, is.1, own_same w.client s t grows none ∙ is.2, is.3, is.4)
+answer_same o s t client w (Some (refused why)) grows none is = (refusal_more o s t grows client.calls w.options why is.0, own_same w.client s t grows none ∙ is.1, is.2)
 answer_same o s t client w (Some quiet) grows none is = is
 answer_same o s t client w (Some (found at v)) grows none is = is
 answer_same o s t client w (Some (found_each at vs)) grows none is = is
 answer_same o s t client w (Some (rows at pairs)) grows none is = is
-answer_same o s t client w (Some (updates_found at records)) grows none is = is
+answer_same o s t client w (Some (updates_found at records)) grows none is = record {
+  from = is.from;
+  reads = is.reads;
+  not_below = is.not_below;
+  published = omega (arith, is.published, grows.last);
+  front = is.front;
+  is_front = up_to_grown o s t grows at is.front is.is_front;
+  groups = is.groups;
+  in_log = prefix_trans is.groups (log_groups s) (log_groups t) is.in_log grows.logged;
+  up_to = is.up_to;
+  entries = own_same w.client s t grows none ∙ is.entries;
+}
 answer_same o s t client w (Some (read_failed count)) grows none is = is
 answer_same o s t client w (Some done) grows none is = is
 answer_same o s t client w (Some held) grows none is = is
@@ -228,6 +292,7 @@ waits_same o plans s t w grows e none is = record {
   there = same_client s t e w.client ∙ is.there;
   batch = is.batch;
   passed = is.passed;
+  plain = is.plain;
   asked = is.asked;
   answer = answer_same o s t is.client w w.answer grows none is.answer;
 }
@@ -235,7 +300,7 @@ waits_same o plans s t w grows e none is = record {
 -- an event that changes no client
 pub told_without : (o : Options) (plans : List (List Command)) (s t : State) (grows : Grows s t) → t.clients ≡ s.clients
     → ((c : ℕ) (client : Client) → client_at s c ≡ Some client → client.idle ≡ true → entries_of_client c grows.new ≡ [])
-    → AllByRecursion (λ (x : Entry). IsSome (client_at t x.client)) grows.new → AllByRecursion (Waits o plans t) (writers t) → AllByRecursion (λ (w : Writer). w.answer ≡ None) (unanswered t.log t.queue) → IsOneKind t.log
+    → AllByRecursion (λ (x : Entry). IsSome (client_at t x.client)) grows.new → AllByRecursion (Waits o plans t) (writers t) → AllByRecursion HasNoAnswer (unanswered t.log t.queue) → IsOneKind t.log
     → Told o plans s → IsCore o t → Told o plans t
 told_without o plans s t grows e idle of_clients waits none kind told core = record {
   core = core;
@@ -256,10 +321,11 @@ told_without o plans s t grows e idle of_clients waits none kind told core = rec
 }
 
 -- an event that changes no client and gives no run
-pub told_lines : (o : Options) (plans : List (List Command)) (s t : State) → t.clients ≡ s.clients → t.entries ≡ s.entries → t.log_failed ≡ s.log_failed → s.last ≤ t.last
-    → ((P : Writer → Type 0) → AllByRecursion P (writers s) → AllByRecursion P (writers t)) → AllByRecursion (λ (w : Writer). w.answer ≡ None) (unanswered t.log t.queue) → IsOneKind t.log
+pub told_lines : (o : Options) (plans : List (List Command)) (s t : State) → t.clients ≡ s.clients → t.entries ≡ s.entries → t.groups ≡ s.groups → t.log_failed ≡ s.log_failed → s.last ≤ t.last
+    → ((P : Writer → Type 0) → AllByRecursion P (writers s) → AllByRecursion P (writers t)) → AllByRecursion HasNoAnswer (unanswered t.log t.queue) → IsOneKind t.log
     → Told o plans s → IsCore o t → Told o plans t
-told_lines o plans s t clients entries log_failed last same none kind told core =
-    let grows : Grows s t = record { new = []; entries = entries ∙ sym (append-nil s.entries); log_failed = λ was. log_failed ∙ was; last = last } in
+told_lines o plans s t clients entries groups log_failed last same none kind told core =
+    let logged : log_groups t ≡ log_groups s = rw (entries, groups) refl in
+    let grows : Grows s t = record { new = []; entries = entries ∙ sym (append-nil s.entries); logged = ([], append-nil (log_groups s) ∙ sym logged); log_failed = λ was. log_failed ∙ was; last = last } in
     told_without o plans s t grows clients (λ c client there idle. refl) tt
     (all_weaker (Waits o plans s) (Waits o plans t) (λ w is. waits_same o plans s t w grows clients refl is) (writers t) (same (Waits o plans s) told.waits)) none kind told core

@@ -1,12 +1,12 @@
 -- What the events of one client share: this client goes on, and the others wait as before.
-use Rattle.std.proofs.Common.{◌≡◌, ℕ, ◌-◌, true, ◌⊎◌, inl, inr, List, [], ◌∷◌, ◌++◌, length, Some, None, is_some, IsSome, refl, ap, sym, ◌∙◌, subst, append-nil, arith}
+use Rattle.std.proofs.Common.{◌≡◌, ℕ, ◌-◌, true, ◌⊎◌, inl, inr, List, [], ◌∷◌, ◌++◌, length, Some, is_some, IsSome, refl, ap, sym, ◌∙◌, subst, append-nil, arith}
 use Rattle.std.specs.List.{AllByRecursion}
 use Rattle.std.proofs.lemmas.Bool.{cases_eq}
 use Rattle.std.proofs.lemmas.List.{length-set}
 use Rattle.model_base.specs.History.{Entry}
 use Rattle.model_base.specs.Runs.{commands_of}
 use Rattle.model_base.specs.Calls.{Command, Reply}
-use Rattle.model_core.specs.Core.{Options, Writer, Client, State, client_at, with_client, next_call, after_reply}
+use Rattle.model_core.specs.Core.{Options, Writer, Client, State, client_at, with_client, next_call, after_reply, log_groups}
 use Rattle.model_core.specs.CoreLaw.{IsCore, hand, writers_in, waiting_clients}
 use Rattle.model_core.specs.Replies.{lines_at}
 use Rattle.model_core_laws.proofs.Clients.{replaced, unchanged, still_there}
@@ -14,18 +14,19 @@ use Rattle.model_core_laws.proofs.Given.{IsAbsent, absent}
 use Rattle.model_core_laws.proofs.Lists.{all_weaker}
 use Rattle.model_core_laws.proofs.Ready.{IsReady, asked_push, goes_ahead}
 use Rattle.model_core_laws.proofs.Tables.{times, there, there_append, waiting_parts}
-use Rattle.model_core_laws.proofs.Told.{Told, Waits, Grows, IsToldSoFar, writers, unanswered, own_same, answer_same, right_more, same_client}
+use Rattle.model_core_laws.proofs.Told.{HasNoAnswer, Told, Waits, Grows, IsToldSoFar, writers, unanswered, own_same, answer_same, right_more, same_client}
 
 -- one client goes on, and no entry is added
 pub record GoesOn (s t : State) (c : ℕ) (old new : Client) : Type 0 where
   pub there : client_at s c ≡ Some old
   pub clients : t.clients ≡ (with_client s c new).clients
   pub entries : t.entries ≡ s.entries
+  pub logged : log_groups t ≡ log_groups s
   pub log_failed : t.log_failed ≡ s.log_failed
   pub last : t.last ≡ s.last
 
 abbrev grows : (s t : State) (c : ℕ) (old new : Client) → GoesOn s t c old new → Grows s t
-grows s t c old new on = record { new = []; entries = on.entries ∙ sym (append-nil s.entries); log_failed = λ was. on.log_failed ∙ was; last = let e = on.last in omega arith }
+grows s t c old new on = record { new = []; entries = on.entries ∙ sym (append-nil s.entries); logged = ([], append-nil (log_groups s) ∙ sym on.logged); log_failed = λ was. on.log_failed ∙ was; last = let e = on.last in omega arith }
 
 pub the_client : (s t : State) (c : ℕ) (old new : Client) → GoesOn s t c old new → client_at t c ≡ Some new
 the_client s t c old new on = same_client (with_client s c new) t on.clients c ∙ replaced s c old new on.there
@@ -43,6 +44,7 @@ others_wait o plans s t c old new on (w ∷ ws) others is = (
     there = other_client s t c old new on w.client others.0 ∙ a.there;
     batch = a.batch;
     passed = a.passed;
+    plain = a.plain;
     asked = a.asked;
     answer = answer_same o s t a.client w w.answer (grows s t c old new on) refl a.answer;
   },
@@ -50,7 +52,7 @@ others_wait o plans s t c old new on (w ∷ ws) others is = (
 )
 
 pub told_with : (o : Options) (plans : List (List Command)) (s t : State) (c : ℕ) (old new : Client) → GoesOn s t c old new → IsToldSoFar o plans s c new
-    → AllByRecursion (Waits o plans t) (writers t) → t.log ≡ s.log → AllByRecursion (λ (w : Writer). w.answer ≡ None) (unanswered t.log t.queue) → Told o plans s → IsCore o t → Told o plans t
+    → AllByRecursion (Waits o plans t) (writers t) → t.log ≡ s.log → AllByRecursion HasNoAnswer (unanswered t.log t.queue) → Told o plans s → IsCore o t → Told o plans t
 told_with o plans s t c old new on here waits log none before core = let more = grows s t c old new on in record {
   core = core;
   count = ap length on.clients ∙ (length-set s.clients (c - 1) new ∙ before.count);
@@ -102,7 +104,7 @@ pub answered : (o : Options) (plans : List (List Command)) (s : State) (c : ℕ)
     → Told o plans s → IsCore o (with_client s c (after_reply (next_call old).client command reply)) → Told o plans (with_client s c (after_reply (next_call old).client command reply))
 answered o plans s c old command reply is idle call ready so_far =
     let a = (next_call old).client in let new = after_reply a command reply in let t = with_client s c new in
-    let on : GoesOn s t c old new = record { there = is; clients = refl; entries = refl; log_failed = refl; last = refl } in
+    let on : GoesOn s t c old new = record { there = is; clients = refl; entries = refl; logged = refl; log_failed = refl; last = refl } in
     told_with o plans s t c old new on
     (record {
       added = ready.batch;

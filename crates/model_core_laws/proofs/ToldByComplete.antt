@@ -10,9 +10,10 @@ use Rattle.model_base.specs.Batch.{count_of}
 use Rattle.model_base.specs.History.{Entry, IsHistory, last_of}
 use Rattle.model_base.specs.Progress.{early_refusal, next_entry, batch_after}
 use Rattle.model_base.specs.Runs.{commands_of}
+use Rattle.model_base.specs.Since as log
 use Rattle.model_base.specs.Outcomes.{entries_of_client}
-use Rattle.model_base.specs.Calls.{Command, commit, Reply, quiet, accepted, refused, found, found_each, rows, updates_found, read_failed, done, held, not_held, no_memory, Call}
-use Rattle.model_core.specs.Core.{Options, Writer, Client, State, TablePhase, still, launched, published, client_at, with_client, has_run}
+use Rattle.model_base.specs.Calls.{Command, commit, updates, Reply, quiet, accepted, refused, found, found_each, rows, updates_found, read_failed, done, held, not_held, no_memory, Call}
+use Rattle.model_core.specs.Core.{Options, Writer, Client, State, TablePhase, still, launched, published, client_at, with_client, has_run, line_of, command_of, reply_told, log_groups}
 use Rattle.model_core.specs.Step.{complete, complete_with, after_completion, added_after}
 use Rattle.model_core.specs.CoreLaw.{IsCore, IsEntryOf, hand, hand_with_runs, writers_in, unpublished_writers}
 use Rattle.model_core.specs.Replies.{is_log_fault, MayRefuse, entries_told, lines_at}
@@ -21,6 +22,7 @@ use Rattle.model_core_laws.proofs.Histories.{history_front, history_up_to}
 use Rattle.model_core_laws.proofs.KeptByComplete.{without, found_there, none_without}
 use Rattle.model_core_laws.proofs.KeptByPublish.{member_there}
 use Rattle.model_core_laws.proofs.Lists.{zip_left, contains_cases, contains_head, contains_tail, all_filtered, all_weaker}
+use Rattle.model_core_laws.proofs.ReadLog.{read_is_right}
 use Rattle.model_core_laws.proofs.Ready.{IsReady, ready_push, asked_push, commit_handled}
 use Rattle.model_core_laws.proofs.Tables.{there, there_append, there_filtered, waiting_parts, waits_once, in_hand_once}
 use Rattle.model_core_laws.proofs.Told.{Told, Waits, IsAnswer, IsToldSoFar}
@@ -86,9 +88,12 @@ fault_is o s before how (no.NoFamily family) m e = absurd m
 fault_is o s before how no.NoMemory m e = absurd m
 
 -- The writer's answer becomes the client's reply
+abbrev IsCompleted : Options → State → ℕ → Writer → Client → Option ℕ → Reply → Type 0
+IsCompleted o s m w client since reply = IsReady o s m (client.calls ++ record { command = line_of w.options since; reply = reply_told s since reply } ∷ []) (added_after (reply_told s since reply) client.added)
+
 completes : (o : Options) (plans : List (List Command)) (s : State) (m : ℕ) (w : Writer) (client : Client) (answer : Option Reply) (reply : Reply) → answer ≡ Some reply → find (λ (x : Writer). x.client == m) s.leaving ≡ Some w → w.client ≡ m
-    → w.records ≡ batch_after client.calls → early_refusal o.families o.batch_bytes false w.records w.options ≡ None → IsToldSoFar o plans s m client → IsAnswer o s client w answer → IsCore o s
-    → IsReady o s m (client.calls ++ record { command = commit w.options; reply = reply } ∷ []) (added_after reply client.added)
+    → (w.since ≡ None → w.records ≡ batch_after client.calls) → (w.since ≡ None → early_refusal o.families o.batch_bytes false w.records w.options ≡ None) → IsToldSoFar o plans s m client → IsAnswer o s client w answer → IsCore o s
+    → IsCompleted o s m w client w.since reply
 completes o plans s m w client None reply e left same batch passed so_far answer core = absurd (cc)
 completes o plans s m w client (Some (accepted first last records)) reply e left same batch passed so_far answer core =
     let own_is : entries_of_client m s.entries ≡ entries_told m client.calls ++ next_entry m (entries_told m client.calls) w.options first w.records ∷ [] =
@@ -98,21 +103,29 @@ completes o plans s m w client (Some (accepted first last records)) reply e left
     let published_x : first + count_of w.records - 1 ≤ s.last = left_is_published o s m w x core left refl there_x in
     let is : accepted first last records ≡ reply = cc in
     let up_to : last ≤ s.last = let a = answer.1 in omega arith in
-    subst (λ reply. IsReady o s m (client.calls ++ record { command = commit w.options; reply = reply } ∷ []) (added_after reply client.added)) is
+    let writes = answer.4 in
+    subst (IsCompleted o s m w client w.since) is (subst (λ since. IsCompleted o s m w client since (accepted first last records)) (sym writes)
     (ready_push o s m client.calls (record { command = commit w.options; reply = accepted first last records }) [] so_far.right
-    (commit_handled o s client.calls w.records w.options (accepted first last records) batch passed (record { batch = answer.0 ∙ batch; run = answer.1 ∙ ap (λ records. first + count_of records) (sym answer.0); alive = answer.3 })) refl (let a = so_far.seen_published in omega arith) so_far.log_failed (λ told. absurd (cc))
-    (own_is ∙ ap (λ records. entries_told m client.calls ++ next_entry m (entries_told m client.calls) w.options first records ∷ []) (sym answer.0)))
+    (commit_handled o s client.calls w.records w.options (accepted first last records) (batch writes) (passed writes) (record { batch = answer.0 ∙ batch writes; run = answer.1 ∙ ap (λ records. first + count_of records) (sym answer.0); alive = answer.3 })) refl (let a = so_far.seen_published in omega arith) so_far.log_failed (λ told. absurd (cc))
+    (own_is ∙ ap (λ records. entries_told m client.calls ++ next_entry m (entries_told m client.calls) w.options first records ∷ []) (sym answer.0))))
 completes o plans s m w client (Some (refused why)) reply e left same batch passed so_far answer core =
     let is : refused why ≡ reply = cc in
-    subst (λ reply. IsReady o s m (client.calls ++ record { command = commit w.options; reply = reply } ∷ []) (added_after reply client.added)) is
+    let writes = answer.2 in
+    subst (IsCompleted o s m w client w.since) is (subst (λ since. IsCompleted o s m w client since (refused why)) (sym writes)
     (ready_push o s m client.calls (record { command = commit w.options; reply = refused why }) client.added so_far.right
-    (commit_handled o s client.calls w.records w.options (refused why) batch passed answer.0) so_far.added so_far.seen_published so_far.log_failed (fault_is o s client.calls w.options why answer.0)
-    (subst (λ m. entries_of_client m s.entries ≡ entries_told m client.calls) same answer.1))
+    (commit_handled o s client.calls w.records w.options (refused why) (batch writes) (passed writes) answer.0) so_far.added so_far.seen_published so_far.log_failed (fault_is o s client.calls w.options why answer.0)
+    (subst (λ m. entries_of_client m s.entries ≡ entries_told m client.calls) same answer.1)))
 completes o plans s m w client (Some quiet) reply e left same batch passed so_far answer core = absurd answer
 completes o plans s m w client (Some (found at v)) reply e left same batch passed so_far answer core = absurd answer
 completes o plans s m w client (Some (found_each at vs)) reply e left same batch passed so_far answer core = absurd answer
 completes o plans s m w client (Some (rows at pairs)) reply e left same batch passed so_far answer core = absurd answer
-completes o plans s m w client (Some (updates_found at records)) reply e left same batch passed so_far answer core = absurd answer
+completes o plans s m w client (Some (updates_found at records)) reply e left same batch passed so_far answer core =
+    let is : updates_found at records ≡ reply = cc in
+    let given = log.since answer.from at (log.records_in [] (log_groups s)) in
+    subst (IsCompleted o s m w client w.since) is (subst (λ since. IsCompleted o s m w client since (updates_found at records)) (sym answer.reads)
+    (ready_push o s m client.calls (record { command = updates answer.from; reply = updates_found at given }) client.added so_far.right (read_is_right o s client w at core answer)
+    so_far.added (let a = so_far.seen_published in let b = answer.published in omega (arith, a, b)) so_far.log_failed (λ told. absurd (cc))
+    (subst (λ m. entries_of_client m s.entries ≡ entries_told m client.calls) same answer.entries)))
 completes o plans s m w client (Some (read_failed count)) reply e left same batch passed so_far answer core = absurd answer
 completes o plans s m w client (Some done) reply e left same batch passed so_far answer core = absurd answer
 completes o plans s m w client (Some held) reply e left same batch passed so_far answer core = absurd answer
@@ -120,14 +133,14 @@ completes o plans s m w client (Some not_held) reply e left same batch passed so
 completes o plans s m w client (Some no_memory) reply e left same batch passed so_far answer core = absurd answer
 
 completed_told : (o : Options) (plans : List (List Command)) (s : State) (m : ℕ) (w : Writer) (old : Client) (reply : Reply) → client_at s m ≡ Some old → find (λ (x : Writer). x.client == m) s.leaving ≡ Some w → w.answer ≡ Some reply
-    → Told o plans s → IsCore o (record (with_client s m (after_completion old w reply)) { leaving = without m s.leaving }) → Told o plans (record (with_client s m (after_completion old w reply)) { leaving = without m s.leaving })
+    → Told o plans s → IsCore o (record (with_client s m (after_completion old w (reply_told s w.since reply))) { leaving = without m s.leaving }) → Told o plans (record (with_client s m (after_completion old w (reply_told s w.since reply))) { leaving = without m s.leaving })
 completed_told o plans s m w old reply is left answer so_far =
-    let new = after_completion old w reply in let t : State = record (with_client s m new) { leaving = without m s.leaving } in
-    let on : GoesOn s t m old new = record { there = is; clients = refl; entries = refl; log_failed = refl; last = refl } in
+    let new = after_completion old w (reply_told s w.since reply) in let t : State = record (with_client s m new) { leaving = without m s.leaving } in
+    let on : GoesOn s t m old new = record { there = is; clients = refl; entries = refl; logged = refl; log_failed = refl; last = refl } in
     let place = found_is m s.leaving w left in let parts = apart (Waits o plans s) (writers_in s.second) (hand s.log) s.queue s.leaving so_far.waits in
     let waits = place.1 (Waits o plans s) parts.at_leaving in
     let same : waits.client ≡ old = (let e : client_at s m ≡ Some waits.client = subst (λ c. client_at s c ≡ Some waits.client) place.0 waits.there in cc) in
-    let ready = completes o plans s m w old w.answer reply answer left place.0 (waits.batch ∙ ap (λ (c : Client). batch_after c.calls) same) waits.passed (so_far.each m old is)
+    let ready = completes o plans s m w old w.answer reply answer left place.0 (λ writes. waits.batch writes ∙ ap (λ (c : Client). batch_after c.calls) same) waits.passed (so_far.each m old is)
     (subst (λ (c : Client). IsAnswer o s c w w.answer) same waits.answer) so_far.core in
     let a = waiting_parts m s in let b = waits_once o s m so_far.core in let d = found_there m s.leaving w left in
     told_with o plans s t m old new on
@@ -136,8 +149,8 @@ completed_told o plans s m w old reply is left answer so_far =
       right = ready.right;
       seen_published = ready.seen_published;
       log_failed = ready.log_failed;
-      asked = λ idle lines at. subst (λ (c : Client). lines ≡ commands_of c.calls ++ commit w.options ∷ c.left) same (waits.asked lines (subst (λ c. lines_at plans c ≡ Some lines) (sym place.0) at))
-          ∙ asked_push old.calls (record { command = commit w.options; reply = reply }) old.left;
+      asked = λ idle lines at. subst (λ (c : Client). lines ≡ commands_of c.calls ++ command_of w ∷ c.left) same (waits.asked lines (subst (λ c. lines_at plans c ≡ Some lines) (sym place.0) at))
+          ∙ asked_push old.calls (record { command = command_of w; reply = reply_told s w.since reply }) old.left;
       entries = λ idle. ready.entries;
     })
     (together (Waits o plans t) (writers_in s.second) (hand s.log) s.queue (without m s.leaving) (record {
@@ -154,7 +167,7 @@ told_by_complete o plans s t m so_far e core = by_writer (find (λ (w : Writer).
   where
     by_client : (w : Writer) → find (λ (x : Writer). x.client == m) s.leaving ≡ Some w → (client : Option Client) → client_at s m ≡ client → (reply : Option Reply) → w.answer ≡ reply → complete_with s m client w reply ≡ Some t → Told o plans t
     by_client w left (Some client) is (Some reply) answer e =
-        becomes o plans (record (with_client s m (after_completion client w reply)) { leaving = without m s.leaving }) t (cc) core (completed_told o plans s m w client reply is left answer so_far)
+        becomes o plans (record (with_client s m (after_completion client w (reply_told s w.since reply))) { leaving = without m s.leaving }) t (cc) core (completed_told o plans s m w client reply is left answer so_far)
     by_client w left (Some client) is None answer e = absurd (cc)
     by_client w left None is reply answer e = absurd (cc)
 

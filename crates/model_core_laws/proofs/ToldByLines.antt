@@ -1,19 +1,19 @@
 -- Events that neither change a client nor give a run keep what holds of the clients' replies.
-use Rattle.std.proofs.Common.{◌≡◌, ℕ, ◌≤◌, ◌==◌, ◌&&◌, Bool, true, false, not, if◌then◌else◌, List, [], ◌∷◌, ◌++◌, take, drop, Some, None, refl, ap, sym, ◌∙◌, subst, append_assoc, append-nil, arith}
+use Rattle.std.proofs.Common.{◌≡◌, ℕ, ◌≤◌, ◌==◌, ◌&&◌, Bool, true, false, not, if◌then◌else◌, List, [], ◌∷◌, ◌++◌, take, drop, Some, refl, ap, sym, ◌∙◌, subst, append_assoc, append-nil, arith}
 use Rattle.std.specs.List.{AllByRecursion, list_all}
 use Rattle.std.proofs.lemmas.List.{take-append-drop}
 use Rattle.std.proofs.lemmas.List.Concat.{flat_map-append}
 use Rattle.model_base.specs.History.{IsHistory}
 use Rattle.model_base.specs.Calls.{Command}
 use Rattle.model_core.specs.Core.{Options, Writer, LogPhase, free, led, built, stalled, in_log, marked, handed, TablePhase, still, launched, published, State, leads, table_group, runners, among, first_group, in_hand}
-use Rattle.model_core.specs.Step.{elect, build, group_size, boundary, to_second, next, launch, insert, finish, publish, exit, is_last, group_last, entry_ahead, leave}
+use Rattle.model_core.specs.Step.{elect, build, group_size, boundary, to_second, next, launch, insert, finish, publish, exit, exit_reader, has_read, is_last, group_last, entry_ahead, leave}
 use Rattle.model_core.specs.CoreLaw.{IsCore, hand, writers_in}
 use Rattle.model_core_laws.proofs.Groups.{one_slowdown}
 use Rattle.model_core_laws.proofs.Histories.{history_right, history_front, history_rises}
 use Rattle.model_core_laws.proofs.KeptByPublish.{group_ends}
 use Rattle.model_core_laws.proofs.Lists.{all_append, all_front, all_back}
 use Rattle.model_core_laws.proofs.Tables.{with_table, cut_ahead, when_some}
-use Rattle.model_core_laws.proofs.Told.{Told, writers, unanswered, told_lines}
+use Rattle.model_core_laws.proofs.Told.{HasNoAnswer, Told, writers, unanswered, told_lines}
 
 -- what holds of all writers that wait, place by place
 pub record Parts (P : Writer → Type 0) (seconds hands queue leaving : List Writer) : Type 0 where
@@ -38,7 +38,7 @@ told_by_elect o plans s t c told e core = by_phase s.log refl e
   where
     by_phase : (phase : LogPhase) → s.log ≡ phase → elect s c phase ≡ Some t → Told o plans t
     by_phase free is e = let h = when_some (leads c s.queue) (record s { log = led c }) t e in
-        becomes o plans (record s { log = led c }) t h.1 core (told_lines o plans s (record s { log = led c }) refl refl refl (omega arith) (λ P a. rw is at a) (rw is at told.none) tt told)
+        becomes o plans (record s { log = led c }) t h.1 core (told_lines o plans s (record s { log = led c }) refl refl refl refl (omega arith) (λ P a. rw is at a) (rw is at told.none) tt told)
     by_phase (led d) is e = absurd (cc)
     by_phase (built ws) is e = absurd (cc)
     by_phase (in_log ws) is e = absurd (cc)
@@ -55,9 +55,9 @@ told_by_build o plans s t c told e core = by_phase s.log refl e
     by_phase : (phase : LogPhase) → s.log ≡ phase → build o s c phase ≡ Some t → Told o plans t
     by_phase (led d) is e =
         let n = group_size o s in let u : State = record s { log = built (take n s.queue); queue = drop n s.queue } in let h = when_some (c == d) u t e in
-        let queue : AllByRecursion (λ (w : Writer). w.answer ≡ None) s.queue = rw is at told.none in
-        becomes o plans u t h.1 core (told_lines o plans s u refl refl refl (omega arith) (λ P a. subst (AllByRecursion P) (same_built s n d is) a)
-        (subst (AllByRecursion (λ (w : Writer). w.answer ≡ None)) (sym (take-append-drop n s.queue)) queue) (one_slowdown o.group_bytes s.queue) told)
+        let queue : AllByRecursion HasNoAnswer s.queue = rw is at told.none in
+        becomes o plans u t h.1 core (told_lines o plans s u refl refl refl refl (omega arith) (λ P a. subst (AllByRecursion P) (same_built s n d is) a)
+        (subst (AllByRecursion HasNoAnswer) (sym (take-append-drop n s.queue)) queue) (one_slowdown o.group_bytes s.queue) told)
     by_phase free is e = absurd (cc)
     by_phase (built ws) is e = absurd (cc)
     by_phase (in_log ws) is e = absurd (cc)
@@ -70,7 +70,7 @@ told_by_boundary o plans s t c told e core = by_phase s.log refl e
   where
     by_phase : (phase : LogPhase) → s.log ≡ phase → boundary o s c phase ≡ Some t → Told o plans t
     by_phase (in_log ws) is e = let u : State = record s { log = marked ws } in let h = when_some (o.pipelined && leads c ws) u t e in
-        becomes o plans u t h.1 core (told_lines o plans s u refl refl refl (omega arith) (λ P a. rw is at a) (rw is at told.none) tt told)
+        becomes o plans u t h.1 core (told_lines o plans s u refl refl refl refl (omega arith) (λ P a. rw is at a) (rw is at told.none) tt told)
     by_phase free is e = absurd (cc)
     by_phase (led d) is e = absurd (cc)
     by_phase (built ws) is e = absurd (cc)
@@ -87,7 +87,7 @@ told_by_second o plans s t c told e core = by_phase s.log refl e
   where
     by_phase : (phase : LogPhase) → s.log ≡ phase → to_second s c phase ≡ Some t → Told o plans t
     by_phase (marked ws) is e = let u : State = record s { log = handed c; second = s.second ++ ws ∷ [] } in let h = when_some (leads c ws) u t e in
-        becomes o plans u t h.1 core (told_lines o plans s u refl refl refl (omega arith) (λ P a. subst (AllByRecursion P) (same_seconds s c ws is) a) (rw is at told.none) tt told)
+        becomes o plans u t h.1 core (told_lines o plans s u refl refl refl refl (omega arith) (λ P a. subst (AllByRecursion P) (same_seconds s c ws is) a) (rw is at told.none) tt told)
     by_phase free is e = absurd (cc)
     by_phase (led d) is e = absurd (cc)
     by_phase (built ws) is e = absurd (cc)
@@ -100,7 +100,7 @@ told_by_next o plans s t c told e core = by_phase s.log refl e
   where
     by_phase : (phase : LogPhase) → s.log ≡ phase → next s c phase ≡ Some t → Told o plans t
     by_phase (handed d) is e = let u : State = record s { log = free } in let h = when_some (c == d) u t e in
-        becomes o plans u t h.1 core (told_lines o plans s u refl refl refl (omega arith) (λ P a. rw is at a) (rw is at told.none) tt told)
+        becomes o plans u t h.1 core (told_lines o plans s u refl refl refl refl (omega arith) (λ P a. rw is at a) (rw is at told.none) tt told)
     by_phase free is e = absurd (cc)
     by_phase (led d) is e = absurd (cc)
     by_phase (built ws) is e = absurd (cc)
@@ -115,7 +115,7 @@ told_by_launch o plans s t c told e core = by_phase s.table refl e
   where
     by_phase : (phase : TablePhase) → s.table ≡ phase → launch o s c phase ≡ Some t → Told o plans t
     by_phase still is e = let u : State = record s { table = launched [] [] } in let h = when_some (leads c (table_group o s)) u t e in
-        becomes o plans u t h.1 core (told_lines o plans s u refl refl refl (omega arith) (λ P a. a) told.none told.one_kind told)
+        becomes o plans u t h.1 core (told_lines o plans s u refl refl refl refl (omega arith) (λ P a. a) told.none told.one_kind told)
     by_phase (launched ins fin) is e = absurd (cc)
     by_phase published is e = absurd (cc)
 
@@ -125,7 +125,7 @@ told_by_insert o plans s t m told e core = by_phase s.table refl e
     by_phase : (phase : TablePhase) → s.table ≡ phase → insert o s m phase ≡ Some t → Told o plans t
     by_phase (launched ins fin) is e = let u : State = record s { table = launched (ins ++ m ∷ []) fin; inserted = s.inserted ++ entry_ahead s m } in
         let h = when_some (among m (runners (table_group o s)) && not (among m ins)) u t e in
-        becomes o plans u t h.1 core (told_lines o plans s u refl refl refl (omega arith) (λ P a. a) told.none told.one_kind told)
+        becomes o plans u t h.1 core (told_lines o plans s u refl refl refl refl (omega arith) (λ P a. a) told.none told.one_kind told)
     by_phase still is e = absurd (cc)
     by_phase published is e = absurd (cc)
 
@@ -134,7 +134,7 @@ told_by_finish o plans s t m told e core = by_phase s.table refl e
   where
     by_phase : (phase : TablePhase) → s.table ≡ phase → finish s m phase ≡ Some t → Told o plans t
     by_phase (launched ins fin) is e = let u : State = record s { table = launched ins (fin ++ m ∷ []) } in let h = when_some (among m ins && not (among m fin)) u t e in
-        becomes o plans u t h.1 core (told_lines o plans s u refl refl refl (omega arith) (λ P a. a) told.none told.one_kind told)
+        becomes o plans u t h.1 core (told_lines o plans s u refl refl refl refl (omega arith) (λ P a. a) told.none told.one_kind told)
     by_phase still is e = absurd (cc)
     by_phase published is e = absurd (cc)
 
@@ -153,7 +153,7 @@ told_by_publish o plans s t m told e core = by_phase s.table refl e
     by_phase (launched ins fin) is e = let u : State = record s { table = published; last = group_last s.last (table_group o s) } in
         let h = when_some (is_last m fin && list_all (λ c. among c fin) (runners (table_group o s))) u t e in
         let before : IsCore o (with_table s (launched ins fin)) = subst (λ phase. IsCore o (with_table s phase)) is told.core in
-        becomes o plans u t h.1 core (told_lines o plans s u refl refl refl (published_rises o s ins fin before) (λ P a. a) told.none told.one_kind told)
+        becomes o plans u t h.1 core (told_lines o plans s u refl refl refl refl (published_rises o s ins fin before) (λ P a. a) told.none told.one_kind told)
     by_phase still is e = absurd (cc)
     by_phase published is e = absurd (cc)
 
@@ -185,21 +185,44 @@ abbrev exited : State → Bool → State
 exited s pipelined = record (leave (if pipelined then record s { second = drop 1 s.second } else record s { log = free }) (if pipelined then first_group s.second else in_hand s.log)) { table = still }
 
 told_exited : (o : Options) (plans : List (List Command)) (s : State) (pipelined : Bool) → Told o plans s → IsCore o (exited s pipelined) → Told o plans (exited s pipelined)
-told_exited o plans s true told = told_lines o plans s (exited s true) refl refl refl (omega arith)
+told_exited o plans s true told = told_lines o plans s (exited s true) refl refl refl refl (omega arith)
     (λ P a. let p = apart P (writers_in s.second) (hand s.log) s.queue s.leaving a in let cut = seconds_cut P s.second p.at_second in
     together P (writers_in (drop 1 s.second)) (hand s.log) s.queue (s.leaving ++ first_group s.second)
     (record { at_second = cut.0; at_hand = p.at_hand; at_queue = p.at_queue; at_leaving = all_append P s.leaving (first_group s.second) p.at_leaving cut.1 }))
     told.none told.one_kind told
-told_exited o plans s false told = told_lines o plans s (exited s false) refl refl refl (omega arith)
+told_exited o plans s false told = told_lines o plans s (exited s false) refl refl refl refl (omega arith)
     (λ P a. let p = apart P (writers_in s.second) (hand s.log) s.queue s.leaving a in
     together P (writers_in s.second) [] s.queue (s.leaving ++ in_hand s.log)
     (record { at_second = p.at_second; at_hand = tt; at_queue = p.at_queue; at_leaving = all_append P s.leaving (in_hand s.log) p.at_leaving (hand_in_log P s.log p.at_hand) }))
-    (queue_unanswered (λ (w : Writer). w.answer ≡ None) s.log s.queue told.none) tt told
+    (queue_unanswered HasNoAnswer s.log s.queue told.none) tt told
+
+-- who has read the log leaves with its answer
+told_by_reader : (o : Options) (plans : List (List Command)) (s t : State) (c : ℕ) (phase : LogPhase) → s.log ≡ phase → Told o plans s → exit_reader s c phase ≡ Some t → IsCore o t → Told o plans t
+told_by_reader o plans s t c (built (w ∷ [])) is told e core =
+    let u : State = record (leave s (w ∷ [])) { log = free } in
+    let h = when_some (has_read c w) u t e in
+    becomes o plans u t h.1 core (told_lines o plans s u refl refl refl refl (omega arith)
+    (λ P a. let p = apart P (writers_in s.second) (hand s.log) s.queue s.leaving a in
+    together P (writers_in s.second) [] s.queue (s.leaving ++ w ∷ [])
+    (record { at_second = p.at_second; at_hand = tt; at_queue = p.at_queue; at_leaving = all_append P s.leaving (w ∷ []) p.at_leaving (rw is at p.at_hand) }))
+    (queue_unanswered HasNoAnswer s.log s.queue told.none) tt told)
+told_by_reader o plans s t c (built []) is told e core = absurd (cc)
+told_by_reader o plans s t c (built (w ∷ v ∷ ws)) is told e core = absurd (cc)
+told_by_reader o plans s t c free is told e core = absurd (cc)
+told_by_reader o plans s t c (led d) is told e core = absurd (cc)
+told_by_reader o plans s t c (stalled ws) is told e core = absurd (cc)
+told_by_reader o plans s t c (in_log ws) is told e core = absurd (cc)
+told_by_reader o plans s t c (marked ws) is told e core = absurd (cc)
+told_by_reader o plans s t c (handed d) is told e core = absurd (cc)
 
 pub told_by_exit : (o : Options) (plans : List (List Command)) (s t : State) (c : ℕ) → Told o plans s → exit o s c s.table ≡ Some t → IsCore o t → Told o plans t
 told_by_exit o plans s t c told e core = by_phase s.table refl e
   where
     by_phase : (phase : TablePhase) → s.table ≡ phase → exit o s c phase ≡ Some t → Told o plans t
-    by_phase published is e = let h = when_some (leads c (table_group o s)) (exited s o.pipelined) t e in becomes o plans (exited s o.pipelined) t h.1 core (told_exited o plans s o.pipelined told)
-    by_phase still is e = absurd (cc)
-    by_phase (launched ins fin) is e = absurd (cc)
+    by_phase published is e = by_leader (leads c (table_group o s)) e
+      where
+        by_leader : (b : Bool) → (if b then Some (exited s o.pipelined) else exit_reader s c s.log) ≡ Some t → Told o plans t
+        by_leader true e = becomes o plans (exited s o.pipelined) t (cc) core (told_exited o plans s o.pipelined told)
+        by_leader false e = told_by_reader o plans s t c s.log refl told e core
+    by_phase still is e = told_by_reader o plans s t c s.log refl told e core
+    by_phase (launched ins fin) is e = told_by_reader o plans s t c s.log refl told e core

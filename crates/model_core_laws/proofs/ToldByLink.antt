@@ -5,16 +5,16 @@ use Rattle.model_base.specs.declared.write.Refusal.{Refusal}
 use Rattle.model_base.specs.declared.write.WriteOptions.{WriteOptions}
 use Rattle.model_base.specs.Batch.{Record}
 use Rattle.model_base.specs.Progress.{batch_after, early_refusal}
-use Rattle.model_base.specs.Calls.{Command, commit, refused, Call}
-use Rattle.model_core.specs.Core.{Options, Writer, Client, State, LogPhase, free, led, built, stalled, in_log, marked, handed, client_at, next_call, refusal_of, refusal_in, may_link, stall_refusal}
-use Rattle.model_core.specs.Step.{link, link_call, link_with}
+use Rattle.model_base.specs.Calls.{Command, commit, updates, refused, Call}
+use Rattle.model_core.specs.Core.{Options, Writer, Client, State, LogPhase, free, led, built, stalled, in_log, marked, handed, client_at, next_call, refusal_of, refusal_in, may_link, stall_refusal, plain_options}
+use Rattle.model_core.specs.Step.{link, link_call, link_with, link_read}
 use Rattle.model_core.specs.Replies.{IsHandled, MayReply, is_log_fault}
 use Rattle.model_core.specs.CoreLaw.{IsCore, hand, writers_in}
 use Rattle.model_core_laws.proofs.KeptByLink.{none_early}
 use Rattle.model_core_laws.proofs.Lists.{all_append}
 use Rattle.model_core_laws.proofs.Tables.{when_some}
 use Rattle.model_core_laws.proofs.Ready.{ready_push, commit_refused, early_other}
-use Rattle.model_core_laws.proofs.Told.{Told, Waits, writers, unanswered}
+use Rattle.model_core_laws.proofs.Told.{HasNoAnswer, Told, Waits, writers, unanswered}
 use Rattle.model_core_laws.proofs.ToldByLines.{apart, together, becomes}
 use Rattle.model_core_laws.proofs.ToldByClients.{GoesOn, the_client, others_wait, told_with, next_ready, next_asked, idle_absent, answered}
 
@@ -31,22 +31,46 @@ linked_waits : (o : Options) (plans : List (List Command)) (s : State) (c : ℕ)
     → refusal_of o how (next_call old).client.added ≡ None → Told o plans s → IsCore o (link_with o s c (next_call old).client how None) → Told o plans (link_with o s c (next_call old).client how None)
 linked_waits o plans s c old how is idle call passed so_far =
     let a = (next_call old).client in let new : Client = record a { idle = false } in let t = link_with o s c a how None in
-    let w : Writer = record { client = c; options = how; records = a.added; answer = None } in
-    let on : GoesOn s t c old new = record { there = is; clients = refl; entries = refl; log_failed = refl; last = refl } in
+    let w : Writer = record { client = c; options = how; records = a.added; since = None; answer = None } in
+    let on : GoesOn s t c old new = record { there = is; clients = refl; entries = refl; logged = refl; log_failed = refl; last = refl } in
     let ready = next_ready o plans s c old idle (so_far.each c old is) in
     let parts = apart (Waits o plans t) (writers_in s.second) (hand s.log) s.queue s.leaving (others_wait o plans s t c old new on (writers s) (idle_absent o s c old is idle so_far.core) so_far.waits) in
     let waits : Waits o plans t w = record {
       client = new;
       there = the_client s t c old new on;
-      batch = ready.batch;
-      passed = passed;
+      batch = λ writes. ready.batch;
+      passed = λ writes. passed;
+      plain = λ n reads. absurd (cc);
       asked = next_asked o plans s c old idle (so_far.each c old is) (commit how) call;
       answer = ready.entries;
     } in
     told_with o plans s t c old new on (record { added = ready.batch; right = ready.right; seen_published = ready.seen_published; log_failed = ready.log_failed; asked = λ never. absurd (cc); entries = λ never. absurd (cc) })
     (together (Waits o plans t) (writers_in s.second) (hand s.log) (s.queue ++ w ∷ []) s.leaving
     (record { at_second = parts.at_second; at_hand = parts.at_hand; at_queue = all_append (Waits o plans t) s.queue (w ∷ []) parts.at_queue (waits, tt); at_leaving = parts.at_leaving }))
-    refl (one_more_unanswered (λ (w : Writer). w.answer ≡ None) s.log s.queue w so_far.none refl) so_far
+    refl (one_more_unanswered HasNoAnswer s.log s.queue w so_far.none (λ writes. refl)) so_far
+
+-- a read of the log waits too
+reader_waits : (o : Options) (plans : List (List Command)) (s : State) (c : ℕ) (old : Client) (n : ℕ) → client_at s c ≡ Some old → old.idle ≡ true → (next_call old).call ≡ Some (updates n)
+    → Told o plans s → IsCore o (link_read s c (next_call old).client n) → Told o plans (link_read s c (next_call old).client n)
+reader_waits o plans s c old n is idle call so_far =
+    let a = (next_call old).client in let new : Client = record a { idle = false } in let t = link_read s c a n in
+    let w : Writer = record { client = c; options = plain_options; records = []; since = Some n; answer = None } in
+    let on : GoesOn s t c old new = record { there = is; clients = refl; entries = refl; logged = refl; log_failed = refl; last = refl } in
+    let ready = next_ready o plans s c old idle (so_far.each c old is) in
+    let parts = apart (Waits o plans t) (writers_in s.second) (hand s.log) s.queue s.leaving (others_wait o plans s t c old new on (writers s) (idle_absent o s c old is idle so_far.core) so_far.waits) in
+    let waits : Waits o plans t w = record {
+      client = new;
+      there = the_client s t c old new on;
+      batch = λ writes. absurd (cc);
+      passed = λ writes. absurd (cc);
+      plain = λ m reads. refl;
+      asked = next_asked o plans s c old idle (so_far.each c old is) (updates n) call;
+      answer = ready.entries;
+    } in
+    told_with o plans s t c old new on (record { added = ready.batch; right = ready.right; seen_published = ready.seen_published; log_failed = ready.log_failed; asked = λ never. absurd (cc); entries = λ never. absurd (cc) })
+    (together (Waits o plans t) (writers_in s.second) (hand s.log) (s.queue ++ w ∷ []) s.leaving
+    (record { at_second = parts.at_second; at_hand = parts.at_hand; at_queue = all_append (Waits o plans t) s.queue (w ∷ []) parts.at_queue (waits, tt); at_leaving = parts.at_leaving }))
+    refl (one_more_unanswered HasNoAnswer s.log s.queue w so_far.none (λ writes. refl)) so_far
 
 -- a commit is refused by a check, or since writes are stalled and it may not wait
 refused_in_stall : (how : WriteOptions) (b : Bool) (why : Refusal) → how.no_slowdown ≡ b → (if b then Some (stall_refusal 1 0) else None) ≡ Some why → (how.no_slowdown ≡ true) × (stall_refusal 1 0 ≡ why)
@@ -91,6 +115,8 @@ told_by_link o plans s t c so_far e core = by_client (client_at s c) refl e
     by_call old is idle (Some (commit how)) call e =
         let why = refusal_in s.log how (refusal_of o how (next_call old).client.added) in
         by_refusal old is idle how call why refl (when_some (may_link s.log why) (link_with o s c (next_call old).client how why) t e).1
+    by_call old is idle (Some (updates n)) call e =
+        becomes o plans (link_read s c (next_call old).client n) t (when_some (may_link s.log None) (link_read s c (next_call old).client n) t e).1 core (reader_waits o plans s c old n is idle call so_far)
     by_call old is idle (Some other) call e = absurd (cc)
     by_call old is idle None call e = absurd (cc)
 

@@ -2,13 +2,13 @@
 use Rattle.std.proofs.Common.{◌≡◌, ℕ, ◌==◌, ◌&&◌, true, not, List, [], ◌∷◌, ◌++◌, find, Option, Some, None, refl, sym, subst, append-nil, arith}
 use Rattle.std.specs.List.{AllByRecursion}
 use Rattle.model_base.specs.Calls.{Command, refused}
-use Rattle.model_core.specs.Core.{Options, Writer, LogPhase, free, led, built, stalled, in_log, marked, handed, State, leads, stall_refusal}
+use Rattle.model_core.specs.Core.{Options, Writer, LogPhase, free, led, built, stalled, in_log, marked, handed, State, leads, is_alone, stall_refusal, log_groups}
 use Rattle.model_core.specs.Step.{stall, unstall, leave_queue, leave_with, left_queue, is_no_slowdown}
 use Rattle.model_core.specs.CoreLaw.{IsCore, hand, writers_in}
 use Rattle.model_core_laws.proofs.KeptByComplete.{without}
 use Rattle.model_core_laws.proofs.Lists.{all_append, all_front, all_weaker, all_filtered}
 use Rattle.model_core_laws.proofs.Tables.{when_some}
-use Rattle.model_core_laws.proofs.Told.{Told, Waits, Grows, waits_same, told_without, told_lines, unanswered}
+use Rattle.model_core_laws.proofs.Told.{HasNoAnswer, Told, Waits, Grows, waits_same, slow_writes, told_without, told_lines, unanswered}
 use Rattle.model_core_laws.proofs.ToldByComplete.{found_is}
 use Rattle.model_core_laws.proofs.ToldByLeaving.{refused_waits}
 use Rattle.model_core_laws.proofs.ToldByLines.{apart, together, becomes, queue_unanswered}
@@ -17,8 +17,8 @@ pub told_by_stall : (o : Options) (plans : List (List Command)) (s t : State) (c
 told_by_stall o plans s t c told e core = by_phase s.log refl e
   where
     by_phase : (phase : LogPhase) → s.log ≡ phase → stall s c phase ≡ Some t → Told o plans t
-    by_phase (built ws) is e = let u : State = record s { log = stalled ws } in let h = when_some (leads c ws && not (is_no_slowdown ws)) u t e in
-        becomes o plans u t h.1 core (told_lines o plans s u refl refl refl (omega arith) (λ P a. rw is at a) (rw is at told.none) (rw is at told.one_kind) told)
+    by_phase (built ws) is e = let u : State = record s { log = stalled ws } in let h = when_some (leads c ws && not (is_alone ws) && not (is_no_slowdown ws)) u t e in
+        becomes o plans u t h.1 core (told_lines o plans s u refl refl refl refl (omega arith) (λ P a. rw is at a) (rw is at told.none) (rw is at told.one_kind) told)
     by_phase free is e = absurd (cc)
     by_phase (led d) is e = absurd (cc)
     by_phase (stalled ws) is e = absurd (cc)
@@ -31,7 +31,7 @@ told_by_unstall o plans s t c told e core = by_phase s.log refl e
   where
     by_phase : (phase : LogPhase) → s.log ≡ phase → unstall s c phase ≡ Some t → Told o plans t
     by_phase (stalled ws) is e = let u : State = record s { log = built ws } in let h = when_some (leads c ws) u t e in
-        becomes o plans u t h.1 core (told_lines o plans s u refl refl refl (omega arith) (λ P a. rw is at a) (rw is at told.none) (rw is at told.one_kind) told)
+        becomes o plans u t h.1 core (told_lines o plans s u refl refl refl refl (omega arith) (λ P a. rw is at a) (rw is at told.none) (rw is at told.one_kind) told)
     by_phase free is e = absurd (cc)
     by_phase (led d) is e = absurd (cc)
     by_phase (built ws) is e = absurd (cc)
@@ -47,13 +47,13 @@ told_leaves : (o : Options) (plans : List (List Command)) (s : State) (m stops d
     → Told o plans s → IsCore o (left_queue s m (stall_refusal stops delays) w) → Told o plans (left_queue s m (stall_refusal stops delays) w)
 told_leaves o plans s m stops delays w ws is found slow told =
     let why = stall_refusal stops delays in let t : State = left_queue s m why w in
-    let grows : Grows s t = record { new = []; entries = sym (append-nil s.entries); log_failed = λ was. was; last = omega arith } in
+    let grows : Grows s t = record { new = []; entries = sym (append-nil s.entries); logged = ([], append-nil (log_groups s)); log_failed = λ was. was; last = omega arith } in
     let before = apart (Waits o plans s) (writers_in s.second) (hand s.log) s.queue s.leaving told.waits in
-    let none : AllByRecursion (λ (x : Writer). x.answer ≡ None) s.queue = queue_unanswered (λ (x : Writer). x.answer ≡ None) s.log s.queue told.none in
+    let none : AllByRecursion HasNoAnswer s.queue = queue_unanswered HasNoAnswer s.log s.queue told.none in
     let its = found_is m s.queue w found in
     let same : (us : List Writer) → AllByRecursion (Waits o plans s) us → AllByRecursion (Waits o plans t) us = all_weaker (Waits o plans s) (Waits o plans t) (λ x is. waits_same o plans s t x grows refl refl is) in
-    let left : Waits o plans t (record w { answer = Some (refused why) }) = refused_waits o plans s t grows refl refl why w (λ calls. slow) (its.1 (λ (x : Writer). x.answer ≡ None) none) (its.1 (Waits o plans s) before.at_queue) in
-    let group : AllByRecursion (λ (x : Writer). x.answer ≡ None) (ws ++ s.queue) = rw is at told.none in
+    let left : Waits o plans t (record w { answer = Some (refused why) }) = refused_waits o plans s t grows refl refl why w (λ calls. slow) (slow_writes o plans s w (its.1 (Waits o plans s) before.at_queue) slow) (its.1 HasNoAnswer none (slow_writes o plans s w (its.1 (Waits o plans s) before.at_queue) slow)) (its.1 (Waits o plans s) before.at_queue) in
+    let group : AllByRecursion HasNoAnswer (ws ++ s.queue) = rw is at told.none in
     told_without o plans s t grows refl (λ c client there idle. refl) tt
     (together (Waits o plans t) (writers_in s.second) (hand s.log) (without m s.queue) (s.leaving ++ record w { answer = Some (refused why) } ∷ []) (record {
       at_second = same (writers_in s.second) before.at_second;
@@ -61,8 +61,8 @@ told_leaves o plans s m stops delays w ws is found slow told =
       at_queue = same (without m s.queue) (others_too (Waits o plans s) m s.queue before.at_queue);
       at_leaving = all_append (Waits o plans t) s.leaving (record w { answer = Some (refused why) } ∷ []) (same s.leaving before.at_leaving) (left, tt);
     }))
-    (subst (λ log. AllByRecursion (λ (x : Writer). x.answer ≡ None) (unanswered log (without m s.queue))) (sym is)
-    (all_append (λ (x : Writer). x.answer ≡ None) ws (without m s.queue) (all_front _ ws s.queue group) (others_too (λ (x : Writer). x.answer ≡ None) m s.queue none)))
+    (subst (λ log. AllByRecursion HasNoAnswer (unanswered log (without m s.queue))) (sym is)
+    (all_append HasNoAnswer ws (without m s.queue) (all_front _ ws s.queue group) (others_too HasNoAnswer m s.queue none)))
     told.one_kind told
 
 pub told_by_leave : (o : Options) (plans : List (List Command)) (s t : State) (m stops delays : ℕ) → Told o plans s → leave_queue s m (stall_refusal stops delays) s.log ≡ Some t → IsCore o t → Told o plans t

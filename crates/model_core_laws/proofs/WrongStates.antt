@@ -107,6 +107,7 @@ module _ (s t : State) (before : in_order s ≡ 1 ∷ 2 ∷ []) (after : in_orde
   not_by (e.Insert m) order = out_of_order order
   not_by (e.Finish m) order = out_of_order order
   not_by (e.Publish m) order = out_of_order order
+  not_by (e.Since c) order = out_of_order order
   not_by (e.Exit c) order = out_of_order order
   not_by (e.Complete m) order = out_of_order order
   not_by (e.Read c) order = out_of_order order

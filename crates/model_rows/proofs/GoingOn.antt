@@ -20,7 +20,7 @@ attempt = record { records = put_b2 ∷ []; options = plain; status = succeeded 
 
 -- the trace of the one batch after what was recovered
 abbrev behind : Trace
-behind = record { start = 1; opening = begun_before.opening; entries = entry_at 1 2 put_b2 ∷ []; logged = (entry_at 1 2 put_b2 ∷ []) ∷ []; controller_calls = delays_of attempt }
+behind = record { start = 1; opening = begun_before.opening; kept = None; entries = entry_at 1 2 put_b2 ∷ []; logged = (entry_at 1 2 put_b2 ∷ []) ∷ []; controller_calls = delays_of attempt }
 
 -- The client's progress after each call
 
@@ -64,6 +64,7 @@ went_on-legal = record {
     is_trace = record {
       start = refl;
       opening = refl;
+      kept = refl;
       entries = (record { counted = refl; some = lit≤ tt; first = refl; fits = lit≤ tt }, tt);
       logged = record { cut = refl; none_empty = (lit≤ tt, tt); runs = (tt, tt) };
       controller_calls = (refl, tt);
@@ -81,6 +82,7 @@ went_on-legal = record {
     state = refl;
     fault = tt;
     read_faults = tt;
+    counted = λ no_fault none. refl;
   };
 }
 

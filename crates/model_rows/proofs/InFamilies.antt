@@ -23,7 +23,7 @@ the_entry = record (entry_at 1 1 put_a1) { count = 2; records = both_families }
 
 -- the trace of the one batch
 abbrev one_batch : Trace
-one_batch = record { start = 0; opening = []; entries = the_entry ∷ []; logged = (the_entry ∷ []) ∷ []; controller_calls = delays_of the_attempt }
+one_batch = record { start = 0; opening = []; kept = None; entries = the_entry ∷ []; logged = (the_entry ∷ []) ∷ []; controller_calls = delays_of the_attempt }
 
 -- The client's progress after each call
 
@@ -86,6 +86,7 @@ in_both_families-legal = record {
     is_trace = record {
       start = refl;
       opening = refl;
+      kept = refl;
       entries = (record { counted = refl; some = lit≤ tt; first = refl; fits = lit≤ tt }, tt);
       logged = record { cut = refl; none_empty = (lit≤ tt, tt); runs = (tt, tt) };
       controller_calls = (refl, tt);
@@ -103,6 +104,7 @@ in_both_families-legal = record {
     state = refl;
     fault = tt;
     read_faults = tt;
+    counted = λ no_fault none. refl;
   };
 }
 

@@ -30,13 +30,13 @@ next_attempt = attempt_of put_b2 (faulted 1)
 
 -- the traces of one batch, of a failed one, and of one batch and two failed ones
 abbrev one_batch : Trace
-one_batch = record { start = 0; opening = []; entries = entry_at 1 1 put_a1 ∷ []; logged = (entry_at 1 1 put_a1 ∷ []) ∷ []; controller_calls = delays_of first_attempt }
+one_batch = record { start = 0; opening = []; kept = None; entries = entry_at 1 1 put_a1 ∷ []; logged = (entry_at 1 1 put_a1 ∷ []) ∷ []; controller_calls = delays_of first_attempt }
 
 abbrev no_batch : Trace
-no_batch = record { start = 0; opening = []; entries = []; logged = []; controller_calls = delays_of lost_attempt }
+no_batch = record { start = 0; opening = []; kept = None; entries = []; logged = []; controller_calls = delays_of lost_attempt }
 
 abbrev one_of_three : Trace
-one_of_three = record { start = 0; opening = []; entries = entry_at 1 1 put_a1 ∷ []; logged = (entry_at 1 1 put_a1 ∷ []) ∷ []; controller_calls = three_delays first_attempt next_attempt next_attempt }
+one_of_three = record { start = 0; opening = []; kept = None; entries = entry_at 1 1 put_a1 ∷ []; logged = (entry_at 1 1 put_a1 ∷ []) ∷ []; controller_calls = three_delays first_attempt next_attempt next_attempt }
 
 abbrev three_own_groups : List Group
 three_own_groups = three_groups first_attempt next_attempt next_attempt
@@ -85,6 +85,7 @@ one_commit-legal = record {
     is_trace = record {
       start = refl;
       opening = refl;
+      kept = refl;
       entries = (record { counted = refl; some = lit≤ tt; first = refl; fits = lit≤ tt }, tt);
       logged = record { cut = refl; none_empty = (lit≤ tt, tt); runs = (tt, tt) };
       controller_calls = (refl, tt);
@@ -102,6 +103,7 @@ one_commit-legal = record {
     state = refl;
     fault = tt;
     read_faults = tt;
+    counted = λ no_fault none. refl;
   };
 }
 
@@ -141,6 +143,7 @@ refused_commit-legal = record {
     is_trace = record {
       start = refl;
       opening = refl;
+      kept = refl;
       entries = tt;
       logged = record { cut = refl; none_empty = tt; runs = tt };
       controller_calls = (refl, tt);
@@ -158,6 +161,7 @@ refused_commit-legal = record {
     state = refl;
     fault = (lit≤ tt, lit≤ tt);
     read_faults = tt;
+    counted = λ no_fault none. absurd (cc no_fault);
   };
 }
 
@@ -222,6 +226,7 @@ failed_write-legal = record {
     is_trace = record {
       start = refl;
       opening = refl;
+      kept = refl;
       entries = (record { counted = refl; some = lit≤ tt; first = refl; fits = lit≤ tt }, tt);
       logged = record { cut = refl; none_empty = (lit≤ tt, tt); runs = (tt, tt) };
       controller_calls = (refl, (refl, (refl, tt)));
@@ -239,5 +244,6 @@ failed_write-legal = record {
     state = refl;
     fault = (lit≤ tt, lit≤ tt);
     read_faults = tt;
+    counted = λ no_fault none. absurd (cc no_fault);
   };
 }

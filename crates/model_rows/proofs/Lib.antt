@@ -13,3 +13,4 @@ pub mod Waits
 pub mod WholeLogs
 pub mod InFamilies
 pub mod OneFamily
+pub mod LogReads

@@ -32,6 +32,7 @@ abbrev looked_trace : Trace
 looked_trace = record {
   start = 0;
   opening = [];
+  kept = None;
   entries = [];
   logged = [];
   controller_calls =
@@ -107,6 +108,7 @@ refused-legal = record {
     is_trace = record {
       start = refl;
       opening = refl;
+      kept = refl;
       entries = tt;
       logged = record { cut = refl; none_empty = tt; runs = tt };
       controller_calls = (refl, (refl, (refl, tt)));
@@ -124,6 +126,7 @@ refused-legal = record {
     state = refl;
     fault = tt;
     read_faults = tt;
+    counted = λ no_fault none. refl;
   };
 }
 

@@ -25,6 +25,7 @@ abbrev waited_trace : Trace
 waited_trace = record {
   start = 0;
   opening = [];
+  kept = None;
   entries = entry_at 1 1 put_a1 ∷ [];
   logged = (entry_at 1 1 put_a1 ∷ []) ∷ [];
   controller_calls = told_of_a_stop ++ record { client = 1; action = controller.look; told = Some calm } ∷ [];
@@ -117,6 +118,7 @@ waited_out-legal = record {
     is_trace = record {
       start = refl;
       opening = refl;
+      kept = refl;
       entries = (record { counted = refl; some = lit≤ tt; first = refl; fits = lit≤ tt }, tt);
       logged = record { cut = refl; none_empty = (lit≤ tt, tt); runs = (tt, tt) };
       controller_calls = (refl, (refl, (refl, (refl, tt))));
@@ -134,5 +136,6 @@ waited_out-legal = record {
     state = refl;
     fault = tt;
     read_faults = tt;
+    counted = λ no_fault none. refl;
   };
 }

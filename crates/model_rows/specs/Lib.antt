@@ -4,3 +4,4 @@ pub mod TwoBatches
 pub mod NumberedLogs
 pub mod Stalls
 pub mod OneFamily
+pub mod LogReads

@@ -17,7 +17,7 @@ abbrev pub one_client : Settings
 one_client = record {
   start = 0;
   opening = [];
-  kept = [];
+  kept = None;
   clients = 1;
   families = 1;
   group_bytes = 1048576;

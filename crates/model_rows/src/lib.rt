@@ -7,6 +7,7 @@ mod checksums;
 mod generators;
 mod grouping;
 mod histories;
+mod log_reads;
 mod logs;
 mod numbered_logs;
 mod one_family;
@@ -25,6 +26,10 @@ pub use generators::{first_batch, first_draws, summary};
 pub use grouping::{group_of_one, groups_by_options, groups_by_size, groups_of_alone};
 pub use histories::{
     flags_of_commits, log_up_to_its_length, logs_of_histories, maps_of_batches, maps_of_families,
+};
+pub use log_reads::{
+    faults_of_reads, records_from_a_sequence, records_kept_before, records_of_commits,
+    records_up_to_a_sequence, right_reads, wrong_reads,
 };
 pub use logs::{end_of_block, log_of_one_batch, long_records, record_of_no_bytes};
 pub use numbered_logs::{log_over_an_older_one, numbered_log_of_one_batch, numbered_log_recovered};

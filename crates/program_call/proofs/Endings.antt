@@ -1,6 +1,6 @@
 -- How a run ended: what is printed at each status, and what is known of the logs and of the sink.
-use Rattle.std.proofs.Common.{◌≡◌, inl, inr, ℕ, Bool, true, false, eqb, List, Option, None, le_trans, refl, sym, ◌∙◌, subst}
-use Rattle.std.specs.Prelude.{IsSome, ⊤}
+use Rattle.std.proofs.Common.{◌≡◌, inl, inr, ℕ, Bool, true, false, eqb, List, Option, le_trans, refl, sym, subst}
+use Rattle.std.specs.Prelude.{⊤}
 use Rattle.model_base.specs.Counts.{Rose}
 use Rattle.model_base.specs.Calls as calls
 use Rattle.model_base.specs.History.{IsHistory}
@@ -18,8 +18,9 @@ use Rattle.program_call.specs.declared.report.Status.{Status}
 use Rattle.program_call.specs.declared.report.Status.TheVariants as status
 use Rattle.program_call.specs.Reports.{SaysNothing, Refuses, PrintsRefusal, EndsWithOutcome, TellsEnd, TellsReadError, HasRunStatus, text_of, code}
 use Rattle.program_call.specs.Logs.{LogsOfRun}
-use Rattle.program_call.specs.Outcomes.{Observation, IsSaid, RanScript, RanWhole, DiskFailed, RanToSinkFault, RanOutOfMemory, MetDamage, MetHighFamily}
+use Rattle.program_call.specs.Outcomes.{Observation, IsSaid, IsUnharmed, RanScript, RanWhole, DiskFailed, RanToSinkFault, RanOutOfMemory, MetDamage, MetHighFamily}
 use Rattle.program_call.proofs.Memory.{all_whole, short_of}
+use Rattle.program_call.proofs.ReadFaults.{unharmed, harmed}
 
 abbrev either : Bool → Type 0 → Type 0 → Type 0
 either true A B = A
@@ -33,8 +34,8 @@ module _ (logs : LogsOfRun) (script : Script) where
     pub begun : ℕ
     pub history : IsHistory begun o.history
     pub fit : logs.fit
-    pub counted : o.fault ≡ None → logs.fails ≡ logs.failed
-    pub rose : IsSome o.fault → Rose logs.failed logs.fails
+    pub counted : IsUnharmed o → logs.fails ≡ logs.failed
+    pub rose : (IsUnharmed o → ⊥) → Rose logs.failed logs.fails
 
   abbrev pub EndsOver : RunEnd → Type 0
   EndsOver (end.DiskFault count) = logs.left_alone × IsReached logs.failed count logs.fails
@@ -111,15 +112,15 @@ module _ (seen : Observation) where
         outcome = o;
         ran = ran_script o so;
         printed = e.0;
-        no_fault = shows.fault ∙ e.1;
+        no_fault = unharmed shown o shows e.1;
         whole = all_whole shown.transcripts.items o.transcripts shows.transcripts e.2;
       };
       fit = so.fit;
-      disk = so.counted (shows.fault ∙ e.1);
+      disk = so.counted (unharmed shown o shows e.1);
       sink = e.3;
     }
     ran_so shown o so shows status.Disk e =
-        let fault : IsSome o.fault = subst IsSome (sym shows.fault) e.1 in
+        let fault : IsUnharmed o → ⊥ = harmed shown o shows e.1 in
         record {
           told = inr (record { outcome = o; ran = ran_script o so; printed = e.0; fault = fault; sink_counted = e.2 });
           rose = so.rose fault;
@@ -138,7 +139,7 @@ module _ (seen : Observation) where
         outcome = o;
         ran = ran_script o so;
         printed = e.0;
-        no_fault = shows.fault ∙ e.1;
+        no_fault = unharmed shown o shows e.1;
         short = short_of shown o shows e.2;
       }));
       stood = stood;

@@ -1,10 +1,9 @@
 -- How a run over one log ended, said of what is known of its log.
-use Rattle.std.proofs.Common.{◌≡◌, ◌≢◌, ◌⊎◌, inl, inr, ℕ, ◌≤◌, List, [], length, Option, Some, None, IfSome, le_trans, refl, ap, sym, ◌∙◌, subst, arith}
+use Rattle.std.proofs.Common.{◌≡◌, ◌≢◌, ◌⊎◌, inl, inr, ℕ, List, [], length, Option, Some, None, IfSome, refl, ap, sym, ◌∙◌, subst, arith}
 use Rattle.std.specs.Prelude.{IsSome}
 use Rattle.std.specs.List.{AllByRecursion}
 use Rattle.base_devices.specs.Disk.{Disk, Told}
 use Rattle.base_devices.specs.declared.disk.Disk.{Ghosts}
-use Rattle.model_base.specs.Counts.{Rose}
 use Rattle.model_base.specs.Calls as calls
 use Rattle.model_base.specs.History.{IsHistory}
 use Rattle.model_base.specs.Outcomes.{IsLegal}
@@ -20,19 +19,16 @@ use Rattle.run_execution.specs.declared.end.RunEnd.TheVariants as end
 use Rattle.run_execution.specs.Ends.{EndsOn, HasFewFamilies, IsAccepted, Ran, execution_on}
 use Rattle.program_call.specs.Logs.{LogsOfRun}
 use Rattle.program_call.specs.OneLog.{HasBytes, log_of_run}
-use Rattle.program_call.specs.Outcomes.{AcceptsCommits}
+use Rattle.program_call.specs.Outcomes.{AcceptsCommits, GivesUpdates, IsUnharmed}
 use Rattle.program_call.proofs.Endings.{EndsOver, RanSo}
 use Rattle.program_call.proofs.Leaving.{left_alone}
+use Rattle.program_call.proofs.ReadFaults.{rose_in_run}
 
 -- where only a new log is to be empty, the content is empty or the log isn't a new one
 fit_of : (start : LogStart) (content : List ℕ) → (start ≡ New → content ≡ []) → (length content ≡ 0) ⊎ (start ≢ New)
 fit_of New content empty = inl (ap length (empty refl))
 fit_of (Over number) content empty = inr (λ e. cc e)
 fit_of (Behind number) content empty = inr (λ e. cc e)
-
-rose_so : (failed fails : ℕ) (fault : Option ℕ) → IsSome fault → IfSome fault (λ count. Rose failed count × (count ≤ fails)) → Rose failed fails
-rose_so failed fails (Some count) some both = le_trans both.0 both.1
-rose_so failed fails None some both = absurd (cc some)
 
 -- a log with bytes isn't fit for a run
 full_or_not : (start : LogStart) (found len : ℕ) → start ≡ New → found ≡ len → (found ≡ 0) ⊎ (start ≢ New) → len ≡ 0
@@ -55,9 +51,10 @@ module _ {D : Type 0} (disk : Ghosts D) (options : Options) (start : LogStart) (
     abbrev execution : Before → Execution
     execution from = execution_on disk options start from script opened ended
 
-    -- the law by which commits are accepted
+    -- the laws by which commits are accepted, and reads of the log give its records
     abbrev pub Law : Type 0
-    Law = (from : Before) (o : calls.Outcome) → IsLegal (execution from).settings (disk.faults ended) script o → AcceptsCommits (execution from).settings script o
+    Law = (from : Before) (o : calls.Outcome) → IsLegal (execution from).settings (disk.faults ended) script o
+        → AcceptsCommits (execution from).settings script o × GivesUpdates o
 
     found_fit : (from : Before) (was is : Option Disk) (o : calls.Outcome) (run : IsRunOf (execution from) o) → Told was is (LeavesSafeLog (execution from) o run) → IfSome was (λ d. (length d.content ≡ 0) ⊎ (start ≢ New))
     found_fit from None is o run log = tt
@@ -65,11 +62,12 @@ module _ {D : Type 0} (disk : Ghosts D) (options : Options) (start : LogStart) (
     found_fit from (Some d) None o run log = absurd log
 
     ran_so : Law → (from : Before) → GoesOnFrom start (disk.told opened) from → IsAccepted start mode (disk.told opened) × HasFewFamilies start (disk.told opened) → (o : calls.Outcome) (run : IsRunOf (execution from) o)
-        → (o.fault ≡ None → AllByRecursion AreRefusedForThemselves o.transcripts) → (o.fault ≡ None → disk.faults ended ≡ disk.faults opened)
-        → Told (disk.told opened) (disk.told ended) (LeavesSafeLog (execution from) o run) → RanSo logs script o
-    ran_so law from goes_on accepted o run refusals counted log =
+        → (o.fault ≡ None → AllByRecursion AreRefusedForThemselves o.transcripts) → Told (disk.told opened) (disk.told ended) (LeavesSafeLog (execution from) o run) → RanSo logs script o
+    ran_so law from goes_on accepted o run refusals log =
         let legal = run.legal in
         let begun = run.trace.start in
+        let counted : IsUnharmed o → disk.faults ended ≡ disk.faults opened = λ none. legal.counted none.0 none.1 in
+        let holds = law from o (record { trace = run.trace; attempts = run.attempts; legal = legal }) in
         record {
           ran = record {
             accepted = accepted.0;
@@ -78,13 +76,14 @@ module _ {D : Type 0} (disk : Ghosts D) (options : Options) (start : LogStart) (
             goes_on = goes_on;
             is_outcome = record { run = run; counted = counted; log = log };
             refusals = refusals;
-            accepts = law from o (record { trace = run.trace; attempts = run.attempts; legal = legal });
+            accepts = holds.0;
+            gives = holds.1;
           };
           begun = begun;
           history = subst (λ entries. IsHistory begun entries) (sym legal.history) legal.is_trace.entries;
           fit = found_fit from (disk.told opened) (disk.told ended) o run log;
           counted = counted;
-          rose = λ some. rose_so (disk.faults opened) (disk.faults ended) o.fault some legal.fault;
+          rose = rose_in_run (execution from).settings (disk.faults ended) script run.trace run.attempts o legal;
         }
 
     pub one_ends : Law → (e : RunEnd) → EndsOn disk options start mode script opened ended e → (Ran e → IsAccepted start mode (disk.told opened) × HasFewFamilies start (disk.told opened)) → EndsOver logs script e
@@ -97,7 +96,7 @@ module _ {D : Type 0} (disk : Ghosts D) (options : Options) (start : LogStart) (
         (record { is_high = ends.0; as_before = ends.1; crash = ends.3 }, record { alone = inl ends.1; crash = left_alone disk start mode opened ended ends.3 }, ends.2)
     one_ends law end.NoMemory ends accepted = (record { alone = ends.0; crash = ends.2 }, ends.1)
     one_ends law end.NoOutcome (from, goes_on, has) accepted =
-        (has.outcome, ran_so law from goes_on (accepted tt) has.outcome has.run has.refusals has.counted has.log)
+        (has.outcome, ran_so law from goes_on (accepted tt) has.outcome has.run has.refusals has.log)
     one_ends law (end.Ran shown) (from, goes_on, has) accepted =
         let alive : has.outcome.fault ≡ None → shown.fault ≡ None = λ none. sym has.shows.fault ∙ none in
-        (has.outcome, ran_so law from goes_on (accepted tt) has.outcome has.run (λ none. has.refusals (alive none)) (λ none. has.counted (alive none)) has.log, has.shows)
+        (has.outcome, ran_so law from goes_on (accepted tt) has.outcome has.run (λ none. has.refusals (alive none)) has.log, has.shows)

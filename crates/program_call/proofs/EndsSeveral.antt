@@ -1,11 +1,10 @@
 -- How a run over several logs ended, said of what is known of its logs.
-use Rattle.std.proofs.Common.{◌≡◌, ℕ, ◌+◌, ◌-◌, ◌^◌, ◌≤◌, List, [], ◌∷◌, ◌++◌, length, Option, Some, None, IfSome, fold, min, le_trans, refl, ap, sym, ◌∙◌, subst, arith}
+use Rattle.std.proofs.Common.{◌≡◌, ℕ, ◌+◌, ◌-◌, ◌^◌, List, [], ◌∷◌, ◌++◌, length, Option, Some, None, IfSome, fold, min, refl, ap, sym, ◌∙◌, subst, arith}
 use Rattle.std.specs.Prelude.{IsSome}
 use Rattle.std.specs.List.{AllByRecursion, AllZip}
 use Rattle.base_devices.specs.Disk.{Disk}
 use Rattle.base_devices.specs.Faults.{count_in_all}
 use Rattle.base_devices.specs.declared.disk.Disk.{Ghosts}
-use Rattle.model_base.specs.Counts.{Rose}
 use Rattle.model_base.specs.Calls as calls
 use Rattle.model_base.specs.History.{IsHistory}
 use Rattle.model_base.specs.Outcomes.{IsLegal}
@@ -17,8 +16,9 @@ use Rattle.run_execution.specs.declared.end.RunEnd.TheVariants as end
 use Rattle.run_execution.specs.SetEnds.{EndsOnSet, HasSetOutcome, SetExecution, set_execution_on}
 use Rattle.program_call.specs.Logs.{LogsOfRun}
 use Rattle.program_call.specs.SeveralLogs.{HaveBytes, logs_of_run}
-use Rattle.program_call.specs.Outcomes.{AcceptsCommits}
+use Rattle.program_call.specs.Outcomes.{AcceptsCommits, GivesUpdates}
 use Rattle.program_call.proofs.Endings.{EndsOver, RanSo}
+use Rattle.program_call.proofs.ReadFaults.{rose_in_run}
 
 -- disks that have each counted none have counted none in all
 
@@ -31,10 +31,6 @@ sums {D} faults n (old ∷ olds) (new ∷ news) same =
 
 pub same_count : {D : Type 0} (faults : D → ℕ) (olds news : List D) → AllZip (λ old new. faults new ≡ faults old) olds news → count_in_all faults news ≡ count_in_all faults olds
 same_count faults olds news same = ap (λ n. min n (2 ^ 64 - 1)) (sums faults 0 olds news same)
-
-rose_so : (failed fails : ℕ) (fault : Option ℕ) → IsSome fault → IfSome fault (λ count. Rose failed count × (count ≤ fails)) → Rose failed fails
-rose_so failed fails (Some count) some both = le_trans both.0 both.1
-rose_so failed fails None some both = absurd (cc some)
 
 -- what holds of all holds of one in the middle
 in_middle : {D : Type 0} (P : D → Type 0) (front : List D) (x : D) (back : List D) → AllByRecursion P (front ++ x ∷ back) → P x
@@ -65,25 +61,27 @@ module _ {D : Type 0} (disk : Ghosts D) (options : Options) (limit : ℕ) (opene
     abbrev execution : SetExecution
     execution = set_execution_on disk options limit script opened ended
 
-    -- the law by which commits are accepted
+    -- the laws by which commits are accepted, and reads of the log give its records
     abbrev pub Law : Type 0
-    Law = (o : calls.Outcome) → IsLegal execution.settings (count_in_all disk.faults ended) script o → AcceptsCommits execution.settings script o
+    Law = (o : calls.Outcome) → IsLegal execution.settings (count_in_all disk.faults ended) script o → AcceptsCommits execution.settings script o × GivesUpdates o
 
     ran_so : Law → (o : calls.Outcome) → HasSetOutcome disk opened ended execution o → RanSo logs script o
     ran_so law o has =
         let run = has.run in
         let legal = run.legal in
         let begun = run.trace.start in
+        let holds = law o (record { trace = run.trace; attempts = run.attempts; legal = legal }) in
         record {
           ran = record {
             is_outcome = has;
-            accepts = law o (record { trace = run.trace; attempts = run.attempts; legal = legal });
+            accepts = holds.0;
+            gives = holds.1;
           };
           begun = begun;
           history = subst (λ entries. IsHistory begun entries) (sym legal.history) legal.is_trace.entries;
           fit = has.logs.found_empty;
-          counted = has.counted;
-          rose = λ some. rose_so (count_in_all disk.faults opened) (count_in_all disk.faults ended) o.fault some legal.fault;
+          counted = λ none. has.counted none.0 none.1;
+          rose = rose_in_run execution.settings (count_in_all disk.faults ended) script run.trace run.attempts o legal;
         }
 
     pub set_ends : Law → (e : RunEnd) → EndsOnSet disk options limit script opened ended e → EndsOver logs script e
@@ -91,6 +89,6 @@ module _ {D : Type 0} (disk : Ghosts D) (options : Options) (limit : ℕ) (opene
     set_ends law (end.NotEmpty len) ends = (record { first = ends.0; alone = ends.1 }, ends.1, same_count disk.faults opened ended ends.2)
     set_ends law (end.Damage at why) ends = absurd ends
     set_ends law (end.Family family) ends = absurd ends
-    set_ends law end.NoMemory ends = (ends.0, same_count disk.faults opened ended ends.1)
+    set_ends law end.NoMemory ends = ends
     set_ends law end.NoOutcome (o, has) = (o, ran_so law o has)
     set_ends law (end.Ran shown) (o, has, shows) = (o, ran_so law o has, shows)

@@ -4,7 +4,7 @@ use Rattle.std.specs.List.{AllZip}
 use Rattle.base_devices.specs.Disk.{Disk, IsImage, IsOnlyNow, TimePasses}
 use Rattle.base_devices.specs.declared.disk.Disk.{Ghosts}
 use Rattle.model_base.specs.declared.options.Options.{Options}
-use Rattle.log_reader.specs.OnlyReads.{OnlyReads}
+use Rattle.base_devices.specs.OnlyReads.{OnlyReads}
 use Rattle.log_recovery.specs.RecoveringLogs.{CountNone, stops}
 use Rattle.log_recovery.specs.declared.modes.Mode.{Mode}
 use Rattle.log_writer.specs.Opening.{IsLookedAt, LeavesAsBefore}

@@ -2,6 +2,7 @@ mod Refusing
 mod Unread
 mod Memory
 mod Leaving
+mod ReadFaults
 mod Endings
 mod EndsOne
 mod EndsSeveral

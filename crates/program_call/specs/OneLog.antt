@@ -21,16 +21,16 @@ use Rattle.run_execution.specs.Ends.{IsAccepted, IsDamaged, HasFewFamilies, HasH
 use Rattle.program_text.specs.Refusals.{damage}
 use Rattle.program_call.specs.Asking.{usual_options}
 use Rattle.program_call.specs.Logs.{LogsOfRun, LogsToRecover}
-use Rattle.program_call.specs.Outcomes.{AcceptsCommits}
+use Rattle.program_call.specs.Outcomes.{AcceptsCommits, GivesUpdates, IsUnharmed}
 
 -- The outcome of a run: it is legal, and the log was written by just the calls that wrote its history's groups. Where
--- the log has no fault, the disk has counted none in the run. Where the disk tells its bytes, the run found the log
--- empty, or wrote one with a number over what was there, or went on after what the log recovered; and it left the
--- batches of this outcome there. A crash at any moment of the run leaves a prefix to recover: of these batches, or of
--- what the run went on from, followed by these batches.
+-- no write of the log failed and no read of it, the disk has counted no fault in the run. Where the disk tells its
+-- bytes, the run found the log empty, or wrote one with a number over what was there, or went on after what the log
+-- recovered; and it left the batches of this outcome there. A crash at any moment of the run leaves a prefix to
+-- recover: of these batches, or of what the run went on from, followed by these batches.
 pub record IsOutcome (execution : Execution) (opened ended : Option Disk) (o : calls.Outcome) : Type 0 where
   pub run : IsRunOf execution o
-  pub counted : o.fault ≡ None → execution.ended ≡ execution.settings.opened
+  pub counted : IsUnharmed o → execution.ended ≡ execution.settings.opened
   pub log : Told opened ended (LeavesSafeLog execution o run)
 
 -- A call that should run a script over the log of this disk, which is opened as `start` says, in this mode if it is
@@ -39,7 +39,7 @@ module _ {D : Type 0} (disk : Ghosts D) (options : Options) (start : LogStart) (
   -- A script was run, and this is its outcome. If its log was resumed, the mode accepts the end of the log's recovery,
   -- no key that it recovers is in a family that no run is set up for, and the run went on from what the log recovers.
   -- If the log has no fault, commits were refused only for causes of their own; they were accepted unless a named cause
-  -- holds, or found no memory.
+  -- holds, or found no memory. Reads of the log gave its records, unless a named cause holds, or found no memory.
   pub record RanOverLog (script : Script) (o : calls.Outcome) : Type 0 where
     pub accepted : IsAccepted start mode (disk.told opened)
     pub families : HasFewFamilies start (disk.told opened)
@@ -49,6 +49,7 @@ module _ {D : Type 0} (disk : Ghosts D) (options : Options) (start : LogStart) (
         (disk.told ended) o
     pub refusals : o.fault ≡ None → AllByRecursion AreRefusedForThemselves o.transcripts
     pub accepts : AcceptsCommits (execution_on disk options start before script opened ended).settings script o
+    pub gives : GivesUpdates o
 
   -- nothing was run: the disk was left alone, and a crash leaves no less
   pub record IsLeftLog : Type 0 where

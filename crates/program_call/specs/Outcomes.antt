@@ -1,7 +1,7 @@
 -- What the commands that run a script promise: every reply that is printed is that of a plain map at its point of one
 -- printed history. Each device tells its bytes, or it doesn't (`None`). What is said of one device holds whatever the
 -- others tell.
-use Rattle.std.specs.Prelude.{◌≡◌, ◌⊎◌, ℕ, List, Option, Some, None, Ok, IfSome, IsSome, slice_get}
+use Rattle.std.specs.Prelude.{◌≡◌, ◌⊎◌, ℕ, List, [], Option, Some, None, false, Ok, IfSome, slice_get}
 use Rattle.std.specs.List.{AllByRecursion}
 use Rattle.std.specs.Io.KnownBytes.{Appends}
 use Rattle.base_devices.specs.declared.sink.Sink as sink
@@ -14,7 +14,9 @@ use Rattle.model_base.specs.declared.write.WriteOptions.{WriteOptions}
 use Rattle.model_base.specs.Progress.{batch_after}
 use Rattle.model_base.specs.Trace.{Settings}
 use Rattle.run_outcome.specs.Running.{IsReached}
-use Rattle.run_laws.specs.Accepting.{ReachesCommit, PassesChecks, HasRoom, IsNotHeldUp, IsAccepted}
+use Rattle.model_base.specs.Outcomes.{read_faults_in}
+use Rattle.model_base.specs.Tokens.{holds_stop}
+use Rattle.run_laws.specs.Accepting.{ReachesCommit, ReachesUpdates, PassesChecks, HasRoom, IsNotHeldUp, IsAccepted, IsGiven, asked_by}
 use Rattle.program_text.specs.Refusals.{damage, disk_fault, high_family}
 use Rattle.program_call.specs.declared.report.Form.{Form}
 use Rattle.program_call.specs.Logs.{LogsOfRun}
@@ -30,6 +32,17 @@ AcceptsCommits settings script o =
     → o.fault ≡ None → ReachesCommit o client before how reply → PassesChecks settings before how
     → HasRoom settings o → IsNotHeldUp script how
     → IsAccepted (batch_after before) reply ⊎ (reply ≡ calls.no_memory)
+
+-- Where no read of the log failed, each read of the log that a client reached gave its records, or found no memory, if
+-- the client holds no stop token.
+abbrev pub GivesUpdates : calls.Outcome → Type 0
+GivesUpdates o = (client : ℕ) (before : List calls.Call) (s : ℕ) (reply : calls.Reply)
+    → read_faults_in o.transcripts ≡ [] → ReachesUpdates o client before s reply
+    → holds_stop (asked_by before) ≡ false → IsGiven reply ⊎ (reply ≡ calls.no_memory)
+
+-- no write of the log failed, and no read of it by a client
+abbrev pub IsUnharmed : calls.Outcome → Type 0
+IsUnharmed o = (o.fault ≡ None) × (read_faults_in o.transcripts ≡ [])
 
 -- What is known of a call that should run a script: which script, how it prints the outcome, and its logs. Then what
 -- the sink had taken before the call, and after it, and how many calls of the sink had failed.
@@ -86,21 +99,21 @@ module _ (seen : Observation) where
     pub said : seen.says script
     pub ran : seen.logs.ran script o
 
-  -- status 0: the outcome was printed, no write of the log failed, and no client ran out of memory
+  -- status 0: the outcome was printed, no write of the log failed and no read of it, and no client ran out of memory
   pub record RanWhole : Type 0 where
     pub outcome : calls.Outcome
     pub ran : RanScript outcome
     pub printed : Appends seen.before seen.after (text_of seen.form outcome)
-    pub no_fault : outcome.fault ≡ None
+    pub no_fault : IsUnharmed outcome
     pub whole : AllByRecursion NoneWithoutMemory outcome.transcripts
 
-  -- Status 3, where the log was opened: the outcome was printed, and a write of the log failed. The sink has counted
-  -- no fault.
+  -- Status 3, where the log was opened: the outcome was printed, and a write of the log failed, or a read of it. The
+  -- sink has counted no fault.
   pub record RanToFault : Type 0 where
     pub outcome : calls.Outcome
     pub ran : RanScript outcome
     pub printed : Appends seen.before seen.after (text_of seen.form outcome)
-    pub fault : IsSome outcome.fault
+    pub fault : IsUnharmed outcome → ⊥
     pub sink_counted : seen.fails ≡ seen.failed
 
   -- status 3, where the log wasn't opened: it was left alone, and the disks' count of faults was printed
@@ -153,7 +166,7 @@ module _ (seen : Observation) where
     pub outcome : calls.Outcome
     pub ran : RanScript outcome
     pub printed : Appends seen.before seen.after (text_of seen.form outcome)
-    pub no_fault : outcome.fault ≡ None
+    pub no_fault : IsUnharmed outcome
     pub short : LacksMemory outcome
 
   abbrev pub RanOutOfMemory : Type 0

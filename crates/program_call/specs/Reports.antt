@@ -1,5 +1,5 @@
 -- What is printed for each way to end a call, and with which status.
-use Rattle.std.specs.Prelude.{◌≡◌, ◌⊎◌, ℕ, Bool, true, false, List, take, Option, None, IsSome, is_some, if◌then◌else◌, Result, Ok, Err}
+use Rattle.std.specs.Prelude.{◌≡◌, ◌⊎◌, ℕ, Bool, true, false, List, take, Option, is_some, ◌||◌, if◌then◌else◌, Result, Ok, Err}
 use Rattle.std.specs.Io.KnownBytes.{Appends}
 use Rattle.model_base.specs.Counts.{Rose}
 use Rattle.model_base.specs.Calls as calls
@@ -30,7 +30,7 @@ use Rattle.model_base.specs.declared.log.EndReason.{EndReason}
 use Rattle.log_recovery.specs.Recovering.{ShowsRecovered}
 use Rattle.log_recovery.specs.RecoveringLogs.{ShowsLogs}
 use Rattle.log_recovery.specs.declared.many.RecoveredMany.{RecoveredMany}
-use Rattle.run_outcome.specs.Shows.{ShowsOutcome, ran_short}
+use Rattle.run_outcome.specs.Shows.{ShowsOutcome, has_read_fault, ran_short}
 use Rattle.program_call.specs.Texts.{SaysTo}
 use Rattle.program_text.specs.Refusals.{damage, high_family, logs_damage, script_fault, source_fault, disk_fault, not_empty}
 
@@ -54,22 +54,26 @@ TellsReadError old new failed fails (read.Script line kind) given =
     Refuses old new failed fails (script_fault (record { line = line; kind = kind })) status.Script given
 TellsReadError old new failed fails read.NoMemory given = SaysNothing old new failed fails given
 
+-- the log's disk failed in a write, or in a client's read of the log
+abbrev pub disk_failed : Outcome Pairs → Bool
+disk_failed shown = is_some shown.fault || has_read_fault shown
+
 -- The status of an outcome's text. At 5 the sink failed, and took a prefix of the text; else it has counted no fault.
--- At 3 the log has a fault; at 6 there was no memory for the text, or for a client.
+-- At 3 the log's disk failed; at 6 there was no memory for the text, or for a client.
 abbrev pub EndsWithOutcome : Option (List ℕ) → Option (List ℕ) → ℕ → ℕ → Outcome Pairs → List ℕ → Status → Type 0
-EndsWithOutcome old new failed fails shown text status.Done = Appends old new text × (shown.fault ≡ None)
+EndsWithOutcome old new failed fails shown text status.Done = Appends old new text × (disk_failed shown ≡ false)
     × (ran_short shown ≡ false) × (fails ≡ failed)
-EndsWithOutcome old new failed fails shown text status.Disk = Appends old new text × IsSome shown.fault
+EndsWithOutcome old new failed fails shown text status.Disk = Appends old new text × (disk_failed shown ≡ true)
     × (fails ≡ failed)
 EndsWithOutcome old new failed fails shown text status.Sink = Rose failed fails × (n : ℕ)
     × Appends old new (take n text)
 EndsWithOutcome old new failed fails shown text status.Memory = ((new ≡ old)
-    ⊎ (Appends old new text × (shown.fault ≡ None) × (ran_short shown ≡ true))) × (fails ≡ failed)
+    ⊎ (Appends old new text × (disk_failed shown ≡ false) × (ran_short shown ≡ true))) × (fails ≡ failed)
 EndsWithOutcome old new failed fails shown text other = ⊥
 
 -- the status of an outcome that was printed whole
 abbrev pub ran_status : Outcome Pairs → Status
-ran_status shown = if is_some shown.fault then status.Disk else if ran_short shown then status.Memory else status.Done
+ran_status shown = if disk_failed shown then status.Disk else if ran_short shown then status.Memory else status.Done
 
 -- an outcome whole, or its summary
 abbrev pub text_of : Form → calls.Outcome → List ℕ

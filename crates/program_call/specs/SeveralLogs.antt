@@ -18,15 +18,17 @@ use Rattle.program_text.specs.Refusals.{logs_damage}
 use Rattle.run_execution.specs.SetEnds.{AreLeftAlone, HasSetOutcome, set_execution_on}
 use Rattle.program_call.specs.Logs.{LogsOfRun, LogsToRecover}
 use Rattle.program_call.specs.OneLog.{IsOnlyRead}
-use Rattle.program_call.specs.Outcomes.{AcceptsCommits}
+use Rattle.program_call.specs.Outcomes.{AcceptsCommits, GivesUpdates}
 
 -- A call that should run a script over new logs, one on each of these disks; a log is full once it has as many bytes as
 -- the limit. The call leaves the disks `ended`.
 module _ {D : Type 0} (disk : Ghosts D) (options : Options) (limit : ℕ) (opened ended : List D) where
-  -- a script was run, and this is its outcome; commits were accepted unless a named cause holds, or found no memory
+  -- a script was run, and this is its outcome; commits were accepted, and reads of the log gave its records, unless a
+  -- named cause holds, or found no memory
   pub record RanOverLogs (script : Script) (o : calls.Outcome) : Type 0 where
     pub is_outcome : HasSetOutcome disk opened ended (set_execution_on disk options limit script opened ended) o
     pub accepts : AcceptsCommits (set_execution_on disk options limit script opened ended).settings script o
+    pub gives : GivesUpdates o
 
   -- the first disk that isn't empty has so many bytes, and all of them were left alone
   pub record HaveBytes (len : ℕ) : Type 0 where

@@ -169,7 +169,7 @@ fn text_of(alloc: Global, form: Form, outcome: &Outcome<FamilyMap>) -> Result<By
 fn status_of(outcome: &Outcome<FamilyMap>) -> Status
     ensures { result ≡ ran_status outcome.now }
 {
-    if outcome.fault.is_some() {
+    if outcome.fault.is_some() || outcome.has_read_fault() {
         Status::Disk
     } else if outcome.lacks_memory() {
         Status::Memory

@@ -19,7 +19,7 @@ use base_devices::{Clock, Disk, Sink, Source};
 use engine_calls::Gate;
 use model_base::{MAX_CLIENTS, MAX_SIZE};
 use run_execution::{Host, Setup, execute, execute_set};
-use run_laws::commits_are_accepted;
+use run_laws::{commits_are_accepted, updates_are_given};
 use run_scripts::Script;
 use std::rt;
 use std::sync::Wait;
@@ -116,6 +116,7 @@ fn run_over<
     match read_script(host.alloc, source) {
         Ok(script) => {
             commits_are_accepted();
+            updates_are_given();
             let (disks, end) = execute_set(host, disks, limit, clock, &script, setup);
             // The script is no longer needed while the text is made.
             drop(script);
@@ -163,6 +164,7 @@ pub fn run_and_tell<
         result.status }
 {
     commits_are_accepted();
+    updates_are_given();
     let (disk, end) = execute(host, disk, clock, &script, setup);
     // The script is no longer needed while the text is made.
     drop(script);

@@ -63,6 +63,11 @@ pub found_words : (items : List Found) → flat_map (λ v. 32 ∷ found_word (fo
 found_words [] = refl
 found_words (v ∷ vs) = ap (λ t. (32 ∷ found_word (found_value v)) ++ t) (found_words vs)
 
+-- the words of records, each after a space
+pub record_words : (items : List (List ℕ)) → flat_map (λ r. 32 ∷ hex r) items ≡ flat_map (λ w. 32 ∷ w) (map hex items)
+record_words [] = refl
+record_words (r ∷ rs) = ap (λ t. (32 ∷ hex r) ++ t) (record_words rs)
+
 -- the words of pairs, each after a space
 pub row_words : (pairs : List (List ℕ × List ℕ)) → flat_map (λ p. flat_map (λ w. 32 ∷ w) (pair_words p)) pairs ≡ flat_map (λ w. 32 ∷ w) (flat_map pair_words pairs)
 row_words [] = refl

@@ -7,7 +7,7 @@ use Rattle.model_base.specs.Calls as calls
 use Rattle.model_base.specs.declared.log.EndReason.{EndReason}
 use Rattle.model_base.specs.Text.{line, hex, reply_text, flag_word, key_words, state_text, log_text, hex_word, end_words}
 use Rattle.run_outcome.specs.declared.reply.Reply.{Reply}
-use Rattle.run_outcome.specs.declared.reply.Reply.TheVariants.{Accepted, Refused, Found, FoundEach, Rows, Done, Held, NotHeld, NoMemory}
+use Rattle.run_outcome.specs.declared.reply.Reply.TheVariants.{Accepted, Refused, Found, FoundEach, Rows, Updates, ReadFault, Done, Held, NotHeld, NoMemory}
 use Rattle.run_outcome.specs.declared.history_entry.HistoryEntry.{HistoryEntry}
 use Rattle.run_outcome.specs.declared.outcome.Outcome.{Outcome}
 use Rattle.log_recovery.specs.declared.kept.GroupNote.{GroupNote}
@@ -45,6 +45,8 @@ shown_reply (Refused why) = calls.refused why
 shown_reply (Found at value) = calls.found at value
 shown_reply (FoundEach at values) = calls.found_each at values
 shown_reply (Rows at rows) = calls.rows at rows
+shown_reply (Updates at records) = calls.updates_found at records
+shown_reply (ReadFault count) = calls.read_failed count
 shown_reply Done = calls.done
 shown_reply Held = calls.held
 shown_reply NotHeld = calls.not_held

@@ -5,7 +5,7 @@ ghost use Rattle.model_base.specs.Text.{line, refusal_words, flag_word, log_text
 ghost use Rattle.program_text.specs.ShownText.{reply_line, client_lines, clients_lines, line_of, history_lines};
 
 use crate::lines::{put_hex, put_line, put_number, put_numbers};
-use crate::reads::{put_found_each, put_rows};
+use crate::reads::{put_found_each, put_rows, put_updates};
 use base_bytes::Bytes;
 use log_batch::Batch;
 use model_base::{Flag, NoMemory, Refusal};
@@ -54,6 +54,8 @@ fn put_reply(text: &mut Bytes, reply: &Reply) -> Result<(), NoMemory>
         Reply::Found { at, value: None } => put_line(text, b"nil", &[*at]),
         Reply::FoundEach { at, values } => put_found_each(text, *at, values),
         Reply::Rows { at, rows } => put_rows(text, *at, rows),
+        Reply::Updates { at, records } => put_updates(text, *at, records),
+        Reply::ReadFault { count } => put_line(text, b"no readfault", &[*count]),
         Reply::Done => put_line(text, b"done", &[]),
         Reply::Held => put_line(text, b"held", &[]),
         Reply::NotHeld => put_line(text, b"notheld", &[]),

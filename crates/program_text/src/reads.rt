@@ -1,12 +1,13 @@
-//! The replies to reads of several keys: `many AT N` and a word for each key, `scan AT N` and two words for each pair.
+//! The replies to reads of several keys: `many AT N` and a word for each key, `scan AT N` and two words for each pair;
+//! and to reads of the log: `updates AT N` and a word for each record.
 
 ghost use Rattle.std.specs.Prelude.{◌≡◌, ◌∷◌, ◌++◌, length, map, flat_map, codes, decimal, OnOk};
-ghost use Rattle.model_base.specs.Text.{line, found_word};
+ghost use Rattle.model_base.specs.Text.{line, found_word, hex};
 ghost use Rattle.base_bytes.specs.Answers.{found_value};
 ghost use Rattle.program_text.specs.ShownText.{pair_words};
 
-use crate::lines::put_numbers;
-use base_bytes::{Bytes, Found, FoundList, PairList};
+use crate::lines::{put_hex, put_numbers};
+use base_bytes::{Bytes, Found, FoundList, PairList, RecordList};
 use model_base::NoMemory;
 
 /// Appends what was found for one key to the text, after a space: `=V`, or `-` for no value.
@@ -58,4 +59,26 @@ pub fn put_rows(text: &mut Bytes, at: u64, rows: &PairList) -> Result<(), NoMemo
         put_row(text, key.as_slice(), value.as_slice())?;
     }
     text.append(b"\n")
+}
+
+/// Appends the reply to a read of the log to the text.
+pub fn put_updates(text: &mut Bytes, at: u64, records: &RecordList) -> Result<(), NoMemory>
+    ensures { OnOk result (text.new ≡ text.old ++ line (codes "updates" ∷ decimal at ∷ decimal (length records.now)
+        ∷ map hex records.now)) }
+{
+    text.append(b"updates")?;
+    put_numbers(text, &[at, records.len() as u64])?;
+    // The records so far are appended to the text.
+    for record in records.as_slice() {
+        put_record(text, record.as_slice())?;
+    }
+    text.append(b"\n")
+}
+
+/// Appends a record to the text, after a space.
+fn put_record(text: &mut Bytes, bytes: &[u8]) -> Result<(), NoMemory>
+    ensures { OnOk result (text.new ≡ text.old ++ 32 ∷ hex bytes.now) }
+{
+    text.append(b" ")?;
+    put_hex(text, bytes)
 }

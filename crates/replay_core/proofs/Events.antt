@@ -52,3 +52,7 @@ has_come v o t s r e m =
   where
     m2 : (true ≡ true) × Mirrors o r t
     m2 = (refl, m)
+
+-- another event that does the same
+pub as_step : (v u : Option core.State) (o : core.Options) (s : core.State) (came : Bool) (r : State) → v ≡ u → MirrorsStep u o s came r → MirrorsStep v o s came r
+as_step v u o s came r e m = let P : Option core.State → Type 0 = λ x. MirrorsStep x o s came r in subst P (sym e) m

@@ -26,7 +26,7 @@ use Rattle.replay_core.proofs.TableEvents.{known_take, known_drop}
 use Rattle.replay_core.proofs.RunLemmas.{accepted_writer, refused_writer, take_front, append_none}
 
 log_by_phase : (s : core.State) (c : ℕ) (log : LogPhase) (ws : List core.Writer) → event.log_group s c (shown_log log ws)
-    ≡ event.when ((is_built log && core.leads c ws) && not s.log_failed) (event.logged_group s (core.with_runs s.assigned ws))
+    ≡ event.when (((is_built log && core.leads c ws) && not (core.is_alone ws)) && not s.log_failed) (event.logged_group s (core.with_runs s.assigned ws))
 log_by_phase s c Free ws = refl
 log_by_phase s c (Led d) ws = refl
 log_by_phase s c Built ws = refl
@@ -36,11 +36,11 @@ log_by_phase s c Marked ws = refl
 log_by_phase s c (Handed d) ws = refl
 
 pub log_group_is : (o : core.Options) (r : State) (s : core.State) (c : ℕ) → Mirrors o r s → event.log_group s c s.log
-    ≡ event.when ((is_built r.log && leads_front c r.in_second r.in_hand r.linked.items) && not r.log_failed) (event.logged_group s (core.with_runs s.assigned (hand_of r)))
+    ≡ event.when (((is_built r.log && leads_front c r.in_second r.in_hand r.linked.items) && not (core.is_alone (hand_of r))) && not r.log_failed) (event.logged_group s (core.with_runs s.assigned (hand_of r)))
 log_group_is o r s c m =
     ap (event.log_group s c) m.line.hand ∙ log_by_phase s c r.log (hand_of r)
-    ∙ ap (λ b. event.when ((is_built r.log && b) && not s.log_failed) (event.logged_group s (core.with_runs s.assigned (hand_of r)))) (leads_line r.plans.items c r.in_second r.in_hand r.linked.items)
-    ∙ ap (λ b. event.when ((is_built r.log && leads_front c r.in_second r.in_hand r.linked.items) && not b) (event.logged_group s (core.with_runs s.assigned (hand_of r)))) m.log_failed
+    ∙ ap (λ b. event.when (((is_built r.log && b) && not (core.is_alone (hand_of r))) && not s.log_failed) (event.logged_group s (core.with_runs s.assigned (hand_of r)))) (leads_line r.plans.items c r.in_second r.in_hand r.linked.items)
+    ∙ ap (λ b. event.when (((is_built r.log && leads_front c r.in_second r.in_hand r.linked.items) && not (core.is_alone (hand_of r))) && not b) (event.logged_group s (core.with_runs s.assigned (hand_of r)))) m.log_failed
 
 -- Whether any writer has a run
 

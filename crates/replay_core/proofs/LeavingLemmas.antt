@@ -115,7 +115,7 @@ all_known_len m n ws e k = let P : ℕ → Type 0 = λ x. AllByRecursion (IsClie
 
 -- a writer with a refusal
 abbrev pub with_refusal : Refusal → Writer → Writer
-with_refusal why w = record { client = w.client; options = w.options; batch = w.batch; count = w.count; answer = Some (Refused why) }
+with_refusal why w = record { client = w.client; options = w.options; batch = w.batch; count = w.count; since = w.since; answer = Some (Refused why) }
 
 abbrev refused_shown : Refusal → List ClientPlan → List Writer → List core.Writer
 refused_shown why plans ws = core.all_answered (refused why) (map (shown_writer plans) ws)

@@ -10,6 +10,7 @@ pub mod MarkLemmas
 pub mod OpeningLemmas
 pub mod OrdinalLemmas
 pub mod ReadEvents
+pub mod ReaderEvents
 pub mod Removing
 pub mod ReplayLemmas
 pub mod ReplyLemmas

@@ -8,7 +8,7 @@ use Rattle.std.proofs.lemmas.List.Sums.{sum_by-cons}
 use Rattle.model_base.specs.declared.group.Item.{Item}
 use Rattle.model_base.specs.declared.write.WriteOptions.{WriteOptions}
 use Rattle.model_base.specs.Batch.{count_of}
-use Rattle.model_base.specs.Calls.{Command, commit}
+use Rattle.model_base.specs.Calls.{Command, commit, updates}
 use Rattle.model_core.specs.Core as core
 use Rattle.model_core.specs.Step as event
 use Rattle.replay_plans.specs.declared.plan.ClientPlan.{ClientPlan}
@@ -18,7 +18,7 @@ use Rattle.replay_core.specs.declared.writer.Writer.{Writer}
 use Rattle.replay_plans.specs.Plans.{records_in, records_of}
 use Rattle.replay_core.specs.Shown.{shown_writer, shown_log, groups_of_lengths, total}
 use Rattle.replay_core.specs.Mirrors.{IsLine, IsClientOf, AreWriters, lines_left}
-use Rattle.replay_plans.specs.Ahead.{commit_of}
+use Rattle.replay_plans.specs.Ahead.{commit_of, updates_of}
 
 pub commit_is : (o : Option Command) (how : WriteOptions) → option_and_then commit_of o ≡ Some how → o ≡ Some (commit how)
 commit_is None how e = cc
@@ -30,10 +30,17 @@ pub link_waits : (o : core.Options) (s : core.State) (c : ℕ) (client : core.Cl
 link_waits o s c client there busy =
     ap (event.link o s c) there ∙ ap (λ b. if b then event.link_call o s c (core.next_call client).client (core.next_call client).call else None) busy
 
-pub not_commit : (o : core.Options) (s : core.State) (c : ℕ) (client : core.Client) (line : Option Command) → option_and_then commit_of line ≡ None → event.link_call o s c client line ≡ None
-not_commit o s c client None e = refl
-not_commit o s c client (Some (commit options)) e = absurd (cc e)
-not_commit o s c client (Some other) e = refl
+-- neither a commit nor a read of the log
+pub not_linked : (o : core.Options) (s : core.State) (c : ℕ) (client : core.Client) (line : Option Command) → option_and_then commit_of line ≡ None → option_and_then updates_of line ≡ None → event.link_call o s c client line ≡ None
+not_linked o s c client None e f = refl
+not_linked o s c client (Some (commit options)) e f = absurd (cc e)
+not_linked o s c client (Some (updates n)) e f = absurd (cc f)
+not_linked o s c client (Some other) e f = refl
+
+pub updates_is : (o : Option Command) (n : ℕ) → option_and_then updates_of o ≡ Some n → o ≡ Some (updates n)
+updates_is None n e = cc
+updates_is (Some (updates k)) n e = let same : k ≡ n = cc in ap (λ x. Some (updates x)) same
+updates_is (Some other) n e = absurd (cc e)
 
 pub records_at : (plans : List ClientPlan) (c place : ℕ) (plan : ClientPlan) (lines : Lines) → c ≡ place + 1 → slice_get plans place ≡ Some plan → records_of plans c lines ≡ records_in plan lines
 records_at plans c place plan lines e there =

@@ -1,6 +1,6 @@
 -- The events of the log, as the code tests for them.
 use Rattle.std.proofs.Common.{◌≡◌, ℕ, zero, suc, ◌+◌, ◌<◌, Bool, true, false, not, ◌&&◌, nat_lt, List, [], ◌∷◌, ◌++◌, length, take, drop, map, get_or, find, Option, Some, None, refl, sym, ap, ◌∙◌, arith, ◌==◌}
-use Rattle.std.specs.Prelude.{if◌then◌else◌}
+use Rattle.std.specs.Prelude.{if◌then◌else◌, is_some}
 use Rattle.std.proofs.lemmas.Bool.Decides.{nat_tests}
 use Rattle.model_base.specs.declared.write.WriteOptions.{WriteOptions}
 use Rattle.model_base.specs.declared.write.Refusal.{Refusal}
@@ -180,7 +180,7 @@ leads_some c start zero ws e = cc
 leads_some c start (suc n) ws e = omega arith
 
 fault_by_phase : (s : core.State) (c : ℕ) (log : LogPhase) (ws : List core.Writer) → event.fault s c (shown_log log ws)
-    ≡ event.when (is_built log && core.leads c ws) (record (event.leave s (core.all_answered (refused (no.LogFault 1)) ws)) { log = core.free; log_failed = true })
+    ≡ event.when ((is_built log && core.leads c ws) && not (core.is_alone ws)) (record (event.leave s (core.all_answered (refused (no.LogFault 1)) ws)) { log = core.free; log_failed = true })
 fault_by_phase s c Free ws = refl
 fault_by_phase s c (Led d) ws = refl
 fault_by_phase s c Built ws = refl
@@ -190,10 +190,10 @@ fault_by_phase s c Marked ws = refl
 fault_by_phase s c (Handed d) ws = refl
 
 pub fault_is : (o : core.Options) (r : State) (s : core.State) (c : ℕ) → Mirrors o r s → event.fault s c s.log
-    ≡ event.when (is_built r.log && leads_front c r.in_second r.in_hand r.linked.items) (record (event.leave s (core.all_answered (refused (no.LogFault 1)) (hand_of r))) { log = core.free; log_failed = true })
+    ≡ event.when ((is_built r.log && leads_front c r.in_second r.in_hand r.linked.items) && not (core.is_alone (hand_of r))) (record (event.leave s (core.all_answered (refused (no.LogFault 1)) (hand_of r))) { log = core.free; log_failed = true })
 fault_is o r s c m =
     ap (event.fault s c) m.line.hand ∙ fault_by_phase s c r.log (hand_of r)
-    ∙ ap (λ b. event.when (is_built r.log && b) (record (event.leave s (core.all_answered (refused (no.LogFault 1)) (hand_of r))) { log = core.free; log_failed = true })) (leads_line r.plans.items c r.in_second r.in_hand r.linked.items)
+    ∙ ap (λ b. event.when ((is_built r.log && b) && not (core.is_alone (hand_of r))) (record (event.leave s (core.all_answered (refused (no.LogFault 1)) (hand_of r))) { log = core.free; log_failed = true })) (leads_line r.plans.items c r.in_second r.in_hand r.linked.items)
 
 refuse_by_phase : (s : core.State) (c : ℕ) (why : Refusal) (log : LogPhase) (ws : List core.Writer) → event.refuse s c why (shown_log log ws)
     ≡ event.when ((is_built log && core.leads c ws) && event.is_no_slowdown ws) (record (event.leave s (core.all_answered (refused why) ws)) { log = core.free })
@@ -212,7 +212,7 @@ refuse_is o r s c why m =
     ∙ ap (λ b. event.when ((is_built r.log && b) && event.is_no_slowdown (hand_of r)) (record (event.leave s (core.all_answered (refused why) (hand_of r))) { log = core.free })) (leads_line r.plans.items c r.in_second r.in_hand r.linked.items)
 
 stall_by_phase : (s : core.State) (c : ℕ) (log : LogPhase) (ws : List core.Writer) → event.stall s c (shown_log log ws)
-    ≡ event.when ((is_built log && core.leads c ws) && not (event.is_no_slowdown ws)) (record s { log = core.stalled ws })
+    ≡ event.when (((is_built log && core.leads c ws) && not (core.is_alone ws)) && not (event.is_no_slowdown ws)) (record s { log = core.stalled ws })
 stall_by_phase s c Free ws = refl
 stall_by_phase s c (Led d) ws = refl
 stall_by_phase s c Built ws = refl
@@ -222,10 +222,10 @@ stall_by_phase s c Marked ws = refl
 stall_by_phase s c (Handed d) ws = refl
 
 pub stall_is : (o : core.Options) (r : State) (s : core.State) (c : ℕ) → Mirrors o r s → event.stall s c s.log
-    ≡ event.when ((is_built r.log && leads_front c r.in_second r.in_hand r.linked.items) && not (event.is_no_slowdown (hand_of r))) (record s { log = core.stalled (hand_of r) })
+    ≡ event.when (((is_built r.log && leads_front c r.in_second r.in_hand r.linked.items) && not (core.is_alone (hand_of r))) && not (event.is_no_slowdown (hand_of r))) (record s { log = core.stalled (hand_of r) })
 stall_is o r s c m =
     ap (event.stall s c) m.line.hand ∙ stall_by_phase s c r.log (hand_of r)
-    ∙ ap (λ b. event.when ((is_built r.log && b) && not (event.is_no_slowdown (hand_of r))) (record s { log = core.stalled (hand_of r) })) (leads_line r.plans.items c r.in_second r.in_hand r.linked.items)
+    ∙ ap (λ b. event.when (((is_built r.log && b) && not (core.is_alone (hand_of r))) && not (event.is_no_slowdown (hand_of r))) (record s { log = core.stalled (hand_of r) })) (leads_line r.plans.items c r.in_second r.in_hand r.linked.items)
 
 unstall_by_phase : (s : core.State) (c : ℕ) (log : LogPhase) (ws : List core.Writer) → event.unstall s c (shown_log log ws) ≡ event.when (is_stalled log && core.leads c ws) (record s { log = core.built ws })
 unstall_by_phase s c Free ws = refl
@@ -332,5 +332,11 @@ no_writer = record {
   options = record { sync = false; no_log = false; no_slowdown = false };
   batch = record { from = 0; to = 0 };
   count = 0;
+  since = None;
   answer = None;
 }
+
+-- whether the group in hand reads the log, by its leader
+pub alone_is : (r : State) (c : ℕ) → leads_front c r.in_second r.in_hand r.linked.items ≡ true → core.is_alone (hand_of r) ≡ is_some (get_or r.linked.items r.in_second no_writer).since
+alone_is r c leads =
+    first_at r.plans.items (λ (v : core.Writer). is_some v.since) core.is_alone r.in_second r.in_hand r.linked.items no_writer (λ v vs. refl) (leads_some c r.in_second r.in_hand r.linked.items leads) (leads_within c r.in_second r.in_hand r.linked.items leads)

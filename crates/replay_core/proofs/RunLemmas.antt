@@ -112,10 +112,10 @@ abbrev pub run_behind : ℕ → Writer → Run
 run_behind last w = record { first = last + 1; last = last + w.count }
 
 abbrev pub with_run : ℕ → Writer → Writer
-with_run last w = record { client = w.client; options = w.options; batch = w.batch; count = w.count; answer = Some (Accepted (run_behind last w)) }
+with_run last w = record { client = w.client; options = w.options; batch = w.batch; count = w.count; since = w.since; answer = Some (Accepted (run_behind last w)) }
 
 abbrev pub without_run : ℕ → Writer → Writer
-without_run last w = record { client = w.client; options = w.options; batch = w.batch; count = w.count; answer = Some (Refused (no.SequenceFull last)) }
+without_run last w = record { client = w.client; options = w.options; batch = w.batch; count = w.count; since = w.since; answer = Some (Refused (no.SequenceFull last)) }
 
 abbrev pub new_entry : ℕ → ℕ → Writer → CoreEntry
 new_entry ordinal last w = record { client = w.client; ordinal = ordinal; run = run_behind last w; flag = flag_of w.options; batch = w.batch }

@@ -13,7 +13,7 @@ use Rattle.replay_core.specs.declared.phases.TablePhase.TheVariants.{Still, Laun
 use Rattle.replay_core.specs.declared.phases.Mark.{Mark}
 use Rattle.replay_plans.specs.declared.plan.ClientPlan.{ClientPlan}
 use Rattle.replay_core.specs.declared.writer.Answer.{Answer}
-use Rattle.replay_core.specs.declared.writer.Answer.TheVariants.{Accepted, Refused}
+use Rattle.replay_core.specs.declared.writer.Answer.TheVariants.{Accepted, Refused, ReadAt}
 use Rattle.replay_core.specs.declared.writer.Writer.{Writer}
 use Rattle.replay_core.specs.declared.state.State.{State}
 use Rattle.replay_core.specs.Phases.{is_in_log, is_still, is_launched, is_published, is_finished}
@@ -69,6 +69,7 @@ run_shown : (records : List Record) (a : Option Answer) → is_some (core.run_of
 run_shown records None = refl
 run_shown records (Some (Accepted run)) = refl
 run_shown records (Some (Refused why)) = refl
+run_shown records (Some (ReadAt at)) = refl
 
 runners_more : (c d : ℕ) (b : Bool) (ws : List core.Writer) (w : core.Writer) → core.has_run w ≡ b → w.client ≡ d → core.among c (core.runners (w ∷ ws)) ≡ ((d == c && b) || core.among c (core.runners ws))
 runners_more c d b ws w e f = runs_by (core.has_run w) e
@@ -138,6 +139,7 @@ last_shown : (n : ℕ) (records : List Record) (a : Option Answer) → event.las
 last_shown n records None = refl
 last_shown n records (Some (Accepted run)) = refl
 last_shown n records (Some (Refused why)) = refl
+last_shown n records (Some (ReadAt at)) = refl
 
 pub group_last_is : (plans : List ClientPlan) (n : ℕ) (ws : List Writer) → event.group_last n (map (shown_writer plans) ws) ≡ fold (λ n (w : Writer). last_after n w.answer) n ws
 group_last_is plans n [] = refl
@@ -181,16 +183,17 @@ abbrev pub after_exit : core.State → Bool → core.State
 after_exit s b = record (event.leave (if b then record s { second = drop 1 s.second } else record s { log = core.free }) (if b then core.first_group s.second else core.in_hand s.log)) { table = core.still }
 
 exit_by : (o : core.Options) (s : core.State) (c : ℕ) (phase : TablePhase) (marks : List Mark) (last : Option ℕ) → IsTable phase marks last s.table
-    → event.exit o s c s.table ≡ event.when (is_published phase && core.leads c (core.table_group o s)) (after_exit s o.pipelined)
+    → event.exit o s c s.table ≡ (if is_published phase && core.leads c (core.table_group o s) then Some (after_exit s o.pipelined) else event.exit_reader s c s.log)
 exit_by o s c Still marks last e = ap (event.exit o s c) e
 exit_by o s c Published marks last e = ap (event.exit o s c) e
 exit_by o s c Launched marks last (ins, fin, e, l) = ap (event.exit o s c) e
 
 pub exit_is : (o : core.Options) (r : State) (s : core.State) (c : ℕ) → Mirrors o r s → event.exit o s c s.table
-    ≡ event.when (is_published r.table && leads_front c (table_start r.options.pipelined r.in_second) (table_len r.options.pipelined r.second.items r.log r.in_hand) r.linked.items) (after_exit s r.options.pipelined)
+    ≡ (if is_published r.table && leads_front c (table_start r.options.pipelined r.in_second) (table_len r.options.pipelined r.second.items r.log r.in_hand) r.linked.items
+    then Some (after_exit s r.options.pipelined) else event.exit_reader s c s.log)
 exit_is o r s c m = exit_by o s c r.table r.marks.items r.last_finished m.table
-    ∙ ap (λ b. event.when (is_published r.table && b) (after_exit s o.pipelined)) (leads_is o r s c m)
-    ∙ ap (λ b. event.when (is_published r.table && leads_front c (table_start r.options.pipelined r.in_second) (table_len r.options.pipelined r.second.items r.log r.in_hand) r.linked.items) (after_exit s b)) (ap (λ (p : core.Options). p.pipelined) (sym m.options))
+    ∙ ap (λ b. if is_published r.table && b then Some (after_exit s o.pipelined) else event.exit_reader s c s.log) (leads_is o r s c m)
+    ∙ ap (λ b. if is_published r.table && leads_front c (table_start r.options.pipelined r.in_second) (table_len r.options.pipelined r.second.items r.log r.in_hand) r.linked.items then Some (after_exit s b) else event.exit_reader s c s.log) (ap (λ (p : core.Options). p.pipelined) (sym m.options))
 
 -- the group in hand, where it is the group in the table
 pub exit_hand : (log : LogPhase) (n start : ℕ) (s : core.State) (ws : List core.Writer) → s.log ≡ shown_log log (take n (drop start ws)) → 0 < (if is_in_log log then n else 0) → core.in_hand s.log ≡ take n (drop start ws)

@@ -3,7 +3,7 @@ use Rattle.std.specs.Prelude.{ℕ, suc, Bool, true, false, ◌&&◌, List, [], �
 use Rattle.std.specs.Option.{option_map_or}
 use Rattle.replay_core.specs.declared.phases.LogPhase.{LogPhase}
 use Rattle.replay_core.specs.declared.writer.Answer.{Answer}
-use Rattle.replay_core.specs.declared.writer.Answer.TheVariants.{Accepted, Refused}
+use Rattle.replay_core.specs.declared.writer.Answer.TheVariants.{Accepted, Refused, ReadAt}
 use Rattle.replay_core.specs.declared.writer.Writer.{Writer}
 use Rattle.replay_core.specs.Phases.{is_in_log}
 
@@ -20,12 +20,14 @@ abbrev pub has_run : Option Answer → Bool
 has_run None = false
 has_run (Some (Accepted run)) = true
 has_run (Some (Refused why)) = false
+has_run (Some (ReadAt at)) = false
 
 -- the last sequence of its run, or `n` if it has none
 abbrev pub last_after : ℕ → Option Answer → ℕ
 last_after n None = n
 last_after n (Some (Accepted run)) = run.last
 last_after n (Some (Refused why)) = n
+last_after n (Some (ReadAt at)) = n
 
 abbrev pub finished_last : ℕ → Option ℕ → Bool
 finished_last c None = false

@@ -1,7 +1,7 @@
 -- A client's replies to its commits and reads: in short in the code, in full in the machine of events.
 use Rattle.std.specs.Prelude.{◌≡◌, ℕ, List, [], ◌∷◌, Option, Some, None}
 use Rattle.model_base.specs.declared.write.Refusal.TheVariants.{NoFamily}
-use Rattle.model_base.specs.Calls.{Reply, accepted, refused, found, found_each, rows}
+use Rattle.model_base.specs.Calls.{Reply, accepted, refused, found, found_each, rows, updates_found}
 use Rattle.replay_core.specs.declared.writer.CoreReply.{CoreReply}
 use Rattle.replay_core.specs.declared.writer.CoreReply.TheVariants.{Accepted, Refused, ReadAt}
 
@@ -12,6 +12,7 @@ IsReply (Refused why) (refused r) = why ≡ r
 IsReply (ReadAt n) (found at v) = n ≡ at
 IsReply (ReadAt n) (found_each at vs) = n ≡ at
 IsReply (ReadAt n) (rows at pairs) = n ≡ at
+IsReply (ReadAt n) (updates_found at records) = n ≡ at
 IsReply (Accepted run) other = ⊥
 IsReply (Refused why) other = ⊥
 IsReply (ReadAt n) other = ⊥

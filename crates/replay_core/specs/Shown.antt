@@ -13,7 +13,7 @@ use Rattle.replay_core.specs.declared.phases.LogPhase.TheVariants.{Free, Led, Bu
 use Rattle.replay_plans.specs.declared.plan.Lines.{Lines}
 use Rattle.replay_core.specs.declared.writer.Writer.{Writer}
 use Rattle.replay_core.specs.declared.writer.Answer.{Answer}
-use Rattle.replay_core.specs.declared.writer.Answer.TheVariants.{Accepted, Refused}
+use Rattle.replay_core.specs.declared.writer.Answer.TheVariants.{Accepted, Refused, ReadAt}
 use Rattle.replay_core.specs.declared.state.CoreOptions.{CoreOptions}
 use Rattle.replay_core.specs.declared.state.State.{State}
 
@@ -33,17 +33,20 @@ plans_in r = r.plans.items
 abbrev pub shown_reply : List Record → Answer → Reply
 shown_reply records (Accepted run) = accepted run.first run.last records
 shown_reply records (Refused why) = refused why
+shown_reply records (ReadAt at) = core.read_at at
 
 abbrev pub shown_answer : List Record → Option Answer → Option Reply
 shown_answer records None = None
 shown_answer records (Some (Accepted run)) = Some (accepted run.first run.last records)
 shown_answer records (Some (Refused why)) = Some (refused why)
+shown_answer records (Some (ReadAt at)) = Some (core.read_at at)
 
 abbrev pub shown_writer : List ClientPlan → Writer → core.Writer
 shown_writer plans w = record {
   client = w.client;
   options = w.options;
   records = records_of plans w.client w.batch;
+  since = w.since;
   answer = shown_answer (records_of plans w.client w.batch) w.answer;
 }
 

@@ -79,6 +79,7 @@ pub(crate) fn note_refused(done: &mut Vec<Option<Writer>>, group: &[Writer], why
                 options: writer.options,
                 batch: writer.batch,
                 count: writer.count,
+                since: writer.since,
                 answer: Some(Answer::Refused { why }),
             },
         );

@@ -1,6 +1,8 @@
 //! The events of the log, from electing a leader to handing the log on.
 
-ghost use Rattle.std.specs.Prelude.{◌≡◌, ◌<◌, ◌≤◌, ◌+◌, ◌++◌, ◌∷◌, [], if◌then◌else◌, vec_len, vec_capacity};
+ghost use Rattle.std.specs.Prelude.{◌≡◌, ◌<◌, ◌≤◌, ◌+◌, ◌++◌, ◌∷◌, [], if◌then◌else◌, length, slice_set, slice_index_or, vec_len, vec_capacity};
+ghost use Rattle.replay_core.specs.declared.writer.Writer.{Writer};
+ghost use Rattle.replay_core.specs.Runs.{with_answer};
 
 use crate::leaving::{note_group, note_refused, remove_range};
 use crate::ordinals::count_entries;
@@ -8,14 +10,14 @@ use crate::phases::LogPhase;
 use crate::room::push_within;
 use crate::runs::give_runs;
 use crate::state::State;
-use crate::writer::Writer;
+use crate::writer::{Answer, Writer};
 use line_grouping::group_len;
 use model_base::Refusal;
 
 impl State<'_> {
     ghost use Rattle.model_core.specs.Core as core;
     ghost use Rattle.model_core.specs.Step as event;
-    ghost use Rattle.std.specs.Prelude.{◌==◌, ◌&&◌, nat_lt, false, slice_get, take, length, drop, map, slice_index_or};
+    ghost use Rattle.std.specs.Prelude.{◌==◌, ◌&&◌, nat_lt, false, slice_get, take, length, drop, map, slice_index_or, is_some};
     ghost use Rattle.replay_core.specs.declared.writer.Writer.{Writer};
     ghost use Rattle.model_base.specs.Calls.{refused};
     ghost use Rattle.replay_core.specs.Shown.{shown_writer, plans_in};
@@ -81,6 +83,10 @@ impl State<'_> {
         if !self.has_built(client) {
             return false;
         }
+        let alone = self.is_alone();
+        if alone {
+            return false;
+        }
         if self.log_failed {
             return false;
         }
@@ -114,6 +120,9 @@ impl State<'_> {
         if !self.has_built(client) {
             return false;
         }
+        if self.is_alone() {
+            return false;
+        }
         self.refuse_group(Refusal::LogFault { count: 1 });
         self.log_failed = true;
         true
@@ -132,6 +141,48 @@ impl State<'_> {
             return false;
         }
         self.refuse_group(why);
+        true
+    }
+
+    /// The client has built a group of its own, which reads the log. It is answered at the published sequence.
+    pub(crate) fn read_log(&mut self, client: u32) -> bool
+        ensures steps { Steps (λ o s. event.read_log s client s.log) self.old result self.new }
+        ensures unchanged { result ≡ false → self.new ≡ self.old }
+        ensures plans { plans_in self.new ≡ plans_in self.old }
+    {
+        if !self.has_built(client) {
+            return false;
+        }
+        if !self.is_reader() {
+            return false;
+        }
+        if self.has_answer() {
+            return false;
+        }
+        set_answer(
+            &mut self.linked,
+            self.in_second,
+            Answer::ReadAt { at: self.last },
+        );
+        true
+    }
+
+    /// The client has read the log, alone. It leaves with its answer, and the log is free.
+    pub(crate) fn exit_reader(&mut self, client: u32) -> bool
+        ensures steps { Steps (λ o s. event.exit_reader s client s.log) self.old result self.new }
+        ensures unchanged { result ≡ false → self.new ≡ self.old }
+        ensures plans { plans_in self.new ≡ plans_in self.old }
+    {
+        if !self.has_built(client) {
+            return false;
+        }
+        if !self.is_reader() {
+            return false;
+        }
+        if !self.has_answer() {
+            return false;
+        }
+        self.leave_hand();
         true
     }
 
@@ -195,6 +246,33 @@ impl State<'_> {
         self.linked[self.in_second].options.no_slowdown
     }
 
+    /// Whether the group in hand reads the log, by its leader.
+    pub(crate) fn is_alone(&self) -> bool
+        requires { self.now.in_second < length self.now.linked.items }
+        ensures { (d : Writer)
+            → result ≡ is_some (slice_index_or self.now.linked.items self.now.in_second d).since }
+    {
+        self.linked[self.in_second].since.is_some()
+    }
+
+    /// Whether the group in hand is one writer, which reads the log.
+    fn is_reader(&self) -> bool
+        requires { self.now.in_second < length self.now.linked.items }
+        ensures { (d : Writer) → result ≡ (self.now.in_hand == 1
+            && is_some (slice_index_or self.now.linked.items self.now.in_second d).since) }
+    {
+        self.in_hand == 1 && self.is_alone()
+    }
+
+    /// Whether the leader of the group in hand has its answer.
+    fn has_answer(&self) -> bool
+        requires { self.now.in_second < length self.now.linked.items }
+        ensures { (d : Writer)
+            → result ≡ is_some (slice_index_or self.now.linked.items self.now.in_second d).answer }
+    {
+        self.linked[self.in_second].answer.is_some()
+    }
+
     /// Whether the group in hand stays out of the log, by its leader's options.
     fn is_unlogged(&self) -> bool
         requires { self.now.in_second < length self.now.linked.items }
@@ -255,6 +333,17 @@ impl State<'_> {
             None => false,
         }
     }
+}
+
+/// Gives the writer at a place its answer.
+fn set_answer(writers: &mut Vec<Writer>, place: usize, answer: Answer)
+    requires { place < length writers.old.items }
+    ensures set { (d : Writer) → writers.new.items
+        ≡ slice_set writers.old.items place (with_answer answer (slice_index_or writers.old.items place d)) }
+    ensures len { vec_len writers.new ≡ vec_len writers.old }
+    ensures capacity { vec_capacity writers.new ≡ vec_capacity writers.old }
+{
+    writers[place].answer = Some(answer);
 }
 
 /// Notes how many entries a group has, if the group is logged.

@@ -35,11 +35,12 @@ pub(crate) fn empty_batch(seat: &mut Seat)
     seat.from = seat.next;
 }
 
-/// A client gets the answer of its commit.
+/// A client gets the answer of its commit, or of its read of the log.
 pub(crate) fn settle(seat: &mut Seat, answer: Answer)
-    ensures { (plan : ClientPlan) (client : core.Client) (w : core.Writer) (records : List Record)
+    ensures { (s : core.State) (plan : ClientPlan) (client : core.Client) (w : core.Writer) (records : List Record)
         → IsClient plan seat.old client → client.idle ≡ false
-        → IsClient plan seat.new (event.after_completion client w (shown_reply records answer)) }
+        → IsClient plan seat.new (event.after_completion client w
+        (core.reply_told s w.since (shown_reply records answer))) }
 {
     match answer {
         Answer::Accepted(run) => {
@@ -47,6 +48,7 @@ pub(crate) fn settle(seat: &mut Seat, answer: Answer)
             told(seat, CoreReply::Accepted(run));
         }
         Answer::Refused { why } => told(seat, CoreReply::Refused { why }),
+        Answer::ReadAt { at } => told(seat, CoreReply::ReadAt { at }),
     }
 }
 

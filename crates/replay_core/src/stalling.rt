@@ -25,6 +25,9 @@ impl State<'_> {
         if !self.has_built(client) {
             return false;
         }
+        if self.is_alone() {
+            return false;
+        }
         if self.is_no_slowdown() {
             return false;
         }

@@ -66,6 +66,7 @@ impl State<'_> {
             Event::Insert(client) => self.insert(client),
             Event::Finish(client) => self.finish(client),
             Event::Publish(client) => self.publish(client),
+            Event::Since(client) => self.read_log(client),
             Event::Exit(client) => self.exit(client),
             Event::Complete(client) => self.complete(client),
             Event::Read(client) => self.read(client),

@@ -99,17 +99,18 @@ impl State<'_> {
         true
     }
 
-    /// The client leads the published group. Its members leave with their answers.
+    /// The client leads the published group. Its members leave with their answers. Or the client has read the log, and
+    /// leaves.
     pub(crate) fn exit(&mut self, client: u32) -> bool
         ensures steps { Steps (λ o s. event.exit o s client s.table) self.old result self.new }
         ensures unchanged { result ≡ false → self.new ≡ self.old }
         ensures plans { plans_in self.new ≡ plans_in self.old }
     {
         if !self.table.is_published() {
-            return false;
+            return self.exit_reader(client);
         }
         if !self.leads_table(client) {
-            return false;
+            return self.exit_reader(client);
         }
         if self.options.pipelined {
             self.leave_second();

@@ -4,7 +4,7 @@ use log_batch::Run;
 use model_base::{Refusal, WriteOptions};
 use replay_plans::Lines;
 
-/// A client's reply to a commit or a read.
+/// A client's reply to a commit, or to a read of the map or of the log.
 #[derive(Clone, Copy, Debug, PartialEq, Eq)]
 pub enum CoreReply {
     /// The sequences of the batch.
@@ -19,16 +19,19 @@ pub enum CoreReply {
 pub(crate) enum Answer {
     Accepted(Run),
     Refused { why: Refusal },
+    /// The published sequence up to which the log was read.
+    ReadAt { at: u64 },
 }
 
 /// A batch that waits: whose it is, how it must be written, how many of its records take a sequence, and its answer,
-/// once it has one.
+/// once it has one. Or a read of the log from the sequence `since` on, with no lines.
 #[derive(Clone, Copy)]
 pub(crate) struct Writer {
     pub(crate) client: u32,
     pub(crate) options: WriteOptions,
     pub(crate) batch: Lines,
     pub(crate) count: u64,
+    pub(crate) since: Option<u64>,
     pub(crate) answer: Option<Answer>,
 }
 

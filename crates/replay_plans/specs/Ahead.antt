@@ -2,7 +2,7 @@
 use Rattle.std.specs.Prelude.{◌≡◌, ℕ, ◌+◌, ◌<◌, ◌≤◌, Bool, true, false, List, [], ◌∷◌, length, map, drop, Option, Some, None, slice_get}
 use Rattle.model_base.specs.declared.key.Key.{Key}
 use Rattle.model_base.specs.declared.write.WriteOptions.{WriteOptions}
-use Rattle.model_base.specs.Calls.{Command, commit, get, many, scan, Call}
+use Rattle.model_base.specs.Calls.{Command, commit, get, many, scan, updates, Call}
 use Rattle.model_core.specs.Core as core
 use Rattle.replay_plans.specs.declared.ahead.Ahead.{Ahead}
 use Rattle.replay_plans.specs.Plans.{added_between}
@@ -41,3 +41,8 @@ read_families other = []
 abbrev pub commit_of : Command → Option WriteOptions
 commit_of (commit options) = Some options
 commit_of other = None
+
+-- the sequence from which on a command reads the log
+abbrev pub updates_of : Command → Option ℕ
+updates_of (updates n) = Some n
+updates_of other = None

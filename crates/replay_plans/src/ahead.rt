@@ -1,11 +1,11 @@
-//! Finds a client's next call: a commit, a read, or a command about a token.
+//! Finds a client's next call: a commit, a read of the map or of the log, or a command about a token.
 
 ghost use Rattle.std.specs.Prelude.{◌≡◌, ◌≤◌, ◌+◌, ◌-◌, ◌∷◌, [], false, List, length, drop, slice_get};
 ghost use Rattle.std.specs.Option.{option_map_or, option_and_then};
 ghost use Rattle.model_base.specs.Calls.{Call};
 ghost use Rattle.model_core.specs.Core as core;
 ghost use Rattle.model_base.specs.Progress.{first_missing};
-ghost use Rattle.replay_plans.specs.Ahead.{IsAhead, is_read, read_families, commit_of};
+ghost use Rattle.replay_plans.specs.Ahead.{IsAhead, is_read, read_families, commit_of, updates_of};
 ghost use Rattle.replay_plans.specs.Plans.{added_between};
 
 use crate::plan::ClientPlan;
@@ -65,11 +65,28 @@ pub fn commit_at(plan: &ClientPlan<'_>, line: usize) -> Option<WriteOptions>
     }
 }
 
-/// Whether a line is a read.
+/// Whether a line is a read of the map.
 pub fn is_read(plan: &ClientPlan<'_>, line: usize) -> bool
     ensures { result ≡ option_map_or is_read (slice_get plan.now line) false }
 {
-    line < plan.len() && matches!(plan.line(line).kind(), CommandKind::Read)
+    line < plan.len()
+        && matches!(
+            plan.line(line),
+            CommandView::Get { .. } | CommandView::Many { .. } | CommandView::Scan { .. }
+        )
+}
+
+/// The sequence from which on a line reads the log, if it does.
+pub fn updates_at(plan: &ClientPlan<'_>, line: usize) -> Option<u64>
+    ensures { result ≡ option_and_then updates_of (slice_get plan.now line) }
+{
+    if line >= plan.len() {
+        return None;
+    }
+    match plan.line(line) {
+        CommandView::Updates { since } => Some(*since),
+        _ => None,
+    }
 }
 
 /// The first family of the keys that a line reads that isn't below `families`, if there is one.

@@ -7,7 +7,7 @@ mod measure;
 mod plan;
 mod small;
 
-pub use ahead::{Ahead, commit_at, is_read, look_ahead, missing_family};
+pub use ahead::{Ahead, commit_at, is_read, look_ahead, missing_family, updates_at};
 pub use measure::measure_batch;
 pub use plan::{ClientPlan, Lines};
 pub use small::are_small;

@@ -1,4 +1,5 @@
 pub mod MapLemmas
+pub mod RecordLemmas
 mod SmallPlans
 mod ReplayedClients
 mod ReplayedHistory

@@ -1,3 +1,4 @@
 pub mod Maps
 pub mod Replayed
 pub mod Replaying
+pub mod Records

@@ -3,11 +3,12 @@ use Rattle.std.specs.Prelude.{◌≡◌, ℕ, suc, List, [], ◌∷◌, ◌++◌
 use Rattle.std.specs.Option.{option_map_or}
 use Rattle.std.specs.declared.alloc.Global.{Global}
 use Rattle.model_base.specs.Map.{rows_within, value_at}
+use Rattle.model_base.specs.Since.{records_in, since}
 use Rattle.model_base.specs.History as history
 use Rattle.model_core.specs.Core as machine
 use Rattle.model_core.specs.Core.{client_at}
 use Rattle.model_core.specs.CoreLaw.{IsCore}
-use Rattle.model_base.specs.Calls.{Command, commit, get, many, scan}
+use Rattle.model_base.specs.Calls.{Command, commit, get, many, scan, updates}
 use Rattle.run_outcome.specs.declared.reply.Reply.{Reply}
 use Rattle.run_outcome.specs.declared.reply.Reply.TheVariants as reply
 use Rattle.run_outcome.specs.declared.history_entry.HistoryEntry.{HistoryEntry}
@@ -29,42 +30,45 @@ InEachShown core is = (o : machine.Options) (s : machine.State) → IsCore o s �
 
 -- Replies
 
--- a read is answered from the map at its sequence, also a read of several keys; no other command reads
-abbrev pub read_by : List history.Entry → ℕ → Command → Option Reply
-read_by entries at (get key) = Some (reply.Found at (value_at (map_up_to at entries) key))
-read_by entries at (many keys) = Some (reply.FoundEach at (map (value_at (map_up_to at entries)) keys))
-read_by entries at (scan family lo hi) = Some (reply.Rows at (rows_within family lo hi (map_up_to at entries)))
-read_by entries at other = None
+-- a read is answered from the map at its sequence, also a read of several keys, and a read of the log from the records
+-- of its groups; no other command reads
+abbrev pub read_by : machine.State → ℕ → Command → Option Reply
+read_by s at (get key) = Some (reply.Found at (value_at (map_up_to at s.entries) key))
+read_by s at (many keys) = Some (reply.FoundEach at (map (value_at (map_up_to at s.entries)) keys))
+read_by s at (scan family lo hi) = Some (reply.Rows at (rows_within family lo hi (map_up_to at s.entries)))
+read_by s at (updates n) = Some (reply.Updates at (since n at (records_in [] (machine.log_groups s))))
+read_by s at other = None
 
-abbrev pub reply_by : List history.Entry → Command → CoreReply → Option Reply
-reply_by entries command (Accepted run) = Some (reply.Accepted run)
-reply_by entries command (Refused why) = Some (reply.Refused why)
-reply_by entries command (ReadAt at) = read_by entries at command
+abbrev pub reply_by : machine.State → Command → CoreReply → Option Reply
+reply_by s command (Accepted run) = Some (reply.Accepted run)
+reply_by s command (Refused why) = Some (reply.Refused why)
+reply_by s command (ReadAt at) = read_by s at command
 
-abbrev pub first_reply : List history.Entry → Command → List CoreReply → List Reply
-first_reply entries command [] = []
-first_reply entries command (r ∷ rs) = option_map_or (λ (said : Reply). said ∷ []) (reply_by entries command r) []
+abbrev pub first_reply : machine.State → Command → List CoreReply → List Reply
+first_reply s command [] = []
+first_reply s command (r ∷ rs) = option_map_or (λ (said : Reply). said ∷ []) (reply_by s command r) []
 
 -- the reply to the next command, if the command has one by now: only commits and reads have one, the first of the
 -- replies that are left
-abbrev pub next_reply : List history.Entry → List CoreReply → Command → List Reply
-next_reply entries told (commit options) = first_reply entries (commit options) told
-next_reply entries told (get key) = first_reply entries (get key) told
-next_reply entries told (many keys) = first_reply entries (many keys) told
-next_reply entries told (scan family lo hi) = first_reply entries (scan family lo hi) told
-next_reply entries told other = []
+abbrev pub next_reply : machine.State → List CoreReply → Command → List Reply
+next_reply s told (commit options) = first_reply s (commit options) told
+next_reply s told (get key) = first_reply s (get key) told
+next_reply s told (many keys) = first_reply s (many keys) told
+next_reply s told (scan family lo hi) = first_reply s (scan family lo hi) told
+next_reply s told (updates n) = first_reply s (updates n) told
+next_reply s told other = []
 
 -- the replies to these commands: the commits and reads among them have those of `told`, in order
-abbrev pub replies_by : List history.Entry → List Command → List CoreReply → List Reply
-replies_by entries [] told = []
-replies_by entries (c ∷ cs) told = next_reply entries told c
-    ++ replies_by entries cs (drop (length (next_reply entries told c)) told)
+abbrev pub replies_by : machine.State → List Command → List CoreReply → List Reply
+replies_by s [] told = []
+replies_by s (c ∷ cs) told = next_reply s told c
+    ++ replies_by s cs (drop (length (next_reply s told c)) told)
 
 -- the replies that a client got to its commands, by its number
 pub record IsTranscript (s : machine.State) (client : ℕ) (commands : List Command) (replies : List Reply) : Type 0 where
   pub told : List CoreReply
   pub is_told : MatchOption (client_at s client) (told ≡ []) (λ c. AreReplies told (answers_of c.calls))
-  pub replies_are : replies ≡ replies_by s.entries commands told
+  pub replies_are : replies ≡ replies_by s commands told
 
 -- the replies that the first `count` clients got
 pub record AreTranscripts (s : machine.State) (plans : List ClientPlan) (count : ℕ)

@@ -4,7 +4,7 @@ ghost use Rattle.std.specs.Prelude.{◌≡◌, IfOk, OnOk};
 ghost use Rattle.std.specs.List.{AllZip};
 ghost use Rattle.std.specs.Option.{option_map_or};
 ghost use Rattle.run_outcome.specs.Shows.{ShowsEntry};
-ghost use Rattle.log_batch.specs.Contents.{Contents, with_addition};
+ghost use Rattle.log_batch.specs.Contents.{Contents, with_addition, with_additions};
 ghost use Rattle.run_command_list.specs.Kinds.{record_added};
 ghost use Rattle.run_command_list.specs.Views.{command_of};
 ghost use Rattle.replay_core.specs.Shown.{plans_in};
@@ -60,11 +60,19 @@ fn batch_of(alloc: Global, lines: &[CommandView<'_>]) -> Result<Batch, NoMemory>
     ensures { IfOk result (λ batch. batch.records ≡ records_added lines.now) }
 {
     let mut batch = Batch::new(alloc)?;
+    add_lines(&mut batch, lines)?;
+    Ok(batch)
+}
+
+/// Adds to a batch what these lines add.
+pub(crate) fn add_lines(batch: &mut Batch, lines: &[CommandView<'_>]) -> Result<(), NoMemory>
+    ensures { OnOk result (batch.new ≡ with_additions batch.old (records_added lines.now)) }
+{
     // The batch has what the lines so far add.
     for line in lines {
-        add_line(&mut batch, line)?;
+        add_line(batch, line)?;
     }
-    Ok(batch)
+    Ok(())
 }
 
 /// Adds to a batch the record that a line adds, if it adds one. A batch that would be too large is answered with

@@ -7,6 +7,7 @@ mod history;
 mod maps;
 mod plans;
 mod reading;
+mod records;
 mod replaying;
 mod replies;
 

@@ -8,6 +8,7 @@ ghost use Rattle.replay_schedules.specs.Maps.{IsMapOf};
 ghost use Rattle.replay_schedules.specs.Replaying.{InEachShown, read_by, reply_by, first_reply, next_reply, replies_by, AreTranscripts};
 
 use crate::reading::MapUpTo;
+use crate::records::records_since;
 use base_bytes::{Bytes, Found};
 use model_base::{MAX_CLIENTS, NoMemory};
 use replay_core::{CoreReply, State};
@@ -40,19 +41,27 @@ fn replies_of(
     core: &State<'_>,
 ) -> Result<Vec<Reply>, NoMemory>
     ensures { InEachShown core.now (λ s. IfOk result (λ replies.
-        replies.items ≡ replies_by s.entries plan.now told.now)) }
+        replies.items ≡ replies_by s plan.now told.now)) }
 {
     let mut reads = MapUpTo::new(alloc);
     let mut replies = Vec::with_capacity(alloc, told.len())?;
     // The replies are those to the lines so far.
     for place in 0..plan.len() {
-        add_reply(&mut replies, &mut reads, plan.line(place), told, core)?;
+        add_reply(
+            alloc,
+            &mut replies,
+            &mut reads,
+            plan.line(place),
+            told,
+            core,
+        )?;
     }
     Ok(replies)
 }
 
 /// Adds the reply to a client's next command, if the command has one by now.
 fn add_reply(
+    alloc: Global,
     replies: &mut Vec<Reply>,
     reads: &mut MapUpTo,
     command: &CommandView<'_>,
@@ -61,11 +70,13 @@ fn add_reply(
 ) -> Result<(), NoMemory>
     ensures reads { InEachShown core.now (λ s. IsMapOf s.entries reads.old → IsMapOf s.entries reads.new) }
     ensures replies { InEachShown core.now (λ s. IsMapOf s.entries reads.old → OnOk result (replies.new.items
-        ≡ replies.old.items ++ next_reply s.entries (drop (length replies.old.items) told.now)
+        ≡ replies.old.items ++ next_reply s (drop (length replies.old.items) told.now)
         (command_of command.now))) }
 {
     match command.kind() {
-        CommandKind::Commit | CommandKind::Read => add_next(replies, reads, command, told, core),
+        CommandKind::Commit | CommandKind::Read => {
+            add_next(alloc, replies, reads, command, told, core)
+        }
         CommandKind::Addition | CommandKind::Clear => Ok(()),
         // The core knows no write controller, so no script with a schedule has this.
         CommandKind::Token => Ok(()),
@@ -74,6 +85,7 @@ fn add_reply(
 
 /// Adds the reply to a commit or a read: the first of the replies that are left.
 fn add_next(
+    alloc: Global,
     replies: &mut Vec<Reply>,
     reads: &mut MapUpTo,
     command: &CommandView<'_>,
@@ -82,13 +94,13 @@ fn add_next(
 ) -> Result<(), NoMemory>
     ensures reads { InEachShown core.now (λ s. IsMapOf s.entries reads.old → IsMapOf s.entries reads.new) }
     ensures replies { InEachShown core.now (λ s. IsMapOf s.entries reads.old → OnOk result (replies.new.items
-        ≡ replies.old.items ++ first_reply s.entries (command_of command.now)
+        ≡ replies.old.items ++ first_reply s (command_of command.now)
         (drop (length replies.old.items) told.now))) }
 {
     let Some(next) = reply_at(told, replies.len()) else {
         return Ok(());
     };
-    if let Some(reply) = reply_of(reads, command, next, core)? {
+    if let Some(reply) = reply_of(alloc, reads, command, next, core)? {
         replies.push(reply)?;
     }
     Ok(())
@@ -107,6 +119,7 @@ fn reply_at(told: &[CoreReply], at: usize) -> Option<CoreReply>
 /// The reply to a command. The core says all of it except the values that were read. The result is `None` where the
 /// core says that a command was a read which isn't one; the core never says this.
 fn reply_of(
+    alloc: Global,
     reads: &mut MapUpTo,
     command: &CommandView<'_>,
     told: CoreReply,
@@ -114,17 +127,18 @@ fn reply_of(
 ) -> Result<Option<Reply>, NoMemory>
     ensures reads { InEachShown core.now (λ s. IsMapOf s.entries reads.old → IsMapOf s.entries reads.new) }
     ensures reply { InEachShown core.now (λ s. IsMapOf s.entries reads.old
-        → IfOk result (λ reply. reply ≡ reply_by s.entries (command_of command.now) told)) }
+        → IfOk result (λ reply. reply ≡ reply_by s (command_of command.now) told)) }
 {
     match told {
         CoreReply::Accepted(run) => Ok(Some(Reply::Accepted(run))),
         CoreReply::Refused { why } => Ok(Some(Reply::Refused(why))),
-        CoreReply::ReadAt { at } => read_of(reads, command, at, core),
+        CoreReply::ReadAt { at } => read_of(alloc, reads, command, at, core),
     }
 }
 
 /// The reply to a command that was answered by reading at a sequence, if the command is a read.
 fn read_of(
+    alloc: Global,
     reads: &mut MapUpTo,
     command: &CommandView<'_>,
     at: u64,
@@ -132,7 +146,7 @@ fn read_of(
 ) -> Result<Option<Reply>, NoMemory>
     ensures reads { InEachShown core.now (λ s. IsMapOf s.entries reads.old → IsMapOf s.entries reads.new) }
     ensures reply { InEachShown core.now (λ s. IsMapOf s.entries reads.old
-        → IfOk result (λ reply. reply ≡ read_by s.entries at (command_of command.now))) }
+        → IfOk result (λ reply. reply ≡ read_by s at (command_of command.now))) }
 {
     match command {
         CommandView::Get { family, key } => Ok(Some(Reply::Found {
@@ -146,6 +160,10 @@ fn read_of(
         CommandView::Scan { family, lo, hi } => Ok(Some(Reply::Rows {
             at,
             rows: reads.rows(core, *family, lo, hi, at)?,
+        })),
+        CommandView::Updates { since } => Ok(Some(Reply::Updates {
+            at,
+            records: records_since(alloc, core, *since, at)?,
         })),
         _ => Ok(None),
     }

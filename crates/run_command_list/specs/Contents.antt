@@ -37,10 +37,10 @@ keys_of (many keys) = keys
 keys_of (scan family lo hi) = key_at family lo ∷ []
 keys_of other = []
 
--- The rate that stands in eight bytes, below 2 ^ 64. No list has a command `updates` yet: this has no number below.
+-- the rate, or the sequence, that stands in eight bytes
 abbrev pub rate_of : Command → ℕ
 rate_of (slow rate) = rate
-rate_of (updates s) = 2 ^ 64
+rate_of (updates s) = s
 rate_of other = 0
 
 abbrev pub is_commit : Command → Bool

@@ -13,7 +13,7 @@ use Rattle.model_base.specs.Calls.{Command, add, clear, commit, get, many, scan,
 use Rattle.model_base.specs.OptionBits.{option_bits, options_of_bits}
 use Rattle.run_command_list.specs.Layout.{bytes_of_word, bytes_of_key, bytes_of_keys, bytes_of}
 use Rattle.run_command_list.specs.Contents.{IsSmall, AreSmall, Fits}
-use Rattle.run_command_list.specs.Reading.{read_byte, read_fixed32, read_fixed64, read_front, read_word, read_key, read_keys, one_word, two_words, one_key, key_and_word, some_flags, many_keys, some_rate, read_command}
+use Rattle.run_command_list.specs.Reading.{read_byte, read_fixed32, read_fixed64, read_front, read_word, read_key, read_keys, one_word, two_words, one_key, key_and_word, some_flags, many_keys, some_rate, some_sequence, read_command}
 
 pub fixed32_back : (n : ℕ) (x : List ℕ) → n < 2 ^ 32 → read_fixed32 (to_le_bytes w32 n ++ x) ≡ Some (n, x)
 unfolding read_fixed32
@@ -121,6 +121,10 @@ rate_back : (rate : ℕ) (x : List ℕ) → rate < 2 ^ 64 → some_rate (to_le_b
 unfolding some_rate
 rate_back rate x fits = rw (fixed64_back rate x fits) refl
 
+sequence_back : (s : ℕ) (x : List ℕ) → s < 2 ^ 64 → some_sequence (to_le_bytes w64 s ++ x) ≡ Some (updates s, x)
+unfolding some_sequence
+sequence_back s x fits = rw (fixed64_back s x fits) refl
+
 options_back : (o : WriteOptions) (x : List ℕ) → some_flags (option_bits o ∷ x) ≡ Some (commit o, x)
 unfolding some_flags read_byte
 options_back o x = ap (λ (p : WriteOptions). Some (commit p, x)) (flags_back o)
@@ -146,7 +150,7 @@ command_back (get key) x fits = one_key_back get key x fits.keys.0
 command_back (many keys) x fits = many_back keys x fits.count fits.keys
 command_back (scan f lo hi) x fits =
     key_and_word_back (λ k hi. scan k.family k.bytes hi) (key_at f lo) hi x fits.keys.0 fits.words.0
-command_back (updates s) x fits = let high : 2 ^ 64 < 2 ^ 64 = fits.rate in absurd (omega (arith, high))
+command_back (updates s) x fits = sequence_back s x fits.rate
 command_back stop x fits = refl
 command_back unstop x fits = refl
 command_back (slow rate) x fits = rate_back rate x fits.rate

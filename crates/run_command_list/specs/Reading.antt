@@ -5,7 +5,7 @@ use Rattle.model_base.specs.OptionBits.{options_of_bits}
 use Rattle.model_base.specs.declared.key.Key.{Key}
 use Rattle.model_base.specs.Map.{key_at}
 use Rattle.model_base.specs.Batch.{value, deletion, single_deletion, log_data}
-use Rattle.model_base.specs.Calls.{Command, add, clear, commit, get, many, scan, stop, unstop, slow, unslow}
+use Rattle.model_base.specs.Calls.{Command, add, clear, commit, get, many, scan, updates, stop, unstop, slow, unslow}
 
 infixl 10 ◌>>=◌
 abbrev pub ◌>>=◌ : {A B : Type 0} → Option A → (A → Option B) → Option B
@@ -89,6 +89,11 @@ some_rate bytes = do
   p ← read_fixed64 bytes
   Some (slow p.0, p.1)
 
+unfoldable pub some_sequence : List ℕ → Read Command
+some_sequence bytes = do
+  p ← read_fixed64 bytes
+  Some (updates p.0, p.1)
+
 -- a command, from the bytes after its tag
 abbrev pub read_behind : ℕ → List ℕ → Read Command
 read_behind tag bytes =
@@ -108,6 +113,7 @@ read_behind tag bytes =
     else if tag == 14 then key_and_word (λ k v. add (value (Some k.family) k.bytes v)) bytes
     else if tag == 15 then one_key (λ k. add (deletion (Some k.family) k.bytes)) bytes
     else if tag == 16 then one_key (λ k. add (single_deletion (Some k.family) k.bytes)) bytes
+    else if tag == 17 then some_sequence bytes
     else None
 
 unfoldable pub read_command : List ℕ → Read Command

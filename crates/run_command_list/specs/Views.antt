@@ -4,7 +4,7 @@ use Rattle.model_base.specs.Map.{key_at}
 use Rattle.model_base.specs.Batch.{value, deletion, single_deletion, log_data}
 use Rattle.model_base.specs.Calls as calls
 use Rattle.run_command_list.specs.declared.command_view.CommandView.{CommandView}
-use Rattle.run_command_list.specs.declared.command_view.CommandView.TheVariants.{Put, Delete, SingleDelete, Note, Clear, Commit, Get, Many, Scan, Stop, Unstop, Slow, Unslow}
+use Rattle.run_command_list.specs.declared.command_view.CommandView.TheVariants.{Put, Delete, SingleDelete, Note, Clear, Commit, Get, Many, Scan, Updates, Stop, Unstop, Slow, Unslow}
 
 abbrev pub command_of : CommandView → calls.Command
 command_of (Put family key v) = calls.add (value family key.now v.now)
@@ -16,6 +16,7 @@ command_of (Commit options) = calls.commit options
 command_of (Get family key) = calls.get (key_at family key.now)
 command_of (Many keys) = calls.many keys
 command_of (Scan family lo hi) = calls.scan family lo.now hi.now
+command_of (Updates since) = calls.updates since
 command_of Stop = calls.stop
 command_of Unstop = calls.unstop
 command_of (Slow rate) = calls.slow rate
@@ -32,6 +33,7 @@ HasShortWords (Commit options) = ⊤
 HasShortWords (Get family key) = length key.now < 2 ^ 32
 HasShortWords (Many keys) = ⊤
 HasShortWords (Scan family lo hi) = (length lo.now < 2 ^ 32) × (length hi.now < 2 ^ 32)
+HasShortWords (Updates since) = ⊤
 HasShortWords Stop = ⊤
 HasShortWords Unstop = ⊤
 HasShortWords (Slow rate) = ⊤

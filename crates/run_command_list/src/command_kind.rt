@@ -9,7 +9,7 @@ pub enum CommandKind {
     Clear,
     /// Writes the batch.
     Commit,
-    /// Reads keys.
+    /// Reads keys, or the log.
     Read,
     /// Takes or gives back a token of the write controller.
     Token,

@@ -54,6 +54,10 @@ pub enum CommandView<'a> {
         lo: &'a [u8],
         hi: &'a [u8],
     },
+    /// Reads the log's records from a sequence on.
+    Updates {
+        since: u64,
+    },
     /// Takes the write controller's stop token for the client, which holds writes back.
     Stop,
     /// Gives the stop token back.
@@ -82,9 +86,10 @@ impl<'a> CommandView<'a> {
             | CommandView::Note { .. } => CommandKind::Addition,
             CommandView::Clear => CommandKind::Clear,
             CommandView::Commit { .. } => CommandKind::Commit,
-            CommandView::Get { .. } | CommandView::Many { .. } | CommandView::Scan { .. } => {
-                CommandKind::Read
-            }
+            CommandView::Get { .. }
+            | CommandView::Many { .. }
+            | CommandView::Scan { .. }
+            | CommandView::Updates { .. } => CommandKind::Read,
             CommandView::Stop
             | CommandView::Unstop
             | CommandView::Slow { .. }
@@ -116,6 +121,7 @@ impl<'a> CommandView<'a> {
             | CommandView::Get { .. }
             | CommandView::Many { .. }
             | CommandView::Scan { .. }
+            | CommandView::Updates { .. }
             | CommandView::Stop
             | CommandView::Unstop
             | CommandView::Slow { .. }

@@ -42,6 +42,8 @@ pub const DELETE_IN: u8 = 15;
 
 pub const SINGLE_DELETE_IN: u8 = 16;
 
+pub const UPDATES: u8 = 17;
+
 /// Appends a word's length and then the word to the bytes. Where memory fails, a part of what was to be appended may
 /// be left at the end of the bytes. The same is true of all functions below.
 pub fn append_word(bytes: &mut Bytes, word: &[u8]) -> Result<(), NoMemory>
@@ -126,6 +128,10 @@ pub fn append_command(bytes: &mut Bytes, command: &CommandView<'_>) -> Result<()
         CommandView::Scan { family, lo, hi } => {
             append_tagged_key(bytes, SCAN, *family, lo)?;
             append_word(bytes, hi)
+        }
+        CommandView::Updates { since } => {
+            bytes.append(&[UPDATES])?;
+            put_fixed64(bytes, *since)
         }
         CommandView::Stop => bytes.append(&[STOP]),
         CommandView::Unstop => bytes.append(&[UNSTOP]),

@@ -22,6 +22,7 @@
 //! | 14 | put in a family that is named | the family, and two words: the key and the value |
 //! | 15 | delete in a family that is named | the family, and a word: the key |
 //! | 16 | single delete in a family that is named | the family, and a word: the key |
+//! | 17 | updates | the sequence in eight bytes |
 #![tactic(auto)]
 
 mod command_kind;

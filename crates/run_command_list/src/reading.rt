@@ -6,12 +6,12 @@ ghost use Rattle.model_base.specs.Batch.{value, deletion, single_deletion};
 ghost use Rattle.model_base.specs.Calls.{add, get, scan};
 ghost use Rattle.model_base.specs.Map.{key_at};
 ghost use Rattle.run_command_list.specs.Layout.{bytes_of_word, bytes_of_key};
-ghost use Rattle.run_command_list.specs.Reading.{read_byte, read_fixed32, read_fixed64, read_word, read_key, one_key, key_and_word, some_flags, many_keys, some_rate, read_behind, read_command};
+ghost use Rattle.run_command_list.specs.Reading.{read_byte, read_fixed32, read_fixed64, read_word, read_key, one_key, key_and_word, some_flags, many_keys, some_rate, some_sequence, read_behind, read_command};
 ghost use Rattle.run_command_list.specs.Views.{command_of};
 
 use crate::layout::{
     CLEAR, COMMIT, DELETE, DELETE_IN, GET, MANY, NOTE, PUT, PUT_IN, SCAN, SINGLE_DELETE,
-    SINGLE_DELETE_IN, SLOW, STOP, UNSLOW, UNSTOP,
+    SINGLE_DELETE_IN, SLOW, STOP, UNSLOW, UNSTOP, UPDATES,
 };
 use crate::{CommandView, Keys};
 use base_bytes::{get_fixed32, get_fixed64};
@@ -139,6 +139,13 @@ fn split_rate(bytes: &[u8]) -> Option<(CommandView<'_>, &[u8])>
     Some((CommandView::Slow { rate }, rest))
 }
 
+fn split_sequence(bytes: &[u8]) -> Option<(CommandView<'_>, &[u8])>
+    ensures { option_map (λ p. (command_of p.0, p.1.now)) result ≡ some_sequence bytes.now }
+{
+    let (since, rest) = split_fixed64(bytes)?;
+    Some((CommandView::Updates { since }, rest))
+}
+
 /// The command with this tag, from the bytes after the tag, and the bytes after the command.
 fn split_behind(tag: u8, bytes: &[u8]) -> Option<(CommandView<'_>, &[u8])>
     ensures { option_map (λ p. (command_of p.0, p.1.now)) result ≡ read_behind tag bytes.now }
@@ -180,6 +187,7 @@ fn split_behind(tag: u8, bytes: &[u8]) -> Option<(CommandView<'_>, &[u8])>
         PUT_IN => split_put_in(bytes),
         DELETE_IN => split_delete_in(bytes),
         SINGLE_DELETE_IN => split_single_delete_in(bytes),
+        UPDATES => split_sequence(bytes),
         _ => None,
     }
 }

@@ -6,6 +6,7 @@ pub mod SafeLogs
 mod Openings
 mod Resumed
 mod RunEnds
+mod KeptBatches
 pub mod Bare
 mod Cuts
 mod HeldGroups

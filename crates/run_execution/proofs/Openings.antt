@@ -1,7 +1,8 @@
 -- How the log of a run was opened, or why it was not.
 use Rattle.std.proofs.Common.{◌≡◌, ◌⊎◌, inl, inr, ⊎_elim, ℕ, ◌≤◌, List, [], length, take, map, IfSome, Option, Some, None, refl, ap, sym, ◌∙◌, subst, arith}
 use Rattle.std.specs.Prelude.{⊤}
-use Rattle.base_devices.specs.Disk.{Disk, IsImage, Told, TimePasses, IsOnlyNow, all_safe, rewound}
+use Rattle.base_devices.specs.Disk.{Disk, IsImage, Told, TimePasses, IsOnlyNow, CountsNow, LeavesOnly, all_safe, rewound}
+use Rattle.base_devices.specs.OnlyReads.{OnlyReads}
 use Rattle.base_devices.specs.declared.disk.Disk.{Ghosts}
 use Rattle.model_base.specs.Log.{Beginning, new_log, SpellsWhole}
 use Rattle.model_base.specs.Recovery.{Recovered, IsRecovered, logged_bytes}
@@ -53,6 +54,68 @@ OnlyNow ghosts disk = IsOnlyNow (ghosts.told disk) (ghosts.from disk) (ghosts.mo
 pub leaves_looked : {D : Type 0} (ghosts : Ghosts D) (old new : D) → OnlyNow ghosts old → ghosts.told new ≡ ghosts.told old → TimePasses ghosts.told ghosts.moment ghosts.from ghosts.since old new → LeavesAsBefore ghosts old new
 leaves_looked ghosts old new only same time =
     leaves_time ghosts old new (λ image. IfSome (ghosts.told old) (λ d. IsImage d image)) only time (λ image is. is) (λ image is. subst (λ (t : Option Disk). IfSome t (λ d. IsImage d image)) same is)
+
+-- two stretches of time, one after the other, where the disk tells the same after the second
+pub time_on : {D : Type 0} (ghosts : Ghosts D) (a b c : D) → ghosts.told c ≡ ghosts.told b → TimePasses ghosts.told ghosts.moment ghosts.from ghosts.since a b → TimePasses ghosts.told ghosts.moment ghosts.from ghosts.since b c
+    → TimePasses ghosts.told ghosts.moment ghosts.from ghosts.since a c
+time_on ghosts a b c same first second =
+    let later_first = first.later in
+    let later_second = second.later in
+    let forgets_first = first.forgets in
+    let forgets_second = second.forgets in
+    record {
+      later = omega (arith, later_first, later_second);
+      forgets = omega (arith, forgets_first, forgets_second);
+      nothing_else = λ t image known le s. ⊎_elim
+          (λ past. ⊎_elim (λ older. inl older) (λ is. inr (subst (λ (d : Option Disk). IfSome d (λ e. IsImage e image)) (sym same) is)) (first.nothing_else t image (omega (arith, known, forgets_second)) le past))
+          (λ is. inr is) (second.nothing_else t image known (omega (arith, le, later_first)) s);
+      keeps = λ t image known le s. second.keeps t image known (omega (arith, le, later_first)) (first.keeps t image (omega (arith, known, forgets_second)) le s);
+    }
+
+-- what a crash may leave of a disk now it might also have left since each moment that the disk tells of
+abbrev pub IsCountedNow : {D : Type 0} → Ghosts D → D → Type 0
+IsCountedNow ghosts disk = CountsNow (ghosts.told disk) (ghosts.from disk) (ghosts.moment disk) (ghosts.since disk)
+
+-- what holds of a disk that tells nothing
+if_untold : (told : Option Disk) (P : Disk → Type 0) → told ≡ None → IfSome told P
+if_untold told P none = subst (λ (t : Option Disk). IfSome t P) (sym none) tt
+
+if_counted : (told : Option Disk) (P : Disk → Type 0) (Q R : Type 0) → (told ≡ None → R) → (Q → R) → IfSome told (λ d. P d → Q) → IfSome told P → R
+if_counted None P Q R untold to counts is = untold refl
+if_counted (Some d) P Q R untold to counts is = to (counts is)
+
+-- while a disk is only read, a crash leaves what it might have left before
+leaves_read : {D : Type 0} (ghosts : Ghosts D) (a b c : D) (P : List ℕ → Type 0) → LeavesOnly ghosts.moment ghosts.from ghosts.since a b P → IsCountedNow ghosts b → ((image : List ℕ) → ghosts.told b ≡ None → P image) → OnlyReads ghosts b c
+    → LeavesOnly ghosts.moment ghosts.from ghosts.since a c P
+leaves_read ghosts a b c P first counts untold reads =
+    let time = reads.time in
+    let later_first = first.later in
+    let later_second = time.later in
+    let forgets_first = first.forgets in
+    let forgets_second = time.forgets in
+    record {
+      later = omega (arith, later_first, later_second);
+      forgets = omega (arith, forgets_first, forgets_second);
+      each = λ image known s.
+          let before : ghosts.from b ≤ ghosts.moment a = omega (arith, known, forgets_second) in
+          ⊎_elim (λ past. first.each image before past)
+          (λ is. if_counted (ghosts.told b) (λ d. IsImage d image) (ghosts.since b (ghosts.moment a) image) (P image) (untold image) (first.each image before) (counts (ghosts.moment a) image before later_first)
+          (subst (λ (d : Option Disk). IfSome d (λ e. IsImage e image)) reads.same is))
+          (time.nothing_else (ghosts.moment a) image known later_first s);
+      before = λ t image known le s.
+          let before : ghosts.from b ≤ t = omega (arith, known, forgets_second) in
+          let within : t ≤ ghosts.moment b = omega (arith, le, later_first) in
+          ⊎_elim (λ past. first.before t image before le past)
+          (λ is. if_counted (ghosts.told b) (λ d. IsImage d image) (ghosts.since b t image) (ghosts.since a t image ⊎ P image) (λ none. inr (untold image none)) (first.before t image before le) (counts t image before within)
+          (subst (λ (d : Option Disk). IfSome d (λ e. IsImage e image)) reads.same is))
+          (time.nothing_else t image known within s);
+    }
+
+-- a disk tells nothing if it told nothing
+untold_before : (a now : Option Disk) (R : Disk → Disk → Type 0) → Told a now R → now ≡ None → a ≡ None
+untold_before None now R told none = refl
+untold_before (Some x) None R told none = absurd told
+untold_before (Some x) (Some y) R told none = absurd (cc)
 
 -- What a run goes on from
 
@@ -141,6 +204,19 @@ module _ {D : Type 0} {ghosts : Ghosts D} where
   crash_as New mode before disk log only goes accepted in_range has_opened = leaves_looked ghosts disk (disk_of log) only (has_opened.looked_at).same (has_opened.looked_at).time
   crash_as (Over n) mode before disk log only goes accepted in_range has_opened = has_opened.crash
   crash_as (Behind number) mode before disk log only goes accepted in_range has_opened = inr (accepted, in_range, (before, goes, (has_opened.0).crash))
+
+  -- nor of one that was only read since
+  pub crash_read : (start : LogStart) (mode : Mode) (before : Before) (disk : D) (log : LogWriter D ghosts) (read : D) → HasOpenedAs start before disk log → LeavesAlone ghosts start mode disk (disk_of log) → IsCountedNow ghosts (disk_of log) → OnlyReads ghosts (disk_of log) read → LeavesAlone ghosts start mode disk read
+  crash_read start mode before disk log read has_opened left counts reads = by start left
+    where
+      untold : ghosts.told (disk_of log) ≡ None → ghosts.told disk ≡ None
+      untold none = untold_before (ghosts.told disk) (ghosts.told (disk_of log)) _ (content_as start before disk log has_opened) none
+
+      by : (start : LogStart) → LeavesAlone ghosts start mode disk (disk_of log) → LeavesAlone ghosts start mode disk read
+      by New left = leaves_read ghosts disk (disk_of log) read _ left counts (λ image none. if_untold (ghosts.told disk) _ (untold none)) reads
+      by (Over n) left = leaves_read ghosts disk (disk_of log) read _ left counts (λ image none. if_untold (ghosts.told disk) _ (untold none)) reads
+      by (Behind number) (inl left) = inl (leaves_read ghosts disk (disk_of log) read _ left counts (λ image none. if_untold (ghosts.told disk) _ (untold none)) reads)
+      by (Behind number) (inr cut) = inr (cut.0, cut.1, (cut.2.0, cut.2.1, leaves_read ghosts disk (disk_of log) read _ cut.2.2 counts (λ image none. if_untold (ghosts.told disk) _ (untold none)) reads))
 
   -- The log was opened for a run that goes on from nothing.
   pub opened_new : (disk : D) (log : LogWriter D ghosts) → HasOpened disk log → IsOpenedFor ghosts New disk (record { log = log; map = []; last = 0; families = 1 })

@@ -1,5 +1,5 @@
 -- A log that is resumed after what is recovered of it.
-use Rattle.std.proofs.Common.{◌≡◌, ◌⊎◌, inl, inr, ℕ, ◌<◌, ◌≤◌, List, length, take, map, replicate, IfSome, Option, Some, None, ap, sym, ◌∙◌, subst, arith, length-take}
+use Rattle.std.proofs.Common.{◌≡◌, ◌⊎◌, inl, inr, ℕ, ◌<◌, ◌≤◌, List, [], length, take, map, replicate, IfSome, Option, Some, None, refl, ap, sym, ◌∙◌, subst, arith, length-take}
 use Rattle.std.proofs.lemmas.List.{length-replicate}
 use Rattle.base_devices.specs.Disk.{Disk, Told, TimePasses, all_safe, cut_at}
 use Rattle.base_devices.specs.declared.disk.Disk.{Ghosts}
@@ -7,7 +7,7 @@ use Rattle.model_base.specs.declared.limits.TheConstants.{MAX_FAMILIES}
 use Rattle.model_base.specs.Counts.{Rose}
 use Rattle.model_base.specs.Log.{SpellsWhole}
 use Rattle.model_base.specs.Map.{greatest_family}
-use Rattle.model_base.specs.Recovery.{logged_bytes}
+use Rattle.model_base.specs.Recovery.{Logged, logged_bytes}
 use Rattle.log_recovery.specs.declared.modes.Mode.{Mode}
 use Rattle.log_recovery.specs.declared.recovery.Recovered.{Recovered}
 use Rattle.log_recovery.specs.Modes.{Accepts}
@@ -30,16 +30,21 @@ pub kept_of : Option Disk → ℕ → List ℕ
 kept_of None n = replicate n 0
 kept_of (Some d) n = take n d.content
 
-abbrev pub before_of : Option Disk → Recovered → Before
-before_of told shown = record { map = shown.map; last = shown.last; kept = kept_of told shown.kept }
-
 module _ (number : Option ℕ) (shown : Recovered) where
   abbrev pub IsRecoveredOf : Option Disk → Type 0
   IsRecoveredOf told = IfSome told (λ d. HasRecovered number d.content shown)
 
+  -- the batches in them, where the disk tells them
+  pub batches_of : (told : Option Disk) → IsRecoveredOf told → List Logged
+  batches_of None has = []
+  batches_of (Some d) has = (has.recovered).batches
+
+  abbrev pub before_of : (told : Option Disk) → IsRecoveredOf told → Before
+  before_of told has = record { map = shown.map; last = shown.last; kept = kept_of told shown.kept; batches = batches_of told has }
+
   -- a run goes on from it
-  pub goes_behind : (told : Option Disk) → IsRecoveredOf told → GoesOnFrom (Behind number) told (before_of told shown)
-  unfolding kept_of
+  pub goes_behind : (told : Option Disk) (has : IsRecoveredOf told) → GoesOnFrom (Behind number) told (before_of told has)
+  unfolding kept_of batches_of
   goes_behind None has = tt
   goes_behind (Some d) has = let shows = has.shows in record {
     recovered = has.recovered;
@@ -47,6 +52,7 @@ module _ (number : Option ℕ) (shown : Recovered) where
     map = shows.map_is;
     last = shows.last;
     kept = ap (λ (n : ℕ). take n d.content) shows.kept;
+    batches = refl;
   }
 
   within : (d : Disk) → HasRecovered number d.content shown → shown.kept ≤ length d.content
@@ -93,7 +99,7 @@ module _ (number : Option ℕ) (shown : Recovered) where
           crash = leaves_first (disk_of log) only resumed.crash;
         }
 
-    pub opened_behind : (log : LogWriter D ghosts) → OnlyNow ghosts disk → HasResumed read shown.kept number log → HasOpenedAs (Behind number) (before_of (ghosts.told disk) shown) disk log
+    pub opened_behind : (log : LogWriter D ghosts) → OnlyNow ghosts disk → HasResumed read shown.kept number log → HasOpenedAs (Behind number) (before_of (ghosts.told disk) has) disk log
     opened_behind log only resumed =
         (subst (λ (n : ℕ). HasResumed disk n number log) (sym (kept_len (ghosts.told disk) has)) (read_first log only resumed), kept_there (ghosts.told disk) has)
 
@@ -106,13 +112,13 @@ module _ (number : Option ℕ) (shown : Recovered) where
           found = inr (
             accepted,
             in_range,
-            as_found (Behind number) (before_of (ghosts.told disk) shown) (ghosts.told disk) (ghosts.told now) (λ x y. y ≡ cut_at shown.kept x) (goes_behind (ghosts.told disk) has)
+            as_found (Behind number) (before_of (ghosts.told disk) has) (ghosts.told disk) (ghosts.told now) (λ x y. y ≡ cut_at shown.kept x) (goes_behind (ghosts.told disk) has)
                 (λ x y e. inl (e ∙ ap (λ (n : ℕ). cut_at n x) (sym (kept_len (ghosts.told disk) has))))
                 (subst (λ (t : Option Disk). Told t (ghosts.told now) (λ x y. (y ≡ x) ⊎ (y ≡ cut_at shown.kept x))) same error.told),
           )
 
           crash : LeavesAlone ghosts (Behind number) mode disk now
-          crash = inr (accepted, in_range, (before_of (ghosts.told disk) shown, goes_behind (ghosts.told disk) has, subst (λ (n : ℕ). LeavesOf ghosts disk now n) (sym (kept_len (ghosts.told disk) has)) (leaves_first now only error.crash)))
+          crash = inr (accepted, in_range, (before_of (ghosts.told disk) has, goes_behind (ghosts.told disk) has, subst (λ (n : ℕ). LeavesOf ghosts disk now n) (sym (kept_len (ghosts.told disk) has)) (leaves_first now only error.crash)))
 
           by_cause : (why : OpenError) → IsCauseOver ghosts read now why → IsRefused ghosts (Behind number) mode disk now (end_of why)
           by_cause (Fault count) cause = let now_is = cause.1 in (found, (subst (λ (n : ℕ). Rose n count) no_fault cause.0, omega (arith, now_is)), crash)

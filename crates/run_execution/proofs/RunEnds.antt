@@ -16,13 +16,16 @@ use Rattle.run_outcome.specs.declared.history_entry.HistoryEntry.{HistoryEntry}
 use Rattle.run_outcome.specs.declared.reply.Reply.{Reply}
 use Rattle.run_outcome.specs.Shows.{ShowsOutcome}
 use Rattle.model_base.specs.declared.options.Options.{Options}
-use Rattle.model_base.specs.Settings.{settings_of}
+use Rattle.model_base.specs.Recovery.{Logged}
+use Rattle.model_base.specs.Settings.{settings_of, with_kept}
 use Rattle.log_writer.specs.declared.writer.LogWriter.{LogWriter}
 use Rattle.log_writer.specs.Words.{disk_of, len_of, fault_of}
 use Rattle.log_writer.specs.Opening.{HasBegun}
-use Rattle.log_writer.specs.Written.{Wrote, no_call, one_more, IsWritten, first_fault, written_by, HoldsSynced, HoldsCalls, IsTextOver, Stands, HasCauseSince}
+use Rattle.log_writer.specs.Written.{Wrote, no_call, one_more, read, IsWritten, first_fault, written_by, HoldsSynced, HoldsCalls, IsTextOver, Stands}
+use Rattle.log_writer.specs.Reads.{WasRead}
+use Rattle.log_writer.specs.ReadLaws.{not_read, read_on}
 use Rattle.run_outcome.specs.declared.log_start.LogStart.{LogStart}
-use Rattle.run_outcome.specs.Running.{Execution, Before, GoesOnFrom, beginning_of, IsRunOf, HasRun, GoesOn}
+use Rattle.run_outcome.specs.Running.{Execution, Before, GoesOnFrom, batches_told, beginning_of, IsRunOf, HasRun, IsAsFound, GoesOn}
 use Rattle.run_threads.specs.declared.run.ClientsEnd.{ClientsEnd}
 use Rattle.run_threads.specs.declared.run.ClientsEnd.TheVariants.{NotRun, Untold, Told}
 use Rattle.run_threads.specs.Runs.{HaveRun, ComesTo, log_of, outcome_with}
@@ -32,7 +35,7 @@ use Rattle.run_execution.specs.declared.end.RunEnd.TheVariants.{NoMemory}
 use Rattle.log_recovery.specs.declared.modes.Mode.{Mode}
 use Rattle.run_execution.specs.Ends.{HasFewFamilies, HasOutcome, HasOpenedAs, IsOpenedFor, IsAccepted, IsRefused, options_behind, execution_on, EndsOn, IsEndOfRun}
 use Rattle.run_execution.proofs.LegalRuns.{small_entries, refused_for_themselves}
-use Rattle.run_execution.proofs.Openings.{OnlyNow, ImageLaw, keeps_as, recovers_as, content_as, empty_as, found_as, no_fault_as, crash_as}
+use Rattle.run_execution.proofs.Openings.{OnlyNow, IsCountedNow, ImageLaw, keeps_as, recovers_as, content_as, empty_as, found_as, no_fault_as, crash_as, crash_read}
 use Rattle.run_execution.proofs.SafeLogs.{len_is, safe_log, left_since, kept_left, held_images, is_written, goes_on, later}
 
 -- the same result for equal settings, scripts and calls
@@ -65,9 +68,6 @@ module _ {D : Type 0} (ghosts : Ghosts D) (b : Beginning) where
     HasContent = (calls : List GroupCall) (begun log : LogWriter D ghosts) → HasBegun b disk begun → Wrote begun calls log → first_fault calls ≡ None
         → dev.Told (ghosts.told (disk_of begun)) (ghosts.told (disk_of log)) (IsTextOver (text_after b (written_by calls)))
 
-    abbrev HasCause : Type 0
-    HasCause = (calls : List GroupCall) (log : LogWriter D ghosts) → IsWritten b disk calls log → HasCauseSince disk log
-
     abbrev Holds : Type 0
     Holds = (calls : List GroupCall) (log : LogWriter D ghosts) → IsWritten b disk calls log → IfSome (ghosts.told disk) (λ d. LeavesOnly ghosts.moment ghosts.from ghosts.since disk (disk_of log) (HoldsSynced b d.reach calls))
 
@@ -76,16 +76,17 @@ module _ {D : Type 0} (ghosts : Ghosts D) (b : Beginning) where
       → LeavesOnly ghosts.moment ghosts.from ghosts.since (disk_of old) (disk_of new) (BeginsWith (text_after b (take safe (written_by before)))))
 
 module _ {D : Type 0} {ghosts : Ghosts D} where
-  -- a log that no call wrote is as it was opened
-  not_written : (old : LogWriter D ghosts) (calls : List GroupCall) (new : LogWriter D ghosts) → Wrote old calls new → calls ≡ [] → new ≡ old
-  not_written old calls new no_call none = refl
-  not_written old calls new (one_more {calls = before} c wrote adds) none = absurd (omega (arith, ap length none, length-append before (c ∷ [])))
+  -- a log that no call wrote was only read
+  only_read : (old : LogWriter D ghosts) (calls : List GroupCall) (new : LogWriter D ghosts) → Wrote old calls new → calls ≡ [] → WasRead old new
+  only_read old calls new no_call none = not_read old
+  only_read old calls new (one_more {calls = before} c wrote adds) none = absurd (omega (arith, ap length none, length-append before (c ∷ [])))
+  only_read old calls new (read {now = now} wrote was_read) none = read_on old now new (only_read old calls now wrote none) was_read
 
   module _ (start : LogStart) (before : Before) (disk : D) (opened : LogWriter D ghosts) (options : Options) (script : List (List Command)) (goes : GoesOnFrom start (ghosts.told disk) before)
       (has_opened : HasOpenedAs start before disk opened) (begun : HasBegun (beginning_of start before) disk opened) (few : length script ≤ MAX_CLIENTS) (bounded : options.batch_bytes ≤ MAX_SIZE) (families : (options_behind options before).families < 2 ^ 32) (recovers : ImageLaw)
-      (stands : StandsBy ghosts (beginning_of start before) disk) (content : HasContent ghosts (beginning_of start before) disk) (cause : HasCause ghosts (beginning_of start before) disk) (held : Holds ghosts (beginning_of start before) disk) (begins : Begins ghosts (beginning_of start before)) where
+      (stands : StandsBy ghosts (beginning_of start before) disk) (content : HasContent ghosts (beginning_of start before) disk) (held : Holds ghosts (beginning_of start before) disk) (begins : Begins ghosts (beginning_of start before)) where
     abbrev settings : Settings
-    settings = settings_of (options_behind options before) before.map (length script) (ghosts.faults disk)
+    settings = with_kept (batches_told (ghosts.told disk) before) (settings_of (options_behind options before) before.map (length script) (ghosts.faults disk))
 
     module _ (log : LogWriter D ghosts) (last : ℕ) where
       abbrev execution : Execution
@@ -124,7 +125,6 @@ module _ {D : Type 0} {ghosts : Ghosts D} where
             outcome = o;
             run = run;
             refusals = refused_for_themselves settings ended script ran.trace ran.attempts o legal;
-            counted = (cause calls log written).no_fault;
             log = safe_log disk opened log execution o run few (small_entries settings ended script ran.trace ran.attempts o legal bounded families)
                 (keeps_as start before (ghosts.told disk) ran.trace.start goes (let first = (legal.is_trace).start in omega (arith, first))) (empty_as start before disk opened has_opened) (content_as start before disk opened has_opened) begun ran.writes.by
                 (stands calls log written) (content calls opened log begun ran.writes.by) (held_images b ghosts.moment ghosts.from ghosts.since (ghosts.told disk) disk (disk_of log) calls (held calls log written))
@@ -146,29 +146,30 @@ module _ {D : Type 0} {ghosts : Ghosts D} where
               shows = subst (λ (l : List ℕ). ShowsOutcome (outcome_with transcripts history last state full_lens (len_of log) (fault_of log)) (outcome_of ran.trace ran.transcripts last (l ++ len_of log ∷ []) (fault_of log))) none (shows full_lens (len_of log));
               run = there.run;
               refusals = there.refusals;
-              counted = there.counted;
               log = there.log;
             }
 
     -- how the run ends, from its result
-    pub is_end : (mode : Mode) → IsAccepted start mode (ghosts.told disk) → HasFewFamilies start (ghosts.told disk) → OnlyNow ghosts disk → (ran : ClientsEnd (LogWriter D ghosts)) → ComesTo settings script (Wrote opened) fault_of (λ l. ghosts.faults (disk_of l)) ran
+    pub is_end : (mode : Mode) → IsAccepted start mode (ghosts.told disk) → HasFewFamilies start (ghosts.told disk) → OnlyNow ghosts disk → IsCountedNow ghosts (disk_of opened) → (ran : ClientsEnd (LogWriter D ghosts)) → ComesTo settings script (Wrote opened) fault_of (λ l. ghosts.faults (disk_of l)) ran
         → (told : RunEnd) → IsEndOfRun ran told → EndsOn ghosts options start mode script disk (disk_of (log_of ran)) told
-    is_end mode accepted in_range only (NotRun log) wrote told e =
-        subst (λ (r : RunEnd). EndsOn ghosts options start mode script disk (disk_of log) r) (sym e)
-        (subst (λ (l : LogWriter D ghosts). IsRefused ghosts start mode disk (disk_of l) NoMemory) (sym (not_written opened [] log wrote refl))
-        (inr (accepted, in_range, found_as start before disk opened goes has_opened), no_fault_as start before disk opened has_opened, crash_as start mode before disk opened only goes accepted in_range has_opened))
-    is_end mode accepted in_range only (Untold log last) ran told e =
+    is_end mode accepted in_range only counts (NotRun log) wrote told e =
+        let was_read = only_read opened [] log wrote.0 refl in
+        let found : IsAsFound start (ghosts.told disk) (ghosts.told (disk_of log)) = subst (IsAsFound start (ghosts.told disk)) (sym was_read.disk.same) (found_as start before disk opened goes has_opened) in
+        let crash = crash_as start mode before disk opened only goes accepted in_range has_opened in
+        let refused : IsRefused ghosts start mode disk (disk_of log) NoMemory = (inr (accepted, in_range, found), wrote.1, crash_read start mode before disk opened (disk_of log) has_opened crash counts was_read.disk) in
+        subst (λ (r : RunEnd). EndsOn ghosts options start mode script disk (disk_of log) r) (sym e) refused
+    is_end mode accepted in_range only counts (Untold log last) ran told e =
         subst (λ (r : RunEnd). EndsOn ghosts options start mode script disk (disk_of log) r) (sym e) (before, goes, has_outcome log last ran)
-    is_end mode accepted in_range only (Told log last transcripts history state) both told e =
+    is_end mode accepted in_range only counts (Told log last transcripts history state) both told e =
         subst (λ (r : RunEnd). EndsOn ghosts options start mode script disk (disk_of log) r) (sym e.2) (before, goes, has_run log last transcripts history state e.0 e.1 both.0 both.1)
 
   -- the disk's time has gone on, and its count of faults hasn't fallen, whether calls wrote the log or none did
   abbrev WentOn : LogWriter D ghosts → LogWriter D ghosts → Type 0
   WentOn opened log = GoesOn ghosts.moment ghosts.from (disk_of opened) (disk_of log) × (ghosts.faults (disk_of opened) ≤ ghosts.faults (disk_of log))
 
-  pub went_on : (opened : LogWriter D ghosts) (options : Options) (map : Pairs) (script : List (List Command)) (counted : ℕ) (ran : ClientsEnd (LogWriter D ghosts))
-      → ComesTo (settings_of options map (length script) counted) script (Wrote opened) fault_of (λ l. ghosts.faults (disk_of l)) ran → WentOn opened (log_of ran)
-  went_on opened options map script counted (NotRun log) wrote = (goes_on opened log [] wrote, later opened log [] wrote)
-  went_on opened options map script counted (Untold log last) ran = (goes_on opened log (ran.writes.calls ++ ran.writes.lost) ran.writes.by, later opened log (ran.writes.calls ++ ran.writes.lost) ran.writes.by)
-  went_on opened options map script counted (Told log last transcripts history state) told =
+  pub went_on : (opened : LogWriter D ghosts) (options : Options) (map : Pairs) (script : List (List Command)) (counted : ℕ) (kept : Option (List Logged)) (ran : ClientsEnd (LogWriter D ghosts))
+      → ComesTo (with_kept kept (settings_of options map (length script) counted)) script (Wrote opened) fault_of (λ l. ghosts.faults (disk_of l)) ran → WentOn opened (log_of ran)
+  went_on opened options map script counted kept (NotRun log) wrote = (goes_on opened log [] wrote.0, later opened log [] wrote.0)
+  went_on opened options map script counted kept (Untold log last) ran = (goes_on opened log (ran.writes.calls ++ ran.writes.lost) ran.writes.by, later opened log (ran.writes.calls ++ ran.writes.lost) ran.writes.by)
+  went_on opened options map script counted kept (Told log last transcripts history state) told =
       let ran = told.0 in (goes_on opened log (ran.writes.calls ++ ran.writes.lost) ran.writes.by, later opened log (ran.writes.calls ++ ran.writes.lost) ran.writes.by)

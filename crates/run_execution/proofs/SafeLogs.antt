@@ -25,7 +25,8 @@ use Rattle.log_writer.specs.Opening.{HasBegun}
 use Rattle.log_writer.specs.Crashes.{AreRisingBatches}
 use Rattle.log_writer.specs.Puts.{Puts}
 use Rattle.log_writer.specs.Adding.{GroupCall, answer_of, text_at_end, Adds}
-use Rattle.log_writer.specs.Written.{Wrote, no_call, one_more, IsWritten, IsLeftSince, first_fault, written_by, HaveSynced as HaveCallsSynced, HoldsSynced as HoldsCallsSynced, HoldsCalls, IsTextOver, Stands}
+use Rattle.log_writer.specs.Reads.{WasRead}
+use Rattle.log_writer.specs.Written.{Wrote, no_call, one_more, read, IsWritten, IsLeftSince, first_fault, written_by, HaveSynced as HaveCallsSynced, HoldsSynced as HoldsCallsSynced, HoldsCalls, IsTextOver, Stands}
 use Rattle.log_writer.proofs.Calls.{synced_later}
 use Rattle.log_writer.proofs.Keeping.{keeps_prefix, after_none}
 use Rattle.model_runs.specs.Crashes.{IsImageSince, with_failed_record, HasSync, HasAllSafe, KeepsSynced, text_through, over, LeavesPrefix, IsCrashSafe}
@@ -209,11 +210,19 @@ module _ {D : Type 0} {ghosts : Ghosts D} where
       let kept = subst (λ (f : Option ℕ). IfSome f (λ n. (c.failed ≡ Some n) × (new ≡ old))) dead adds.dead in
       subst (λ (log : LogWriter D ghosts). GoesFurther old log) (sym kept.1) (stays old)
 
-  calls_go_on : (old : LogWriter D ghosts) (calls : List GroupCall) (new : LogWriter D ghosts) → Wrote old calls new → GoesFurther old new
-  calls_go_on old calls new no_call = stays old
-  calls_go_on old calls new (one_more {calls = before} {now = now} c wrote adds) =
-      let first = calls_go_on old before now wrote in
-      let second = call_goes_on c now new (fault_of now) refl adds in
+  -- nor does a read
+  pub read_goes_on : (old new : LogWriter D ghosts) → WasRead old new → GoesFurther old new
+  read_goes_on old new r =
+      let disk = r.disk in
+      let time = disk.time in
+      record {
+        told = subst (λ (t : Option Disk). Told (ghosts.told (disk_of old)) t (λ x y. ⊤)) (sym disk.same) (tells_same (ghosts.told (disk_of old)));
+        time = record { later = time.later; forgets = time.forgets };
+        faults = disk.later;
+      }
+
+  one_further : (old now new : LogWriter D ghosts) → GoesFurther old now → GoesFurther now new → GoesFurther old new
+  one_further old now new first second =
       let time = first.time in
       let more = second.time in
       record {
@@ -221,6 +230,11 @@ module _ {D : Type 0} {ghosts : Ghosts D} where
         time = record { later = omega (arith, time.later, more.later); forgets = omega (arith, time.forgets, more.forgets) };
         faults = omega (arith, first.faults, second.faults);
       }
+
+  calls_go_on : (old : LogWriter D ghosts) (calls : List GroupCall) (new : LogWriter D ghosts) → Wrote old calls new → GoesFurther old new
+  calls_go_on old calls new no_call = stays old
+  calls_go_on old calls new (one_more {calls = before} {now = now} c wrote adds) = one_further old now new (calls_go_on old before now wrote) (call_goes_on c now new (fault_of now) refl adds)
+  calls_go_on old calls new (read {now = now} wrote was_read) = one_further old now new (calls_go_on old calls now wrote) (read_goes_on now new was_read)
 
   -- the log was opened on this disk, and these calls wrote it
   pub is_written : (b : Beginning) (disk : D) (opened log : LogWriter D ghosts) (calls : List GroupCall) → HasBegun b disk opened → Wrote opened calls log → IsWritten b disk calls log

@@ -13,7 +13,7 @@ use Rattle.model_base.specs.Outcomes.{IsLegalIn, outcome_of}
 use Rattle.model_base.specs.History.{IsHistory}
 use Rattle.model_base.specs.Map.{Pairs}
 use Rattle.model_base.specs.declared.options.Options.{Options}
-use Rattle.model_base.specs.Settings.{settings_of}
+use Rattle.model_base.specs.Settings.{settings_of, with_kept}
 use Rattle.log_batch.specs.Contents.{Contents}
 use Rattle.run_outcome.specs.declared.history_entry.HistoryEntry.{HistoryEntry}
 use Rattle.run_outcome.specs.declared.reply.Reply.{Reply}
@@ -26,18 +26,20 @@ use Rattle.log_writer.specs.declared.set.LogSet.{LogSet}
 use Rattle.log_writer.specs.Words.{disk_of}
 use Rattle.log_writer.specs.Opening.{HasOpened, IsLookedAt}
 use Rattle.log_writer.specs.SetOpening.{IsSetCause, IsSetOpenError}
-use Rattle.log_writer.specs.Sets.{begun_in, count_in, fault_in, limit_of, logs_of, WroteSet, no_call, one_more}
+use Rattle.log_writer.specs.Sets.{begun_in, count_in, fault_in, limit_of, logs_of, WroteSet, no_call, one_more, read}
+use Rattle.log_writer.specs.Reads.{WasRead}
+use Rattle.log_writer.specs.ReadLaws.{none_were_read, were_read_on}
+use Rattle.log_writer.proofs.Reading.{all_were_read}
 use Rattle.log_writer.specs.SetCrashes.{HasOpenedSet}
 use Rattle.log_writer.specs.SetWritten.{disks_of}
-use Rattle.log_writer.specs.SetFaultLaws.{caused_in_set}
 use Rattle.run_threads.specs.declared.run.ClientsEnd.{ClientsEnd}
 use Rattle.run_threads.specs.declared.run.ClientsEnd.TheVariants.{NotRun, Untold, Told}
 use Rattle.run_threads.specs.Runs.{HaveRun, ComesTo, log_of, outcome_with}
 use Rattle.run_execution.specs.declared.end.RunEnd.{RunEnd}
 use Rattle.run_execution.specs.Ends.{end_of}
-use Rattle.run_execution.specs.SetEnds.{SetExecution, IsEndOfSet, set_execution_on, IsRunOfSet, HasSetOutcome, AreLeftAlone, CountNone, EndsOnSet}
+use Rattle.run_execution.specs.SetEnds.{SetExecution, IsEndOfSet, nothing_told, set_execution_on, IsRunOfSet, HasSetOutcome, AreLeftAlone, EndsOnSet}
 use Rattle.run_execution.proofs.LegalRuns.{small_entries, refused_for_themselves}
-use Rattle.run_execution.proofs.Openings.{OnlyNow, leaves_looked}
+use Rattle.run_execution.proofs.Openings.{OnlyNow, leaves_looked, time_on}
 use Rattle.run_execution.proofs.SafeLogs.{all_suit}
 use Rattle.run_execution.proofs.RunEnds.{comes_to}
 use Rattle.run_execution.proofs.SetShapes.{Further}
@@ -67,10 +69,6 @@ module _ {D : Type 0} (ghosts : Ghosts D) where
       let time = one.time in
       ((record { later = time.later; forgets = time.forgets }, one.later), looked_further olds news looked.1)
 
-  count_same : (disks : List D) → CountNone ghosts disks disks
-  count_same [] = tt
-  count_same (disk ∷ disks) = (refl, count_same disks)
-
   module _ (only_now : (disk : D) → OnlyNow ghosts disk) where
     looked_alone : (olds news : List D) → AllZip (IsLookedAt ghosts) olds news → AreLeftAlone ghosts olds news
     looked_alone [] [] looked = tt
@@ -78,13 +76,21 @@ module _ {D : Type 0} (ghosts : Ghosts D) where
     looked_alone (old ∷ olds) [] looked = absurd looked
     looked_alone (old ∷ olds) (new ∷ news) looked = let one = looked.0 in ((one, leaves_looked ghosts old new (only_now old) one.same one.time), looked_alone olds news looked.1)
 
-    opened_alone : (disks : List D) (logs : List (LogWriter D ghosts)) → AllZip HasOpened disks logs → AreLeftAlone ghosts disks (DisksOf logs)
-    opened_alone [] [] opened = tt
-    opened_alone [] (log ∷ logs) opened = absurd opened
-    opened_alone (disk ∷ disks) [] opened = absurd opened
-    opened_alone (disk ∷ disks) (log ∷ logs) opened =
+    -- logs that were opened, and then only read
+    opened_alone : (disks : List D) (logs news : List (LogWriter D ghosts)) → AllZip HasOpened disks logs → AllZip WasRead logs news → AreLeftAlone ghosts disks (DisksOf news)
+    opened_alone [] [] [] opened were_read = tt
+    opened_alone [] [] (new ∷ news) opened were_read = absurd were_read
+    opened_alone [] (log ∷ logs) news opened were_read = absurd opened
+    opened_alone (disk ∷ disks) [] news opened were_read = absurd opened
+    opened_alone (disk ∷ disks) (log ∷ logs) [] opened were_read = absurd were_read
+    opened_alone (disk ∷ disks) (log ∷ logs) (new ∷ news) opened were_read =
         let one = (opened.0).looked_at in
-        ((one, leaves_looked ghosts disk (disk_of log) (only_now disk) one.same one.time), opened_alone disks logs opened.1)
+        let then = (were_read.0).disk in
+        let same : ghosts.told (disk_of new) ≡ ghosts.told disk = then.same ∙ one.same in
+        let time = time_on ghosts disk (disk_of log) (disk_of new) then.same one.time then.time in
+        let first = one.later in
+        let second = then.later in
+        ((record { same = same; later = omega (arith, first, second); time = time }, leaves_looked ghosts disk (disk_of new) (only_now disk) same time), opened_alone disks logs news opened.1 were_read.1)
 
     -- no set was opened
     pub refused_set : (options : Options) (limit : ℕ) (script : List (List Command)) (olds news : List D) (why : OpenError) → IsSetOpenError ghosts olds news why → EndsOnSet ghosts options limit script olds news (end_of why)
@@ -96,7 +102,7 @@ module _ {D : Type 0} (ghosts : Ghosts D) where
         by_cause : (why : OpenError) → IsSetCause ghosts olds news why → EndsOnSet ghosts options limit script olds news (end_of why)
         by_cause (Fault count) cause = let same = cause.1 in (alone, cause.0, omega (arith, same))
         by_cause (NotEmpty len) cause = (cause.0, alone, cause.1)
-        by_cause NoMemory cause = (alone, subst (CountNone ghosts olds) (sym cause) (count_same olds))
+        by_cause NoMemory cause = (alone, ap (count_in_all ghosts.faults) cause)
 
 module _ {D : Type 0} {ghosts : Ghosts D} where
   -- the count of the logs is that of their disks
@@ -115,26 +121,21 @@ module _ {D : Type 0} {ghosts : Ghosts D} where
   opened_count : (disks : List D) (opened : LogSet D ghosts) → HasOpenedSet disks opened → count_in (logs_of opened) ≡ count_in_all ghosts.faults disks
   opened_count disks opened has = count_is (logs_of opened) ∙ ap (λ (n : ℕ). min n (2 ^ 64 - 1)) (opened_sum disks (logs_of opened) has.opened)
 
-  opened_none : (disks : List D) (logs : List (LogWriter D ghosts)) → AllZip HasOpened disks logs → CountNone ghosts disks (DisksOf logs)
-  opened_none [] [] opened = tt
-  opened_none [] (log ∷ logs) opened = absurd opened
-  opened_none (disk ∷ disks) [] opened = absurd opened
-  opened_none (disk ∷ disks) (log ∷ logs) opened = ((opened.0).no_fault, opened_none disks logs opened.1)
-
   opened_empty : (disks : List D) (logs : List (LogWriter D ghosts)) → AllZip HasOpened disks logs → AllByRecursion (λ (disk : D). IfSome (ghosts.told disk) (λ d. d.content ≡ [])) disks
   opened_empty [] logs opened = tt
   opened_empty (disk ∷ disks) [] opened = absurd opened
   opened_empty (disk ∷ disks) (log ∷ logs) opened = ((opened.0).empty, opened_empty disks logs opened.1)
 
-  -- a set that no call wrote is as it was opened
-  not_written : (old : LogSet D ghosts) (calls : List GroupCall) (new : LogSet D ghosts) → WroteSet old calls new → calls ≡ [] → new ≡ old
-  not_written old calls new no_call none = refl
-  not_written old calls new (one_more {calls = before} c wrote adds) none = absurd (omega (arith, ap length none, length-append before (c ∷ [])))
+  -- a set that no call wrote was only read
+  only_read : (old : LogSet D ghosts) (calls : List GroupCall) (new : LogSet D ghosts) → WroteSet old calls new → calls ≡ [] → AllZip WasRead (logs_of old) (logs_of new)
+  only_read old calls new no_call none = none_were_read (logs_of old)
+  only_read old calls new (one_more {calls = before} c wrote adds) none = absurd (omega (arith, ap length none, length-append before (c ∷ [])))
+  only_read old calls new (read {now = now} wrote was_read) none = were_read_on (logs_of old) (logs_of now) (logs_of new) (only_read old calls now wrote none) (all_were_read now new was_read)
 
   module _ (laws : SetLaws ghosts) (only_now : (disk : D) → OnlyNow ghosts disk) (disks : List D) (opened : LogSet D ghosts) (options : Options) (limit : ℕ) (script : List (List Command)) (has : HasOpenedSet disks opened) (limit_is : limit_of opened ≡ limit)
       (few : length script ≤ MAX_CLIENTS) (bounded : options.batch_bytes ≤ MAX_SIZE) (families : options.families < 2 ^ 32) where
     abbrev settings : Settings
-    settings = settings_of options [] (length script) (count_in_all ghosts.faults disks)
+    settings = with_kept (nothing_told ghosts disks) (settings_of options [] (length script) (count_in_all ghosts.faults disks))
 
     abbrev faults : LogSet D ghosts → ℕ
     faults set = count_in (logs_of set)
@@ -179,13 +180,12 @@ module _ {D : Type 0} {ghosts : Ghosts D} where
             lens_are = lens_are laws limit disks opened has limit_is ran.trace ran.attempts settings.group_bytes (fault_in set) history w.parts w.calls w.lost w.cut w.runs w.each w.none_else set w.by;
           } in
           let ended : ℕ = count_in_all ghosts.faults (disks_of set) in
-          let caused = caused_in_set opened (w.calls ++ w.lost) set has.fault w.by in
           let small = small_entries settings ended script ran.trace ran.attempts outcome legal bounded families in
           let suit = all_suit settings (let many = legal.clients in omega (arith, many, few)) (ran.trace).entries (legal.is_trace).clients small in
           record {
             run = run;
             refusals = refused_for_themselves settings ended script ran.trace ran.attempts outcome legal;
-            counted = λ none. sym (count_is (logs_of set)) ∙ (caused.no_fault none ∙ opened_count disks opened has);
+            counted = legal.counted;
             logs = record {
               found_empty = opened_empty disks (logs_of opened) has.opened;
               safe = λ safe_disks held tells reached reach. record {
@@ -207,7 +207,7 @@ module _ {D : Type 0} {ghosts : Ghosts D} where
     by_run : (ran : ClientsEnd (LogSet D ghosts)) → ComesTo settings script (WroteSet opened) fault_in faults ran → (told : RunEnd) → IsEndOfSet ran told → EndsOnSet ghosts options limit script disks (disks_of (log_of ran)) told
     by_run (NotRun set) wrote told e =
         subst (λ (r : RunEnd). EndsOnSet ghosts options limit script disks (disks_of set) r) (sym e)
-        (subst (λ (s : LogSet D ghosts). AreLeftAlone ghosts disks (disks_of s) × CountNone ghosts disks (disks_of s)) (sym (not_written opened [] set wrote refl)) (opened_alone ghosts only_now disks (logs_of opened) has.opened, opened_none disks (logs_of opened) has.opened))
+        (opened_alone ghosts only_now disks (logs_of opened) (logs_of set) has.opened (only_read opened [] set wrote.0 refl), sym (count_is (logs_of set)) ∙ wrote.1)
     by_run (Untold set last) ran told e =
         subst (λ (r : RunEnd). EndsOnSet ghosts options limit script disks (disks_of set) r) (sym e) (outcome set last ran, has_outcome set last ran)
     by_run (Told set last transcripts history state) both told e =
@@ -216,15 +216,16 @@ module _ {D : Type 0} {ghosts : Ghosts D} where
         (outcome set last both.0, has_outcome set last both.0, shown_so set last both.0 transcripts history state shown both.1 e.2 e.3)
 
     -- how the run ends, from its result
-    pub is_set_end : (ran : ClientsEnd (LogSet D ghosts)) → ComesTo (settings_of options [] (length script) (count_in (logs_of opened))) script (WroteSet opened) fault_in faults ran → (told : RunEnd) → IsEndOfSet ran told
+    pub is_set_end : (ran : ClientsEnd (LogSet D ghosts)) → ComesTo (with_kept (nothing_told ghosts disks) (settings_of options [] (length script) (count_in (logs_of opened)))) script (WroteSet opened) fault_in faults ran → (told : RunEnd) → IsEndOfSet ran told
         → EndsOnSet ghosts options limit script disks (disks_of (log_of ran)) told
     is_set_end ran comes told e =
-        let same : settings_of options [] (length script) (count_in (logs_of opened)) ≡ settings = ap (settings_of options [] (length script)) (opened_count disks opened has) in
-        by_run ran (comes_to fault_in faults ran (settings_of options [] (length script) (count_in (logs_of opened))) settings script script (WroteSet opened) (WroteSet opened) same refl refl comes) told e
+        let counting : ℕ → Settings = λ n. with_kept (nothing_told ghosts disks) (settings_of options [] (length script) n) in
+        let same : counting (count_in (logs_of opened)) ≡ settings = ap counting (opened_count disks opened has) in
+        by_run ran (comes_to fault_in faults ran (counting (count_in (logs_of opened))) settings script script (WroteSet opened) (WroteSet opened) same refl refl comes) told e
 
   -- the calls of a run over a set
   pub calls_of : (set_up : Settings) (commands : List (List Command)) (opened : LogSet D ghosts) (ran : ClientsEnd (LogSet D ghosts)) → ComesTo set_up commands (WroteSet opened) fault_in (λ set. count_in (logs_of set)) ran
       → (made : List GroupCall) × WroteSet opened made (log_of ran)
-  calls_of set_up commands opened (NotRun set) wrote = ([], wrote)
+  calls_of set_up commands opened (NotRun set) wrote = ([], wrote.0)
   calls_of set_up commands opened (Untold set last) ran = let w = ran.writes in (w.calls ++ w.lost, w.by)
   calls_of set_up commands opened (Told set last transcripts entries state) both = let ran = both.0 in let w = ran.writes in (w.calls ++ w.lost, w.by)

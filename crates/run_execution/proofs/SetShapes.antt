@@ -7,11 +7,13 @@ use Rattle.log_writer.specs.declared.set.LogSet.{LogSet}
 use Rattle.log_writer.specs.Words.{disk_of, fault_of}
 use Rattle.log_writer.specs.Opening.{HasOpened}
 use Rattle.log_writer.specs.Adding.{GroupCall, answer_of}
-use Rattle.log_writer.specs.Sets.{counted, full_of, current_of, later_of, logs_of, fault_in, GoesOn, AddsHere, IsStuck, AddsOver, here, next, stuck, AddsTo, WroteSet, no_call, one_more}
+use Rattle.log_writer.specs.Sets.{counted, full_of, current_of, later_of, logs_of, fault_in, GoesOn, AddsHere, IsStuck, AddsOver, here, next, stuck, AddsTo, SetWasRead, WroteSet, no_call, one_more, read}
+use Rattle.log_writer.specs.Reads.{WasRead}
+use Rattle.log_writer.proofs.Reading.{all_were_read}
 use Rattle.log_writer.specs.SetCrashes.{HasOpenedSet}
 use Rattle.log_writer.specs.SetWritten.{disks_of}
 use Rattle.run_outcome.specs.Running as running
-use Rattle.run_execution.proofs.SafeLogs.{GoesFurther, stays, call_goes_on, put_goes_on}
+use Rattle.run_execution.proofs.SafeLogs.{GoesFurther, stays, call_goes_on, put_goes_on, read_goes_on}
 
 pub zip_length : {A B : Type 0} (R : A → B → Type 0) (xs : List A) (ys : List B) → AllZip R xs ys → length xs ≡ length ys
 zip_length R [] [] zip = refl
@@ -59,9 +61,17 @@ module _ {D : Type 0} {ghosts : Ghosts D} where
       by_fault None alive kept = by_over (adds.put alive)
       by_fault (Some count) dead kept = subst (IsMovedOn old) (sym kept.1) (moved_none old old refl refl)
 
+  moved_read : (old new : LogSet D ghosts) → SetWasRead old new → IsMovedOn old new
+  moved_read old new r = record {
+    moved = [];
+    later = sym r.later;
+    many = let long = zip_length WasRead (full_of old) (full_of new) r.full in omega (arith, long);
+  }
+
   moved_on : (old : LogSet D ghosts) (calls : List GroupCall) (new : LogSet D ghosts) → WroteSet old calls new → IsMovedOn old new
   moved_on old calls new no_call = moved_none old old refl refl
   moved_on old calls new (one_more {calls = before} {now = now} c wrote adds) = moved_more old now new (moved_on old before now wrote) (moved_call c now new adds)
+  moved_on old calls new (read {now = now} wrote was_read) = moved_more old now new (moved_on old calls now wrote) (moved_read now new was_read)
 
   module _ (disks : List D) (opened : LogSet D ghosts) (has : HasOpenedSet disks opened) where
     pub logs_opened : AllZip HasOpened disks (current_of opened ∷ later_of opened)
@@ -138,6 +148,13 @@ module _ {D : Type 0} (ghosts : Ghosts D) where
       by_fault None alive kept = by_over (adds.put alive)
       by_fault (Some count) dead kept = subst (λ (s : LogSet D ghosts). AreFurther (logs_of old) (logs_of s)) (sym kept.1) (further_same (logs_of old))
 
+  further_reads : (olds news : List (LogWriter D ghosts)) → AllZip WasRead olds news → AreFurther olds news
+  further_reads [] [] all = tt
+  further_reads [] (new ∷ news) all = absurd all
+  further_reads (old ∷ olds) [] all = absurd all
+  further_reads (old ∷ olds) (new ∷ news) all = (further_log old new (read_goes_on old new all.0), further_reads olds news all.1)
+
   pub set_further : (old : LogSet D ghosts) (calls : List GroupCall) (new : LogSet D ghosts) → WroteSet old calls new → AllZip Further (disks_of old) (disks_of new)
   set_further old calls new no_call = further_same (logs_of old)
   set_further old calls new (one_more {calls = before} {now = now} c wrote adds) = all_further (disks_of old) (disks_of now) (disks_of new) (set_further old before now wrote) (further_call c now new adds)
+  set_further old calls new (read {now = now} wrote was_read) = all_further (disks_of old) (disks_of now) (disks_of new) (set_further old calls now wrote) (further_reads (logs_of now) (logs_of new) (all_were_read now new was_read))

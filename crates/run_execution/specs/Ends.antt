@@ -4,18 +4,18 @@ use Rattle.std.specs.declared.alloc.Global.{Global}
 use Rattle.std.specs.List.{AllByRecursion}
 use Rattle.base_devices.specs.Disk.{Disk, Told}
 use Rattle.base_devices.specs.declared.disk.Disk.{Ghosts}
-use Rattle.model_base.specs.Settings.{settings_of}
+use Rattle.model_base.specs.Settings.{settings_of, with_kept}
 use Rattle.model_base.specs.Calls as calls
 use Rattle.model_base.specs.declared.limits.TheConstants.{MAX_FAMILIES}
 use Rattle.model_base.specs.Map.{Pairs, greatest_family}
 use Rattle.model_base.specs.declared.log.EndReason.{EndReason}
 use Rattle.model_base.specs.declared.options.Options.{Options}
-use Rattle.model_base.specs.Recovery.{Recovered, IsRecovered, recovered_map}
+use Rattle.model_base.specs.Recovery.{Logged, Recovered, IsRecovered, recovered_map}
 use Rattle.model_runs.specs.Crashes.{IsImageSince}
 use Rattle.model_runs.specs.Refusals.{AreRefusedForThemselves}
 use Rattle.run_outcome.specs.declared.log_start.LogStart.{LogStart}
 use Rattle.run_outcome.specs.declared.log_start.LogStart.TheVariants.{New, Over, Behind}
-use Rattle.run_outcome.specs.Running.{Execution, Before, GoesOnFrom, beginning_of, IsRunOf, LeavesSafeLog, HasRun, IsAsFound, IsReached}
+use Rattle.run_outcome.specs.Running.{Execution, Before, GoesOnFrom, batches_told, beginning_of, IsRunOf, LeavesSafeLog, HasRun, IsAsFound, IsReached}
 use Rattle.log_recovery.specs.declared.modes.Mode.{Mode}
 use Rattle.log_recovery.specs.declared.modes.Mode.TheVariants.{Point}
 use Rattle.log_recovery.specs.Modes.{Accepts, IsDamage}
@@ -47,12 +47,11 @@ IsEndOfRun (clients.Told log last transcripts history state) told = (full_lens :
     × (told ≡ end.Ran (outcome_with transcripts history last state full_lens (len_of log) (fault_of log)))
 
 -- A script was run, and this is its outcome. The log is that of the outcome, where the disk tells its content. Where
--- the log has no fault, the disk has counted none in the run, and commits were refused only for causes of their own.
+-- the log has no fault, commits were refused only for causes of their own.
 pub record HasOutcome (execution : Execution) (old new : Option Disk) : Type 0 where
   pub outcome : calls.Outcome
   pub run : IsRunOf execution outcome
   pub refusals : outcome.fault ≡ None → AllByRecursion AreRefusedForThemselves outcome.transcripts
-  pub counted : outcome.fault ≡ None → execution.ended ≡ execution.settings.opened
   pub log : Told old new (LeavesSafeLog execution outcome run)
 
 -- The log was opened in one of three ways: a new one on an empty disk, one with a number over what is there, or one
@@ -72,11 +71,11 @@ options_behind options before = record options {
 }
 
 -- The clients of a script have run over this opened log, or none has. `opened` is how many faults the disk had counted
--- at its opening, and `map` is the table's map then.
+-- at its opening, `map` is the table's map then, and `kept` are the batches that the log had, where they are known.
 abbrev pub HasRunOver : {D : Type 0} {ghosts : Ghosts D} → LogWriter D ghosts → Options → Pairs → ℕ
-    → List (List calls.Command) → ClientsEnd (LogWriter D ghosts) → Type 0
-HasRunOver {D} {ghosts} log options map opened script ran =
-    ComesTo (settings_of options map (length script) opened) script (Wrote log) fault_of
+    → Option (List Logged) → List (List calls.Command) → ClientsEnd (LogWriter D ghosts) → Type 0
+HasRunOver {D} {ghosts} log options map opened kept script ran =
+    ComesTo (with_kept kept (settings_of options map (length script) opened)) script (Wrote log) fault_of
     (λ l. ghosts.faults (disk_of l)) ran
 
 -- a run of a script with these options, whose log is opened as `start` says and which goes on from `before`; it begins
@@ -84,7 +83,8 @@ HasRunOver {D} {ghosts} log options map opened script ran =
 abbrev pub execution_on : {D : Type 0} → Ghosts D → Options → LogStart → Before → List (List calls.Command) → D → D
     → Execution
 execution_on ghosts options start before script old new = record {
-  settings = settings_of (options_behind options before) before.map (length script) (ghosts.faults old);
+  settings = with_kept (batches_told (ghosts.told old) before)
+      (settings_of (options_behind options before) before.map (length script) (ghosts.faults old));
   script = script;
   ended = ghosts.faults new;
   start = start;

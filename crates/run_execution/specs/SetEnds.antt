@@ -1,10 +1,12 @@
 -- How a run over several logs ends, and what is true then.
-use Rattle.std.specs.Prelude.{◌≡◌, ℕ, ◌≤◌, List, [], ◌∷◌, ◌++◌, length, map, None, Some, IfSome}
+use Rattle.std.specs.Prelude.{◌≡◌, ℕ, ◌≤◌, List, [], ◌∷◌, ◌++◌, length, map, Option, None, Some, option_and_then, IfSome}
 use Rattle.std.specs.List.{AllByRecursion, AllZip}
 use Rattle.base_devices.specs.Disk.{Disk}
 use Rattle.base_devices.specs.Faults.{Rose, count_in_all}
 use Rattle.base_devices.specs.declared.disk.Disk.{Ghosts}
-use Rattle.model_base.specs.Settings.{settings_of}
+use Rattle.model_base.specs.Outcomes.{read_faults_in}
+use Rattle.model_base.specs.Recovery.{Logged}
+use Rattle.model_base.specs.Settings.{settings_of, with_kept}
 use Rattle.model_base.specs.Calls as calls
 use Rattle.model_base.specs.LogContents.{GroupCall}
 use Rattle.model_base.specs.declared.options.Options.{Options}
@@ -50,10 +52,15 @@ pub record SetExecution : Type 1 where
   pub now : List (List ℕ) → Type 0
   pub wrote : List GroupCall → List ℕ → Type 0
 
+-- new logs have kept nothing, which is known where each of their disks tells what it holds
+abbrev pub nothing_told : {D : Type 0} → Ghosts D → List D → Option (List Logged)
+nothing_told ghosts [] = Some []
+nothing_told ghosts (disk ∷ disks) = option_and_then (λ (d : Disk). nothing_told ghosts disks) (ghosts.told disk)
+
 abbrev pub set_execution_on : {D : Type 0} → Ghosts D → Options → ℕ → List (List calls.Command) → List D → List D
     → SetExecution
 set_execution_on ghosts options limit script olds news = record {
-  settings = settings_of options [] (length script) (count_in_all ghosts.faults olds);
+  settings = with_kept (nothing_told ghosts olds) (settings_of options [] (length script) (count_in_all ghosts.faults olds));
   script = script;
   ended = count_in_all ghosts.faults news;
   limit = limit;
@@ -85,13 +92,13 @@ pub record LeaveSafeLogs {D : Type 0} (ghosts : Ghosts D) (olds news : List D) (
   pub safe : AreSafeAfterFirst ghosts olds → (held : List Held) → TellHeld ghosts news held → (reached : List ℕ)
       → TellReach ghosts olds reached → AreSafe run held reached x.images (x.since o.log_lens) x.now
 
--- A script was run, and this is its outcome. Where the logs have no fault, the disks have counted none in the run, and
--- commits were refused only for causes of their own.
+-- A script was run, and this is its outcome. Where no write of a log failed and no read of one, the disks have counted no
+-- fault in the run. Where the logs have no fault, commits were refused only for causes of their own.
 pub record HasSetOutcome {D : Type 0} (ghosts : Ghosts D) (olds news : List D) (x : SetExecution) (o : calls.Outcome)
     : Type 0 where
   pub run : IsRunOfSet x o
   pub refusals : o.fault ≡ None → AllByRecursion AreRefusedForThemselves o.transcripts
-  pub counted : o.fault ≡ None → x.ended ≡ x.settings.opened
+  pub counted : o.fault ≡ None → read_faults_in o.transcripts ≡ [] → x.ended ≡ x.settings.opened
   pub logs : LeaveSafeLogs ghosts olds news x o run
 
 -- each disk tells what it told before, and a crash leaves no less
@@ -116,7 +123,8 @@ module _ {D : Type 0} (ghosts : Ghosts D) (options : Options) (limit : ℕ) (scr
       HasFirstBytes ghosts olds len × AreLeftAlone ghosts olds news × CountNone ghosts olds news
   EndsOnSet (end.Damage at why) = ⊥
   EndsOnSet (end.Family family) = ⊥
-  EndsOnSet end.NoMemory = AreLeftAlone ghosts olds news × CountNone ghosts olds news
+  EndsOnSet end.NoMemory = AreLeftAlone ghosts olds news
+      × (count_in_all ghosts.faults news ≡ count_in_all ghosts.faults olds)
   EndsOnSet end.NoOutcome = (o : calls.Outcome) × HasSetOutcome ghosts olds news this_execution o
   EndsOnSet (end.Ran shown) = (o : calls.Outcome) × HasSetOutcome ghosts olds news this_execution o
       × ShowsOutcome shown o

@@ -1,11 +1,12 @@
 //! A run of a script over an opened log, whatever the log is made of.
 
-ghost use Rattle.std.specs.Prelude.{◌≡◌, ◌≤◌, ◌<◌, [], None, length};
+ghost use Rattle.std.specs.Prelude.{◌≡◌, ◌≤◌, ◌<◌, [], None, List, Option, IfSome, length};
 ghost use Rattle.model_base.specs.History.{max_sequence};
-ghost use Rattle.model_base.specs.Settings.{settings_of};
+ghost use Rattle.model_base.specs.Recovery.{Logged};
+ghost use Rattle.model_base.specs.Settings.{settings_of, with_kept};
 ghost use Rattle.run_scripts.specs.Scripts.{commands_of, FitsBatches};
 ghost use Rattle.run_threads.specs.Runs.{ComesTo};
-ghost use Rattle.run_execution.specs.Bare.{bare_of};
+ghost use Rattle.run_execution.specs.Bare.{HasKept, bare_of};
 
 use crate::setup::Host;
 use base_devices::Clock;
@@ -13,7 +14,7 @@ use base_maps::FamilyMap;
 use engine_calls::Gate;
 use engine_memory::open_engine;
 use engine_parts::OpenLog;
-use log_writer::GroupLog;
+use log_writer::{GroupLog, ReadableLog};
 use model_base::{MAX_CLIENTS, MAX_SIZE, Options};
 use run_scripts::Script;
 use run_threads::{ClientsEnd, run_engine};
@@ -24,7 +25,7 @@ use std::thread::Threads;
 /// Runs a script over a log that has no fault, and goes on from a map with its last sequence. Both gates hear of what
 /// happens.
 pub(crate) fn run_on<
-    L: GroupLog + Send,
+    L: ReadableLog + Send,
     C: Clock + Send + Drop,
     H: Gate + Sync + Drop,
     G: Gate + Sync,
@@ -47,7 +48,9 @@ pub(crate) fn run_on<
     requires shards { 0 < shards }
     requires log { L.fault log ≡ None }
     requires map { (last ≤ options.last) × (last ≡ 0 → map ≡ []) }
-    ensures { ComesTo (settings_of options map (length (commands_of script.now)) (L.faults log))
+    // It is said for whatever batches the log had kept, up to the last sequence, where what it holds is known.
+    ensures { (kept : Option (List Logged)) → IfSome kept (HasKept L.GroupLog log options.last)
+        → ComesTo (with_kept kept (settings_of options map (length (commands_of script.now)) (L.faults log)))
         (commands_of script.now) (L.wrote log) L.fault L.faults result }
 {
     let commands = script.clients.as_slice();

@@ -10,7 +10,7 @@ ghost use Rattle.run_execution.specs.Ends.{EndsOn, HasFewFamilies, IsAccepted, I
 ghost use Rattle.run_execution.specs.SetEnds.{EndsOnSet};
 
 use crate::end::{RunEnd, end_run, end_set_run};
-use crate::laws::{runs_leave_safe_logs, runs_leave_safe_sets};
+use crate::laws::{logs_have_batches, runs_leave_safe_logs, runs_leave_safe_sets};
 use crate::opening::{Opened, open_log};
 use crate::over_log::run_on;
 use crate::setup::{Host, Setup};
@@ -105,6 +105,7 @@ fn run_over<
         ..options
     };
     runs_leave_safe_logs::<D>();
+    logs_have_batches::<D>();
     let ran = run_on(
         host, log, map, last, clock, shared, script, options, shards, pipelined,
     );
@@ -155,6 +156,7 @@ pub fn execute_set<
                 host, set, map, 0, clock, shared, script, options, shards, pipelined,
             );
             runs_leave_safe_sets::<D>();
+            logs_have_batches::<D>();
             end_set_run(ran)
         }
         Err((disks, why)) => (disks, RunEnd::from(why)),

@@ -6,6 +6,7 @@ mod DrawnPlain
 mod DrawnTranscripts
 mod Entries
 mod Follows
+mod Given
 mod Interleaved
 mod Keys
 mod LegalRoom

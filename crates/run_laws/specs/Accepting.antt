@@ -1,4 +1,5 @@
--- What may keep a commit from being accepted, by the script and the clients' calls.
+-- What may keep a commit from being accepted, and a read of the log from giving its records, by the script and the
+-- clients' calls.
 use Rattle.std.specs.Prelude.{◌≡◌, ◌⊎◌, ℕ, ◌+◌, ◌<◌, ◌≤◌, Bool, true, false, List, [], ◌∷◌, ◌++◌, fold, sum_by, Some, slice_get}
 use Rattle.std.specs.List.{AllByRecursion}
 use Rattle.model_base.specs.declared.write.WriteOptions.{WriteOptions}
@@ -9,7 +10,7 @@ use Rattle.model_base.specs.Controller.{Action}
 use Rattle.model_base.specs.Tokens.{holds_stop}
 use Rattle.model_base.specs.Trace.{Settings}
 use Rattle.model_base.specs.Progress.{added_by, batch_after, families_in}
-use Rattle.model_base.specs.Calls.{Command, commit, stop, unstop, slow, unslow, Reply, accepted, done, Call, Outcome}
+use Rattle.model_base.specs.Calls.{Command, commit, updates, stop, unstop, slow, unslow, Reply, accepted, updates_found, done, Call, Outcome}
 use Rattle.model_base.specs.Script.{Script}
 
 -- how many records a command commits of the client's current batch: all that count, if it is a commit, and otherwise
@@ -76,3 +77,15 @@ pub record PassesChecks (settings : Settings) (before : List Call) (how : WriteO
 -- just this batch was accepted, under some run of sequences
 abbrev pub IsAccepted : List Record → Reply → Type 0
 IsAccepted batch reply = (first : ℕ) × (last : ℕ) × (reply ≡ accepted first last batch)
+
+-- The client with this number (from 0) reaches a read of the log: after these calls it reads from the sequence s on, and
+-- gets this reply.
+pub record ReachesUpdates (o : Outcome) (client : ℕ) (before : List Call) (s : ℕ) (reply : Reply) : Type 0 where
+  pub calls : List Call
+  pub there : slice_get o.transcripts client ≡ Some calls
+  pub after : List Call
+  pub split : calls ≡ before ++ record { command = updates s; reply = reply } ∷ after
+
+-- the log's records were given, up to some sequence
+abbrev pub IsGiven : Reply → Type 0
+IsGiven reply = (at : ℕ) × (records : List (List ℕ)) × (reply ≡ updates_found at records)

@@ -5,7 +5,7 @@ use Rattle.std.proofs.lemmas.List.{append-nil}
 use Rattle.std.proofs.lemmas.List.Elements.{filter-append}
 use Rattle.model_base.specs.Calls as calls
 use Rattle.run_outcome.specs.declared.reply.Reply.{Reply}
-use Rattle.run_outcome.specs.declared.reply.Reply.TheVariants.{Accepted, Refused, Found, FoundEach, Rows, Done, Held, NotHeld, NoMemory}
+use Rattle.run_outcome.specs.declared.reply.Reply.TheVariants.{Accepted, Refused, Found, FoundEach, Rows, Updates, ReadFault, Done, Held, NotHeld, NoMemory}
 use Rattle.run_outcome.specs.Shows.{ShowsReply, ShowsReplies, is_quiet, with_replies}
 
 -- what a value shows is a reply
@@ -15,6 +15,8 @@ has_reply (Refused why) c shows = ap is_quiet shows
 has_reply (Found at value) c shows = ap is_quiet shows
 has_reply (FoundEach at values) c shows = ap is_quiet shows
 has_reply (Rows at rows) c shows = ap is_quiet shows
+has_reply (Updates at records) c shows = ap is_quiet shows
+has_reply (ReadFault count) c shows = ap is_quiet shows
 has_reply Done c shows = ap is_quiet shows
 has_reply Held c shows = ap is_quiet shows
 has_reply NotHeld c shows = ap is_quiet shows

@@ -1,5 +1,5 @@
 -- What a run of a script results in: an outcome, and the log that it leaves.
-use Rattle.std.specs.Prelude.{◌≡◌, ◌⊎◌, ℕ, ◌≤◌, ⊤, List, [], length, take, Option, Some, None, IfSome}
+use Rattle.std.specs.Prelude.{◌≡◌, ◌⊎◌, ℕ, ◌≤◌, ⊤, List, [], length, take, Option, Some, None, option_map, IfSome}
 use Rattle.std.specs.List.{AllByRecursion}
 use Rattle.base_devices.specs.Disk.{Disk, Told, IsImage, all_safe, rewound, cut_at}
 use Rattle.model_base.specs.Counts.{Rose}
@@ -7,7 +7,7 @@ use Rattle.model_base.specs.Map.{Pairs}
 use Rattle.model_base.specs.Trace.{Settings}
 use Rattle.model_base.specs.Calls as calls
 use Rattle.model_base.specs.Log.{Beginning, plain_log, SpellsWhole}
-use Rattle.model_base.specs.Recovery.{Recovered, IsRecovered, recovered_map, recovered_last}
+use Rattle.model_base.specs.Recovery.{Logged, Recovered, IsRecovered, recovered_map, recovered_last}
 use Rattle.model_base.specs.LogContents.{GroupCall}
 use Rattle.run_outcome.specs.declared.outcome.Outcome.{Outcome}
 use Rattle.run_outcome.specs.declared.log_start.LogStart.{LogStart}
@@ -24,14 +24,19 @@ number_in New = plain_log
 number_in (Over number) = Some number
 number_in (Behind number) = number
 
--- what a run goes on from: a map with its last sequence, and the bytes that its log keeps
+-- what a run goes on from: a map with its last sequence, and the bytes that its log keeps with the batches in them
 pub record Before : Type 0 where
   pub map : Pairs
   pub last : ℕ
   pub kept : List ℕ
+  pub batches : List Logged
 
 abbrev pub nothing : Before
-nothing = record { map = []; last = 0; kept = [] }
+nothing = record { map = []; last = 0; kept = []; batches = [] }
+
+-- the batches that a log had kept, where its disk tells what it holds
+abbrev pub batches_told : Option Disk → Before → Option (List Logged)
+batches_told told before = option_map (λ (d : Disk). before.batches) told
 
 -- the file, read as a log with this number or without one, recovers `before`, whose kept bytes reach to the end of the
 -- last record that is kept
@@ -41,6 +46,7 @@ pub record RecoversTo (number : Option ℕ) (file : List ℕ) (before : Before) 
   pub map : before.map ≡ recovered_map recovered
   pub last : before.last ≡ recovered_last recovered
   pub kept : before.kept ≡ take recovered.kept file
+  pub batches : before.batches ≡ recovered.batches
 
 -- A run whose log begins anew goes on from nothing. Else it goes on from what the log recovers; that is said where the
 -- disk tells its content.
@@ -114,13 +120,12 @@ IsAsFound start old new =
     (new ≡ old) ⊎ ((before : Before) × GoesOnFrom start old before × Told old new (IsOpened start before))
 
 -- The values show the outcome of a run, and the log is that of the outcome, where the disk tells its content. Where the
--- log has no fault, the disk has counted none in the run, and commits were refused only for causes of their own.
+-- log has no fault, commits were refused only for causes of their own.
 pub record HasRun (execution : Execution) (old new : Option Disk) (shown : Outcome Pairs) : Type 0 where
   pub outcome : calls.Outcome
   pub shows : ShowsOutcome shown outcome
   pub run : IsRunOf execution outcome
   pub refusals : shown.fault ≡ None → AllByRecursion AreRefusedForThemselves outcome.transcripts
-  pub counted : shown.fault ≡ None → execution.ended ≡ execution.settings.opened
   pub log : Told old new (LeavesSafeLog execution outcome run)
 
 -- a count of faults that was reached in a call

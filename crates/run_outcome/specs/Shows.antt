@@ -8,7 +8,7 @@ use Rattle.model_base.specs.History as history
 use Rattle.model_base.specs.Calls as calls
 use Rattle.log_batch.specs.Contents.{Contents}
 use Rattle.run_outcome.specs.declared.reply.Reply.{Reply}
-use Rattle.run_outcome.specs.declared.reply.Reply.TheVariants.{Accepted, Refused, Found, FoundEach, Rows, Done, Held, NotHeld, NoMemory}
+use Rattle.run_outcome.specs.declared.reply.Reply.TheVariants.{Accepted, Refused, Found, FoundEach, Rows, Updates, ReadFault, Done, Held, NotHeld, NoMemory}
 use Rattle.run_outcome.specs.declared.history_entry.HistoryEntry.{HistoryEntry}
 use Rattle.run_outcome.specs.declared.outcome.Outcome.{Outcome}
 
@@ -19,6 +19,8 @@ lacks_memory (Refused why) = false
 lacks_memory (Found at value) = false
 lacks_memory (FoundEach at values) = false
 lacks_memory (Rows at rows) = false
+lacks_memory (Updates at records) = false
+lacks_memory (ReadFault count) = false
 lacks_memory Done = false
 lacks_memory Held = false
 lacks_memory NotHeld = false
@@ -30,6 +32,8 @@ ShowsReply (Refused why) c = c.reply ≡ calls.refused why
 ShowsReply (Found at value) c = c.reply ≡ calls.found at value
 ShowsReply (FoundEach at values) c = c.reply ≡ calls.found_each at values
 ShowsReply (Rows at rows) c = c.reply ≡ calls.rows at rows
+ShowsReply (Updates at records) c = c.reply ≡ calls.updates_found at records
+ShowsReply (ReadFault count) c = c.reply ≡ calls.read_failed count
 ShowsReply Done c = c.reply ≡ calls.done
 ShowsReply Held c = c.reply ≡ calls.held
 ShowsReply NotHeld c = c.reply ≡ calls.not_held
@@ -65,3 +69,20 @@ pub record ShowsOutcome (shown : Outcome Pairs) (o : calls.Outcome) : Type 0 whe
 -- a client ran out of memory
 abbrev pub ran_short : {M : Type 0} → Outcome M → Bool
 ran_short shown = list_any (λ v. list_any lacks_memory v.items) shown.transcripts.items
+
+-- a client's read of the log failed
+abbrev pub is_read_fault : Reply → Bool
+is_read_fault (ReadFault count) = true
+is_read_fault (Accepted run) = false
+is_read_fault (Refused why) = false
+is_read_fault (Found at value) = false
+is_read_fault (FoundEach at values) = false
+is_read_fault (Rows at rows) = false
+is_read_fault (Updates at records) = false
+is_read_fault Done = false
+is_read_fault Held = false
+is_read_fault NotHeld = false
+is_read_fault NoMemory = false
+
+abbrev pub has_read_fault : {M : Type 0} → Outcome M → Bool
+has_read_fault shown = list_any (λ v. list_any is_read_fault v.items) shown.transcripts.items

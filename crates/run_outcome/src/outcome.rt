@@ -2,7 +2,7 @@
 
 ghost use Rattle.std.specs.Prelude.{◌≡◌};
 ghost use Rattle.std.specs.List.{list_any};
-ghost use Rattle.run_outcome.specs.Shows.{lacks_memory};
+ghost use Rattle.run_outcome.specs.Shows.{is_read_fault, lacks_memory};
 
 use crate::{History, Reply};
 
@@ -25,7 +25,7 @@ pub struct Outcome<M> {
 
 impl<M> Outcome<M> {
     ghost use Rattle.std.specs.Prelude.{◌≡◌};
-    ghost use Rattle.run_outcome.specs.Shows.{ran_short};
+    ghost use Rattle.run_outcome.specs.Shows.{has_read_fault, ran_short};
 
     /// Whether a client ran out of memory.
     pub fn lacks_memory(&self) -> bool
@@ -35,10 +35,25 @@ impl<M> Outcome<M> {
             .iter()
             .any(|replies| any_lacks_memory(replies))
     }
+
+    /// Whether a read of the log failed.
+    pub fn has_read_fault(&self) -> bool
+        ensures { result ≡ has_read_fault self.now }
+    {
+        self.transcripts
+            .iter()
+            .any(|replies| any_is_read_fault(replies))
+    }
 }
 
 fn any_lacks_memory(replies: &[Reply]) -> bool
     ensures { result ≡ list_any lacks_memory replies.now }
 {
     replies.iter().any(|reply| reply.lacks_memory())
+}
+
+fn any_is_read_fault(replies: &[Reply]) -> bool
+    ensures { result ≡ list_any is_read_fault replies.now }
+{
+    replies.iter().any(|reply| reply.is_read_fault())
 }

@@ -73,10 +73,11 @@ IsScriptCommand unstop = ⊥
 IsScriptCommand (slow rate) = ⊥
 IsScriptCommand unslow = ⊥
 
--- such a command, or one that reads several keys or a range of keys, with short words
+-- such a command, or one that reads several keys or a range of keys, with short words, or the log
 abbrev pub IsClientsCommand : Command → Type 0
 IsClientsCommand (many keys) = AllByRecursion (λ k. IsShort k.bytes) keys
 IsClientsCommand (scan family lo hi) = IsShort lo × IsShort hi
+IsClientsCommand (updates n) = Unit {0}
 IsClientsCommand other = IsScriptCommand other
 
 -- the length of all lines of a client that add records

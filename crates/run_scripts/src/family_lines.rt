@@ -13,7 +13,7 @@ ghost use Rattle.run_scripts.specs.ScriptLines.{line_said, said_len, MayBeSaid, 
 
 use crate::language::Language;
 use crate::lines::{
-    Line, LineError, read_delete, read_get, read_more, read_put, read_scan, read_single_delete,
+    Line, LineError, read_delete, read_get, read_of_log, read_put, read_scan, read_single_delete,
 };
 use crate::numbers::family_number;
 use crate::words::{is_word, split_once};
@@ -21,7 +21,7 @@ use log_batch::named;
 use run_command_list::KeyList;
 use std::alloc::Global;
 
-/// Reads a line that names a family, or one that not every language has.
+/// Reads a line that names a family, or one that reads the log, or one that not every language has.
 pub fn read_in_family<'a>(
     alloc: Global,
     language: Language,
@@ -29,7 +29,8 @@ pub fn read_in_family<'a>(
     rest: Option<&'a [u8]>,
 ) -> Result<Line<'a>, LineError>
     ensures line { let words = parts_of 32 (option_copied rest.entry) in
-        Reads line_said (model.by_form (model.family_forms ++ more_forms language) word.now words) result }
+        let forms = model.family_forms ++ (model.update_forms ++ more_forms language) in
+        Reads line_said (model.by_form forms word.now words) result }
     ensures len { IfOk result (λ l. said_len l ≤ length word.now + len_behind (option_copied rest.entry) + 1) }
     ensures command { IfOk result (MayBeSaid language) }
 {
@@ -45,7 +46,7 @@ pub fn read_in_family<'a>(
     read_from_family(alloc, language, word, rest)
 }
 
-/// Reads a line that reads in families, or one that not every language has.
+/// Reads a line that reads in families, or one that reads the log, or one that not every language has.
 fn read_from_family<'a>(
     alloc: Global,
     language: Language,
@@ -53,7 +54,8 @@ fn read_from_family<'a>(
     rest: Option<&'a [u8]>,
 ) -> Result<Line<'a>, LineError>
     ensures line { let words = parts_of 32 (option_copied rest.entry) in
-        Reads line_said (model.by_form (drop 3 model.family_forms ++ more_forms language) word.now words) result }
+        let forms = drop 3 model.family_forms ++ (model.update_forms ++ more_forms language) in
+        Reads line_said (model.by_form forms word.now words) result }
     ensures len { IfOk result (λ l. said_len l ≡ 0) }
     ensures command { IfOk result (MayBeSaid language) }
 {
@@ -66,7 +68,7 @@ fn read_from_family<'a>(
     if word == b"fscan".as_slice() {
         return read_scan_in(rest);
     }
-    read_more(language, word, rest)
+    read_of_log(language, word, rest)
 }
 
 /// Reads what comes after `fput`.

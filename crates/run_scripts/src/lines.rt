@@ -148,7 +148,8 @@ fn read_second<'a>(
     read_other(alloc, language, word, rest)
 }
 
-/// Reads a line that reads several keys, or one that names a family, or one that not every language has.
+/// Reads a line that reads several keys, or one that names a family, or one that reads the log, or one that not every
+/// language has.
 fn read_other<'a>(
     alloc: Global,
     language: Language,
@@ -156,7 +157,7 @@ fn read_other<'a>(
     rest: Option<&'a [u8]>,
 ) -> Result<Line<'a>, LineError>
     ensures line { let words = parts_of 32 (option_copied rest.entry) in
-        let forms = (model.read_forms ++ model.family_forms) ++ more_forms language in
+        let forms = (model.read_forms ++ (model.family_forms ++ model.update_forms)) ++ more_forms language in
         Reads line_said (model.by_form forms word.now words) result }
     ensures len { IfOk result (λ l. said_len l ≤ length word.now + len_behind (option_copied rest.entry) + 1) }
     ensures command { IfOk result (MayBeSaid language) }
@@ -170,8 +171,25 @@ fn read_other<'a>(
     read_in_family(alloc, language, word, rest)
 }
 
+/// Reads a line that reads the log, or one that not every language has.
+pub fn read_of_log<'a>(
+    language: Language,
+    word: &[u8],
+    rest: Option<&'a [u8]>,
+) -> Result<Line<'a>, LineError>
+    ensures line { let words = parts_of 32 (option_copied rest.entry) in
+        Reads line_said (model.by_form (model.update_forms ++ more_forms language) word.now words) result }
+    ensures len { IfOk result (λ l. said_len l ≡ 0) }
+    ensures command { IfOk result (MayBeSaid language) }
+{
+    if word == b"updates".as_slice() {
+        return read_updates(rest);
+    }
+    read_more(language, word, rest)
+}
+
 /// Reads a line with any other first word than those that every language has.
-pub fn read_more<'a>(
+fn read_more<'a>(
     language: Language,
     word: &[u8],
     rest: Option<&'a [u8]>,
@@ -359,6 +377,18 @@ fn read_slow(rest: Option<&[u8]>) -> Result<Line<'_>, LineError>
 {
     let rate = read_number(rest)?;
     Ok(Line::Command(CommandView::Slow { rate }))
+}
+
+/// Reads what comes after `updates`.
+fn read_updates(rest: Option<&[u8]>) -> Result<Line<'_>, LineError>
+    ensures line { let words = parts_of 32 (option_copied rest.entry) in
+        let updates = model.one_number (λ since. model.command (calls.updates since)) in
+        Reads line_said (behind_word updates words) result }
+    ensures len { IfOk result (λ l. said_len l ≡ 0) }
+    ensures command { (language : Language) → IfOk result (MayBeSaid language) }
+{
+    let since = read_number(rest)?;
+    Ok(Line::Command(CommandView::Updates { since }))
 }
 
 /// Whether a flag comes first in what is left of a line, and what is left without the flag.

@@ -11,6 +11,7 @@
 //!   below HI;
 //! - `fput F K V`, `fdel F K`, `fsdel F K`, `fget F K`, `fmany F K F K ..` and `fscan F LO HI` are the same for keys of
 //!   the family with the number F, which is below 2^32. The others are about the default family, whose number is 0;
+//! - `updates S` reads the log's records from the sequence S on;
 //! - `stop` and `slow R` take the write controller's stop token and its delay token, at R bytes a second, and `unstop`
 //!   and `unslow` give them back.
 //!

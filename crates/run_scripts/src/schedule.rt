@@ -3,7 +3,7 @@
 //! The script's lines are those that `parser` describes. After them comes the line `schedule`, and after that a line
 //! for each event: its word and the number of a client of the script, as in `link 1`. The words are `link`, `elect`,
 //! `build`, `log`, `fault`, `boundary`, `second`, `next`, `launch`, `insert`, `finish`, `publish`, `exit`, `complete`,
-//! `read`, `stall`, `leave` and `unstall`. Empty lines and comments are passed over there too.
+//! `read`, `stall`, `leave`, `unstall` and `since`. Empty lines and comments are passed over there too.
 
 ghost use Rattle.std.specs.Prelude.{◌≡◌, ◌+◌, ◌≤◌, ◌==◌, [], Ok, Err, length, if◌then◌else◌, IfOk, IfErr, OnOk, drop, option_copied};
 ghost use Rattle.model_core.specs.Schedule as model;
@@ -264,8 +264,8 @@ fn other_event_named(word: &[u8], client: u32) -> Option<Event>
     stall_event_named(word, client)
 }
 
-/// The event of this client that a word names, if it is one of a leader that stalls writes. A writer that leaves is
-/// told of one stop.
+/// The event of this client that a word names, if it is one of a leader that stalls writes, or of one that reads the
+/// log. A writer that leaves is told of one stop.
 fn stall_event_named(word: &[u8], client: u32) -> Option<Event>
     ensures { result ≡ event_named (drop 15 event_words) word.now client }
 {
@@ -281,6 +281,9 @@ fn stall_event_named(word: &[u8], client: u32) -> Option<Event>
     }
     if word == b"unstall".as_slice() {
         return Some(Event::Unstall(client));
+    }
+    if word == b"since".as_slice() {
+        return Some(Event::Since(client));
     }
     None
 }

@@ -7,7 +7,6 @@ pub mod Moves
 pub mod Alone
 pub mod Fibres
 pub mod Last
-pub mod NoReadFaults
 pub mod NotRun
 pub mod Owners
 pub mod ReadFamilies

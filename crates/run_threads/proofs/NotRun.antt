@@ -1,11 +1,13 @@
 -- Where no client has called anything, the closed log was written by no call.
-use Rattle.std.proofs.Common.{◌≡◌, ℕ, ◌+◌, ◌-◌, ◌<◌, ◌≤◌, Option, Some, None, List, [], ◌∷◌, ◌++◌, length, map, flat_map, slice_get, refl, ap, sym, ◌∙◌, subst, inl, inr, arith, Vec, Global}
+use Rattle.std.proofs.Common.{◌≡◌, ℕ, suc, ◌+◌, ◌-◌, ◌<◌, ◌≤◌, Option, Some, None, List, [], ◌∷◌, ◌++◌, length, map, flat_map, slice_get, refl, ap, sym, ◌∙◌, subst, inl, inr, arith, Vec, Global}
 use Rattle.std.specs.List.{AllByRecursion, AllZip}
 use Rattle.std.specs.Option.{option_map}
 use Rattle.std.proofs.lemmas.Option.{slice_get-map, slice_get_cases}
 use Rattle.model_base.specs.Batch.{Record}
 use Rattle.model_base.specs.Map.{Pairs}
-use Rattle.model_base.specs.History.{Entry, logged_entries}
+use Rattle.model_base.specs.History.{Entry, last_sequence, logged_entries}
+use Rattle.model_base.specs.Recovery.{Logged}
+use Rattle.model_base.specs.Settings.{with_kept}
 use Rattle.model_base.specs.Trace.{Trace, Settings}
 use Rattle.model_base.specs.Attempts.{Attempt}
 use Rattle.model_base.specs.Groups.{Group, Member, IsCommit}
@@ -13,7 +15,7 @@ use Rattle.model_base.specs.LogContents.{GroupCall}
 use Rattle.model_base.specs.Outcomes.{entries_of_client}
 use Rattle.model_runs.specs.Lost.{IsLost}
 use Rattle.model_accounts.specs.Accounts.{Account, newcomer}
-use Rattle.model_accounts.specs.Closing.{IsClosing, all_attempts}
+use Rattle.model_accounts.specs.Closing.{IsClosing, all_attempts, all_read_faults}
 use Rattle.model_runs.specs.Written.{WroteEntries, AreLost, WritesLog}
 use Rattle.run_threads.specs.Jobs.{AreNew}
 use Rattle.run_threads.proofs.Fibres.{same}
@@ -82,7 +84,7 @@ all_idle start opening accounts new i own at =
       | inr w ↦ absurd (cc (sym e ∙ at, ap (option_map (λ (a : Account). a.attempts)) w.1))
     ]
 
-module _ (settings : Settings) (ended : ℕ) (trace : Trace) (groups : List Group) (accounts : List Account) (last : ℕ) (fault : Option ℕ) (closing : IsClosing settings ended trace groups accounts last fault)
+module _ (settings : Settings) (kept : Option (List Logged)) (ended : ℕ) (trace : Trace) (groups : List Group) (accounts : List Account) (last : ℕ) (fault : Option ℕ) (closing : IsClosing (with_kept kept settings) ended trace groups accounts last fault)
     (start : ℕ) (opening : Pairs) (count : length accounts ≡ settings.clients) (new : AreNewcomers start opening accounts) where
   none_written : trace.entries ≡ []
   none_written = no_entries settings.clients trace.entries closing.is_trace.clients (λ i within.
@@ -94,10 +96,29 @@ module _ (settings : Settings) (ended : ℕ) (trace : Trace) (groups : List Grou
         | inr w ↦ (let over = w.0 in absurd (omega (arith, count)))
       ])
 
-  pub log_by_no_call : (wrote : List GroupCall → Type 0) → WritesLog settings.group_bytes wrote trace (all_attempts accounts) fault → wrote []
+  log_by_no_call : (wrote : List GroupCall → Type 0) → WritesLog settings.group_bytes wrote trace (all_attempts accounts) fault → wrote []
   log_by_no_call wrote writes =
       let cut : flat_map (λ part. part) writes.parts ≡ [] = writes.cut ∙ ap logged_entries none_written in
       let calls : writes.calls ≡ [] = no_calls writes.parts writes.calls cut writes.each in
       let lost : writes.lost ≡ [] = no_lost settings.group_bytes (all_attempts accounts) fault _ writes.lost (all_idle start opening accounts new) writes.none_else in
       let both : writes.calls ++ writes.lost ≡ [] = ap (λ (cs : List GroupCall). cs ++ writes.lost) calls ∙ lost in
       subst wrote both writes.by
+
+  -- no group of theirs was lost, so the log has no fault
+  no_fault : (f : Option ℕ) (lost : List GroupCall) → AreLost settings.group_bytes (all_attempts accounts) f (last_sequence trace.start trace.entries) lost → f ≡ None
+  no_fault None lost are = refl
+  no_fault (Some count) lost are =
+      let group = are.2.batches in
+      absurd (no_member (all_attempts accounts) count (all_idle start opening accounts new) group.members group.all group.is_group.some group.each)
+
+  -- nor did a read of theirs fail
+  no_read_faults : (vs : List Account) → ((i : ℕ) (a : Account) → slice_get vs i ≡ Some a → a.read_faults ≡ []) → all_read_faults vs ≡ []
+  no_read_faults [] none = refl
+  no_read_faults (a ∷ vs) none = ap (λ ns. ns ++ all_read_faults vs) (none 0 a refl) ∙ no_read_faults vs (λ i b at. none (suc i) b at)
+
+  -- it was written by no call, and no fault was counted
+  pub log_untouched : (wrote : List GroupCall → Type 0) → WritesLog settings.group_bytes wrote trace (all_attempts accounts) fault → wrote [] × (ended ≡ settings.opened)
+  log_untouched wrote writes = (
+    log_by_no_call wrote writes,
+    closing.counted (no_fault fault writes.lost writes.none_else) (no_read_faults accounts (λ i a at. ap (λ (b : Account). b.read_faults) (new i a at))),
+  )

@@ -5,12 +5,14 @@ use Rattle.std.specs.Option.{option_map}
 use Rattle.std.proofs.lemmas.Option.{slice_get-map, slice_get_cases}
 use Rattle.std.proofs.lemmas.Slice.Zip.{AllZip-long}
 use Rattle.model_base.specs.History as history
+use Rattle.model_base.specs.Recovery.{Logged}
+use Rattle.model_base.specs.Settings.{with_kept}
 use Rattle.model_base.specs.Trace.{Trace, Settings}
 use Rattle.model_base.specs.Groups.{Group}
 use Rattle.model_base.specs.Calls as calls
 use Rattle.model_base.specs.LogContents.{GroupCall}
 use Rattle.model_base.specs.Map.{Pairs}
-use Rattle.model_base.specs.Outcomes.{IsLegalIn, outcome_of, entries_of_client, read_faults_in}
+use Rattle.model_base.specs.Outcomes.{IsLegalIn, outcome_of, entries_of_client}
 use Rattle.log_batch.specs.Contents.{Contents}
 use Rattle.run_batches.specs.declared.accepted.AcceptedBatch.{AcceptedBatch}
 use Rattle.run_outcome.specs.declared.reply.Reply.{Reply}
@@ -25,7 +27,6 @@ use Rattle.run_threads.specs.Jobs.{HaveReplied, HaveEntries}
 use Rattle.run_threads.specs.declared.run.ClientsEnd.TheVariants.{Told}
 use Rattle.run_threads.specs.Histories.{MakeUp}
 use Rattle.run_threads.specs.Runs.{HaveRun, ComesTo}
-use Rattle.run_threads.proofs.NoReadFaults.{no_read_faults}
 
 -- what is at this place of another list, and is related to the element
 record Beside {A B : Type 0} (R : A → B → Type 0) (x : A) (ys : List B) (i : ℕ) : Type 0 where
@@ -61,8 +62,8 @@ number_at belongs account n clients ours i a at =
       | inr w ↦ absurd (cc (sym e ∙ at, ap (option_map account) w.1))
     ]
 
-module _ {L : Type 0} (settings : Settings) (wrote : List GroupCall → L → Type 0) (fault : L → Option ℕ) (faults : L → ℕ) (log : L) (trace : Trace) (groups : List Group) (accounts : List Account) (last : ℕ)
-    (closing : IsClosing settings (faults log) trace groups accounts last (fault log)) where
+module _ {L : Type 0} (settings : Settings) (kept : Option (List Logged)) (wrote : List GroupCall → L → Type 0) (fault : L → Option ℕ) (faults : L → ℕ) (log : L) (trace : Trace) (groups : List Group) (accounts : List Account) (last : ℕ)
+    (closing : IsClosing (with_kept kept settings) (faults log) trace groups accounts last (fault log)) where
   -- the clients' batches make up the trace's history
   pub makes_up : (batches : List ClientBatches) → HaveEntries batches accounts → length accounts ≡ settings.clients
       → ((i : ℕ) (a : Account) → slice_get accounts i ≡ Some a → a.number ≡ i + 1) → MakeUp trace.start (map accepted_in batches) trace.entries
@@ -84,20 +85,20 @@ module _ {L : Type 0} (settings : Settings) (wrote : List GroupCall → L → Ty
 
   -- the clients' replies show a legal outcome of the trace, whether its values are at hand or not
   module _ (script : List (List calls.Command)) (replies : Vec (Vec Reply Global) Global) (told : HaveReplied settings script replies.items accounts)
-      (legal : (transcripts : List (List calls.Call)) (log_lens : List ℕ) → clients.HaveRun settings script transcripts accounts → read_faults_in transcripts ≡ []
-      → IsLegalIn settings (faults log) script trace (all_attempts accounts) (outcome_of trace transcripts last log_lens (fault log)))
+      (legal : (transcripts : List (List calls.Call)) (log_lens : List ℕ) → clients.HaveRun settings script transcripts accounts
+      → IsLegalIn (with_kept kept settings) (faults log) script trace (all_attempts accounts) (outcome_of trace transcripts last log_lens (fault log)))
       (writes : WritesLog settings.group_bytes (λ calls. wrote calls log) trace (all_attempts accounts) (fault log)) where
-    pub have_run : HaveRun settings script wrote fault faults log last
+    pub have_run : HaveRun (with_kept kept settings) script wrote fault faults log last
     have_run = record {
       trace = trace;
       attempts = all_attempts accounts;
       transcripts = told.transcripts;
       writes = writes;
-      legal = λ log_lens. legal told.transcripts log_lens told.run (no_read_faults replies.items told.transcripts told.show);
+      legal = λ log_lens. legal told.transcripts log_lens told.run;
     }
 
     pub have_told : (shown : List (HistoryEntry Contents)) (state : Pairs) → ShowsEntries shown trace.entries → state ≡ history.map_over trace.opening trace.entries
-        → ComesTo settings script wrote fault faults (Told log last replies shown state)
+        → ComesTo (with_kept kept settings) script wrote fault faults (Told log last replies shown state)
     unfolding have_run
     have_told shown state shows is = (
       have_run,

@@ -1,5 +1,5 @@
 -- What a run of all clients over a write path results in: nothing, or a legal outcome whose values may be at hand.
-use Rattle.std.specs.Prelude.{ℕ, List, [], ◌∷◌, ◌++◌, Option, Vec}
+use Rattle.std.specs.Prelude.{◌≡◌, ℕ, List, [], ◌∷◌, ◌++◌, Option, Vec}
 use Rattle.std.specs.declared.alloc.Global.{Global}
 use Rattle.model_base.specs.Trace.{Trace, Settings}
 use Rattle.model_base.specs.Attempts.{Attempt}
@@ -49,10 +49,10 @@ module _ {L : Type 0} (settings : Settings) (script : List (List Command)) (wrot
     pub legal : (log_lens : List ℕ)
         → IsLegalIn settings (faults log) script trace attempts (outcome_of trace transcripts last log_lens (fault log))
 
-  -- Where there was no memory for the run itself, the log was written by no call. Else all clients have run, and the
-  -- values, where they are at hand, show the outcome.
+  -- Where there was no memory for the run itself, the log was written by no call, and its disk has counted no fault.
+  -- Else all clients have run, and the values, where they are at hand, show the outcome.
   abbrev pub ComesTo : ClientsEnd L → Type 0
-  ComesTo (NotRun log) = wrote [] log
+  ComesTo (NotRun log) = wrote [] log × (faults log ≡ settings.opened)
   ComesTo (Untold log last) = HaveRun log last
   ComesTo (Told log last transcripts history state) = (run : HaveRun log last)
       × ((full_lens : Vec ℕ Global) (log_len : ℕ)

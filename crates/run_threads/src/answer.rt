@@ -7,7 +7,7 @@ ghost use Rattle.run_threads.specs.Answers.{records_in, accepted_in, Answers, Sh
 use crate::adding::{add, clear};
 use crate::batches::ClientBatches;
 use crate::committing::commit;
-use crate::reading::{get, get_many, scan};
+use crate::reading::{get, get_many, scan, updates};
 use crate::tokens::{slow, stop, unslow, unstop};
 use engine_calls::Engine;
 use log_batch::RecordView;
@@ -58,6 +58,7 @@ pub fn answer<E: Engine, R: Wait + rt::Clock>(
         CommandView::Get { family, key } => get(rt, engine, client, family, key),
         CommandView::Many { keys } => get_many(rt, alloc, engine, client, keys),
         CommandView::Scan { family, lo, hi } => scan(rt, engine, client, family, lo, hi),
+        CommandView::Updates { since } => updates(rt, engine, client, since),
         CommandView::Stop => Ok(Some(stop(rt, engine, client))),
         CommandView::Unstop => Ok(Some(unstop(rt, engine, client))),
         CommandView::Slow { rate } => Ok(Some(slow(rt, engine, client, rate))),

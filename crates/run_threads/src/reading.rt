@@ -1,4 +1,4 @@
-//! A client's reads. They don't see its batch in the making.
+//! A client's reads, of the map and of the log. They don't see its batch in the making.
 
 ghost use Rattle.std.specs.Prelude.{◌≡◌, List};
 ghost use Rattle.model_base.specs.Batch.{Record};
@@ -8,8 +8,10 @@ ghost use Rattle.base_bytes.specs.Answers.{found_value};
 ghost use Rattle.run_threads.specs.Answers.{Answers};
 
 use base_bytes::{Bytes, Found};
-use engine_calls::Engine;
-use model_accounts::{earlier_sights, reads_are_steps, refused_reads_are_steps};
+use engine_calls::{Engine, Since, SinceRefused};
+use model_accounts::{
+    earlier_sights, reads_are_steps, reads_of_the_log_are_steps, refused_reads_are_steps,
+};
 use model_base::{NoMemory, ReadRefused, Refusal};
 use run_command_list::Keys;
 use run_outcome::Reply;
@@ -115,5 +117,27 @@ pub fn scan<E: Engine, R: Wait + rt::Clock>(
         Err(ReadRefused::NoFamily { family }) => Ok(Some(Reply::Refused(Refusal::NoFamily {
             family,
         }))),
+    }
+}
+
+/// Reads the log's records from a sequence on.
+pub fn updates<E: Engine, R: Wait + rt::Clock>(
+    rt: &R,
+    engine: &E,
+    client: &mut E::Client,
+    since: u64,
+) -> Result<Option<Reply>, NoMemory>
+    requires { E.belongs engine.now client.old }
+    ensures belongs { E.belongs engine.now client.new }
+    ensures answers { (pending : List Record) → Answers (E.settings engine.now) (E.account client.old) pending
+        (calls.updates since) result (E.account client.new) pending }
+    ensures mine { (E.account client.new).mine ≡ (E.account client.old).mine }
+{
+    reads_of_the_log_are_steps();
+    match engine.updates(rt, client, since) {
+        Ok(Since { at, records }) => Ok(Some(Reply::Updates { at, records })),
+        Err(SinceRefused::SelfStop) => Ok(Some(Reply::Refused(Refusal::SelfStop))),
+        Err(SinceRefused::NoMemory) => Err(NoMemory),
+        Err(SinceRefused::ReadFault { count }) => Ok(Some(Reply::ReadFault { count })),
     }
 }

@@ -1,7 +1,9 @@
 //! The whole run.
 
-ghost use Rattle.std.specs.Prelude.{◌≡◌, ◌^◌, ◌<◌, ℕ, List, length, map, IfOk};
+ghost use Rattle.std.specs.Prelude.{◌≡◌, ◌^◌, ◌<◌, ℕ, List, Option, length, map, IfOk, IfSome};
 ghost use Rattle.model_base.specs.History as model;
+ghost use Rattle.model_base.specs.Recovery.{Logged};
+ghost use Rattle.model_base.specs.Settings.{with_kept};
 ghost use Rattle.model_accounts.specs.Closing.{AreOurs};
 ghost use Rattle.run_threads.specs.Answers.{accepted_in, ShowsEntries};
 ghost use Rattle.run_threads.specs.Jobs.{FitBatches, AreNew};
@@ -70,7 +72,9 @@ where
     requires room { E.closes engine clients.room }
     // Where memory was short for the outcome itself, the replies that the clients had are still those of a legal
     // outcome, and the log is its log.
-    ensures { ComesTo (E.settings engine) script.now (E.wrote engine) E.fault E.faults result }
+    // It is said for whatever the log had kept before, where that is known.
+    ensures { (kept : Option (List Logged)) → IfSome kept (E.had engine)
+        → ComesTo (with_kept kept (E.settings engine)) script.now (E.wrote engine) E.fault E.faults result }
 {
     let Clients { mut clients, room } = clients;
     let ran = run_clients(rt, alloc, &engine, &mut clients, script, gate);

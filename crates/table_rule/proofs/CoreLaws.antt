@@ -5,9 +5,9 @@ use Rattle.std.proofs.lemmas.Bool.{and_from}
 use Rattle.std.proofs.lemmas.Bool.Decides.{eqb_tells}
 use Rattle.model_core.specs.declared.event.Event.{Event as CoreEvent}
 use Rattle.model_core.specs.declared.event.Event.TheVariants as core
-use Rattle.model_core.specs.Halves.{moves_table}
+use Rattle.model_core.specs.Halves.{moves_table, table_half_of}
 use Rattle.model_core.specs.Core.{Options, free, still as at_rest, launched, published as is_published, State, leads, table_group, among, runners, with_client, next_call, after_reply}
-use Rattle.model_core.specs.Step.{step, when, launch, publish, exit, leave, without_table_group, read, read_call, read_with, is_last, group_last}
+use Rattle.model_core.specs.Step.{step, when, launch, publish, exit, leave, without_table_group, read, read_call, read_with, is_last, group_last, exit_reader}
 use Rattle.table_rule.specs.declared.content.MemberVersions.{MemberVersions}
 use Rattle.table_rule.specs.Histories.{In, last_of}
 use Rattle.table_rule.specs.Rule.{Mode, still, running, ended}
@@ -15,7 +15,7 @@ use Rattle.table_rule.specs.Events.{Progress, to_insert, to_finish, is_finished,
 use Rattle.table_rule.specs.CoreEvents.{StandFor, IsCoreGroup, IsAsFar, AreAsFar, HaveFinished, IsPhase, IsCoreOf, AreTaken, IsReading}
 use Rattle.table_rule.proofs.Teams.{Once, among_right, among_others, all_among, last_behind, team_count, team_runs, team_of, teams_apart}
 use Rattle.table_rule.proofs.CoreComes.{Stands, team_inserts, team_finishes}
-use Rattle.table_rule.proofs.CoreOthers.{Leaves, others_leave}
+use Rattle.table_rule.proofs.CoreOthers.{Leaves, others_leave, reader_leaves}
 
 -- a client that isn't of the team is as far as before, after the team has inserted and after it has finished
 others_inserted : (inserted finished cs : List ℕ) (c : ℕ) (p : Progress) → among c cs ≡ false → IsAsFar inserted finished c p → IsAsFar (inserted ++ cs) finished c p
@@ -169,7 +169,7 @@ module _ (start : ℕ) (o : Options) (team : ℕ → List ℕ) where
   exits_core s a c is mode published leader =
       let t : State = record (leave (without_table_group o s) (table_group o s)) { table = at_rest } in (
         t,
-        (t, ap (exit o s c) published ∙ ap (λ b. when b t) leader, refl),
+        (t, ap (exit o s c) published ∙ ap (λ b. if b then Some t else exit_reader s c s.log) leader, refl),
         (same_last o.pipelined ∙ is.0, subst (IsPhase start o team a t) (sym mode) (inl refl)),
       )
     where
@@ -191,8 +191,8 @@ module _ (start : ℕ) (o : Options) (team : ℕ → List ℕ) where
       moved (ended m g) (group, more) = (group_stays s _ b.published b.published g (refl, refl) refl group, more)
 
   -- the core's other events leave the table alone, and also a group that the core has for it
-  pub others_core : (s t : State) (a : TableNow) (event : CoreEvent) → IsCoreOf start o team a s → moves_table event ≡ false → step o s event ≡ Some t → IsCoreOf start o team a t
-  others_core s t a event is none came = let left = others_leave o s t event none came in (left.1 ∙ is.0, by left a.mode is.1)
+  left_core : (s t : State) (a : TableNow) → IsCoreOf start o team a s → Leaves o s t → IsCoreOf start o team a t
+  left_core s t a is left = (left.1 ∙ is.0, by left a.mode is.1)
     where
       by : Leaves o s t → (mode : Mode) → IsPhase start o team a s mode → IsPhase start o team a t mode
       by left still phase = ⊎_elim (λ e. inl (left.0 ∙ e)) (λ e. inr (left.0 ∙ e)) phase
@@ -200,3 +200,9 @@ module _ (start : ℕ) (o : Options) (team : ℕ → List ℕ) where
       by left (ended m g) (group, (inserted, finished, was, all)) =
           let same = left.2 group.some in
           (group_stays s t a.published a.published g (left.1, same) refl group, (inserted, finished, left.0 ∙ was, subst (λ ws. HaveFinished (team m) ws finished) (sym same) all))
+
+  pub others_core : (s t : State) (a : TableNow) (event : CoreEvent) → IsCoreOf start o team a s → moves_table event ≡ false → step o s event ≡ Some t → IsCoreOf start o team a t
+  others_core s t a event is none came = left_core s t a is (others_leave o s t event none came)
+
+  pub exit_of_read_core : (s t : State) (a : TableNow) (c : ℕ) → IsCoreOf start o team a s → step o s (core.Exit c) ≡ Some t → table_half_of t ≡ table_half_of s → IsCoreOf start o team a t
+  exit_of_read_core s t a c is came same = left_core s t a is (reader_leaves o s t c came same)

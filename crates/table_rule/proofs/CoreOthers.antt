@@ -7,10 +7,10 @@ use Rattle.model_core.specs.declared.event.Event.TheVariants as e
 use Rattle.model_base.specs.declared.write.WriteOptions.{WriteOptions}
 use Rattle.model_base.specs.declared.write.Refusal.{Refusal}
 use Rattle.model_base.specs.declared.write.Refusal.TheVariants as no
-use Rattle.model_base.specs.Calls.{Command, commit, Reply}
-use Rattle.model_core.specs.Core.{Options, Writer, Client, LogPhase, free, led, built, stalled, in_log, marked, handed, State, client_at, with_client, next_call, after_reply, refusal_of, refusal_in, may_link, stall_refusal, leads, with_runs, has_run, in_hand, first_group, table_group, read_reply}
-use Rattle.model_core.specs.Step.{when, step, link, link_call, link_with, elect, build, log_group, logged_group, fault, refuse, stall, unstall, leave_queue, leave_with, left_queue, boundary, to_second, next, complete, complete_with, after_completion, read, read_call, read_with}
-use Rattle.model_core.specs.Halves.{moves_table}
+use Rattle.model_base.specs.Calls.{Command, commit, updates, Reply}
+use Rattle.model_core.specs.Core.{Options, Writer, Client, LogPhase, free, led, built, stalled, in_log, marked, handed, TablePhase, still, launched, published, read_at, reply_told, State, client_at, with_client, next_call, after_reply, refusal_of, refusal_in, may_link, stall_refusal, leads, with_runs, has_run, in_hand, first_group, table_group, read_reply}
+use Rattle.model_core.specs.Step.{when, step, read_log, answer_read, exit, exit_reader, leave, without_table_group, link, link_call, link_with, link_read, elect, build, log_group, logged_group, fault, refuse, stall, unstall, leave_queue, leave_with, left_queue, boundary, to_second, next, complete, complete_with, after_completion, read, read_call, read_with}
+use Rattle.model_core.specs.Halves.{TableHalf, table_half_of, moves_table}
 
 -- the table stays as it is, and so does a group for it
 abbrev pub Leaves : Options → State → State → Type 0
@@ -50,6 +50,7 @@ by_link o s t c came = by_client (client_at s c) came
 
     by_call : (client : Client) (call : Option Command) → link_call o s c client call ≡ Some t → Leaves o s t
     by_call client (Some (commit how)) came = let why = refusal_in s.log how (refusal_of o how client.added) in subst (Leaves o s) (when_some (may_link s.log why) (link_with o s c client how why) t came).1 (linked client how why)
+    by_call client (Some (updates n)) came = subst (Leaves o s) (when_some (may_link s.log None) (link_read s c client n) t came).1 (refl, refl, λ _. refl)
     by_call client (Some other) came = absurd (cc)
     by_call client None came = absurd (cc)
 
@@ -86,7 +87,7 @@ by_complete o s t m came = by_writer (find (λ (w : Writer). w.client == m) s.le
     by_client : (w : Writer) (client : Option Client) (reply : Option Reply) → complete_with s m client w reply ≡ Some t → Leaves o s t
     by_client w (Some client) (Some reply) came =
         let left = filter (λ (x : Writer). not (x.client == m)) s.leaving in
-        let after : record (with_client s m (after_completion client w reply)) { leaving = left } ≡ t = cc in
+        let after : record (with_client s m (after_completion client w (reply_told s w.since reply))) { leaving = left } ≡ t = cc in
         subst (Leaves o s) after (refl, refl, λ _. refl)
     by_client w (Some client) None came = absurd (cc)
     by_client w None reply came = absurd (cc)
@@ -137,6 +138,56 @@ by_fault o s t c (in_log ws) is came = absurd (cc)
 by_fault o s t c (stalled ws) is came = absurd (cc)
 by_fault o s t c (marked ws) is came = absurd (cc)
 by_fault o s t c (handed d) is came = absurd (cc)
+
+by_since : (o : Options) (s t : State) (c : ℕ) (phase : LogPhase) → s.log ≡ phase → read_log s c phase ≡ Some t → Leaves o s t
+by_since o s t c (built (w ∷ [])) is came = by_client (w.client == c) came
+  where
+    by_answer : (since : Option ℕ) (answer : Option Reply) → answer_read s w since answer ≡ Some t → Leaves o s t
+    by_answer (Some n) None came =
+        let after : record s { log = built (record w { answer = Some (read_at s.last) } ∷ []) } ≡ t = cc in
+        subst (Leaves o s) after (refl, refl, λ _. unhanded o s (built (w ∷ [])) is refl)
+    by_answer (Some n) (Some reply) came = absurd (cc)
+    by_answer None answer came = absurd (cc)
+
+    by_client : (b : Bool) → (if b then answer_read s w w.since w.answer else None) ≡ Some t → Leaves o s t
+    by_client true came = by_answer w.since w.answer came
+    by_client false came = absurd (cc)
+by_since o s t c (built []) is came = absurd (cc)
+by_since o s t c (built (w ∷ v ∷ ws)) is came = absurd (cc)
+by_since o s t c free is came = absurd (cc)
+by_since o s t c (led d) is came = absurd (cc)
+by_since o s t c (in_log ws) is came = absurd (cc)
+by_since o s t c (stalled ws) is came = absurd (cc)
+by_since o s t c (marked ws) is came = absurd (cc)
+by_since o s t c (handed d) is came = absurd (cc)
+
+-- the exit of who has read the log
+by_reader : (o : Options) (s t : State) (c : ℕ) (phase : LogPhase) → s.log ≡ phase → exit_reader s c phase ≡ Some t → Leaves o s t
+by_reader o s t c (built (w ∷ [])) is came = when_holds (Leaves o s) _ _ t came (λ _. (refl, refl, λ _. unhanded o s (built (w ∷ [])) is refl))
+by_reader o s t c (built []) is came = absurd (cc)
+by_reader o s t c (built (w ∷ v ∷ ws)) is came = absurd (cc)
+by_reader o s t c free is came = absurd (cc)
+by_reader o s t c (led d) is came = absurd (cc)
+by_reader o s t c (in_log ws) is came = absurd (cc)
+by_reader o s t c (stalled ws) is came = absurd (cc)
+by_reader o s t c (marked ws) is came = absurd (cc)
+by_reader o s t c (handed d) is came = absurd (cc)
+
+pub reader_leaves : (o : Options) (s t : State) (c : ℕ) → step o s (e.Exit c) ≡ Some t → table_half_of t ≡ table_half_of s → Leaves o s t
+reader_leaves o s t c came same = by_phase s.table refl came
+  where
+    by_phase : (phase : TablePhase) → s.table ≡ phase → exit o s c phase ≡ Some t → Leaves o s t
+    by_phase published is came = by_leader (leads c (table_group o s)) came
+      where
+        by_leader : (b : Bool) → (if b then Some (record (leave (without_table_group o s) (table_group o s)) { table = still }) else exit_reader s c s.log) ≡ Some t → Leaves o s t
+        by_leader true came = absurd (
+            let after : record (leave (without_table_group o s) (table_group o s)) { table = still } ≡ t = cc in
+            let at_rest : still ≡ t.table = ap (λ (u : State). u.table) after in
+            let moved : t.table ≡ s.table = ap (λ (h : TableHalf). h.phase) same in
+            let never : still ≡ published = at_rest ∙ (moved ∙ is) in cc)
+        by_leader false came = by_reader o s t c s.log refl came
+    by_phase still is came = by_reader o s t c s.log refl came
+    by_phase (launched ins fin) is came = by_reader o s t c s.log refl came
 
 by_refuse : (o : Options) (s t : State) (c : ℕ) (why : Refusal) (phase : LogPhase) → s.log ≡ phase → refuse s c why phase ≡ Some t → Leaves o s t
 by_refuse o s t c why (built ws) is came = when_holds (Leaves o s) _ _ t came (λ _. (refl, refl, λ _. unhanded o s (built ws) is refl))
@@ -232,6 +283,7 @@ others_leave o s t (e.Unstall c) none came = by_unstall o s t c s.log refl came
 others_leave o s t (e.Boundary c) none came = by_boundary o s t c s.log refl came
 others_leave o s t (e.Second c) none came = by_second o s t c s.log refl came
 others_leave o s t (e.Next c) none came = by_next o s t c s.log refl came
+others_leave o s t (e.Since c) none came = by_since o s t c s.log refl came
 others_leave o s t (e.Complete m) none came = by_complete o s t m came
 others_leave o s t (e.Read c) none came = by_read o s t c came
 others_leave o s t event none came = absurd (cc)

@@ -3,7 +3,7 @@ ghost use Rattle.std.specs.Prelude.{◌≡◌, ℕ, true, false, List, [], ◌�
 ghost use Rattle.model_core.specs.declared.event.Event.{Event};
 ghost use Rattle.model_core.specs.declared.event.Event.TheVariants as core;
 ghost use Rattle.model_core.specs.Core.{Options, State, still as at_rest, published as is_published, leads, table_group};
-ghost use Rattle.model_core.specs.Halves.{moves_table};
+ghost use Rattle.model_core.specs.Halves.{moves_table, table_half_of};
 ghost use Rattle.model_core.specs.Step.{step, is_last};
 ghost use Rattle.table_rule.specs.declared.content.MemberVersions.{MemberVersions};
 ghost use Rattle.table_rule.specs.Rule.{still, ended};
@@ -38,6 +38,10 @@ pub fn table_and_core()
     ensures exit { (start : ℕ) (o : Options) (team : ℕ → List ℕ) (s : State) (a : TableNow) (c : ℕ)
         → IsCoreOf start o team a s → a.mode ≡ still → s.table ≡ is_published → leads c (table_group o s) ≡ true
         → AreTaken start o team (core.Exit c ∷ []) s a }
+    // The exit of a client that has read the log leaves the core's table as it is, too.
+    ensures exit_of_read { (start : ℕ) (o : Options) (team : ℕ → List ℕ) (s t : State) (a : TableNow) (c : ℕ)
+        → IsCoreOf start o team a s → step o s (core.Exit c) ≡ Some t → table_half_of t ≡ table_half_of s
+        → IsCoreOf start o team a t }
     ensures read { (start : ℕ) (o : Options) (team : ℕ → List ℕ) (s : State) (a b : TableNow) (found c : ℕ)
         → IsCoreOf start o team a s → IsRead start found a b → IsReading o s c
         → (found ≡ s.last) × AreTaken start o team (core.Read c ∷ []) s b }

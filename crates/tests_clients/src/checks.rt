@@ -86,6 +86,28 @@ fn an_outcome_tells_of_want_of_memory(rt: HostRuntime) -> Result<(), Fail> {
         log_len: 24,
         fault: None,
     };
-    assert!(rt; outcome.lacks_memory());
+    assert_eq!(rt;
+        (outcome.lacks_memory(), outcome.has_read_fault()),
+        (true, false)
+    );
+    Ok(())
+}
+
+#[test]
+fn an_outcome_tells_of_a_fault_of_a_read(rt: HostRuntime) -> Result<(), Fail> {
+    let replies = vec![in rt.alloc(); Reply::ReadFault { count: 1 }, Reply::Done]?;
+    let outcome = Outcome {
+        transcripts: vec![in rt.alloc(); replies]?,
+        history: History::of_one(BatchList::new(rt.alloc())),
+        last: 1,
+        state: FamilyMap::new(rt.alloc()),
+        full_lens: Vec::new(rt.alloc()),
+        log_len: 24,
+        fault: None,
+    };
+    assert_eq!(rt;
+        (outcome.lacks_memory(), outcome.has_read_fault()),
+        (false, true)
+    );
     Ok(())
 }

@@ -6,7 +6,7 @@ ghost use Rattle.model_base.specs.Progress.{first_missing};
 ghost use Rattle.model_base.specs.declared.write.ReadRefused.TheVariants as no;
 
 use base_bytes::{Bytes, Place, Read, Reads, Rows};
-use engine_calls::{Clients, Closed, Engine, Held, NotHeld, Receipt, Refused};
+use engine_calls::{Clients, Closed, Engine, Held, NotHeld, Receipt, Refused, Since, SinceRefused};
 use log_batch::{Batch, Measure, refusal_at_once};
 use model_accounts::earlier_sights;
 use model_base::{NoMemory, ReadRefused, Refusal, WriteOptions};
@@ -64,12 +64,15 @@ impl Engine for Mute {
 
     type Log = NoLog;
 
-    ghost use Rattle.std.specs.Prelude.{⊤, [], None, map};
+    ghost use Rattle.std.specs.Prelude.{⊤, [], None, List, Option, IfSome, map};
+    ghost use Rattle.model_base.specs.Recovery.{Logged};
     ghost use Rattle.model_accounts.specs.Accounts.{newcomer};
     ghost use Rattle.model_accounts.specs.Closing.{AreOurs, HasOneTrace};
     ghost use Rattle.tests_clients.specs.Mute.{settings_for};
 
     ghost settings = { λ e. settings_for e.clients e.families e.batch_bytes };
+
+    ghost had = { λ e batches. ⊤ };
 
     ghost account = { λ c. newcomer 0 [] c.number };
 
@@ -172,6 +175,16 @@ impl Engine for Mute {
         Err(no_read_of(family, self.families))
     }
 
+    fn updates<R: Wait + rt::Clock>(
+        &self,
+        _rt: &R,
+        _client: &mut MuteClient,
+        _since: u64,
+    ) -> Result<Since, SinceRefused> {
+        earlier_sights();
+        Err(SinceRefused::NoMemory)
+    }
+
     fn stop<R: Wait + rt::Clock>(&self, rt: &R, _client: &mut MuteClient) -> Result<(), Held> {
         for _ in rt.forever() {}
         unreachable!()
@@ -213,7 +226,8 @@ impl Engine for Mute {
     fn close<R: Wait + rt::Clock>(self, rt: &R, clients: Clients<MuteClient, ()>) -> Closed<NoLog>
         requires all { AreOurs (λ c. ⊤) (λ c. newcomer 0 [] c.number) self.clients clients.clients.items }
         requires room { ⊤ }
-        ensures { HasOneTrace (settings_for self.clients self.families self.batch_bytes) 0
+        ensures { (kept : Option (List Logged)) → IfSome kept (λ batches. ⊤)
+            → HasOneTrace (settings_for self.clients self.families self.batch_bytes) kept 0
             (map (λ c. newcomer 0 [] c.number) clients.clients.items) result.last None (λ calls. ⊤) }
     {
         let Clients {

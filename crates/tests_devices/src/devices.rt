@@ -3,7 +3,7 @@
 use crate::calls::{Call, Row, check_calls, made};
 use crate::checks::check;
 use base_devices::{
-    Clock, Disk, Failed, MemDisk, MemSink, MemSource, RealClock, Sink, SliceDisk, Source,
+    Clock, Disk, Failed, MemDisk, MemSink, MemSource, ReadAt, RealClock, Sink, SliceDisk, Source,
     SteppedClock, write_all,
 };
 use model_base::NoMemory;
@@ -51,34 +51,23 @@ fn sink_takes_what_fits(rt: HostRuntime) -> Result<(), Fail> {
     Ok(())
 }
 
-// Calls of a disk over the bytes `abcde`, what each should answer, and how many faults the disk counts then. No call
-// that would change the bytes succeeds, and after the first of these the disk counts as many faults as it can.
-const OF_SLICE: [(Call, Result<u64, Failed>, u64); 14] = [
-    (Call::Len, Ok(5), 0),
-    (Call::Read(1), Ok(3), 0),
-    (Call::Read(4), Ok(1), 0),
-    (Call::Read(5), Ok(0), 0),
-    (Call::Append(b""), Ok(0), 0),
-    (Call::Cut(5), Ok(0), 0),
-    (Call::Sync, Ok(0), 0),
-    (Call::Append(b"f"), Err(Failed), u64::MAX),
-    (Call::Sync, Err(Failed), u64::MAX),
-    (Call::Len, Ok(5), u64::MAX),
-    (Call::Cut(2), Err(Failed), u64::MAX),
-    (Call::Len, Ok(2), u64::MAX),
-    (Call::Rewind, Ok(0), u64::MAX),
-    (Call::Append(b""), Err(Failed), u64::MAX),
+// Where the bytes `abcde` are read into a room of three, how many bytes each read should give, and the room after it.
+const OF_SLICE: [(u64, usize, &[u8]); 4] = [
+    (1, 3, b"bcd"),
+    (4, 1, b"ecd"),
+    (5, 0, b"ecd"),
+    (u64::MAX, 0, b"ecd"),
 ];
 
 #[test]
-fn slice_is_read_and_never_written(rt: HostRuntime) {
-    let mut disk = SliceDisk::new(b"abcde");
-    let mut buf = [0; 3];
-    for (row, (call, wanted, faults)) in OF_SLICE.iter().enumerate() {
-        let answer = made(&mut disk, *call, &mut buf);
-        check(&rt, row, &(answer, disk.faults()), &(*wanted, *faults));
+fn slice_is_read(rt: HostRuntime) {
+    let mut file = SliceDisk::new(b"abcde");
+    let mut room = [0; 3];
+    for (row, (at, some, wanted)) in OF_SLICE.iter().enumerate() {
+        let answer = file.read_at(*at, &mut room);
+        check(&rt, row, &(answer, file.failure_count()), &(Ok(*some), 0));
+        check(&rt, row, &room.as_slice(), wanted);
     }
-    check(&rt, 0, &buf, b"ecd");
 }
 
 // Calls of a disk, what each should answer, and how many bytes are safe then. The third call fails as listed, and the

@@ -29,6 +29,10 @@ pub enum Step {
         family: u32,
         key: &'static [u8],
     },
+    /// A read of the log from a sequence on.
+    Updates {
+        since: u64,
+    },
     Stop,
     Unstop,
     Slow {
@@ -61,11 +65,22 @@ pub enum StepAnswer {
     SawNone {
         at: u64,
     },
-    /// A read had no memory.
+    /// A read of a key or of the log had no memory.
     NoMemory,
     /// A read was refused, since there is no such family.
     NoFamily {
         family: u32,
+    },
+    /// A read of the log up to this sequence gave so many records.
+    Gave {
+        at: u64,
+        records: usize,
+    },
+    /// A read of the log was refused, since the client holds a stop token.
+    SelfStop,
+    /// A read of the log was refused by a fault.
+    NotRead {
+        count: u64,
     },
     /// A token was taken or given back.
     Done,

@@ -1,6 +1,6 @@
 //! Tests of the log: its fragments and records, batches, the writer and recovery. They are a crate of their own, so
-//! that `log_block`, `log_text`, `log_reader`, `log_batch`, `log_writer` and `log_recovery` are proved once, and not
-//! again with their tests.
+//! that `log_block`, `log_text`, `log_reader`, `log_batch`, `log_writer`, `log_recovery` and `log_updates` are proved
+//! once, and not again with their tests.
 //!
 //! - `checks`: a comparison, for the others
 //! - `changes`: changes to logs, for the others
@@ -17,6 +17,7 @@
 //! - `modes`: what each mode of recovery accepts
 //! - `several_logs`: what several logs recover, one after another
 //! - `log_sets`: groups on several disks, one after another, their faults and crashes
+//! - `since`: what logs have since a sequence, also while they are open
 //! - `numbered_logs`: logs with a number, read and recovered
 #![tactic(auto)]
 
@@ -48,6 +49,8 @@ mod recovery;
 mod reopening;
 #[cfg(test)]
 mod several_logs;
+#[cfg(test)]
+mod since;
 #[cfg(test)]
 mod texts;
 #[cfg(test)]

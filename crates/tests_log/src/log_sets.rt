@@ -14,12 +14,12 @@ use std::alloc::Global;
 use std::process::Abort;
 use std::test::Fail;
 
-// The numbers of the calls that fail of each of two disks.
-type Fails = (&'static [u64], &'static [u64]);
+/// The numbers of the calls that fail of each of two disks.
+pub(crate) type Fails = (&'static [u64], &'static [u64]);
 
-// Two logs on empty disks, of which the first is full from 24 bytes on. The second disk was asked for its length once
-// before.
-fn opened_set(alloc: Global, (first, second): Fails) -> Result<LogSet<MemDisk>, Fail> {
+/// Two logs on empty disks, of which the first is full from 24 bytes on. The second disk was asked for its length once
+/// before.
+pub(crate) fn opened_set(alloc: Global, (first, second): Fails) -> Result<LogSet<MemDisk>, Fail> {
     let one = MemDisk::new(alloc, 24, b"", first)?;
     let mut two = MemDisk::new(alloc, 48, b"", second)?;
     let _ = two.len();

@@ -11,6 +11,7 @@
 //! - `resumed`: logs that are resumed
 //! - `several`: several logs, and faults of their disks
 //! - `replay`: schedules of events
+//! - `since`: what the log has from a sequence on
 
 mod clients;
 mod failing;
@@ -22,6 +23,7 @@ mod replay;
 mod resumed;
 mod runs;
 mod several;
+mod since;
 mod stalled;
 
 use base_devices::{MemDisk, MemSink, MemSource, SteppedClock};

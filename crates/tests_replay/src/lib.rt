@@ -11,6 +11,8 @@ mod opening;
 #[cfg(test)]
 mod plans;
 #[cfg(test)]
+mod reads;
+#[cfg(test)]
 mod texts;
 #[cfg(test)]
 mod views;

@@ -3,7 +3,9 @@
 use crate::opening::PLAIN;
 use log_batch::Measure;
 use model_base::{NoMemory, WriteOptions};
-use replay_plans::{ClientPlan, Lines, are_small, commit_at, is_read, look_ahead, measure_batch};
+use replay_plans::{
+    ClientPlan, Lines, are_small, commit_at, is_read, look_ahead, measure_batch, updates_at,
+};
 use run_command_list::{CommandKind, CommandList, CommandView};
 use std::alloc::Global;
 use std::test::Fail;
@@ -48,5 +50,16 @@ fn finds_the_next_call(rt: HostRuntime) -> Result<(), Fail> {
     let called = (commit_at(&plan, 2), is_read(&plan, 3));
     let plans = vec![in rt.alloc(); plan]?;
     assert_eq!(rt; (called, are_small(&plans)), ((Some(SYNCED), false), true));
+    Ok(())
+}
+
+#[test]
+fn a_read_of_the_log_is_no_read_of_the_map(rt: HostRuntime) -> Result<(), Fail> {
+    let mut commands = CommandList::new(rt.alloc());
+    commands.push(CommandView::Updates { since: 3 })?;
+    let plan = ClientPlan::of(rt.alloc(), &commands)?;
+    let called = (commit_at(&plan, 0), updates_at(&plan, 0), is_read(&plan, 0));
+    assert_eq!(rt; called, (None, Some(3), false));
+    assert_eq!(rt; plan.line(0).kind(), CommandKind::Read);
     Ok(())
 }

@@ -1,6 +1,6 @@
 //! Texts that no call of the program gives.
 
-use base_bytes::Bytes;
+use base_bytes::{Bytes, RecordList};
 use base_maps::FamilyMap;
 use model_base::{NoMemory, Refusal};
 use program_text::{outcome_text, summary_text};
@@ -10,16 +10,21 @@ use std::alloc::Global;
 use std::process::Abort;
 use std::test::Fail;
 
-/// The log's fault refuses a commit, one read finds nothing, one is of a family that there isn't, and another finds no
-/// memory. The map has a key of the default family and one of another.
+/// The log's fault refuses a commit, one read finds nothing, one is of a family that there isn't, one of the log gives
+/// a record, the next one meets another fault, and the last one finds no memory. The map has a key of the default family
+/// and one of another.
 fn one_fault(alloc: Global) -> Result<Outcome<FamilyMap>, NoMemory> {
     let mut state = FamilyMap::new(alloc);
     state.insert(12, b"a", b"1")?;
     state.insert(0, b"b", b"2")?;
+    let mut records = RecordList::new(alloc);
+    records.push(Bytes::copy(alloc, b"\x01\xab")?)?;
     let replies = vec![in alloc;
         Reply::Refused(Refusal::LogFault { count: 1 }),
         Reply::Found { at: 0, value: None },
         Reply::Refused(Refusal::NoFamily { family: 7 }),
+        Reply::Updates { at: 0, records },
+        Reply::ReadFault { count: 2 },
         Reply::NoMemory,
     ]?;
     Ok(Outcome {
@@ -48,7 +53,8 @@ fn summary(alloc: Global) -> Result<Bytes, NoMemory> {
 }
 
 const OUTCOME: &str =
-    "client 1\nno logfault 1\nnil 0\nno family 7\nno memory\nhistory 0\nstate 0 2\nb 2\n12 a 1\nlog 0 fault 1\n";
+    "client 1\nno logfault 1\nnil 0\nno family 7\nupdates 0 1 01ab\nno readfault 2\nno memory\nhistory 0\n\
+state 0 2\nb 2\n12 a 1\nlog 0 fault 1\n";
 
 const SUMMARY: &str = "clients 1\nbatches 0\nrecords 0\nlast 0\nkeys 2\nsum 18446744073709551616\n";
 

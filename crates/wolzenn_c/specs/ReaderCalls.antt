@@ -7,7 +7,7 @@ use Rattle.wolzenn_c.specs.declared.codes.TheConstants.{DONE, END, NO_MEMORY}
 use Rattle.wolzenn_c.specs.declared.codes.WzEnd.{WzEnd}
 use Rattle.wolzenn_c.specs.declared.reader.WzRecord.{WzRecord}
 use Rattle.wolzenn_c.specs.declared.reading.Reading.{Reading}
-use Rattle.wolzenn_c.specs.Readings.{number_of, ReadsOn}
+use Rattle.wolzenn_c.specs.Readings.{number_of, ReadsOn, ReadsSince}
 use Rattle.wolzenn_c.specs.Reasons.{end_of}
 
 -- a reader of a log with this number, or with none where it is 0: at the log's start, not stopped, and with no record
@@ -39,3 +39,19 @@ pub record IsNext (file : List ℕ) (old new : Reading) (before : WzRecord × Wz
 -- the record in hand, if there is one
 abbrev pub record_of : Reading → Option (List ℕ)
 record_of r = if r.has_record then Some r.reader.in_hand else None
+
+-- the same at a place of a log
+pub record IsOpenedAt (number place : ℕ) (file : List ℕ) (r : Reading) : Type 0 where
+  pub number_is : r.reader.number ≡ number_of number
+  pub there : r.reader.place ≡ place
+  pub going : r.reader.stopped ≡ None
+  pub no_record : r.has_record ≡ false
+  pub follows : Follows file r.reader
+
+-- a reader has read on from a sequence on, and its answer is told
+pub record IsNextSince (file : List ℕ) (since : ℕ) (old new : Reading) (before : WzRecord × WzEnd) (code : ℕ)
+    (after : WzRecord × WzEnd) : Type 0 where
+  pub answer : Next
+  pub reads : ReadsSince file since old.reader new.reader answer
+  pub tells : Tells answer (length new.reader.in_hand) before code after
+  pub in_hand : new.has_record ≡ (code == DONE)

@@ -7,7 +7,7 @@ use crate::object::Object;
 use std::alloc::Global;
 
 /// The number of the library's version, the same as that of its header.
-const VERSION: u32 = 2;
+const VERSION: u32 = 3;
 
 /// A handle, which holds an object or nothing. Zeros are a handle that holds nothing.
 ///
@@ -90,7 +90,7 @@ impl WzHandle {
 /// The library's version.
 #[unsafe(no_mangle)]
 pub extern "C" fn wz_version() -> u32
-    ensures { result ≡ 2 }
+    ensures { result ≡ 3 }
 {
     VERSION
 }

@@ -46,7 +46,7 @@ struct Row {
     start: &'static [u8],
 }
 
-const ROWS: [Row; 5] = [
+const ROWS: [Row; 6] = [
     // The disk's third call, the second append, fails. The log keeps its length, and recovery finds the first record.
     Row {
         last: 0,
@@ -155,6 +155,30 @@ const ROWS: [Row; 5] = [
             FIRST,
             StepAnswer::SawNone { at: 1 },
             StepAnswer::Saw { at: 1, byte: b'1' },
+        ],
+        fault: None,
+        start: AT_FIRST,
+    },
+    // The disk's third call, the first read, fails. The log goes on, and a later read gives what it has. A client that
+    // stops writes would wait for itself.
+    Row {
+        last: 0,
+        fails: &[3],
+        steps: &[
+            PUT_A,
+            Step::Updates { since: 1 },
+            Step::Updates { since: 0 },
+            Step::Updates { since: 2 },
+            Step::Stop,
+            Step::Updates { since: 0 },
+        ],
+        notes: &[
+            FIRST,
+            StepAnswer::NotRead { count: 1 },
+            StepAnswer::Gave { at: 1, records: 1 },
+            StepAnswer::Gave { at: 1, records: 0 },
+            StepAnswer::Done,
+            StepAnswer::SelfStop,
         ],
         fault: None,
         start: AT_FIRST,

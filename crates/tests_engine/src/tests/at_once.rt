@@ -80,6 +80,34 @@ fn two_write_at_once(rt: HostRuntime) {
     two_write(&rt, alloc, true);
 }
 
+// A client writes a hundred times, and another one reads the whole log a hundred times meanwhile. Each batch is a record
+// of its own, so a read up to a sequence gives as many records.
+fn one_follows<R: Threads + Wait + rt::Clock + Abort + Sync>(
+    rt: &R,
+    alloc: Global,
+    pipelined: bool,
+) {
+    let own = script(rt, alloc, &[PUT_A], 100);
+    let follower = script(rt, alloc, &[Step::Updates { since: 0 }], 100);
+    let ended = ended(rt, alloc, &[], 0, 1, pipelined, &[own, follower]);
+    assert_eq!(rt; (ended.last, ended.fault), (100, None));
+    let mut seen = 0;
+    for note in ended.notes.get(1).expect(rt, "notes") {
+        let StepAnswer::Gave { at, records } = *note else {
+            panic!(rt; "not read")
+        };
+        assert!(rt; seen <= at && at <= 100 && records as u64 == at, "at {at}");
+        seen = at;
+    }
+}
+
+#[test]
+fn one_follows_another(rt: HostRuntime) {
+    let alloc = rt.alloc();
+    one_follows(&rt, alloc, false);
+    one_follows(&rt, alloc, true);
+}
+
 /// What four clients write, four times each: at both keys the write's own name, which is one byte.
 const NAMED: [[&[(&[u8], &[u8])]; 4]; 4] = [
     [

@@ -9,7 +9,7 @@ use crate::script::{Step, StepAnswer};
 use base_bytes::{Found, Read};
 use base_devices::{MemDisk, SteppedClock};
 use base_maps::FamilyMap;
-use engine_calls::{Clients, Closed, OpenGate, Receipt};
+use engine_calls::{Clients, Closed, OpenGate, Receipt, SinceRefused};
 use engine_groups::{ClosingRoom, EngineClient, GroupEngine};
 use engine_memory::open_engine;
 use engine_parts::OpenLog;
@@ -151,6 +151,26 @@ fn read_in<R: Wait + rt::Clock>(
     }
 }
 
+fn updates<R: Wait + rt::Clock>(
+    rt: &R,
+    engine: &Path,
+    client: &mut Member,
+    since: u64,
+) -> StepAnswer
+    requires { MayCall engine.now client.old }
+    ensures { MayCall engine.now client.new × (number_of client.new ≡ number_of client.old) }
+{
+    match engine.updates(rt, client, since) {
+        Ok(since) => StepAnswer::Gave {
+            at: since.at,
+            records: since.records.len(),
+        },
+        Err(SinceRefused::SelfStop) => StepAnswer::SelfStop,
+        Err(SinceRefused::NoMemory) => StepAnswer::NoMemory,
+        Err(SinceRefused::ReadFault { count }) => StepAnswer::NotRead { count },
+    }
+}
+
 fn stop<R: Wait + rt::Clock>(rt: &R, engine: &Path, client: &mut Member) -> StepAnswer
     requires { MayCall engine.now client.old }
     ensures { MayCall engine.now client.new × (number_of client.new ≡ number_of client.old) }
@@ -221,6 +241,7 @@ fn step<R: Wait + rt::Clock + Abort>(
         }
         Step::Read { key } => read(rt, engine, client, key),
         Step::ReadIn { family, key } => read_in(rt, engine, client, family, key),
+        Step::Updates { since } => updates(rt, engine, client, since),
         Step::Stop => stop(rt, engine, client),
         Step::Unstop => unstop(rt, engine, client),
         Step::Slow { rate } => slow(rt, engine, client, rate),

@@ -3,7 +3,7 @@
 use super::{ONE_TREE, Row, check_rows};
 use std::rt::HostRuntime;
 
-const REPLAYED: [Row; 15] = [
+const REPLAYED: [Row; 17] = [
     // One group of two.
     (
         "replay",
@@ -160,6 +160,30 @@ const REPLAYED: [Row; 15] = [
             ok 72057594037927934 72057594037927934\n\
             history 1\n72057594037927934 72057594037927934 2 1 log feffffffffffff00010000000101640131\n\
             state 72057594037927934 1\nd 1\ngroups 1\n",
+    ),
+    // A client reads the log alone in its group: the writer behind it comes after it. It isn't logged, and no fault of
+    // the log is its own.
+    (
+        "replay",
+        b"client 1\nput a 1\ncommit\nupdates 1\nclient 2\nput b 2\ncommit\n\
+            schedule\nlink 1\nelect 1\nbuild 1\nlog 1\nlaunch 1\ninsert 1\nfinish 1\npublish 1\nexit 1\n\
+            complete 1\nread 1\nsince 1\nlink 1\nlink 2\nelect 1\nsince 1\nbuild 1\nlog 1\nfault 1\n\
+            stall 1\nexit 1\nsince 1\nsince 1\nexit 1\ncomplete 1\nelect 2\nbuild 2\nlog 2\nlaunch 2\n\
+            insert 2\nfinish 2\npublish 2\nexit 2\ncomplete 2\n",
+        "events 26 skipped 8\nclient 1\nok 1 1\nupdates 1 1 0100000000000000010000000101610131\n\
+            client 2\nok 2 2\nhistory 2\n1 1 1 1 log 0100000000000000010000000101610131\n\
+            2 2 2 1 log 0200000000000000010000000101620132\nstate 2 2\na 1\nb 2\ngroups 2\n",
+    ),
+    // What isn't published is not given, though the log has it. A second read gives it.
+    (
+        "replay --pipelined",
+        b"client 1\nput a 1\ncommit\nclient 2\nupdates 0\nupdates 0\n\
+            schedule\nlink 1\nelect 1\nbuild 1\nlog 1\nboundary 1\nsecond 1\nnext 1\nlink 2\nelect 2\n\
+            build 2\nlaunch 1\nsince 2\ninsert 1\nfinish 1\npublish 1\nexit 2\ncomplete 2\nexit 1\n\
+            complete 1\nlink 2\nelect 2\nbuild 2\nsince 2\nexit 2\ncomplete 2\n",
+        "events 25 skipped 0\nclient 1\nok 1 1\nclient 2\nupdates 0 0\n\
+            updates 1 1 0100000000000000010000000101610131\n\
+            history 1\n1 1 1 1 log 0100000000000000010000000101610131\nstate 1 1\na 1\ngroups 1\n",
     ),
 ];
 

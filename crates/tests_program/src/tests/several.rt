@@ -16,7 +16,7 @@ use std::thread::Threads;
 const SCRIPT: &[u8] = b"client 1\nput a 1\ncommit\nput b 2\ncommit\nput c 3\ncommit\n";
 
 /// The records of the second and the third commit. The checksums were computed by another program.
-const LATER: &[u8] =
+pub(super) const LATER: &[u8] =
     b"\x8f\x72\xbc\x7a\x11\x00\x01\x02\x00\x00\x00\x00\x00\x00\x00\x01\x00\x00\x00\x01\x01b\x012\
     \x02\x81\x00\xe5\x11\x00\x01\x03\x00\x00\x00\x00\x00\x00\x00\x01\x00\x00\x00\x01\x01c\x013";
 
@@ -37,27 +37,27 @@ const SECOND_BEGUN: &str = "client 1\nok 1 1\nno logfault 1\nno logfault 1\n\
 const ALL_RECOVERED: &str =
     "groups 3\n1 1 17\n2 1 17\n3 1 17\nstate 3 3\n61 31\n62 32\n63 33\nend 2 48 clean\n";
 
-const RUN: &str = "run --logs 2 --log-bytes 24";
+pub(super) const RUN: &str = "run --logs 2 --log-bytes 24";
 
 const RECOVER: &str = "recover --logs 2";
 
 /// The numbers of the calls that fail of each of two disks.
-type Fails = (&'static [u64], &'static [u64]);
+pub(super) type Fails = (&'static [u64], &'static [u64]);
 
 /// The words of a call, what the disks hold, which of their calls fail, the status, all that is printed, and what the
 /// disks hold then.
-type Row = (
+pub(super) type Row<'a> = (
     &'static str,
     [&'static [u8]; 2],
     Fails,
     u8,
-    &'static str,
+    &'a str,
     [&'static [u8]; 2],
 );
 
 /// The calls of the first disk are a look at the length, an append, and the sync before the second log is begun; those
 /// of the second one are two looks at the length, and an append for each group.
-const ROWS: [Row; 12] = [
+const ROWS: [Row<'static>; 12] = [
     (RUN, [b"", b""], (&[], &[]), 0, ALL_LOGGED, [RECORD, LATER]),
     (RUN, [b"", b""], (&[], &[1]), 0, ALL_LOGGED, [RECORD, LATER]),
     (RUN, [b"", b""], (&[3], &[]), 3, ONE_LOGGED, [RECORD, b""]),
@@ -140,11 +140,12 @@ fn disks_of(rt: &impl Abort, alloc: Global, contents: [&[u8]; 2], fails: Fails) 
     vec![in alloc; one, two].expect(rt, "memory")
 }
 
-/// Makes a call over these disks, compares its status and all that it printed, and answers the disks.
+/// Makes a call, by its words and with a script, over these disks. Compares its status and all that it printed, and
+/// answers the disks.
 fn ended<R: Threads + Wait + rt::Clock + Abort + Sync>(
     rt: &R,
     alloc: Global,
-    words: &str,
+    call: (&str, &[u8]),
     disks: Vec<MemDisk>,
     want: u8,
     text: &str,
@@ -152,8 +153,9 @@ fn ended<R: Threads + Wait + rt::Clock + Abort + Sync>(
     requires { (0 < length disks.items) × (length disks.items ≤ 16) }
     ensures { length result.items ≡ length disks.items }
 {
+    let (words, script) = call;
     let words = words_of(rt, alloc, words, ONE_TREE);
-    let mut source = MemSource::new(alloc, SCRIPT, PIECE, &[]).expect(rt, "memory");
+    let mut source = MemSource::new(alloc, script, PIECE, &[]).expect(rt, "memory");
     let mut sink = MemSink::new(alloc, SINK_ROOM, PIECE, &[]).expect(rt, "memory");
     let clock = SteppedClock::new(START);
     let EndedMany { status, disks } = run_many(
@@ -173,10 +175,16 @@ fn ended<R: Threads + Wait + rt::Clock + Abort + Sync>(
     disks
 }
 
-fn check_row<R: Threads + Wait + rt::Clock + Abort + Sync>(rt: &R, alloc: Global, row: Row) {
+/// Runs a script as a row says.
+pub(super) fn check_row<R: Threads + Wait + rt::Clock + Abort + Sync>(
+    rt: &R,
+    alloc: Global,
+    script: &[u8],
+    row: Row<'_>,
+) {
     let (words, contents, fails, status, text, left) = row;
     let disks = disks_of(rt, alloc, contents, fails);
-    let disks = ended(rt, alloc, words, disks, status, text);
+    let disks = ended(rt, alloc, (words, script), disks, status, text);
     assert_eq!(rt; [disks[0].content(), disks[1].content()], left);
 }
 
@@ -184,6 +192,6 @@ fn check_row<R: Threads + Wait + rt::Clock + Abort + Sync>(rt: &R, alloc: Global
 fn several_logs_and_faults_of_their_disks(rt: HostRuntime) {
     // All rows so far were as wanted.
     for row in ROWS {
-        check_row(&rt, rt.alloc(), row);
+        check_row(&rt, rt.alloc(), SCRIPT, row);
     }
 }

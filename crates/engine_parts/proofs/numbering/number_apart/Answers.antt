@@ -23,7 +23,7 @@ loop-client-preserved c =
     let parts = group_of c.loop-client.parts.parts in
     let more : group_of c.number_one-at.new.parts.parts ≡ parts ++ part_at at a = ap group_of n.added ∙ more_parts c.loop-client.parts.parts at c.in-Some.client q left.0 in
     let k = c.note_member.ensures in
-    let has = (λ i. nat_lt at (n.reached i)) ∙ grew at q.batch.records q.some in
+    let has = (λ i. nat_lt at (n.reached i)) ∙ grew at q.batch.records lawful.0.0 in
     record {
       last = n.below;
       reached = ap (λ m. last_with_all m (commit_requests_of rest)) n.reached ∙ (ap (λ l. last_with_all at (commit_requests_of l)) (sym f) ∙ v.reached);

@@ -5,6 +5,6 @@ use Rattle.engine_rule.proofs.ends.closings.Goals as goal
 
 pub returns : goal.returns
 returns c = record {
-  closing = λ settings ended s history accounts is are legal calls_of within rose. closing settings s.commits s.last s.fault s.published s.calls s.asked history is accounts are.all are.each legal calls_of within ended rose;
-  log = λ settings s history accounts is are. writes_log settings s.commits s.last s.fault s.published s.calls s.asked history is accounts are.all are.each (λ (made : List GroupCall). made ≡ s.calls) refl;
+  closing = λ settings kept ended s history accounts is are legal calls_of within read. closing settings s.commits s.last s.fault s.published s.calls s.asked history is accounts are.all s.reads are.each kept legal calls_of within read.right ended read.rose read.of_clients read.own read.counted;
+  log = λ settings kept s history accounts is are. writes_log settings s.commits s.last s.fault s.published s.calls s.asked history is accounts are.all s.reads are.each kept (λ (made : List GroupCall). made ≡ s.calls) refl;
 }

@@ -1,5 +1,4 @@
 use Rattle.std.proofs.Common.{◌≡◌, ◌-◌, ◌^◌, ◌≤◌, IfSome}
-use Rattle.log_reader.specs.OnlyReads.{OnlyReads}
 use Rattle.log_reader.specs.Windows.{IsSound, IsOn, offset_of}
 use Rattle.log_reader.specs.Steps.{HasReadPart}
 use Rattle.log_reader.proofs.reader.read_record.Given as goal
@@ -8,10 +7,10 @@ use Rattle.log_reader.proofs.reader.read_record.Given as goal
 abbrev pub invariant-loop-start : goal.invariant-loop-start
 invariant-loop-start g l = record {
   sound : IsSound l.window;
-  stood : IfSome (g.D.Disk.told l.fn.disk) (λ d. IsOn d.content l.fn.window → IsOn d.content l.window × HasReadPart l.fn.number d.content (offset_of l.fn.window) l.begun l.in_hand.items (offset_of l.window));
+  stood : IfSome (g.R.ReadAt.held l.fn.disk) (λ d. IsOn d l.fn.window → IsOn d l.window × HasReadPart l.fn.number d (offset_of l.fn.window) l.begun l.in_hand.items (offset_of l.window));
   forward : offset_of l.fn.window ≤ offset_of l.window;
-  worked : g.D.Disk.faults l.disk ≡ g.D.Disk.faults l.fn.disk;
-  disk : OnlyReads g.D.Disk l.fn.disk l.disk;
+  worked : g.R.ReadAt.failures l.disk ≡ g.R.ReadAt.failures l.fn.disk;
+  disk : g.R.ReadAt.only_reads l.fn.disk l.disk;
 }
 
 abbrev pub decreases-loop-start : goal.decreases-loop-start

@@ -1,6 +1,6 @@
 use Rattle.std.proofs.Common.{◌∷◌, refl, sym, ◌∙◌, subst}
 use Rattle.base_devices.specs.Faults.{Rose}
-use Rattle.log_reader.proofs.Time.{more_read}
+use Rattle.base_devices.specs.OnlyReads.{more_read}
 use Rattle.log_recovery.specs.declared.many.RecoveredMany.{RecoveredMany}
 use Rattle.log_recovery.specs.RecoveringLogs.{AcceptFrom, AreRecoveredFrom, IsErrorFrom, TellDamageFrom}
 use Rattle.log_recovery.proofs.Faults.{handed_on, not_damage, first_counts_none, first_rose, error_in_first, error_later, worked_later}

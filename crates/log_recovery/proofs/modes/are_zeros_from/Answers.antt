@@ -1,7 +1,5 @@
-use Rattle.std.proofs.Common.{◌≡◌, true, take, Option, IfSome, sym, ◌∙◌, subst, arith}
-use Rattle.base_devices.specs.Disk.{Disk}
+use Rattle.std.proofs.Common.{◌≡◌, ℕ, List, true, take, Option, IfSome, sym, ◌∙◌, subst, arith}
 use Rattle.model_base.specs.Reading.{are_zeros}
-use Rattle.log_reader.proofs.Time.{more_read}
 use Rattle.log_reader.proofs.FromDisk.{if_both, Gives}
 use Rattle.log_recovery.proofs.Zeros.{more_zeros, other_byte}
 use Rattle.log_recovery.proofs.modes.are_zeros_from.Goals as goal
@@ -11,18 +9,18 @@ loop-len-preserved g c =
     let from = c.args.from in
     let at = c.loop-len.at in
     let len = c.in-Ok.len in
-    let piece = c.read.new.buf in
+    let piece = c.read_at.new.buf in
     let old = c.loop-len.invariant in
-    let told = g.D.Disk.told c.args.disk.now in
+    let told = g.R.ReadAt.held c.args.disk.now in
     let after = old.after in
     let zeros : are_zeros (take len piece) ≡ true = sym c.are_all_zeros.ensures ∙ c.if-not-are_all_zeros.false in
-    let gives = subst (λ (t : Option Disk). IfSome t (Gives at len piece)) old.disk.same c.in-Ok.ensures.bytes in
+    let gives = subst (λ (t : Option (List ℕ)). IfSome t (Gives at len piece)) (g.met.R.ReadAt.reads_keep _ _ old.disk) c.in-Ok.ensures.bytes in
     record {
       after = omega (arith, after);
-      zeros = if_both told _ (Gives at len piece) _ old.zeros gives (λ d before read. more_zeros d.content piece from at len after before read.1 zeros);
+      zeros = if_both told _ (Gives at len piece) _ old.zeros gives (λ d before read. more_zeros d piece from at len after before read.1 zeros);
       worked = c.in-Ok.ensures.cause.worked ∙ old.worked;
-      disk = more_read g.D.Disk _ _ _ old.disk
-          (record { later = c.in-Ok.ensures.cause.later; same = c.in-Ok.ensures.same; adds_none = c.in-Ok.ensures.adds_none; time = c.in-Ok.ensures.time });
+      disk = g.met.R.ReadAt.reads_on _ _ _ old.disk
+          c.in-Ok.ensures.only;
     }
 
 pub returns-then-not-are_all_zeros-clause-decided : goal.returns-then-not-are_all_zeros-clause-decided
@@ -30,9 +28,9 @@ returns-then-not-are_all_zeros-clause-decided g c =
     let from = c.args.from in
     let at = c.loop-len.at in
     let len = c.in-Ok.len in
-    let piece = c.read.new.buf in
+    let piece = c.read_at.new.buf in
     let old = c.loop-len.invariant in
-    let told = g.D.Disk.told c.args.disk.now in
+    let told = g.R.ReadAt.held c.args.disk.now in
     let other = sym c.are_all_zeros.ensures ∙ c.if-not-are_all_zeros.true in
-    let gives = subst (λ (t : Option Disk). IfSome t (Gives at len piece)) old.disk.same c.in-Ok.ensures.bytes in
-    if_both told _ (Gives at len piece) _ old.zeros gives (λ d before read. other_byte d.content piece from at len old.after before read.1 other)
+    let gives = subst (λ (t : Option (List ℕ)). IfSome t (Gives at len piece)) (g.met.R.ReadAt.reads_keep _ _ old.disk) c.in-Ok.ensures.bytes in
+    if_both told _ (Gives at len piece) _ old.zeros gives (λ d before read. other_byte d piece from at len old.after before read.1 other)

@@ -1,5 +1,4 @@
 use Rattle.std.proofs.Common.{◌≡◌, ◌-◌, ◌^◌, None, IfSome}
-use Rattle.log_reader.specs.OnlyReads.{OnlyReads}
 use Rattle.log_reader.specs.Reader.{Follows}
 use Rattle.log_recovery.specs.Keeping.{KeepsFront}
 use Rattle.log_recovery.specs.Recovering.{IsNumbered}
@@ -11,11 +10,11 @@ invariant-loop-start g l = record {
   place : l.kept.end ≡ l.log.place;
   number : l.log.number ≡ l.fn.number;
   going : l.log.stopped ≡ None;
-  follows : IfSome (g.D.Disk.told l.fn.disk) (λ d. Follows d.content l.log);
-  front : IfSome (g.D.Disk.told l.fn.disk) (λ d. KeepsFront l.fn.number d.content l.fn.kept l.kept);
+  follows : IfSome (g.R.ReadAt.held l.fn.disk) (λ d. Follows d l.log);
+  front : IfSome (g.R.ReadAt.held l.fn.disk) (λ d. KeepsFront l.fn.number d l.fn.kept l.kept);
   numbered : IsNumbered l.fn.kept.map l.fn.kept.last → IsNumbered l.kept.map l.kept.last;
-  worked : g.D.Disk.faults l.disk ≡ g.D.Disk.faults l.fn.disk;
-  disk : OnlyReads g.D.Disk l.fn.disk l.disk;
+  worked : g.R.ReadAt.failures l.disk ≡ g.R.ReadAt.failures l.fn.disk;
+  disk : g.R.ReadAt.only_reads l.fn.disk l.disk;
 }
 
 abbrev pub decreases-loop-start : goal.decreases-loop-start

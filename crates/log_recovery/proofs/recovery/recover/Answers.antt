@@ -6,6 +6,6 @@ use Rattle.log_recovery.proofs.recovery.recover.Goals as goal
 
 pub returns-clause-recovered : goal.returns-clause-recovered
 returns-clause-recovered g c =
-    let told = g.D.Disk.told c.args.disk.now in
-    subst (λ (r : Recovered). IfSome told (λ d. HasRecovered c.args.number d.content r)) (sym c.answer_of.ensures)
+    let told = g.R.ReadAt.held c.args.disk.now in
+    subst (λ (r : Recovered). IfSome told (λ d. HasRecovered c.args.number d r)) (sym c.answer_of.ensures)
     (recovered_first c.args.number told c.new-kept.result c.keep_log.new.kept c.in_ok-end.end c.new-kept.ensures.groups c.new-kept.ensures.map c.new-kept.ensures.last c.in_ok-end.ensures.recovered)

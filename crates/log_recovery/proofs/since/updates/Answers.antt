@@ -1,33 +1,49 @@
-use Rattle.std.proofs.Common.{IfSome, sym, ◌∙◌, subst}
-use Rattle.log_reader.proofs.Time.{more_read}
+use Rattle.std.proofs.Common.{IfSome, refl, sym, ◌∙◌, subst}
 use Rattle.log_reader.specs.declared.reader.Next.TheVariants as next
+use Rattle.log_reader.specs.Reader.{Follows}
 use Rattle.log_recovery.specs.declared.picked.Updates.{Updates}
-use Rattle.log_recovery.specs.Updating.{HasUpdates}
-use Rattle.log_recovery.proofs.Telling.{reads, follows_on}
-use Rattle.log_recovery.proofs.UpdateSteps.{picked_adds, picked_refuses, picked_more, picked_refused, picked_ended}
+use Rattle.log_recovery.specs.Updating.{HasUpdates, PicksFront}
+use Rattle.log_recovery.proofs.Telling.{if_all, reads, follows_on}
+use Rattle.log_recovery.proofs.UpdateSteps.{begins_picking, picked_adds, picked_refuses, picked_more, picked_refused, picked_ended}
 use Rattle.log_recovery.proofs.since.updates.Goals as goal
+
+pub loop-start-init : goal.loop-start-init
+loop-start-init g c =
+    let number = c.args.number in
+    let told = g.R.ReadAt.held c.args.disk.now in
+    let log = c.in_ok-log.ensures in
+    let picked = c.new-picked.ensures in
+    record {
+      place = picked.end ∙ sym log.start;
+      number = log.number;
+      going = log.going;
+      follows = if_all told (λ d. Follows d c.in_ok-log.log) log.follows;
+      front = if_all told (λ d. PicksFront number d c.args.since c.args.upto c.new-picked.result) (λ d. begins_picking number d c.args.since c.args.upto c.new-picked.result picked.records picked.last picked.end);
+      worked = refl;
+      disk = g.met.R.ReadAt.reads_none c.args.disk.now;
+    }
 
 pub loop-start-preserved : goal.loop-start-preserved
 loop-start-preserved g c =
     let number = c.args.number in
     let s = c.args.since in
     let upto = c.args.upto in
-    let told = g.D.Disk.told c.args.disk.now in
-    let before = g.D.Disk.told c.loop-start.disk in
+    let told = g.R.ReadAt.held c.args.disk.now in
+    let before = g.R.ReadAt.held c.loop-start.disk in
     let old = c.loop-start.invariant in
     let now = c.in-Record.ensures in
     let log = c.loop-start.log in
     let bytes = c.record.result.now in
     let adds = picked_adds s upto c.loop-start.picked c.pick.new.self bytes c.in-Record.end c.in_ok-why-in-Record.field-0 (c.in_ok-why-in-Record.ensures {u = tt}) c.in_default.is in
-    let says = reads number before told log c.next.new.self.in_hand (next.Record c.in-Record.start c.in-Record.end) old.number old.disk.same old.going old.follows now.reads in
+    let says = reads number before told log c.next.new.self.in_hand (next.Record c.in-Record.start c.in-Record.end) old.number (g.met.R.ReadAt.reads_keep _ _ old.disk) old.going old.follows now.reads in
     record {
       place = adds.end_is ∙ sym (now.place old.going);
       number = now.number ∙ old.number;
       going = now.stopped old.going;
-      follows = follows_on before told log c.next.new.self old.disk.same old.follows now.follows;
+      follows = follows_on before told log c.next.new.self (g.met.R.ReadAt.reads_keep _ _ old.disk) old.follows now.follows;
       front = picked_more number told s upto c.loop-start.picked c.pick.new.self log.place c.in-Record.start c.in-Record.end c.next.new.self.in_hand bytes old.place c.record.ensures adds old.front says;
       worked = now.fault old.going ∙ old.worked;
-      disk = more_read g.D.Disk _ _ _ old.disk now.disk;
+      disk = g.met.R.ReadAt.reads_on _ _ _ old.disk now.disk;
     }
 
 pub returns-in-Some-clause-updates : goal.returns-in-Some-clause-updates
@@ -35,14 +51,14 @@ returns-in-Some-clause-updates g c =
     let number = c.args.number in
     let s = c.args.since in
     let upto = c.args.upto in
-    let told = g.D.Disk.told c.args.disk.now in
-    let before = g.D.Disk.told c.loop-start.disk in
+    let told = g.R.ReadAt.held c.args.disk.now in
+    let before = g.R.ReadAt.held c.loop-start.disk in
     let old = c.loop-start.invariant in
     let log = c.loop-start.log in
     let bytes = c.record.result.now in
     let refuses = picked_refuses s upto c.loop-start.picked c.pick.new.self bytes c.in-Record.end c.in_ok-why-in-Record.field-0 c.in-Some.why (c.in_ok-why-in-Record.ensures {u = tt}) c.in-Some.is in
-    let says = reads number before told log c.next.new.self.in_hand (next.Record c.in-Record.start c.in-Record.end) old.number old.disk.same old.going old.follows c.in-Record.ensures.reads in
-    subst (λ (r : Updates). IfSome told (λ d. HasUpdates number d.content s upto r)) (sym c.updates_of.ensures)
+    let says = reads number before told log c.next.new.self.in_hand (next.Record c.in-Record.start c.in-Record.end) old.number (g.met.R.ReadAt.reads_keep _ _ old.disk) old.going old.follows c.in-Record.ensures.reads in
+    subst (λ (r : Updates). IfSome told (λ d. HasUpdates number d s upto r)) (sym c.updates_of.ensures)
     (picked_refused number told s upto c.loop-start.picked c.pick.new.self log.place c.in-Record.start c.in-Record.end c.next.new.self.in_hand bytes c.in-Some.why old.place c.record.ensures refuses old.front says)
 
 pub returns-in-End-clause-updates : goal.returns-in-End-clause-updates
@@ -50,12 +66,12 @@ returns-in-End-clause-updates g c =
     let number = c.args.number in
     let s = c.args.since in
     let upto = c.args.upto in
-    let told = g.D.Disk.told c.args.disk.now in
-    let before = g.D.Disk.told c.loop-start.disk in
+    let told = g.R.ReadAt.held c.args.disk.now in
+    let before = g.R.ReadAt.held c.loop-start.disk in
     let old = c.loop-start.invariant in
     let log = c.loop-start.log in
-    let says = reads number before told log c.next.new.self.in_hand (next.End c.in-End.at c.in-End.why) old.number old.disk.same old.going old.follows c.in-End.ensures.reads in
-    subst (λ (r : Updates). IfSome told (λ d. HasUpdates number d.content s upto r)) (sym c.updates_of-in-End.ensures)
+    let says = reads number before told log c.next.new.self.in_hand (next.End c.in-End.at c.in-End.why) old.number (g.met.R.ReadAt.reads_keep _ _ old.disk) old.going old.follows c.in-End.ensures.reads in
+    subst (λ (r : Updates). IfSome told (λ d. HasUpdates number d s upto r)) (sym c.updates_of-in-End.ensures)
     (picked_ended number told s upto c.loop-start.picked log.place c.in-End.at c.next.new.self.in_hand c.in-End.why old.place old.front says)
 
 pub returns-in-Some-clause-worked : goal.returns-in-Some-clause-worked
@@ -65,13 +81,13 @@ pub returns-in-End-clause-worked : goal.returns-in-End-clause-worked
 returns-in-End-clause-worked g c = let old = c.loop-start.invariant in c.in-End.ensures.fault old.going ∙ old.worked
 
 pub returns-in-Some-clause-disk : goal.returns-in-Some-clause-disk
-returns-in-Some-clause-disk g c = more_read g.D.Disk _ _ _ c.loop-start.invariant.disk c.in-Record.ensures.disk
+returns-in-Some-clause-disk g c = g.met.R.ReadAt.reads_on _ _ _ c.loop-start.invariant.disk c.in-Record.ensures.disk
 
 pub returns-in-End-clause-disk : goal.returns-in-End-clause-disk
-returns-in-End-clause-disk g c = more_read g.D.Disk _ _ _ c.loop-start.invariant.disk c.in-End.ensures.disk
+returns-in-End-clause-disk g c = g.met.R.ReadAt.reads_on _ _ _ c.loop-start.invariant.disk c.in-End.ensures.disk
 
 pub returns-in-Fault-clause-disk : goal.returns-in-Fault-clause-disk
-returns-in-Fault-clause-disk g c = more_read g.D.Disk _ _ _ c.loop-start.invariant.disk c.in-Fault.ensures.disk
+returns-in-Fault-clause-disk g c = g.met.R.ReadAt.reads_on _ _ _ c.loop-start.invariant.disk c.in-Fault.ensures.disk
 
 pub returns-in-NoMemory-clause-disk : goal.returns-in-NoMemory-clause-disk
-returns-in-NoMemory-clause-disk g c = more_read g.D.Disk _ _ _ c.loop-start.invariant.disk c.in-NoMemory.ensures.disk
+returns-in-NoMemory-clause-disk g c = g.met.R.ReadAt.reads_on _ _ _ c.loop-start.invariant.disk c.in-NoMemory.ensures.disk

@@ -1,6 +1,6 @@
 -- The run's promises, for the script that the seed makes. It has as many clients as are asked for, and its outcome's
 -- summary is that of all legal outcomes.
-use Rattle.std.proofs.Common.{◌≡◌, ◌⊎◌, inl, inr, ◌≤◌, ℕ, max, [], length, refl, ap, subst, ◌∙◌, arith}
+use Rattle.std.proofs.Common.{◌≡◌, ◌⊎◌, inl, inr, ◌≤◌, ℕ, max, List, [], length, Option, refl, ap, subst, ◌∙◌, arith}
 use Rattle.std.proofs.lemmas.List.{length-map}
 use Rattle.std.proofs.lemmas.List.FromFn.{length-range_with_len}
 use Rattle.std.specs.List.{range_with_len}
@@ -9,12 +9,13 @@ use Rattle.model_base.specs.Generator.{script_of_seed, batches_drawn, first_stat
 use Rattle.model_base.specs.Calls.{Outcome}
 use Rattle.model_base.specs.Script.{Script as Said}
 use Rattle.model_base.specs.Outcomes.{IsLegal}
-use Rattle.model_base.specs.Settings.{settings_of}
+use Rattle.model_base.specs.Recovery.{Logged}
+use Rattle.model_base.specs.Settings.{settings_of, with_kept}
 use Rattle.model_base.specs.declared.options.Options.{Options}
 use Rattle.run_laws.specs.Summaries.{summary_of}
 use Rattle.run_scripts.specs.declared.script.Script.{Script}
 use Rattle.run_scripts.specs.Scripts.{commands_of}
-use Rattle.run_outcome.specs.Running.{Before, nothing}
+use Rattle.run_outcome.specs.Running.{Before, batches_told, nothing}
 use Rattle.run_execution.specs.Ends.{options_behind}
 use Rattle.run_outcome.specs.declared.log_start.LogStart.TheVariants.{New}
 use Rattle.log_recovery.specs.declared.modes.Mode.TheVariants.{Point}
@@ -38,13 +39,13 @@ as_many : (families : ℕ) → 1 ≤ families → options_behind (usual_options 
 as_many families some = let most : max families 1 ≡ families = omega (arith, some) in ap usual_options most
 
 -- the outcome of this script, by a run that goes on from nothing
-from_nothing : (families : ℕ) → 1 ≤ families → (opened ended : ℕ) (script this : Said) (before : Before) (o : Outcome) → before ≡ nothing → script ≡ this
-    → IsLegal (settings_of (options_behind (usual_options families) before) before.map (length script) opened) ended script o
-    → IsLegal (settings_of (usual_options families) [] (length this) opened) ended this o
-from_nothing families some opened ended script this before o none same legal =
-    subst (λ (options : Options). IsLegal (settings_of options [] (length this) opened) ended this o) (as_many families some)
-    (subst (λ b. IsLegal (settings_of (options_behind (usual_options families) b) b.map (length this) opened) ended this o) none
-    (subst (λ s. IsLegal (settings_of (options_behind (usual_options families) before) before.map (length s) opened) ended s o) same legal))
+from_nothing : (families : ℕ) → 1 ≤ families → (kept : Option (List Logged)) (opened ended : ℕ) (script this : Said) (before : Before) (o : Outcome) → before ≡ nothing → script ≡ this
+    → IsLegal (with_kept kept (settings_of (options_behind (usual_options families) before) before.map (length script) opened)) ended script o
+    → IsLegal (with_kept kept (settings_of (usual_options families) [] (length this) opened)) ended this o
+from_nothing families some kept opened ended script this before o none same legal =
+    subst (λ (options : Options). IsLegal (with_kept kept (settings_of options [] (length this) opened)) ended this o) (as_many families some)
+    (subst (λ (b : Before). IsLegal (with_kept kept (settings_of (options_behind (usual_options families) b) b.map (length this) opened)) ended this o) none
+    (subst (λ (s : Said). IsLegal (with_kept kept (settings_of (options_behind (usual_options families) before) before.map (length s) opened)) ended s o) same legal))
 
 -- a new log doesn't go on, so no end of a recovery is refused, and no family that one needs
 undamaged : (seen : Observation) (n : ℕ) → RunsScript seen n → MeetsNoDamage seen.logs → MeetsNoHighFamily seen.logs → HasRunStatus n → (n ≡ 0) ⊎ (n ≡ 3) ⊎ (n ≡ 5) ⊎ (n ≡ 6) ⊎ (n ≡ 7)
@@ -89,10 +90,11 @@ returns g c =
     let ended = g.D.Disk.faults disk in
     let ran = whole.ran.ran in
     let run = ran.is_outcome.run in
-    let legal = from_nothing families c.requires.families opened ended whole.ran.script (script_of_seed seed clients batches) ran.before o ran.goes_on whole.ran.said
+    let kept = batches_told (g.D.Disk.told was) ran.before in
+    let legal = from_nothing families c.requires.families kept opened ended whole.ran.script (script_of_seed seed clients batches) ran.before o ran.goes_on whole.ran.said
     (record { trace = run.trace; attempts = run.attempts; legal = run.legal }) in
-    let one = c.summaries_are_one.ensures.one_summary seed clients batches ended (settings_of (usual_options families) [] (length (script_of_seed seed clients batches)) opened) o
-    (omega arith) (omega arith) refl refl refl c.requires.families legal whole.no_fault whole.whole in
+    let one = c.summaries_are_one.ensures.one_summary seed clients batches ended (with_kept kept (settings_of (usual_options families) [] (length (script_of_seed seed clients batches)) opened)) o
+    (omega arith) (omega arith) refl refl refl c.requires.families legal whole.no_fault.0 whole.whole in
     subst (λ text. Appends (g.K.Sink.taken before) (g.K.Sink.taken after) text) one whole.printed in
     record {
       one = undamaged seen n runs (λ at why damage. damage.is_damaged) (λ family high. high.is_high) c.run_and_tell.ensures.status;

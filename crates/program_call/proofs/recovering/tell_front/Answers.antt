@@ -2,7 +2,7 @@
 use Rattle.std.proofs.Common.{◌≡◌, ℕ, true, List, ◌++◌, drop, length, take, refl, ap, ◌∙◌, subst, arith, length-append}
 use Rattle.base_devices.specs.declared.disk.Disk as disk
 use Rattle.base_devices.specs.declared.sink.Sink as sink
-use Rattle.log_reader.specs.OnlyReads.{OnlyReads}
+use Rattle.base_devices.specs.OnlyReads.{OnlyReads}
 use Rattle.log_recovery.specs.declared.modes.Mode.{Mode}
 use Rattle.program_call.specs.Answers.{RecoversLogs}
 use Rattle.program_call.specs.Reports.{IsTextOfLogs, code}

@@ -1,8 +1,8 @@
 -- The run's promises over several logs, for the script that the source has; and what is printed where no script was read.
-use Rattle.std.proofs.Common.{[], length, refl, ap, ◌∙◌}
-use Rattle.model_base.specs.Settings.{settings_of}
+use Rattle.std.proofs.Common.{length, refl, ap, ◌∙◌}
 use Rattle.run_scripts.specs.Scripts.{commands_of}
 use Rattle.base_devices.specs.Faults.{count_in_all}
+use Rattle.run_execution.specs.SetEnds.{set_execution_on}
 use Rattle.program_call.specs.declared.report.Form.TheVariants as form
 use Rattle.program_call.specs.Outcomes.{SaysScript, observation_of}
 use Rattle.program_call.specs.SeveralLogs.{logs_of_run}
@@ -28,7 +28,12 @@ returns-in-Ok-clause-runs g c =
     let logs = logs_of_run g.D.Disk options limit was disks in
     let seen = observation_of g.K.Sink (SaysScript left) form.Whole logs before after in
     let law : Law g.D.Disk options limit was disks script =
-    λ o legal client calls how reply no_fault to checks room free. c.commits_are_accepted.ensures.accepted (settings_of options [] (length script) (count_in_all g.D.Disk.faults was)) (count_in_all g.D.Disk.faults disks) script o client calls how reply legal no_fault to checks room free in
+    λ o legal.
+    let settings = (set_execution_on g.D.Disk options limit script was disks).settings in
+    let ended = count_in_all g.D.Disk.faults disks in (
+      λ client calls how reply no_fault to checks room free. c.commits_are_accepted.ensures.accepted settings ended script o client calls how reply legal no_fault to checks room free,
+      λ client calls s reply none to free. c.updates_are_given.ensures.given settings ended script o client calls s reply legal none to free,
+    ) in
     let ends = set_ends g.D.Disk options limit was disks script law c.execute_set-disks.result.1 c.execute_set-disks.ensures.end in
     rw (c.end_many.ensures.status, c.end_many.ensures.disks) (ran_answers g.S.Source g.K.Sink c.args.source.now c.read_script.new.source before after logs _ script
     (ended_status seen script c.execute_set-disks.result.1 given ends c.tell_end.ensures) c.in-Ok.ensures.script.said c.in-Ok.ensures.script.ended c.in-Ok.ensures.worked

@@ -29,7 +29,7 @@ returns-clause-got c = λ plans s counted e room.
     c.push_within.ensures.pushed room
     ∙ ap (λ flag. front ++ record { client = w.client; ordinal = n + 1; run = run; flag = flag; batch = w.batch } ∷ []) c.flag_of.ensures
     ∙ ap (λ (k : Run). front ++ record (new_entry (n + 1) last w) { run = k } ∷ []) is in
-    let v : Run → Writer = λ k. record { client = w.client; options = w.options; batch = w.batch; count = w.count; answer = Some (Accepted k) } in
+    let v : Run → Writer = λ k. record { client = w.client; options = w.options; batch = w.batch; count = w.count; since = w.since; answer = Some (Accepted k) } in
     let G : List CoreEntry → Run → Type 0 = λ es k. GotRuns plans s (map (shown_entry plans) front) last (w ∷ []) (v k ∷ []) es k.last in
     let new : List CoreEntry = c.push_within.new.items.items in
     let P : List CoreEntry → Type 0 = λ es. G es (run_behind last w) in
@@ -44,6 +44,6 @@ pub returns-in-Err-clause-got : goal.returns-in-Err-clause-got
 returns-in-Err-clause-got c = λ plans s counted e room.
     let w = c.args.writer.now in
     let entries : List CoreEntry = c.args.entries.now.items in
-    let v : Refusal → Writer = λ y. record { client = w.client; options = w.options; batch = w.batch; count = w.count; answer = Some (Refused y) } in
+    let v : Refusal → Writer = λ y. record { client = w.client; options = w.options; batch = w.batch; count = w.count; since = w.since; answer = Some (Refused y) } in
     let P : Refusal → Type 0 = λ y. GotRuns plans s (map (shown_entry plans) entries) c.args.last (w ∷ []) (v y ∷ []) entries c.args.last in
     subst P (sym c.in-Err.ensures.full) (got_refusal plans s c.args.last w entries counted (omega (arith, c.in-Err.ensures.passed)))

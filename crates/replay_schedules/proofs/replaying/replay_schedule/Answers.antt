@@ -31,7 +31,7 @@ returns c =
     record {
       taken = sym is.taken;
       skipped = sym is.skipped;
-      transcripts = transcripts_shown (options_of o) m (plans_in core) c.in_ok-transcripts_of.field-0.items said (has_replies o s (plans_in core) (kept ∙ same))
+      transcripts = transcripts_shown (options_of o) m (plans_in core) c.in_ok-transcripts_of.field-0.items (is_core o s) said (has_replies o s (plans_in core) (kept ∙ same))
           (c.in_ok-transcripts_of.ensures (options_of o) m (is_core o s) is.state);
       history = c.in_ok-history_of.ensures (options_of o) m (is_core o s) is.state;
       last = sym (c.last.ensures (options_of o) m is.state);

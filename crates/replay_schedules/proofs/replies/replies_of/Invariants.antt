@@ -8,5 +8,5 @@ abbrev pub invariant-loop-place : goal.invariant-loop-place
 invariant-loop-place l = record {
   reads : InEachShown l.core (λ s. IsMapOf s.entries l.reads);
   so_far : InEachShown l.core (λ s.
-      l.replies.items ++ replies_by s.entries (drop l.place l.plan) (drop (length l.replies.items) l.told) ≡ replies_by s.entries l.plan l.told);
+      l.replies.items ++ replies_by s (drop l.place l.plan) (drop (length l.replies.items) l.told) ≡ replies_by s l.plan l.told);
 }

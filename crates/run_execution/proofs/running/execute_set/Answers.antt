@@ -1,11 +1,12 @@
-use Rattle.std.proofs.Common.{◌<◌, ◌≤◌, ◌^◌, length, ap, refl, arith}
+use Rattle.std.proofs.Common.{◌<◌, ◌≤◌, ◌^◌, None, length, ap, refl, arith}
 use Rattle.model_base.specs.Map.{Pairs}
-use Rattle.model_base.specs.Settings.{settings_of}
+use Rattle.model_base.specs.Settings.{settings_of, with_kept}
 use Rattle.run_scripts.specs.Scripts.{commands_of}
 use Rattle.log_writer.specs.Sets.{WroteSet, count_in, fault_in, logs_of}
 use Rattle.log_writer.specs.SetWritten.{disks_of}
 use Rattle.run_outcome.specs.Running.{GoesOn}
 use Rattle.run_threads.specs.Runs.{log_of}
+use Rattle.run_execution.specs.SetEnds.{nothing_told}
 use Rattle.run_execution.proofs.RunEnds.{comes_to}
 use Rattle.run_execution.proofs.SafeSets.{zip_so}
 use Rattle.run_execution.proofs.SetRunEnds.{calls_of, looked_further, opened_further, refused_set}
@@ -22,8 +23,10 @@ returns-in-Ok-clause-end g c =
     let script = commands_of c.args.script.now in
     let ran = c.run_on-ran.result in
     let families : options.families < 2 ^ 32 = omega arith in
-    let settings = ap (λ (map : Pairs). settings_of options map (length script) (count_in (logs_of set))) c.new-map.ensures in
-    let comes = comes_to fault_in _ ran _ _ script script (WroteSet set) (WroteSet set) settings refl refl c.run_on-ran.ensures in
+    let kept = nothing_told g.D.Disk c.args.disks.items in
+    let settings = ap (λ (map : Pairs). with_kept kept (settings_of options map (length script) (count_in (logs_of set)))) c.new-map.ensures in
+    let has = c.logs_have_batches.ensures.set c.args.disks.items set options.last c.in-Ok.ensures.ok in
+    let comes = comes_to fault_in _ ran _ _ script script (WroteSet set) (WroteSet set) settings refl refl (c.run_on-ran.ensures kept has) in
     rw c.end_set_run.ensures.disks
     (c.runs_leave_safe_sets.ensures.ends c.args.disks.items set options c.args.limit script ran c.end_set_run.result.1 c.in-Ok.ensures.ok c.in-Ok.ensures.limit (omega (arith, c.requires.clients)) c.requires.options.1 families comes c.end_set_run.ensures.end)
 
@@ -31,7 +34,7 @@ pub returns-in-Ok-clause-later : goal.returns-in-Ok-clause-later
 returns-in-Ok-clause-later g c =
     let set = c.in-Ok.set in
     let ran = c.run_on-ran.result in
-    let made = calls_of _ _ set ran c.run_on-ran.ensures in
+    let made = calls_of _ _ set ran (c.run_on-ran.ensures None tt) in
     let all = all_further g.D.Disk c.args.disks.items (disks_of set) (disks_of (log_of ran)) (opened_further g.D.Disk c.args.disks.items (logs_of set) (c.in-Ok.ensures.ok).opened) (c.runs_leave_safe_sets.ensures.time set made.0 (log_of ran) made.1) in
     rw c.end_set_run.ensures.disks (zip_so (Further g.D.Disk) (λ old new. g.D.Disk.faults old ≤ g.D.Disk.faults new) (λ old new f. f.1) c.args.disks.items (disks_of (log_of ran)) all)
 
@@ -39,7 +42,7 @@ pub returns-in-Ok-clause-time : goal.returns-in-Ok-clause-time
 returns-in-Ok-clause-time g c =
     let set = c.in-Ok.set in
     let ran = c.run_on-ran.result in
-    let made = calls_of _ _ set ran c.run_on-ran.ensures in
+    let made = calls_of _ _ set ran (c.run_on-ran.ensures None tt) in
     let all = all_further g.D.Disk c.args.disks.items (disks_of set) (disks_of (log_of ran)) (opened_further g.D.Disk c.args.disks.items (logs_of set) (c.in-Ok.ensures.ok).opened) (c.runs_leave_safe_sets.ensures.time set made.0 (log_of ran) made.1) in
     rw c.end_set_run.ensures.disks (zip_so (Further g.D.Disk) (GoesOn g.D.Disk.moment g.D.Disk.from) (λ old new f. f.0) c.args.disks.items (disks_of (log_of ran)) all)
 

@@ -1,11 +1,10 @@
 -- The keys are read at their places.
-use Rattle.std.proofs.Common.{◌≡◌, List, map, refl, sym, ◌∙◌, subst}
+use Rattle.std.proofs.Common.{◌≡◌, map, refl, sym, ◌∙◌, subst}
 use Rattle.std.proofs.lemmas.Result.{err_from_is_err_and}
 use Rattle.base_bytes.specs.declared.answers.Place.{Place}
 use Rattle.base_bytes.specs.declared.answers.Reads.{Reads as FoundReads}
-use Rattle.model_base.specs.declared.key.Key.{Key}
 use Rattle.model_base.specs.declared.write.Refusal.TheVariants.{NoFamily}
-use Rattle.model_base.specs.Map.{Pairs, key_at, value_at}
+use Rattle.model_base.specs.Map.{Pairs, key_at}
 use Rattle.model_base.specs.Calls as calls
 use Rattle.model_accounts.specs.Accounts.{Reads}
 use Rattle.run_threads.proofs.ReadFamilies.{all_there, there_but_no_memory, first_is_missing, families_at, values_at}
@@ -22,7 +21,7 @@ returns-in-Some-clause-answers g c = λ pending.
       shows = refl;
       goes = c.refused_reads_are_steps.ensures.many settings v pending c.args.keys family v
           (sym (rw c.families.ensures at c.missing_family.ensures) ∙ c.in-Some.is)
-          (record { number = refl; mine = refl; ends = refl; asked = refl; attempts = refl; seen = c.earlier_sights.ensures.same v.seen });
+          (record { number = refl; mine = refl; ends = refl; asked = refl; attempts = refl; read_faults = refl; seen = c.earlier_sights.ensures.same v.seen });
     }
 
 -- there is no memory for the copies
@@ -31,7 +30,7 @@ returns-in_err-places-clause-answers g c = λ pending.
     let v = g.E.Engine.account c.args.client.now in
     let exit = err_from_is_err_and c.from_residual.result c.from_residual.ensures.1 in
     rw exit.1 (record {
-      keeps = record { number = refl; mine = refl; ends = refl; asked = refl; attempts = refl; seen = c.earlier_sights.ensures.same v.seen };
+      keeps = record { number = refl; mine = refl; ends = refl; asked = refl; attempts = refl; read_faults = refl; seen = c.earlier_sights.ensures.same v.seen };
       may = λ shown. sym (rw c.families.ensures at c.missing_family.ensures) ∙ c.in_default.is;
     })
 

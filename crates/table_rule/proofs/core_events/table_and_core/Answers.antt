@@ -1,4 +1,4 @@
-use Rattle.table_rule.proofs.CoreLaws.{launches_core, inserts_core, finishes_core, publishes_core, exits_core, reads_core, stays_core, others_core}
+use Rattle.table_rule.proofs.CoreLaws.{launches_core, inserts_core, finishes_core, publishes_core, exits_core, exit_of_read_core, reads_core, stays_core, others_core}
 use Rattle.table_rule.proofs.core_events.table_and_core.Goals as goal
 
 pub returns-clause-launch : goal.returns-clause-launch
@@ -15,6 +15,9 @@ returns-clause-publish c start o team s a b m client is publish last = publishes
 
 pub returns-clause-exit : goal.returns-clause-exit
 returns-clause-exit c start o team s a client is mode published leads = exits_core start o team s a client is mode published leads
+
+pub returns-clause-exit_of_read : goal.returns-clause-exit_of_read
+returns-clause-exit_of_read c start o team s t a client is came same = exit_of_read_core start o team s t a client is came same
 
 pub returns-clause-read : goal.returns-clause-read
 returns-clause-read c start o team s a b found client is read reads = reads_core start o team s a b found client is read reads

@@ -33,7 +33,7 @@ serve-requires-clause-served g c =
     let few = c.group.ensures.few in
     let by_number : own.by ≡ v.number = G.2.1 ∙ (c.group.ensures.client ∙ S.number) in
     let replies = S.can_lead.lists.1 in
-    let led : IsLedGroup (bound_of e.list) n c.group.new.requests.list.items = subst (IsLedGroup (bound_of e.list) n) (sym G.3) (led_of c.codes_stand_for_items.ensures (λ q code h. h.0) (bound_of e.list) n own G.0 G.1 G.2.4 low high G.2.3) in
+    let led : IsLedGroup (bound_of e.list) n c.group.new.requests.list.items = subst (IsLedGroup (bound_of e.list) n) (sym G.3) (led_of c.codes_stand_for_items.ensures (λ q code h. h.0) (bound_of e.list) n own G.0 G.1 L.3 G.2.4 low high G.2.3) in
     record {
       seats = record {
         is_engine = S.is_engine;
@@ -68,11 +68,11 @@ returns-clause-ends g c =
     let E = S.is_engine in let about = about_of e.list in
     let belongs = c.group.ensures.group.0 in let G = c.group.ensures.group.1 L.0 L.1 L.2 in let own : QueuedWriter Request = L.0 in
     let w = c.serve.new.client in let served = c.serve.ensures.served in let leadership = c.serve.result.0 in
-    let parts = w.layout.parts.parts in let st = L.5 in
+    let parts = w.layout.parts.parts in let st = L.6 in
     let hs = c.serve.ensures.leadership L.1 st in
     let pub_now = published_with c.serve.result.1 parts st.published in
     let led = has_led about leadership pub_now own G.0 L.1 c.group.new.requests.list.items w.lists.replies.list.items G.3 served.in_order
-    hs.path (of_list g.Versions.Table e E.controller E.start L.1 L.4) served.handed_back (shown_as e.controller about.controller.value (handled_with c.group.new.requests.list.items w.lists.replies.list.items) (sym E.controller) served.shown) in
+    hs.path (of_list g.Versions.Table e E.controller E.start L.1 L.5) served.handed_back (shown_as e.controller about.controller.value (handled_with c.group.new.requests.list.items w.lists.replies.list.items) (sym E.controller) served.shown) in
     let t = led.is_paid in let all = all_answers own t.own_reply t.gs in
     let mine : answers_told c.group.new.writer ≡ answers_told v.writer = group_told (wanted_in e.list) n (bound_of e.list) own G.0 G.1 L.1 (answers_told v.writer) c.group.new.writer G.2 in
     let keeps = served.writer in
@@ -100,15 +100,15 @@ returns-clause-ends g c =
       told_is = told1;
       heads_are = t.heads_are;
       pays_are = t.pays_are;
-      before = of_list g.Versions.Table e E.controller E.start L.1 L.4;
+      before = of_list g.Versions.Table e E.controller E.start L.1 L.5;
       kept = led.kept;
       last_is = led.number ∙ ap (λ (k : ℕ). last_run run_of k (L.1 ++ all)) start_is;
-      own_now = own_now v.number own G.0 w.lists.replies.list.items t L.1 (answers_told v.writer) (L.2.1 ∙ S.number) G.2.4.1 L.3;
+      own_now = own_now v.number own G.0 w.lists.replies.list.items t L.1 (answers_told v.writer) (L.2.1 ∙ S.number) G.2.4.1 L.4;
       requests = (w.lists.requests.list.ok.0 ∙ ap length served.taken, served.taken, subst (λ (k : ℕ). n ≤ k) (sym requests_room) S.can_lead.lists.0.2);
       replies_few = subst (λ (k : ℕ). k ≤ n) (sym (w.lists.replies.list.ok.0 ∙ l)) few;
       replies_room = subst (λ (k : ℕ). n ≤ k) (sym served.replies_room) S.can_lead.lists.1.2;
       room = served.walk_room;
-      has_asked = asked_own v.number (answers_told v.writer) (answers_told v.writer ++ (own.asked, t.own_reply) ∷ []) own.asked t.own_reply (seen_by v.pass) (seen_by w.pass) served.known refl c.requires.has_asked served.delays own_at;
+      has_asked = asked_own v.number (answers_told v.writer) (answers_told v.writer ++ (own.asked, t.own_reply) ∷ []) own.asked t.own_reply (seen_by v.pass) (seen_by w.pass) served.known L.3 refl c.requires.has_asked served.delays own_at;
     } in
     let now : LeadershipIsStaged g.Versions.Table about leadership c.serve.result.1 parts st.published (L.1 ++ all) = record { note = hs.note; path = led.path; turn = hs.turn } in
     (own, L.1, L.2, to_end g.Versions.Table e v.number v.start (answers_told v.writer) own L.1 w leadership answered c.args.leadership st c.serve.ensures.turn G.2.3 c.group.new.requests.list.items G.3 t.answers_are c.serve.result.1 now c.serve.ensures.staged c.serve.ensures.beside)

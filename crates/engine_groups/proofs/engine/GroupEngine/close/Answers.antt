@@ -6,13 +6,14 @@ use Rattle.table_calls.specs.Account.{IsReady, IsClosing as IsTableClosing}
 use Rattle.line_writers.specs.Seats.{bound_of, about_of, piped_of, table_of, clients_of, AllOut, AllThere, Merged}
 use Rattle.engine_controller.specs.Passes.{seen_by_note, IsHistoryOf, IsNoteOf}
 use Rattle.model_accounts.specs.Closing.{HasOneTrace, all_attempts}
-use Rattle.engine_rule.specs.Consistent.{AreAccountsOf, Standing}
+use Rattle.engine_rule.specs.Consistent.{AreAccountsOf, AreReadsRight, Standing}
+use Rattle.engine_rule.specs.Reading.{answers_in, reads_in}
 use Rattle.engine_rule.specs.Entries.{trace_of}
 use Rattle.engine_groups.specs.declared.leader.Held.{Held}
-use Rattle.engine_groups.specs.Clients.{map_at_opening, account_in, opened_log, settings_of}
-use Rattle.engine_parts.specs.Handled.{commit_of}
+use Rattle.engine_groups.specs.Clients.{map_at_opening, account_in, had_in, opened_log, settings_of}
+use Rattle.engine_parts.specs.Handled.{commits_in, reads_handled}
 use Rattle.engine_groups.proofs.engine.GroupEngine.close.Goals as goal
-use Rattle.engine_groups.proofs.Ending.{accounts_number, all_out, all_passes, all_there, are_calls, is_engine, parts, passes_number, seats_ready, written_by}
+use Rattle.engine_groups.proofs.Ending.{accounts_number, all_out, all_passes, all_there, are_calls, is_engine, parts, passes_number, right_where, seats_ready, written_by}
 use Rattle.engine_groups.proofs.Finally.{ends_at, ends_with, one_place}
 use Rattle.engine_parts.proofs.Serves.{stands_by}
 use Rattle.table_rule.specs.declared.content.MemberVersions.{MemberVersions}
@@ -75,14 +76,14 @@ close-requires-clause-clients g c =
     (seats_ready g.Versions.Table e c.args.clients.clients.items c.requires.all)
 
 pub returns : goal.returns
-returns g c =
+returns g c kept had =
     let meaning = g.Versions.Table in
     let e = c.args.self in let cs = c.args.clients.clients.items in let all = c.requires.all in
     let L = c.close-leadership.ensures in let leadership = c.close-leadership.result.0 in
     let set = is_engine meaning e cs all in
     let settings = settings_of meaning e in let accounts = map (account_in meaning) cs in
     let start : ℕ = (meaning.opening e.table).start in let fault = fault_of leadership.held.value.path.log in let asked = seen_by_note leadership.asked in
-    let commits = map commit_of L.0 in let published = g.Versions.Table.history c.one_turn-turn.result in let right = c.close-leadership.result.1 in let about = about_of e.list in
+    let commits = commits_in L.0 in let published = g.Versions.Table.history c.one_turn-turn.result in let right = c.close-leadership.result.1 in let about = about_of e.list in
     let ends = ends_with g.Versions.Table about leadership L.0 right (piped_of e.list) set.pipelined L.1.0 L.1.1 L.2 L.3 in
     let at = ends_at g.Versions.Table about leadership L.0 leadership.turn right.turn c.one_turn-turn.result ends c.one_turn-turn.ensures in
     let stands = stands_by our_log as_is about.opened.value leadership.held.value.path.log published leadership.held.value.path.last tt tt about.start start about.clients (clients_of e.list) about.group_bytes (bound_of e.list) asked asked L.0 refl set.start set.about_clients set.group_bytes refl at.1 in
@@ -90,22 +91,29 @@ returns g c =
     let seen = subst (λ (ss : List _). IsTableClosing start published (map meaning.account ss)) c.part_all.ensures.seats c.close.ensures in
     let ended = c.end_controller.ensures in let calls = ended.0 in
     let whole = subst (λ (ps : List _). IsHistoryOf ps calls) c.part_all.ensures.passes ended.1 in
-    let rose = (g.met.Log.GroupLog.cause (opened_log e).log leadership.held.value.path.log.log stands.calls set.no_fault stands.wrote).rose in
     let number = accounts_number meaning e cs all in
     let own = parts meaning e cs all calls whole L.0 published merged seen in
     let standing : Standing = record {
       asked = asked;
       commits = commits;
+      reads = reads_handled L.0;
       last = leadership.held.value.path.last;
       fault = fault;
       published = published;
       calls = stands.calls;
     } in
     let theirs : AreAccountsOf settings standing calls accounts = record { all = number; each = own } in
-    let closed = c.closings.ensures.closing settings (faults_of (leadership.held.value.path.log)) standing calls accounts stands.consistent theirs whole.legal (are_calls meaning e cs all calls whole) ended.2 rose in
-    let wrote = c.closings.ensures.log settings standing calls accounts stands.consistent theirs in subst (λ (h : Held _ _ _). HasOneTrace settings (faults_of (h.path.log)) accounts h.path.last (fault_of h.path.log) (λ made. Wrote (opened_log e) made h.path.log)) (sym c.into_inner-log.ensures) (
-      trace_of start (map_at_opening meaning e.table) commits stands.consistent.written.parts.parts calls,
+    let right : AreReadsRight settings kept (faults_of leadership.held.value.path.log) standing = record {
+      right = right_where (had_in meaning e) kept leadership.held.value.path.last stands.calls (reads_in (answers_in (reads_handled L.0))) had stands.right;
+      of_clients = stands.readers;
+      rose = stands.counted.rose;
+      own = stands.counted.own;
+      counted = stands.counted.no_fault;
+    } in
+    let closed = c.closings.ensures.closing settings kept (faults_of (leadership.held.value.path.log)) standing calls accounts stands.consistent theirs whole.legal (are_calls meaning e cs all calls whole) ended.2 right in
+    let wrote = c.closings.ensures.log settings kept standing calls accounts stands.consistent theirs in subst (λ (h : Held _ _ _). HasOneTrace settings kept (faults_of (h.path.log)) accounts h.path.last (fault_of h.path.log) (λ made. Wrote (opened_log e) made h.path.log)) (sym c.into_inner-log.ensures) (
+      trace_of start (map_at_opening meaning e.table) kept commits stands.consistent.written.parts.parts calls,
       closed.0,
       closed.1,
-      written_by (bound_of e.list) (λ made. Wrote (opened_log e) made leadership.held.value.path.log) stands.calls (trace_of start (map_at_opening meaning e.table) commits stands.consistent.written.parts.parts calls) (all_attempts accounts) fault stands.wrote wrote,
+      written_by (bound_of e.list) (λ made. Wrote (opened_log e) made leadership.held.value.path.log) stands.calls (trace_of start (map_at_opening meaning e.table) kept commits stands.consistent.written.parts.parts calls) (all_attempts accounts) fault stands.wrote wrote,
     )

@@ -1,4 +1,4 @@
-use Rattle.std.proofs.Common.{◌≡◌, ℕ, List, Some, sym, ap, ◌∙◌, subst}
+use Rattle.std.proofs.Common.{ℕ, List, Some, sym, ap, ◌∙◌, subst}
 use Rattle.line_writers.specs.Seats.{IsIn, answers_told}
 use Rattle.engine_controller.specs.Passes.{seen_by}
 use Rattle.engine_parts.specs.declared.requests.Request.{Request}

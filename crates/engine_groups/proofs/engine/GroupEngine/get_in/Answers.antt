@@ -1,4 +1,4 @@
-use Rattle.std.proofs.Common.{◌≡◌, List, [], ◌∷◌, map, Ok, sym, ◌∙◌}
+use Rattle.std.proofs.Common.{◌≡◌, [], ◌∷◌, Ok, sym, ◌∙◌}
 use Rattle.base_bytes.specs.Answers.{found_value}
 use Rattle.base_bytes.specs.declared.answers.Read.{Read}
 use Rattle.model_base.specs.Map.{key_at, value_at}

@@ -1,4 +1,4 @@
-use Rattle.std.proofs.Common.{◌≡◌, List, [], ◌∷◌, map, Ok, sym, ◌∙◌}
+use Rattle.std.proofs.Common.{◌≡◌, map, Ok, sym, ◌∙◌}
 use Rattle.base_bytes.specs.declared.answers.Place.{Place}
 use Rattle.base_bytes.specs.declared.answers.Reads.{Reads}
 use Rattle.model_base.specs.Map.{key_at, value_at}

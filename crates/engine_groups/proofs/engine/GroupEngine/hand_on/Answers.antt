@@ -1,4 +1,4 @@
-use Rattle.std.proofs.Common.{◌≤◌, ◌≡◌, ◌+◌, ℕ, [], ◌∷◌, ◌++◌, map, None, length, inr, refl, sym, ap, ◌∙◌, subst}
+use Rattle.std.proofs.Common.{◌≤◌, ◌≡◌, ◌+◌, ℕ, List, [], ◌∷◌, ◌++◌, None, length, inr, refl, sym, ap, ◌∙◌, subst}
 use Rattle.table_rule.specs.Histories.{Runs, last_of, versions_in}
 use Rattle.table_tree.specs.Parts.{group_of}
 use Rattle.table_tree.specs.declared.parts.MemberNodes.{MemberNodes}
@@ -10,12 +10,22 @@ use Rattle.line_writers.specs.Roles.{AreMembers}
 use Rattle.line_writers.specs.Seats.{bound_of, about_of, clients_of, answers_told}
 use Rattle.engine_rule.specs.Commits.{AreAnswered, last_after_all}
 use Rattle.engine_stage_laws.specs.Served.{AreServed}
-use Rattle.engine_parts.specs.Handled.{commit_of}
+use Rattle.engine_parts.specs.Handled.{commits_in}
 use Rattle.engine_parts.specs.Runs.{run_of}
 use Rattle.engine_groups.proofs.LeftClients.{has_answered, left_client, roomy}
-use Rattle.engine_groups.proofs.Onto.{has_turn, serves_again, served_last, served_now, turn_out}
-use Rattle.engine_parts.proofs.Standing.{none_of}
+use Rattle.engine_groups.proofs.Onto.{has_turn, named_now, serves_again, served_last, served_now, turn_out}
+use Rattle.engine_parts.proofs.Standing.{history_end, none_of}
+use Rattle.engine_controller.specs.Passes.{seen_by_note}
+use Rattle.engine_rule.specs.Consistent.{EndsAreNamed}
+use Rattle.table_rule.specs.declared.content.MemberVersions.{MemberVersions}
 use Rattle.engine_groups.proofs.engine.GroupEngine.hand_on.Goals as goal
+
+-- takes the place of a table's `our_turn`, where only the log matters
+abbrev our_log : Unit {0} → List (List MemberVersions) → Type 0
+our_log t u = Unit {0}
+
+abbrev as_is : List (List MemberVersions) → List (List MemberVersions)
+as_is u = u
 
 pub exit_pipelined-requires-clause-group : goal.exit_pipelined-requires-clause-group
 exit_pipelined-requires-clause-group g c =
@@ -65,8 +75,8 @@ lead-turn-requires-clause-ours g c =
     let t = turn_out g.Versions.Table about n d from to (answers_told w.writer) c.await_pipelined_role.new.writer c.await_pipelined_role.result c.turn_in-turn.result c.turn_in-turn.ensures H in
     let home = g.Versions.Table.opening e.table in
     let start_is = l.seats.is_engine.start in
-    let answered = subst (λ (k : ℕ). AreAnswered k None (map commit_of seen)) start_is l.before.answered in
-    let last_is : last_of home.start (g.Versions.Table.history c.turn_in-turn.result) ≡ last_after_all home.start (map commit_of seen) = served_last home.start seen (g.Versions.Table.history c.turn_in-turn.result) l.before.handed_back answered t.1 in
+    let answered = subst (λ (k : ℕ). AreAnswered k None (commits_in seen)) start_is l.before.answered in
+    let last_is : last_of home.start (g.Versions.Table.history c.turn_in-turn.result) ≡ last_after_all home.start (commits_in seen) = served_last home.start seen (g.Versions.Table.history c.turn_in-turn.result) l.before.handed_back answered t.1 in
     (l.seats.seat, subst (λ k. g.Versions.Table.our_turn k c.turn_in-turn.result) l.seats.is_engine.table t.0, l.seats.ready)
 
 pub lead-turn-requires-clause-next : goal.lead-turn-requires-clause-next
@@ -81,8 +91,8 @@ lead-turn-requires-clause-next g c =
     let t = turn_out g.Versions.Table about n d from to (answers_told w.writer) c.await_pipelined_role.new.writer c.await_pipelined_role.result c.turn_in-turn.result c.turn_in-turn.ensures H in
     let home = g.Versions.Table.opening e.table in
     let start_is = l.seats.is_engine.start in
-    let answered = subst (λ (k : ℕ). AreAnswered k None (map commit_of seen)) start_is l.before.answered in
-    let last_is : last_of home.start (g.Versions.Table.history c.turn_in-turn.result) ≡ last_after_all home.start (map commit_of seen) = served_last home.start seen (g.Versions.Table.history c.turn_in-turn.result) l.before.handed_back answered t.1 in
+    let answered = subst (λ (k : ℕ). AreAnswered k None (commits_in seen)) start_is l.before.answered in
+    let last_is : last_of home.start (g.Versions.Table.history c.turn_in-turn.result) ≡ last_after_all home.start (commits_in seen) = served_last home.start seen (g.Versions.Table.history c.turn_in-turn.result) l.before.handed_back answered t.1 in
     (subst (λ (m : ℕ). Runs m (versions_in (group_of w.layout.parts.parts))) (sym last_is) h.parts.may.runs, h.parts.may.some, h.parts.may.members)
 
 pub lead-turn-requires-clause-parts : goal.lead-turn-requires-clause-parts
@@ -102,8 +112,8 @@ lead-turn-requires-clause-end g c =
     let t = turn_out g.Versions.Table about n d from to (answers_told w.writer) c.await_pipelined_role.new.writer c.await_pipelined_role.result c.turn_in-turn.result c.turn_in-turn.ensures H in
     let home = g.Versions.Table.opening e.table in
     let start_is = l.seats.is_engine.start in
-    let answered = subst (λ (k : ℕ). AreAnswered k None (map commit_of seen)) start_is l.before.answered in
-    let last_is : last_of home.start (g.Versions.Table.history c.turn_in-turn.result) ≡ last_after_all home.start (map commit_of seen) = served_last home.start seen (g.Versions.Table.history c.turn_in-turn.result) l.before.handed_back answered t.1 in
+    let answered = subst (λ (k : ℕ). AreAnswered k None (commits_in seen)) start_is l.before.answered in
+    let last_is : last_of home.start (g.Versions.Table.history c.turn_in-turn.result) ≡ last_after_all home.start (commits_in seen) = served_last home.start seen (g.Versions.Table.history c.turn_in-turn.result) l.before.handed_back answered t.1 in
     (h.parts.may.ends ∙ ap (λ (m : ℕ). m + length (versions_in (group_of w.layout.parts.parts))) (sym last_is), c.ranges.end.fits)
 
 pub exit_memtable-requires-clause-serves : goal.exit_memtable-requires-clause-serves
@@ -118,11 +128,14 @@ exit_memtable-requires-clause-serves g c =
     let t = turn_out g.Versions.Table about n d from to (answers_told w.writer) c.await_pipelined_role.new.writer c.await_pipelined_role.result c.turn_in-turn.result c.turn_in-turn.ensures H in
     let home = g.Versions.Table.opening e.table in
     let start_is = l.seats.is_engine.start in
-    let answered = subst (λ (k : ℕ). AreAnswered k None (map commit_of seen)) start_is l.before.answered in
-    let last_is : last_of home.start (g.Versions.Table.history c.turn_in-turn.result) ≡ last_after_all home.start (map commit_of seen) = served_last home.start seen (g.Versions.Table.history c.turn_in-turn.result) l.before.handed_back answered t.1 in
-    let kept = subst (λ (k : ℕ). AreAnswered k None (map commit_of (seen ++ all))) start_is l.kept.answered in
+    let answered = subst (λ (k : ℕ). AreAnswered k None (commits_in seen)) start_is l.before.answered in
+    let last_is : last_of home.start (g.Versions.Table.history c.turn_in-turn.result) ≡ last_after_all home.start (commits_in seen) = served_last home.start seen (g.Versions.Table.history c.turn_in-turn.result) l.before.handed_back answered t.1 in
+    let kept = subst (λ (k : ℕ). AreAnswered k None (commits_in (seen ++ all))) start_is l.kept.answered in
     let now = served_now home.start seen all (g.Versions.Table.history c.turn_in-turn.result) (group_of w.layout.parts.parts) l.before.handed_back answered l.kept.handed_back kept h.parts.made t.1 in
-    let published = subst (AreServed (map commit_of to)) (sym c.lead-turn.ensures.published) now in (
+    let published = subst (AreServed (commits_in to)) (sym c.lead-turn.ensures.published) now in
+    let covers = h.leaves.covers in let logged = covers.path.consistent in
+    let ends = history_end our_log as_is tt about.opened.value about.start about.clients about.group_bytes (seen_by_note c.args.leadership.asked) c.args.leadership.held.value.path.log covers.published c.args.leadership.held.value.path.last (seen ++ all) covers.path ∙ logged.last_is in
+    let named = named_now about.start seen all (g.Versions.Table.history c.turn_in-turn.result) covers.published (group_of w.layout.parts.parts) l.kept.handed_back l.kept.answered now ends logged.named t.2 in (
       c.lead-turn.ensures.client.1,
       (
         d,
@@ -130,7 +143,8 @@ exit_memtable-requires-clause-serves g c =
         to,
         answers_told w.writer,
         c.lead-turn.ensures.leads d from to (answers_told w.writer) H.has_right,
-        serves_again g.Versions.Table about.table.value about.pipelined to c.lead-turn.result piped (subst (λ k. g.Versions.Table.our_turn k c.lead-turn.result) (sym l.seats.is_engine.table) c.lead-turn.ensures.ours.1) published,
+        serves_again g.Versions.Table about.table.value about.start about.pipelined to c.lead-turn.result piped (subst (λ k. g.Versions.Table.our_turn k c.lead-turn.result) (sym l.seats.is_engine.table) c.lead-turn.ensures.ours.1) published
+            (subst (EndsAreNamed about.start (commits_in to)) (sym c.lead-turn.ensures.published) named),
         sent.1,
       ),
     )

@@ -27,3 +27,8 @@ returns-clause-answered g c number start mine own seen s =
     let l = s.led in let e = c.args.self.now in let w = c.args.client.now in let x = c.exit.ensures in
     let out = x.out.2 (bound_of e.list) own l.group l.left seen l.gs l.p l.has l.heads_are l.pays_are in
     has_answered g.Versions.Table e number start mine own seen w c.args.leadership.held.value.path.last l c.exit.result _ (out.0 ∙ (λ i. l.told_is i ++ (own.asked, l.p) ∷ [])) out.1
+
+pub returns-clause-reply : goal.returns-clause-reply
+returns-clause-reply g c number start mine own seen s =
+    let l = s.led in let x = c.exit.ensures in
+    (x.out.2 (bound_of c.args.self.now.list) own l.group l.left seen l.gs l.p l.has l.heads_are l.pays_are).1

@@ -63,7 +63,7 @@ open-requires-clause-log g c =
     let last = c.args.options.last in let about = c.start_with-start.result.about in let made = c.start_with-start.ensures in
     let first = c.groups_stay_consistent.ensures.first last about.clients about.group_bytes in let note = c.first_note.ensures.note in
     let fresh = stands_first our_log as_is tt c.args.held.value.path.log last about.clients about.group_bytes [] (seen_by_note c.first_note.result) first tt refl c.requires.log.0 note.1 (g.met.Log.GroupLog.no_call c.args.held.value.path.log.log) in
-    let t = turn_first g.Versions.Table c.args.table c.args.seats.turn c.requires.turn.0 c.requires.turn.1 c.part_turn-with_log.result.0 c.part_turn-with_log.result.1 c.args.pipelined c.part_turn-with_log.ensures.single c.part_turn-with_log.ensures.piped in
+    let t = turn_first g.Versions.Table c.args.table last c.args.seats.turn c.requires.turn.0 c.requires.turn.1 first.named c.part_turn-with_log.result.0 c.part_turn-with_log.result.1 c.args.pipelined c.part_turn-with_log.ensures.single c.part_turn-with_log.ensures.piped in
     let opened = subst (λ z. LogCovers z last about.clients about.group_bytes (seen_by_note c.first_note.result) c.args.held.value.path.log [] last []) (sym (made.engine.2 ∙ ap (λ (h : Held _ _ _). h.path.log) c.deref.ensures)) fresh in
     let staged = subst (λ b. TurnIs g.Versions.Table c.args.table b [] c.part_turn-with_log.result.0) (sym made.numbers.3) t.0 in (
       record {
@@ -77,10 +77,12 @@ open-requires-clause-log g c =
 
 pub open-requires-clause-numbers : goal.open-requires-clause-numbers
 open-requires-clause-numbers g c =
-    let about = c.start_with-start.result.about in let made = c.start_with-start.ensures in
-    let t = turn_first g.Versions.Table c.args.table c.args.seats.turn c.requires.turn.0 c.requires.turn.1 c.part_turn-with_log.result.0 c.part_turn-with_log.result.1 c.args.pipelined c.part_turn-with_log.ensures.single c.part_turn-with_log.ensures.piped in
-    let staged = subst (λ b. ServesIs g.Versions.Table c.args.table b [] c.part_turn-with_log.result.1) (sym made.numbers.3) t.1 in
-    (c.requires.log.1 ∙ sym made.list.1, subst (λ k. ServesIs g.Versions.Table k about.pipelined [] c.part_turn-with_log.result.1) (sym made.engine.0) staged)
+    let last = c.args.options.last in let about = c.start_with-start.result.about in let made = c.start_with-start.ensures in
+    let first = c.groups_stay_consistent.ensures.first last about.clients about.group_bytes in
+    let t = turn_first g.Versions.Table c.args.table last c.args.seats.turn c.requires.turn.0 c.requires.turn.1 first.named c.part_turn-with_log.result.0 c.part_turn-with_log.result.1 c.args.pipelined c.part_turn-with_log.ensures.single c.part_turn-with_log.ensures.piped in
+    let staged = subst (λ b. ServesIs g.Versions.Table c.args.table last b [] c.part_turn-with_log.result.1) (sym made.numbers.3) t.1 in
+    let started = subst (λ n. ServesIs g.Versions.Table c.args.table n about.pipelined [] c.part_turn-with_log.result.1) (sym made.numbers.0) staged in
+    (c.requires.log.1 ∙ sym made.list.1, subst (λ k. ServesIs g.Versions.Table k about.start about.pipelined [] c.part_turn-with_log.result.1) (sym made.engine.0) started)
 
 pub seat_all-clients-requires-clause-engine : goal.seat_all-clients-requires-clause-engine
 seat_all-clients-requires-clause-engine g c =
@@ -182,7 +184,7 @@ returns-in-Ok-clause-engine g c =
       (λ i. record {
         start = sym options.0 i;
         opening = map_at_opening g.Versions.Table c.args.table;
-        kept = [];
+        kept = None;
         clients = count i;
         families = c.args.options.families;
         group_bytes = (ok.5 ∙ made.list.3) i;

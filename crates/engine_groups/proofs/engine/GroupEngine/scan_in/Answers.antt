@@ -1,4 +1,4 @@
-use Rattle.std.proofs.Common.{◌≡◌, List, [], ◌∷◌, map, Ok, sym, ◌∙◌}
+use Rattle.std.proofs.Common.{◌≡◌, [], ◌∷◌, Ok, sym, ◌∙◌}
 use Rattle.base_bytes.specs.declared.answers.Rows.{Rows}
 use Rattle.model_base.specs.Map.{rows_within}
 use Rattle.model_base.specs.declared.write.ReadRefused.{ReadRefused}

@@ -1,10 +1,14 @@
-use Rattle.std.proofs.Common.{◌≡◌, ℕ, ◌<◌, ◌≤◌, [], ◌∷◌, refl, sym, ap, ◌∙◌, subst}
+use Rattle.std.proofs.Common.{◌≡◌, ℕ, ◌<◌, ◌≤◌, List, [], ◌∷◌, refl, sym, ap, ◌∙◌, subst}
+use Rattle.std.specs.List.{AllByRecursion}
 use Rattle.line_rule.specs.declared.view.LineStage.TheVariants.{Idle}
 use Rattle.line_rule.specs.Rule.{hold}
 use Rattle.line_writers.specs.Seats.{answers_told, told_in_first, clients_of}
 use Rattle.engine_rule.specs.Asked.{HasAsked}
 use Rattle.engine_rule.specs.Entries.{account_of}
-use Rattle.engine_groups.specs.Clients.{own_commits, map_at_opening}
+use Rattle.engine_rule.specs.Reading.{IsAtEnd, reads_in}
+use Rattle.engine_parts.specs.declared.requests.Request.{Request}
+use Rattle.engine_parts.specs.declared.requests.Answer.{Answer}
+use Rattle.engine_groups.specs.Clients.{own_answers, own_commits, map_at_opening}
 use Rattle.engine_groups.proofs.engine.GroupEngine.seat_one.Goals as goal
 
 pub returns : goal.returns
@@ -31,7 +35,8 @@ returns g c =
           out = (ap (λ m. m.0) at ∙ (λ i. hold (sym r.writer.0 i) Idle (sym none i) ∷ []), ap (λ m. m.1) at);
           has_asked = subst (HasAsked n (own_commits n (answers_told w))) (sym r.pass.unseen) tt;
         };
+        at_ends = subst (λ (mine : List (Request × Answer)). AllByRecursion (IsAtEnd (g.Versions.Table.opening c.args.self.now.table).start (g.Versions.Table.account c.args.seat).seen) (reads_in (own_answers mine))) (sym none) tt;
         envelope = refl;
       };
-      new = (λ i. account_of (r.engine.1 i) (map_at_opening g.Versions.Table (c.of.ensures i)) n (own_commits n (none i)) (r.seat.2 i) (r.pass.unseen i));
+      new = (λ i. account_of (r.engine.1 i) (map_at_opening g.Versions.Table (c.of.ensures i)) n (own_commits n (none i)) (own_answers (none i)) (r.seat.2 i) (r.pass.unseen i));
     }

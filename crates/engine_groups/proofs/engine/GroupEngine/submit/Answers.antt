@@ -1,11 +1,11 @@
-use Rattle.std.proofs.Common.{◌≡◌, ◌⊎◌, ℕ, List, [], ◌∷◌, ◌++◌, Some, inl, inr, ⊎_elim, refl, sym, ap, ◌∙◌, subst}
+use Rattle.std.proofs.Common.{◌≡◌, ◌⊎◌, ℕ, List, [], ◌∷◌, ◌++◌, Some, is_some, inl, inr, ⊎_elim, sym, ap, ◌∙◌, subst}
 use mathlib.Core.List.{IsPrefix}
+use Rattle.model_base.specs.Batch.{size_of_batch}
 use Rattle.line_rule.specs.declared.view.LineStage.TheVariants.{Idle}
 use Rattle.line_rule.specs.Chain.{of}
 use Rattle.line_rule.specs.Rule.{hold}
 use Rattle.line_writers.specs.Roles.{HasLeft, HasReply}
 use Rattle.line_writers.specs.Seats.{answers_told, told_in_first, IsIn, IsChosen}
-use Rattle.engine_controller.specs.declared.controller.Controller.{Controller}
 use Rattle.engine_controller.specs.Passes.{seen_by}
 use Rattle.engine_rule.specs.Asked.{HasAsked}
 use Rattle.engine_rule.specs.Entries.{SeesMore}
@@ -20,6 +20,12 @@ use Rattle.engine_groups.proofs.Leads.{as_done, as_leader, asked_more, linked_to
 use Rattle.engine_groups.proofs.AtStall.{asked_on, if_err, if_ok, looks_see, seated_on}
 use Rattle.engine_groups.proofs.Still.{belongs_still, chosen_still, told_still}
 use Rattle.engine_groups.proofs.engine.GroupEngine.submit.Goals as goal
+
+pub enter-requires-clause-item : goal.enter-requires-clause-item
+enter-requires-clause-item g c =
+    let size = c.size.ensures.value ∙ ap (λ (q : Request). size_of_batch q.batch.records) c.as_request.ensures in
+    let options = ap (λ (q : Request). q.options) c.as_request-2.ensures in
+    ((λ i. record { size = size i; options = options i; alone = is_some (sym c.requires.write i) }), c.size.ensures.limit)
 
 pub returns-in-Err-clause-fits : goal.returns-in-Err-clause-fits
 returns-in-Err-clause-fits g c =
@@ -123,6 +129,7 @@ lead-requires-clause-leads g c =
       B.0,
       B.1,
       subst (λ (mine : List (Request × Answer)). IsChosen B.0 B.1 mine w3) (sym told2) (chosen_still w3 w2 still B.0 B.1 (answers_told w1) B.2),
+      ap (λ (r : Request). r.since) B.3 ∙ c.requires.write,
       ap (λ (k : ℕ). of k B.1) (sym client2) ∙ (B.5 ∙ sym told2),
       of_engine g.Versions.Table e S.is_engine.controller S.is_engine.start B.1 B.4.1,
       B.4.0,
@@ -158,7 +165,7 @@ returns-in-Done-clause-fits g c =
     } in
     let there : HasReply (kept_in list) w2.client q (answers_told w1) p w2.seat.me → IsIdle g.Versions.Table e w = λ h.
     let told2 : answers_told w2 ≡ answers_told w1 ++ (q, p) ∷ [] = ap told_in_first h.0 in
-    record { seated = seated; out = (h.0 ∙ (λ i. hold w2.client Idle (sym told2 i) ∷ []), h.1); has_asked = asked_more d.number (answers_told w1) (answers_told w2) q p (seen_by d.pass) told2 asked } in
+    record { seated = seated; out = (h.0 ∙ (λ i. hold w2.client Idle (sym told2 i) ∷ []), h.1); has_asked = asked_more d.number (answers_told w1) (answers_told w2) q p (seen_by d.pass) c.requires.write told2 asked } in
     let left : HasLeft (dropped_in list) w2.client q (answers_told w1) p w2.seat.me → IsIdle g.Versions.Table e w = λ h.
     let told2 : answers_told w2 ≡ answers_told w1 = ap told_in_first h.0 in
     record {

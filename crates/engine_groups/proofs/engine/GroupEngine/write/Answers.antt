@@ -9,12 +9,12 @@ use Rattle.engine_calls.specs.declared.answers.Refused.{Refused}
 use Rattle.model_accounts.specs.Accounts.{Refuses}
 use Rattle.engine_rule.specs.Entries.{account_of}
 use Rattle.engine_rule.proofs.Own.{refused_looked}
-use Rattle.engine_groups.specs.Clients.{IsAnsweredInGroup, IsLeftOut, map_at_opening, account_in, opened_log, own_commits, settings_of}
+use Rattle.engine_groups.specs.Clients.{IsAnsweredInGroup, IsLeftOut, map_at_opening, account_in, opened_log, own_answers, own_commits, settings_of}
 use Rattle.engine_parts.specs.declared.requests.Request.{Request}
 use Rattle.engine_parts.specs.declared.requests.Answer.{Answer}
 use Rattle.engine_groups.proofs.Answered.{above_seen, begins_on, begins_self, impatient_if, none_is, refuses_early, refuses_late}
 use Rattle.engine_groups.proofs.ClientMoves.{envelope_moved, no_delays, pass_moved, same_tokens, seat_moved}
-use Rattle.engine_groups.proofs.Concluding.{concludes_either, note_is}
+use Rattle.engine_groups.proofs.Concluding.{concludes_either, ends_joined, note_is}
 use Rattle.engine_groups.proofs.engine.GroupEngine.write.Goals as goal
 
 pub returns-in-Some-clause-err : goal.returns-in-Some-clause-err
@@ -45,8 +45,8 @@ returns-then-stopping-clause-err g c =
     let ends = subst (λ k. EndsWith k (seen_by v.pass) look (Some (look_of c.look-look.result)) (seen_by c.look-look.new.pass)) S.pass_number L.asked in
     let impatient = impatient_if settings.families settings.batch_bytes records how (subst (λ (b : Bool). early_refusal settings.families settings.batch_bytes b records how ≡ None) held passed) in
     let seen = (g.Versions.Table.account v.seat).seen in
-    let refused = refused_looked v.start (map_at_opening g.Versions.Table v.table.value) v.number (own_commits v.number (answers_told v.writer)) records how seen seen (seen_by v.pass) (seen_by c.look-look.new.pass) (look_of c.look-look.result) (begins_self seen) held ends impatient (inl some) in
-    subst (λ (r : Refused). Refuses settings (account_in g.Versions.Table v) records how r.why (account_of v.start (map_at_opening g.Versions.Table v.table.value) v.number (own_commits v.number (answers_told v.writer)) seen (seen_by c.look-look.new.pass))) (sym c.refused_by.ensures)
+    let refused = refused_looked v.start (map_at_opening g.Versions.Table v.table.value) v.number (own_commits v.number (answers_told v.writer)) (own_answers (answers_told v.writer)) records how seen seen (seen_by v.pass) (seen_by c.look-look.new.pass) (look_of c.look-look.result) (begins_self seen) held ends impatient (inl some) in
+    subst (λ (r : Refused). Refuses settings (account_in g.Versions.Table v) records how r.why (account_of v.start (map_at_opening g.Versions.Table v.table.value) v.number (own_commits v.number (answers_told v.writer)) (own_answers (answers_told v.writer)) seen (seen_by c.look-look.new.pass))) (sym c.refused_by.ensures)
     (refuses_late settings (account_in g.Versions.Table v) records how _ _ passed (inr refused))
 
 pub submit-requires-clause-client : goal.submit-requires-clause-client
@@ -57,7 +57,14 @@ submit-requires-clause-client g c =
 
 pub see-requires-clause-client : goal.see-requires-clause-client
 see-requires-clause-client g c =
-    record { idle = envelope_moved g.Versions.Table c.args.self.now c.submit.new.client (Some tt) c.submit.ensures.fits; envelope = refl }
+    let v = c.args.client.now in let e = c.args.self.now in let L = c.last-shown in
+    let loaded = seat_moved g.Versions.Table e v c.requires L.new.seat L.ensures.ours L.ensures.seen in
+    let v1 = record v { seat = L.new.seat; envelope = c.take.new.self } in
+    record {
+      idle = envelope_moved g.Versions.Table e c.submit.new.client (Some tt) c.submit.ensures.fits;
+      at_ends = ends_joined g.Versions.Table e.controller (opened_log e) (g.Versions.Table.opening e.table).start c.ask.result c.submit.result v1 c.submit.new.client c.submit.ensures.answered (ap (λ (q : Request). q.since) c.ask.ensures) c.submit.ensures.seen.0 loaded.at_ends;
+      envelope = refl;
+    }
 
 pub see-requires-clause-note : goal.see-requires-clause-note
 see-requires-clause-note g c =
@@ -83,5 +90,8 @@ returns g c =
     let before = (g.Versions.Table.account v.seat).seen in let between = (g.Versions.Table.account w1.seat).seen in let now = (g.Versions.Table.account w2.seat).seen in
     let sees = begins_on before between now (begins_on before loaded between L.ensures.seen.seen c.submit.ensures.seen.0) E.seen.0 in
     let above = above_seen v.start start L.result before loaded p.answer S.start L.ensures.seen.seen L.ensures.value c.await_above.ensures in
-    let all = concludes_either g.Versions.Table e v L.new.seat c.take.new.self w1 w2 _ p S.start E.same.0 E.same.1 E.same.2 E.same.3 sees c.submit.ensures.seen.1 E.seen.1 E.noted E.published passed free above A in
+    let all = concludes_either g.Versions.Table e v L.new.seat c.take.new.self w1 w2 _ p S.start E.same.0 E.same.1 E.same.2 E.same.3 sees c.submit.ensures.seen.1 E.seen.1 E.noted E.published passed free above A refl in
     record { belongs = E.fits; ok = all.accepted; back = all.back; synced = all.synced; err = all.refused; unchanged = all.unchanged }
+
+pub submit-requires-clause-write : goal.submit-requires-clause-write
+submit-requires-clause-write g c = ap (λ (q : Request). q.since) c.ask.ensures

@@ -8,4 +8,4 @@ pub returns : goal.returns
 returns c =
     let q = c.in-Asked.request in
     let same = sym (request_is c.self.inside.letter.value c.self.inside.asked q (sym c.deref_mut.ensures.value ∙ c.in-Asked.is)) ∙ c.self.view_is in
-    noting_as q (Some c.args.note) (Some c.args.note) _ _ _ refl ∙ ap (λ (x : Request). record x { note = Some c.args.note }) same
+    noting_as q (Some c.args.note) (Some c.args.note) _ _ _ _ refl ∙ ap (λ (x : Request). record x { note = Some c.args.note }) same

@@ -6,7 +6,7 @@ use Rattle.model_base.specs.Calls.{Reply}
 use Rattle.model_core.specs.Core as core
 use Rattle.model_core.specs.Step as event
 use Rattle.replay_core.specs.declared.writer.Answer.{Answer}
-use Rattle.replay_core.specs.declared.writer.Answer.TheVariants.{Accepted, Refused}
+use Rattle.replay_core.specs.declared.writer.Answer.TheVariants.{Accepted, Refused, ReadAt}
 use Rattle.replay_core.specs.declared.writer.Writer.{Writer}
 use Rattle.replay_plans.specs.Plans.{records_of}
 use Rattle.replay_core.specs.Shown.{shown_writer, shown_answer, shown_reply}
@@ -22,6 +22,7 @@ no_answer s m (Some client) w = refl
 some_reply : (records : List Record) (x : Answer) → shown_answer records (Some x) ≡ Some (shown_reply records x)
 some_reply records (Accepted run) = refl
 some_reply records (Refused why) = refl
+some_reply records (ReadAt at) = refl
 
 pub returns-in_default-clause-steps : goal.returns-in_default-clause-steps
 returns-in_default-clause-steps c = λ o s is m.
@@ -67,14 +68,14 @@ returns-clause-steps c = λ o s is m.
     let client : core.Client = at.0 in
     let there : core.client_at s d ≡ Some client = client_of s d place client number at.1 in
     let busy : client.idle ≡ false = leaving_is_busy o s d client sw is there found in
-    let new : core.Client = event.after_completion client sw reply in
+    let new : core.Client = event.after_completion client sw (core.reply_told s sw.since reply) in
     let t : core.State = record (core.with_client s d new) { leaving = filter (λ (x : core.Writer). not (x.client == d)) s.leaving } in
     let comes : event.complete s d (find (λ (v : core.Writer). v.client == d) s.leaving) ≡ Some t =
     ap (event.complete s d) found ∙ ap (λ x. event.complete_with s d x sw sw.answer) there ∙ ap (event.complete_with s d (Some client) sw) answered in
     let plan = get_some plans place few in
     let seat_there : slice_get r.seats.items place ≡ Some c.index_mut.result.now = slice_get_read r.seats.items (vec_len r.seats) place c.index_mut.result.now r.seats.ok.0 (omega (arith, c.in-Some.ensures, r.one_seat_each)) c.index_mut.ensures.value in
     let before : IsClient plan.0 c.index_mut.result.now client = m.clients.each place plan.0 c.index_mut.result.now client plan.1 seat_there at.1 in
-    let after : IsClient plan.0 c.settle.new.seat new = c.settle.ensures plan.0 client sw records before busy in
+    let after : IsClient plan.0 c.settle.new.seat new = c.settle.ensures s plan.0 client sw records before busy in
     let all : AreClients plans (slice_set r.seats.items place c.settle.new.seat) (slice_set s.clients place new) = clients_set plans r.seats.items s.clients place plan.0 c.settle.new.seat new m.clients known plan.1 after in
     let P : ℕ → Type 0 = λ k. AreClients plans (slice_set r.seats.items place c.settle.new.seat) (slice_set s.clients k new) in
     let left : lines_left (slice_set s.clients (d - 1) new) ≡ lines_left s.clients = ap (λ k. lines_left (slice_set s.clients k new)) back ∙ lines_kept s.clients place client new known at.1 refl in

@@ -21,19 +21,19 @@ use Rattle.replay_plans.specs.Plans.{added_between, records_of}
 use Rattle.replay_core.specs.Shown.{shown_writer}
 use Rattle.replay_core.specs.Mirrors.{IsClient, AreClients, AreWriters, IsLine, IsClientOf, lines_left}
 use Rattle.replay_plans.specs.Ahead.{IsAhead, commit_of}
-use Rattle.replay_core.proofs.Events.{cannot_come, has_come}
+use Rattle.replay_core.proofs.Events.{cannot_come, has_come, as_step}
 use Rattle.replay_core.proofs.ClientLemmas.{clients_set, get_some, client_of}
 use Rattle.replay_core.proofs.ReadEvents.{nobody_at, fewer_left, lines_after, more_room}
 use Rattle.replay_core.proofs.SmallLemmas.{commit_small}
 use Rattle.replay_core.specs.Phases.{refusal_at, may_link_at}
 use Rattle.replay_core.proofs.LogEvents.{linked_as}
-use Rattle.replay_core.proofs.LinkEvents.{link_waits, commit_is, not_commit, records_at, lines_less, map_push, line_push, writers_push}
+use Rattle.replay_core.proofs.LinkEvents.{link_waits, commit_is, records_at, lines_less, map_push, line_push, writers_push}
 use Rattle.replay_core.proofs.SameState.{same_state}
 use Rattle.replay_core.proofs.state.State.link.Goals as goal
 
 -- a writer of these records without an answer, and an item of this size
 abbrev writer_of : ℕ → WriteOptions → List Record → core.Writer
-writer_of d how records = record { client = d; options = how; records = records; answer = None }
+writer_of d how records = record { client = d; options = how; records = records; since = None; answer = None }
 
 abbrev sized : WriteOptions → ℕ → Item
 sized how n = record { size = n; options = how; alone = false }
@@ -80,10 +80,16 @@ pub returns-in_default-next_call-clause-plans : goal.returns-in_default-next_cal
 returns-in_default-next_call-clause-plans c = refl
 
 pub returns-in_default-commit_at-clause-unchanged : goal.returns-in_default-commit_at-clause-unchanged
-returns-in_default-commit_at-clause-unchanged c = λ e. same_state c.args.self.now _ _ _ _ _ _ _
+returns-in_default-commit_at-clause-unchanged c = λ e. c.link_read.ensures.unchanged e ∙ same_state c.args.self.now _ _ _ _ _ _ _
 
 pub returns-in_default-commit_at-clause-plans : goal.returns-in_default-commit_at-clause-plans
-returns-in_default-commit_at-clause-plans c = refl
+returns-in_default-commit_at-clause-plans c = c.link_read.ensures.plans
+
+pub link_read-requires-clause-number : goal.link_read-requires-clause-number
+link_read-requires-clause-number c = omega (arith, c.in-Some.ensures)
+
+pub link_read-requires-clause-known : goal.link_read-requires-clause-known
+link_read-requires-clause-known c = omega (arith, c.in-Some.ensures)
 
 pub returns-in-Some-refusal-clause-plans : goal.returns-in-Some-refusal-clause-plans
 returns-in-Some-refusal-clause-plans c = refl
@@ -115,11 +121,7 @@ returns-in_default-commit_at-clause-steps c = λ o s is_core m.
     let same_plan : plan3 ≡ plan = cc (plan_there, plan3_there) in
     let none : option_and_then commit_of (slice_get plan a.call) ≡ None =
     ap (λ (p : ClientPlan). option_and_then commit_of (slice_get p a.call)) (sym same_plan) ∙ sym c.in_default-commit_at.ensures in
-    let ahead : core.Ahead = core.next_call client in
-    let stays : event.link o s d (core.client_at s d) ≡ None =
-    ap (event.link o s d) there ∙ ap (λ b. if b then event.link_call o s d ahead.client ahead.call else None) next.0
-    ∙ ap (event.link_call o s d ahead.client) next.1.call ∙ not_commit o s d ahead.client (slice_get plan a.call) none in
-    cannot_come _ o s _ stays (record {
+    as_step _ _ o s _ _ (ap (event.link o s d) there) (c.link_read.ensures.steps o s client plan seat (record {
       options = m.options;
       clients = m.clients;
       line = m.line;
@@ -132,7 +134,7 @@ returns-in_default-commit_at-clause-steps c = λ o s is_core m.
       log_failed = m.log_failed;
       last = m.last;
       room = record { linked = m.room.linked; items = m.room.items; second = m.room.second; entries = m.room.entries; groups = m.room.groups; group_room = m.room.group_room };
-    })
+    }) there next.0 plan_there seat_there next.1 none)
 
 pub returns-then-not-may_link-clause-steps : goal.returns-then-not-may_link-clause-steps
 returns-then-not-may_link-clause-steps c = λ o s is_core m.
@@ -338,7 +340,7 @@ returns-in-None-clause-steps c = λ o s is_core m.
     let new : core.Client = record ahead.client { idle = false } in
     let batch : Lines = record { from = a.from; to = a.call } in
     let w : Writer = c.new_writer.result in
-    let shown : core.Writer = record { client = d; options = how; records = added; answer = None } in
+    let shown : core.Writer = record { client = d; options = how; records = added; since = None; answer = None } in
     let t : core.State = record (core.with_client s d new) { queue = s.queue ++ shown ∷ [] } in
     let comes : event.link o s d (core.client_at s d) ≡ Some t = begins ∙ ap (λ b. event.when b (event.link_with o s d ahead.client how refused_by)) (sym c.may_link.ensures ∙ c.if-not-may_link.false) ∙ ap (λ x. Some (event.link_with o s d ahead.client how x)) c.in-None.is in
     let after : IsClient plan c.wait.new.seat new = c.wait.ensures plan client (subst Q same_seat is) next.0 (subst R same_seat next.1) line_there in

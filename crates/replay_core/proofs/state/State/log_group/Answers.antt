@@ -8,8 +8,8 @@ use Rattle.replay_core.specs.declared.writer.Writer.{Writer}
 use Rattle.replay_core.specs.Shown.{shown_writer, shown_entry}
 use Rattle.replay_core.specs.Mirrors.{lines_left}
 use Rattle.replay_core.specs.Leads.{leads_front}
-use Rattle.replay_core.proofs.Events.{first_fails, second_fails, both_hold}
-use Rattle.replay_core.proofs.LogEvents.{hand_of, leads_within, leads_some, built_parts, first_at, no_writer}
+use Rattle.replay_core.proofs.Events.{first_false, second_false, both_true, first_fails, second_fails, both_hold}
+use Rattle.replay_core.proofs.LogEvents.{hand_of, leads_within, leads_some, built_parts, first_at, alone_is, no_writer}
 use Rattle.replay_core.proofs.HandRuns.{log_group_is, hand_got, none_shown, some_shown, unlogged_alike, none_more, built_unanswered, built_shown, built_has_group, size_of_group}
 use Rattle.replay_core.proofs.OrdinalLemmas.{counts_after, rest_is}
 use Rattle.replay_core.proofs.RunLemmas.{append_none}
@@ -19,7 +19,25 @@ use Rattle.model_base.specs.History.{last_sequence}
 pub returns-then-not-has_built-clause-steps : goal.returns-then-not-has_built-clause-steps
 returns-then-not-has_built-clause-steps c = λ o s is_core m.
     let r = c.args.self.now in
-    first_fails _ _ _ o _ s r (log_group_is o r s c.args.client m) (sym c.has_built.ensures ∙ c.if-not-has_built.true) m
+    first_fails _ _ _ o _ s r (log_group_is o r s c.args.client m) (first_false _ _ (sym c.has_built.ensures ∙ c.if-not-has_built.true)) m
+
+pub is_alone-alone-requires : goal.is_alone-alone-requires
+is_alone-alone-requires c =
+    let r = c.args.self.now in
+    let built = built_parts r.log (leads_front c.args.client r.in_second r.in_hand r.linked.items) (sym c.has_built.ensures ∙ c.if-not-has_built.false) in
+    leads_within c.args.client r.in_second r.in_hand r.linked.items built.1
+
+pub returns-then-alone-clause-steps : goal.returns-then-alone-clause-steps
+returns-then-alone-clause-steps c = λ o s is_core m.
+    let r = c.args.self.now in
+    let built = built_parts r.log (leads_front c.args.client r.in_second r.in_hand r.linked.items) (sym c.has_built.ensures ∙ c.if-not-has_built.false) in
+    first_fails _ _ _ o _ s r (log_group_is o r s c.args.client m) (second_false _ _ (ap not (alone_is r c.args.client built.1 ∙ sym (c.is_alone-alone.ensures no_writer) ∙ c.if-alone.true))) m
+
+pub returns-then-alone-clause-unchanged : goal.returns-then-alone-clause-unchanged
+returns-then-alone-clause-unchanged c = λ e. refl
+
+pub returns-then-alone-clause-plans : goal.returns-then-alone-clause-plans
+returns-then-alone-clause-plans c = refl
 
 pub returns-then-not-has_built-clause-unchanged : goal.returns-then-not-has_built-clause-unchanged
 returns-then-not-has_built-clause-unchanged c = λ e. refl
@@ -63,7 +81,8 @@ returns-then-given-eq0-clause-steps c = λ o s is_core m.
     let none : core.entries_of s ws ≡ [] = none_more s.entries (core.entries_of s ws) back in
     let alive : not r.log_failed ≡ true = ap not c.if-self.false in
     let mid : core.State = record s { log = core.built ws } in
-    both_hold _ _ _ o _ s _ (log_group_is o r s c.args.client m) both alive (none_shown o _ s _ ws _ got.shown got.runs none (c.leave_hand.ensures.left o mid (record {
+    let writes = both_true _ _ both (ap not (alone_is r c.args.client parts.1 ∙ sym (c.is_alone-alone.ensures no_writer) ∙ c.if-alone.false)) in
+    both_hold _ _ _ o _ s _ (log_group_is o r s c.args.client m) writes alive (none_shown o _ s _ ws _ got.shown got.runs none (c.leave_hand.ensures.left o mid (record {
       options = m.options;
       clients = m.clients;
       line = got.line mid r.log refl refl (built_shown r.log ws parts.0) (built_has_group r.log parts.0);
@@ -120,7 +139,8 @@ returns-clause-steps c = λ o s is_core m.
     let group_room : vec_capacity c.give_runs-self.new.entries ≤ vec_capacity c.note_logged.new.groups =
     omega (arith, m.room.group_room, c.give_runs-self.ensures.capacity, c.note_logged.ensures.capacity) in
     let t : core.State = event.with_group s ws (core.entries_of s ws) in
-    both_hold _ _ _ o _ s _ (log_group_is o r s c.args.client m) both alive (some_shown o _ s ws _ got.runs some (record {
+    let writes = both_true _ _ both (ap not (alone_is r c.args.client parts.1 ∙ sym (c.is_alone-alone.ensures no_writer) ∙ c.if-alone.false)) in
+    both_hold _ _ _ o _ s _ (log_group_is o r s c.args.client m) writes alive (some_shown o _ s ws _ got.runs some (record {
       options = m.options;
       clients = m.clients;
       line = got.line t InLog refl refl refl refl;

@@ -41,6 +41,9 @@ returns-in-Finish-clause-takes c = takes _ _ _ _ _ c.in-Finish.is c.finish.ensur
 pub returns-in-Publish-clause-takes : goal.returns-in-Publish-clause-takes
 returns-in-Publish-clause-takes c = takes _ _ _ _ _ c.in-Publish.is c.publish.ensures.steps
 
+pub returns-in-Since-clause-takes : goal.returns-in-Since-clause-takes
+returns-in-Since-clause-takes c = takes _ _ _ _ _ c.in-Since.is c.read_log.ensures.steps
+
 pub returns-in-Exit-clause-takes : goal.returns-in-Exit-clause-takes
 returns-in-Exit-clause-takes c = takes _ _ _ _ _ c.in-Exit.is c.exit.ensures.steps
 

@@ -1,0 +1,27 @@
+use Rattle.log_recovery.specs.Modes.{Accepts}
+use Rattle.log_recovery.proofs.Telling.{accepted_there, refused_there, damaged_there}
+use Rattle.log_recovery.proofs.recovery.recover_mode.Goals as goal
+
+pub returns-in-Ok-true-clause-accepted : goal.returns-in-Ok-true-clause-accepted
+returns-in-Ok-true-clause-accepted g c =
+    let told = g.R.ReadAt.held c.args.disk.now in
+    let before = g.R.ReadAt.held c.recover.new.disk in
+    let found = c.in_ok-recovered.recovered in
+    accepted_there before told c.in-Ok-true.field-0 (λ file. Accepts c.args.number c.args.mode file found.end.at found.end.why) (g.met.R.ReadAt.reads_keep _ _ c.in_ok-recovered.ensures.disk) c.in-Ok-true.field-0-test c.in-Ok-true.ensures.decided
+
+pub returns-in-Ok-true-clause-disk : goal.returns-in-Ok-true-clause-disk
+returns-in-Ok-true-clause-disk g c = g.met.R.ReadAt.reads_on _ _ _ c.in_ok-recovered.ensures.disk c.in-Ok-true.ensures.disk
+
+pub returns-in-Ok-false-clause-damage : goal.returns-in-Ok-false-clause-damage
+returns-in-Ok-false-clause-damage g c =
+    let told = g.R.ReadAt.held c.args.disk.now in
+    let before = g.R.ReadAt.held c.recover.new.disk in
+    let found = c.in_ok-recovered.recovered in
+    let refused = refused_there before told c.in-Ok-false.field-0 (λ file. Accepts c.args.number c.args.mode file found.end.at found.end.why) (g.met.R.ReadAt.reads_keep _ _ c.in_ok-recovered.ensures.disk) c.in-Ok-false.field-0-test c.in-Ok-false.ensures.decided in
+    damaged_there told c.args.number c.args.mode found c.in_ok-recovered.ensures.recovered refused
+
+pub returns-in-Ok-false-clause-disk : goal.returns-in-Ok-false-clause-disk
+returns-in-Ok-false-clause-disk g c = g.met.R.ReadAt.reads_on _ _ _ c.in_ok-recovered.ensures.disk c.in-Ok-false.ensures.disk
+
+pub returns-in-Err-clause-disk : goal.returns-in-Err-clause-disk
+returns-in-Err-clause-disk g c = g.met.R.ReadAt.reads_on _ _ _ c.in_ok-recovered.ensures.disk c.in-Err.ensures.disk
