@@ -115,6 +115,43 @@ static void print_batch(const uint8_t *at, size_t len) {
     print_end(why);
 }
 
+static bool is_same_end(wz_end one, wz_end other) {
+    return one.at == other.at && one.why == other.why && one.first == other.first && one.second == other.second;
+}
+
+// Reads the next record that isn't a batch which takes no sequence or ends before this one.
+static uint32_t next_unskipped(wz_handle *reader, uint64_t since, bytes log, wz_record *record, wz_end *end) {
+    bool is_skipped = true;
+    uint32_t code = WZ_DONE;
+    while (is_skipped && (code = wz_reader_next(reader, log.at, log.len, record, end)) == WZ_DONE) {
+        bytes found = room_for(record->len);
+        wz_batch_head head;
+        wz_end why;
+        WANTED(wz_reader_record(reader, found.at, record->len) == WZ_DONE);
+        bool is_batch = wz_batch_read(found.at, found.len, &head, &why) == WZ_DONE;
+        is_skipped = is_batch && (head.count == 0 || (head.sequence <= since && head.count <= since - head.sequence));
+        done_with(found);
+    }
+    return code;
+}
+
+// From a sequence on the library reads what is left when the batches before it are skipped here.
+static void check_since(uint32_t number, uint64_t since, bytes log) {
+    wz_handle one = WZ_HANDLE_INIT, other = WZ_HANDLE_INIT;
+    wz_record left = {0, 0, 0}, record = {0, 0, 0};
+    wz_end end = {0, 0, 0, 0}, again = {0, 0, 0, 0};
+    WANTED(wz_reader_open(&one, number) == WZ_DONE && wz_reader_open(&other, number) == WZ_DONE);
+    uint32_t code = WZ_DONE;
+    while (code == WZ_DONE) {
+        code = next_unskipped(&one, since, log, &left, &end);
+        WANTED(wz_reader_next_since(&other, since, log.at, log.len, &record, &again) == code);
+        WANTED(code != WZ_DONE || (record.start == left.start && record.end == left.end && record.len == left.len));
+    }
+    WANTED(code == WZ_END && is_same_end(again, end));
+    wz_close(&one);
+    wz_close(&other);
+}
+
 static void answer_log(uint32_t number, uint32_t mode, bytes log) {
     wz_handle handle = WZ_HANDLE_INIT;
     wz_record record;
@@ -138,9 +175,24 @@ static void answer_log(uint32_t number, uint32_t mode, bytes log) {
     WANTED(code == WZ_END && wz_reader_next(&handle, log.at, log.len, &record, &again) == WZ_END);
     WANTED(wz_reader_record(&handle, none.at, none.len) == WZ_END && none.at[0] == MARK);
     done_with(none);
-    WANTED(again.at == end.at && again.why == end.why && again.first == end.first && again.second == end.second);
+    WANTED(is_same_end(again, end));
     printf("end ");
     print_end(end);
+
+    // Each record is read from the end of the one before it. The log has no place after its end.
+    uint64_t place = 0;
+    bool at_place = true;
+    while (at_place) {
+        WANTED(wz_reader_open_at(&handle, number, place, log.at, log.len) == WZ_DONE);
+        at_place = wz_reader_next(&handle, log.at, log.len, &record, &again) == WZ_DONE;
+        WANTED(!at_place || (record.start >= place && record.end > record.start));
+        if (at_place) place = record.end;
+    }
+    WANTED(is_same_end(again, end));
+    WANTED(wz_reader_open_at(&handle, number, log.len + 1, log.at, log.len) == WZ_RANGE);
+    WANTED(wz_reader_next(&handle, log.at, log.len, &record, &again) == WZ_CLOSED);
+
+    for (uint64_t since = 0; since < 8; since += 3) check_since(number, since, log);
 
     // The reader is freed, since the handle is used again.
     wz_recovered found;
@@ -275,6 +327,7 @@ static void check_other_kinds(wz_handle *handle, int is_reader, int is_recovery,
     size_t number = 9;
     if (!is_reader) {
         WANTED(wz_reader_next(handle, &byte, 1, &record, &end) == WZ_CLOSED);
+        WANTED(wz_reader_next_since(handle, 1, &byte, 1, &record, &end) == WZ_CLOSED);
         WANTED(wz_reader_record(handle, &byte, 1) == WZ_CLOSED);
     }
     if (!is_recovery) {
@@ -441,16 +494,22 @@ static uint32_t grow_batch(wz_handle *batch) {
     return code;
 }
 
-static uint32_t read_all(wz_handle *reader, uint32_t number, bytes log) {
+static uint32_t read_next(wz_handle *reader, bool is_since, bytes log, wz_record *record, wz_end *end) {
+    return is_since ? wz_reader_next_since(reader, 0, log.at, log.len, record, end)
+                    : wz_reader_next(reader, log.at, log.len, record, end);
+}
+
+// Reads a log from its start, or from the place and the sequence 0, which is the same.
+static uint32_t read_all(wz_handle *reader, bool is_since, uint32_t number, bytes log) {
     wz_record record = {1, 2, 3}, old = record;
     wz_end end = {1, 2, 3, 4};
-    uint32_t code = wz_reader_open(reader, number);
+    uint32_t code = is_since ? wz_reader_open_at(reader, number, 0, log.at, log.len) : wz_reader_open(reader, number);
     if (code != WZ_DONE) return code;
-    while ((code = wz_reader_next(reader, log.at, log.len, &record, &end)) == WZ_DONE) old = record;
+    while ((code = read_next(reader, is_since, log, &record, &end)) == WZ_DONE) old = record;
     if (code == WZ_END) return WZ_DONE;
     WANTED(record.start == old.start && record.end == old.end && record.len == old.len && end.at == 1 && end.why == 2);
     granted = -1;
-    WANTED(wz_reader_next(reader, log.at, log.len, &record, &end) == WZ_NO_MEMORY);
+    WANTED(read_next(reader, is_since, log, &record, &end) == WZ_NO_MEMORY);
     granted = 0;
     return code;
 }
@@ -473,7 +532,7 @@ static int memory(void) {
     uint32_t number = (uint32_t)strtoul(words[1], NULL, 10);
     bytes log = bytes_of_hex(words[3]);
     long before = held;
-    for (int kind = 0; kind < 3; kind++) {
+    for (int kind = 0; kind < 4; kind++) {
         long refused = 0;
         for (int is_all_granted = 0; !is_all_granted; refused++) {
             // What the handle held before is freed by a call that fails, too.
@@ -481,9 +540,10 @@ static int memory(void) {
             granted = -1;
             WANTED(wz_batch_new(&handle) == WZ_DONE);
             granted = refused;
-            uint32_t code = kind == 0   ? read_all(&handle, number, log)
+            uint32_t code = kind == 0   ? read_all(&handle, false, number, log)
                             : kind == 1 ? recover_all(&handle, number, log)
-                                        : grow_batch(&handle);
+                            : kind == 2 ? grow_batch(&handle)
+                                        : read_all(&handle, true, number, log);
             // A refused allocation has counted to -1.
             is_all_granted = granted > 0 || (granted == 0 && code == WZ_DONE);
             WANTED(code == (is_all_granted ? WZ_DONE : WZ_NO_MEMORY));

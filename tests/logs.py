@@ -13,7 +13,7 @@ What may be left where the machine crashes too must be a front of the records, w
 
 from typing import NamedTuple
 
-from outcomes import TAGS, TAGS_OF_FAMILIES, adds, count_of, flag_of, record_bytes, wanted
+from outcomes import TAGS, TAGS_OF_FAMILIES, adds, count_of, flag_of, record_bytes, updates_in, wanted
 from plain_log import FULL, LAST, NAMING, End, batch_of, fragments_of, header_len, records_of, recover_into, recovery_of
 
 # The first word of a line that adds to a batch, by the tag of what it adds.
@@ -50,6 +50,33 @@ def read_log(content, number=None):
     except End as end:
         why = end.args[1]
     return records, why
+
+
+def updates_of(contents, since, at, number=None):
+    """What a read of these logs from a sequence on prints that was made at another one, where none of them is damaged."""
+    found = []
+    for content in contents:
+        for _, record in records_of(content, number):
+            first, count, _ = batch_of(record)
+            found += [f" {record.hex()}"] if count > 0 and since <= first + count - 1 <= at else []
+    return f"updates {at} {len(found)}" + "".join(found)
+
+
+def check_followers(script, text, contents, number=None):
+    """Checks what each client got that reads the log: each time what the logs have, and put together, where it asked for
+    all at last, all that they have up to the last sequence that it read at.
+    """
+    for own in updates_in(script, text):
+        got, at = set(), 0
+        for words, reply in own:
+            if reply != "no selfstop":
+                at, records = int(reply.split(" ")[1]), reply.split(" ")[3:]
+                wanted(reply == updates_of(contents, int(words[1]), at, number), f"what the log has, not {reply:.200}")
+                got |= {*records}
+        # A client that holds a stop token isn't given the log, at its last read either.
+        if own and own[-1][0] == ["updates", "0"] and own[-1][1] != "no selfstop":
+            whole = updates_of(contents, 0, at, number).split(" ")[3:]
+            wanted(got == {*whole} and records == whole, f"all that the log has up to {at}")
 
 
 def check_recovery_of(content, recovered, number=None):

@@ -239,6 +239,8 @@ def calls_of(commands, replies, whole, fault, tokens, may_stall, families):
         elif words[0] in ("stop", "unstop", "slow", "unslow"):
             answer = token_reply(words, held)
             wanted(reply == [answer], f"{answer}, not {' '.join(reply)}")
+        elif words[0] == "updates" and "stop" in held:
+            wanted(reply == ["no", "selfstop"], f"no selfstop, not {' '.join(reply)}")
         elif words[0] == "commit":
             if may_stall and reply[:2] == ["no", "incomplete"]:
                 wanted("noslow" in words and reply[2:] == ["1", "0", "0"], f"no incomplete 1 0 0, not {' '.join(reply)}")
@@ -265,6 +267,36 @@ def calls_of(commands, replies, whole, fault, tokens, may_stall, families):
             seen = at
     wanted(not replies, "no more replies than commands")
     return accepted, None, reads, is_refused
+
+
+def check_updates(since, at, reply, batches):
+    """Checks what a read of the log from a sequence on has printed that was made at another one, by the batches of the
+    history: groups of the logged ones up to there, whole, the last ones, from the first on that ends at `since` or
+    later.
+    """
+    logged = [
+        (first, last, line.split(" ")[5]) for first, last, line, _ in batches if " nolog " not in line and last <= at
+    ]
+    word, _, count, *records = reply.split(" ")
+    wanted(word == "updates" and int(count) == len(records), f"updates {at} and {len(records)} records, not {reply}")
+    for record in reversed(records):
+        head, own = bytes.fromhex(record[:24]), []
+        first, left = int.from_bytes(head[:8], "little"), int.from_bytes(head[8:], "little")
+        while logged and logged[-1][0] >= first:
+            own.insert(0, logged.pop())
+        wanted(own and own[0][0] == first and own[-1][1] >= since, f"a group from {since} on, not one at {first}")
+        wanted(own[-1][1] + 1 - first == left, f"a group of {own[-1][1] + 1 - first} records, not of {left}")
+        wanted(record[24:] == "".join(batch[24:] for _, _, batch in own), f"the batches of the group at {first}")
+    wanted(not logged or logged[-1][1] < since, f"all groups from {since} on: {logged[-1:]}")
+
+
+def updates_in(script, text):
+    """Each read of the log in a script whose clients got all their replies, client by client, with its reply."""
+    found = []
+    for commands, replies in zip(script, sections_of(text, len(script))[0]):
+        told = [words for words in commands if not adds(words)]
+        found.append([(words, reply) for words, reply in zip(told, replies) if words[0] == "updates"])
+    return found
 
 
 def history_line(client, ordinal, first, flag, records):
@@ -311,6 +343,9 @@ def check_outcome(script, text, whole=True, before=(0, {}), may_stall=False, fam
         maps[end] = pairs
     for words, at, reply in reads:
         wanted(at in maps, f"a read at the end of a batch, not at {at}")
+        if words[0] == "updates":
+            check_updates(int(words[1]), at, reply, batches)
+            continue
         wanted(reply == read_of(words, at, maps[at]), f"{read_of(words, at, maps[at])}, not {reply}")
     state, at, count = rest.pop(0).split(" ")
     wanted(state == "state" and int(at) in maps and (not whole or int(at) == end), f"the state at a batch's end: {at}")

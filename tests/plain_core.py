@@ -16,6 +16,9 @@ BATCH_HEADER = 12
 # What a commit that may not wait is told where a leader stalls writes.
 HELD_UP = "no incomplete 1 0 0"
 
+# What a client waits in the queue for: a batch, or a read of the log.
+LINKED = ("commit", "updates")
+
 # Events that have methods of other names, since their own are taken.
 TAKEN_BY = {"log": "log_group", "second": "to_second", "leave": "leave_queue"}
 
@@ -47,8 +50,8 @@ class Client:
         self.left, self.pending, self.calls, self.replies, self.is_idle = list(lines), [], [], [], True
 
     def next_call(self):
-        """Its next commit or read, if there is one. Lines before it that add to its batch, or empty it, are done."""
-        while self.left and self.left[0][0] != "commit" and not is_read(self.left[0]):
+        """Its next commit or read, of keys or of the log, if there is one. Lines before it that add to its batch, or empty it, are done."""
+        while self.left and self.left[0][0] not in LINKED and not is_read(self.left[0]):
             words = self.left.pop(0)
             self.pending = [] if words[0] == "clear" else [*self.pending, words]
         return self.left[0] if self.left else None
@@ -60,17 +63,20 @@ class Client:
 
 
 class Writer:
-    """A batch on its way: its client, how it is committed, its run of sequences once it has one, and its answer."""
+    """A batch on its way: its client, how it is committed, its run of sequences once it has one, and its answer. Or a read
+    of the log from the sequence `since` on.
+    """
 
-    def __init__(self, client, commit, records):
-        self.client, self.flags, self.records = client, set(commit[1:]), records
+    def __init__(self, client, call, records):
+        self.client, self.since = client, int(call[1]) if call[0] == "updates" else None
+        self.flags, self.records = (set(call[1:]), records) if self.since is None else (set(), [])
         self.size = BATCH_HEADER + sum(len(record_bytes(words)) for words in records)
         self.run, self.answer = None, None
 
 
 def goes_with(leader, writer):
-    """Whether a writer may be in this leader's group, without a look at the sizes."""
-    return not ("sync" in writer.flags and "sync" not in leader.flags) and all(
+    """Whether a writer may be in this leader's group, without a look at the sizes. Who reads the log is alone."""
+    return leader.since is None and writer.since is None and not ("sync" in writer.flags and "sync" not in leader.flags) and all(
         (flag in writer.flags) == (flag in leader.flags) for flag in ("noslow", "nolog")
     )
 
@@ -100,7 +106,9 @@ class Core:
         self.queue, self.log, self.in_hand, self.log_failed = [], "free", [], False
         self.second, self.table, self.inserted, self.finished = [], "still", [], []
         # A logged or published batch: its last sequence, its client, its line of the history, and its records.
-        self.entries, self.given, self.published, self.groups, self.leaving = [], last, last, 0, []
+        self.entries, self.given, self.published, self.leaving = [], last, last, []
+        # The log's groups: the last sequence of each, and its record.
+        self.groups = []
 
     def take(self, event, number):
         """Takes an event where it may come, and says whether it did."""
@@ -111,10 +119,10 @@ class Core:
     def link(self, number):
         client = self.clients[number - 1]
         call = client.next_call() if client.is_idle else None
-        if call is None or call[0] != "commit":
+        if call is None or call[0] not in LINKED:
             return False
         writer = Writer(number, call, client.pending)
-        refusal = self.refusal_of(writer)
+        refusal = self.refusal_of(writer) if writer.since is None else None
         if refusal is None and self.log == "stalled":
             if "noslow" not in writer.flags:
                 return False
@@ -153,7 +161,7 @@ class Core:
     def read(self, number):
         client = self.clients[number - 1]
         call = client.next_call() if client.is_idle else None
-        if call is None or call[0] == "commit":
+        if call is None or call[0] in LINKED:
             return False
         client.is_told(self.no_family([call]) or read_of(call, self.published, self.published_map()))
         return True
@@ -195,19 +203,35 @@ class Core:
             self.entries.append((last, writer.client, line, writer.records))
             self.given = last
 
+    def leads_writers(self, number):
+        return self.leads(number, "built") and self.in_hand[0].since is None
+
     def log_group(self, number):
-        if not self.leads(number, "built") or self.log_failed:
+        if not self.leads_writers(number) or self.log_failed:
             return False
         self.give_runs()
         if all(writer.run is None for writer in self.in_hand):
             self.leave(self.in_hand)
             return True
         self.log = "in log"
-        self.groups += "nolog" not in self.in_hand[0].flags
+        if "nolog" not in self.in_hand[0].flags:
+            members = [writer for writer in self.in_hand if writer.run is not None]
+            records = [words for writer in members for words in writer.records]
+            line = history_line(0, 0, members[0].run[0], "log", records)
+            self.groups.append((members[-1].run[1], line.split(" ")[-1]))
+        return True
+
+    def since(self, number):
+        """Who reads the log is answered with what it has up to the published sequence."""
+        if not self.leads(number, "built") or self.in_hand[0].since is None or self.in_hand[0].answer is not None:
+            return False
+        writer = self.in_hand[0]
+        records = [f" {record}" for last, record in self.groups if writer.since <= last <= self.published]
+        writer.answer = f"updates {self.published} {len(records)}" + "".join(records)
         return True
 
     def fault(self, number):
-        if not self.leads(number, "built"):
+        if not self.leads_writers(number):
             return False
         for writer in self.in_hand:
             writer.answer = "no logfault 1"
@@ -216,7 +240,7 @@ class Core:
         return True
 
     def stall(self, number):
-        if not self.leads(number, "built") or "noslow" in self.in_hand[0].flags:
+        if not self.leads_writers(number) or "noslow" in self.in_hand[0].flags:
             return False
         self.log = "stalled"
         return True
@@ -299,6 +323,9 @@ class Core:
         return True
 
     def exit(self, number):
+        if self.leads(number, "built") and self.in_hand[0].since is not None and self.in_hand[0].answer is not None:
+            self.leave(self.in_hand)
+            return True
         if not self.leads_table(number, "published"):
             return False
         group, self.table = self.table_group(), "still"
@@ -324,4 +351,4 @@ class Core:
             lines += [f"client {number}", *client.replies]
         lines += [f"history {len(self.entries)}", *(line for _, _, line, _ in self.entries)]
         lines += [f"state {self.published} {len(pairs)}", *rows_of(pairs)]
-        return "".join(line + "\n" for line in [*lines, f"groups {self.groups}"])
+        return "".join(line + "\n" for line in [*lines, f"groups {len(self.groups)}"])

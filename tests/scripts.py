@@ -59,6 +59,22 @@ def script_of(draw, is_named=False, count=None, has_tokens=False, families=1):
     return clients
 
 
+def with_followers(draw, script):
+    """The script with more clients, which only read the log: each from several sequences on, and at last all of it. Some
+    of the others read it too, after a commit.
+    """
+
+    def line():
+        return ["updates", str(draw.choice([0, 0, 1, draw.randint(0, 200)]))]
+
+    writers = [
+        [it for words in lines for it in ([words, line()] if words[0] == "commit" and draw.random() < 0.2 else [words])]
+        for lines in script
+    ]
+    followers = [[line() for _ in range(draw.randint(1, 20))] + [["updates", "0"]] for _ in range(draw.randint(1, 3))]
+    return [*writers, *followers]
+
+
 def in_family(line, family):
     """The same line of a key of a family. The default one isn't named."""
     return line if family == 0 else [f"f{line[0]}", str(family), *line[1:]]
