@@ -7,6 +7,7 @@ use Rattle.std.proofs.lemmas.List.{length-map}
 use Rattle.log_writer.specs.declared.group_log.GroupLog.{Ghosts}
 use Rattle.model_base.specs.Attempts.{Attempt}
 use Rattle.model_base.specs.Controller.{ControllerCall}
+use Rattle.model_base.specs.Groups.{Group}
 use Rattle.model_base.specs.LogContents.{GroupCall}
 use Rattle.model_base.specs.Recovery.{Logged}
 use Rattle.model_base.specs.Since.{LogRead}
@@ -16,7 +17,7 @@ use Rattle.table_rule.specs.Histories.{In}
 use Rattle.table_calls.specs.Account.{IsReady, IsClosing as IsTableClosing}
 use Rattle.line_rule.specs.declared.view.Handling.{Handling}
 use Rattle.line_rule.specs.Chain.{of}
-use Rattle.line_writers.specs.Seats.{bound_of, table_of, clients_of, about_of, answers_told, AllOut, HasClient, AllThere, Merged}
+use Rattle.line_writers.specs.Seats.{table_of, clients_of, answers_told, AllOut, HasClient, AllThere, Merged}
 use Rattle.engine_groups.specs.Meaning.{Meaning}
 use Rattle.engine_parts.specs.declared.requests.Request.{Request}
 use Rattle.engine_parts.specs.declared.requests.Answer.{Answer}
@@ -28,9 +29,7 @@ use Rattle.model_runs.specs.Written.{WritesLog}
 use Rattle.engine_controller.specs.declared.pass.Pass.{Pass}
 use Rattle.engine_controller.specs.declared.pass.Passes.{Passes}
 use Rattle.engine_controller.specs.Passes.{seen_by, AreAll, IsHistoryOf, IsOthersOf, IsPassOf, client_of as pass_client}
-use Rattle.engine_parts.specs.declared.log.OpenLog.{OpenLog}
-use Rattle.engine_parts.specs.LogLaw.{Covers}
-use Rattle.engine_groups.specs.Clients.{IsClientOf, IsEngine, map_at_opening, opened_log, account_in, own_answers, own_commits, pass_in, seat_in, writer_in}
+use Rattle.engine_groups.specs.Clients.{IsClientOf, IsEngine, map_at_opening, account_in, own_answers, own_commits, pass_in, seat_in, writer_in}
 use Rattle.engine_parts.specs.Handled.{commits_in, reads_handled}
 use Rattle.engine_rule.specs.Asked.{HasAsked}
 use Rattle.engine_rule.specs.Commits.{Commit, commits_of}
@@ -112,14 +111,6 @@ module _ {D T C G S U P : Type 0} {ghosts : Ghosts D} (meaning : Meaning T S U P
     others_are = others;
   }
 
-  -- the engine's numbers are those that the list's law is about
-  pub stands_here : (our_turn : T → U → Type 0) (history : U → List (List MemberVersions)) (asked : List ControllerCall) (log : OpenLog D ghosts) (turn : U) (last : ℕ) (handled : List (Handling Request Answer))
-      → Covers our_turn history (about_of e.list).table.value (opened_log e) (about_of e.list).start (about_of e.list).clients (about_of e.list).group_bytes asked log turn last handled
-      → Covers our_turn history e.table (opened_log e) (meaning.opening e.table).start (clients_of e.list) (bound_of e.list) asked log turn last handled
-  stands_here our_turn history asked log turn last handled s =
-      let set = is_engine in
-      subst (λ (z : T × ℕ × ℕ × ℕ). Covers our_turn history z.0 (opened_log e) z.1 z.2 z.3 asked log turn last handled) (λ i. (set.table i, set.start i, set.about_clients i, set.group_bytes i)) s
-
   merged_at : (handled : List (Handling Request Answer)) (xs : List (EngineClient D T C S U P ghosts)) → Merged handled (map writer_in xs) → (i : ℕ) (c : EngineClient D T C S U P ghosts) → slice_get xs i ≡ Some c → of c.writer.client handled ≡ answers_told c.writer
   merged_at handled [] m i c at = absurd (cc)
   merged_at handled (x ∷ xs) m zero c at = let is : x ≡ c = cc in subst (λ (z : EngineClient D T C S U P ghosts). of z.writer.client handled ≡ answers_told z.writer) is m.0
@@ -163,9 +154,9 @@ module _ {D T C G S U P : Type 0} {ghosts : Ghosts D} (meaning : Meaning T S U P
       ]
 
 -- a log that was written by exactly these calls was written by calls for which `wrote` holds, since it holds for these
-pub written_by : (group_bytes : ℕ) (wrote : List GroupCall → Type 0) (calls : List GroupCall) (trace : Trace) (attempts : List (List Attempt)) (fault : Option ℕ)
-    → wrote calls → WritesLog group_bytes (λ (made : List GroupCall). made ≡ calls) trace attempts fault → WritesLog group_bytes wrote trace attempts fault
-written_by group_bytes wrote calls trace attempts fault by w = record {
+pub written_by : (group_bytes : ℕ) (wrote : List GroupCall → Type 0) (calls : List GroupCall) (trace : Trace) (attempts : List (List Attempt)) (groups : List Group) (fault : Option ℕ)
+    → wrote calls → WritesLog group_bytes (λ (made : List GroupCall). made ≡ calls) trace attempts groups fault → WritesLog group_bytes wrote trace attempts groups fault
+written_by group_bytes wrote calls trace attempts groups fault by w = record {
   parts = w.parts;
   calls = w.calls;
   lost = w.lost;
@@ -175,6 +166,12 @@ written_by group_bytes wrote calls trace attempts fault by w = record {
   logged = w.logged;
   none_else = w.none_else;
   by = subst wrote (sym w.by) by;
+  rise = w.rise;
+  made = w.made;
+  are_made = w.are_made;
+  by_groups = w.by_groups;
+  of_first = w.of_first;
+  dead = w.dead;
 }
 
 -- what reads gave that is right for each list of batches which the log had is right for this one

@@ -59,6 +59,7 @@ module _ {D T C S U P : Type 0} {ghosts : Ghosts D} (meaning : Meaning T S U P) 
           right = path.right;
           readers = path.readers;
           counted = path.counted;
+          begins = path.begins;
         };
       }
 

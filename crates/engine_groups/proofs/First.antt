@@ -1,5 +1,6 @@
 -- What is true of the log, the note and the right of a leader when an engine is opened.
-use Rattle.std.proofs.Common.{◌≡◌, ◌⊎◌, inl, inr, ⊎_elim, ℕ, Bool, true, false, List, [], Option, None, Some, refl, sym, ap, ◌∙◌, subst}
+use Rattle.std.proofs.Common.{◌≡◌, ◌⊎◌, inl, inr, ⊎_elim, ℕ, Bool, true, false, List, [], ◌∷◌, Option, None, Some, refl, sym, ap, ◌∙◌, subst}
+use Rattle.std.specs.List.{AllByRecursion}
 use Rattle.log_writer.specs.declared.group_log.GroupLog.{Ghosts}
 use Rattle.model_base.specs.Controller.{ControllerCall}
 use Rattle.engine_parts.specs.declared.log.OpenLog.{OpenLog}
@@ -14,13 +15,21 @@ use Rattle.engine_groups.specs.Meaning.{Meaning}
 use Rattle.engine_parts.specs.Handled.{AreHandled}
 use Rattle.engine_stage_laws.specs.Served.{AreServed}
 use Rattle.engine_parts.specs.LogLaw.{Covers}
+use Rattle.engine_parts.specs.Places.{MayBegin}
+use Rattle.log_updates.specs.declared.places.LogPlace.{LogPlace}
+use Rattle.log_updates.specs.Places.{first_place}
 use Rattle.engine_groups.specs.Law.{ServesIs, TurnIs}
 
+-- reads may begin at the start
+begin_first : {D : Type 0} {ghosts : Ghosts D} (opened : OpenLog D ghosts) (start : ℕ) (log : OpenLog D ghosts) (places : List LogPlace) → AllByRecursion (λ (p : LogPlace). p ≡ first_place) places → AllByRecursion (MayBegin opened start log) places
+begin_first opened start log [] firsts = tt
+begin_first opened start log (p ∷ places) firsts = (inl firsts.0, begin_first opened start log places firsts.1)
+
 -- an opened log, a table where nothing is published, its turn, and a controller that nobody has asked
-pub stands_first : {D : Type 0} {ghosts : Ghosts D} {T U : Type 0} (our_turn : T → U → Type 0) (history : U → List (List MemberVersions)) (table : T) (log : OpenLog D ghosts) (start clients group_bytes : ℕ) (turn : U) (asked : List ControllerCall)
-    → AreConsistent start clients group_bytes [] [] start None [] [] → our_turn table turn → history turn ≡ [] → fault_of log ≡ None → asked ≡ [] → Wrote log [] log
-    → Covers our_turn history table log start clients group_bytes asked log turn start []
-stands_first our_turn history table log start clients group_bytes turn asked first our none alive unasked begun = record {
+pub stands_first : {D : Type 0} {ghosts : Ghosts D} {T U : Type 0} (our_turn : T → U → Type 0) (history : U → List (List MemberVersions)) (table : T) (log : OpenLog D ghosts) (places : List LogPlace) (start clients group_bytes : ℕ) (turn : U) (asked : List ControllerCall)
+    → AreConsistent start clients group_bytes [] [] start None [] [] → our_turn table turn → history turn ≡ [] → fault_of log ≡ None → asked ≡ [] → Wrote log [] log → AllByRecursion (λ (p : LogPlace). p ≡ first_place) places
+    → Covers our_turn history table log start clients group_bytes asked log places turn start []
+stands_first our_turn history table log places start clients group_bytes turn asked first our none alive unasked begun firsts = record {
   our = our;
   calls = [];
   wrote = begun;
@@ -28,6 +37,7 @@ stands_first our_turn history table log start clients group_bytes turn asked fir
   right = tt;
   readers = tt;
   counted = subst (λ (f : Option ℕ). AreCounted (faults_of log) (faults_of log) f []) (sym alive) (none_counted (faults_of log));
+  begins = begin_first log start log places firsts;
 }
 
 -- nothing was handled yet

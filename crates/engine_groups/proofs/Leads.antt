@@ -51,7 +51,7 @@ all_front P (x ∷ xs) ys h = (h.0, all_front P xs ys h.1)
 module _ {D T C S U P : Type 0} {ghosts : Ghosts D} where
   -- what the leadership's log says of what was handled, with its note
   abbrev pub LogIn : EngineAtOpening D T C ghosts → Leadership D T C S U P ghosts → List (List MemberVersions) → List (Handling Request Answer) → Type 0
-  LogIn about leadership published handled = LogCovers about.opened.value about.start about.clients about.group_bytes (seen_by_note leadership.asked) leadership.held.value.path.log published leadership.held.value.path.last handled
+  LogIn about leadership published handled = LogCovers about.opened.value about.start about.clients about.group_bytes (seen_by_note leadership.asked) leadership.held.value.path.log leadership.held.value.path.places published leadership.held.value.path.last handled
 
   module _ (about : EngineAtOpening D T C ghosts) (leadership : Leadership D T C S U P ghosts) (published : List (List MemberVersions)) where
     -- what holds once a leader has answered its group

@@ -134,10 +134,12 @@ impl<
         clients.destroy_empty();
         let (leadership, right) = list.close(writers);
         let Leadership { held, turn, asked } = leadership;
-        let Held {
-            path: LogPath { log, last },
-            clock: _,
-        } = Box::into_inner(held);
+        let Held { path, clock: _ } = Box::into_inner(held);
+        let LogPath {
+            log,
+            last,
+            places: _,
+        } = path;
         let Right { turn: apart } = right;
         let turn = one_turn(turn, apart);
         let passes = Passes {

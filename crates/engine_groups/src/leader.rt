@@ -25,8 +25,9 @@ pub struct EngineAtOpening<Log: GroupLog, Versions, Time> {
     pub pipelined: bool,
 }
 
-/// What a leader takes over from the leader before it: the path (the log and its last sequence) with the clock, the
-/// right to launch its group where there is one stage, and what the leader before it had seen of the write controller.
+/// What a leader takes over from the leader before it: the path (the log, its last sequence, and where reads of it
+/// begin) with the clock, the right to launch its group where there is one stage, and what the leader before it had
+/// seen of the write controller.
 /// Path and clock are in a box: a slot of the line is as large as the largest value that it may hold, and each
 /// client's request and answer go through a slot.
 pub struct Leadership<Log: GroupLog, Versions: Table<Nodes, Parts>, Time> {

@@ -1,7 +1,9 @@
 //! How an engine is opened.
 
 ghost use Rattle.std.specs.Prelude.{true, false, ◌≡◌, ◌⊎◌, ◌≤◌, ◌<◌, ◌+◌, ℕ, [], length, vec_capacity, IfOk, IfErr, None, Some, slice_get};
+ghost use Rattle.std.specs.List.{AllByRecursion};
 ghost use Rattle.model_base.specs.History.{max_sequence};
+ghost use Rattle.log_updates.specs.Places.{first_place};
 ghost use Rattle.engine_parts.specs.Logs.{faults_of, fault_of};
 ghost use Rattle.table_calls.specs.Account.{IsReady};
 ghost use Rattle.line_writers.specs.Roles.{IsNew, AreNew};
@@ -25,6 +27,7 @@ use engine_controller::{Controller, Note, Pass, Passes};
 use engine_parts::{Envelope, Layout, LogPath, OpenLog, SealedAnswer, SealedRequest};
 use line_rule::Start;
 use line_writers::{Lists, Writer, WriterList};
+use log_updates::ReadPlaces;
 use log_writer::GroupLog;
 use model_base::{MAX_CLIENTS, MAX_SIZE, Options};
 use std::alloc::{AllocFailed, Global};
@@ -142,10 +145,12 @@ fn given_back<Log: GroupLog, Versions: Table<Nodes, Parts>, Time: Drop, Watch>(
         turn,
         asked: _,
     } = leadership;
-    let Held {
-        path: LogPath { log, last: _ },
-        clock,
-    } = Box::into_inner(held);
+    let Held { path, clock } = Box::into_inner(held);
+    let LogPath {
+        log,
+        last: _,
+        places: _,
+    } = path;
     let Right { turn: apart } = right;
     let turn = one_turn(turn, apart);
     OpenRefused {
@@ -216,19 +221,24 @@ impl<
         let Ok(envelopes) = Envelope::for_all(alloc, count) else {
             return Err(OpenRefused::of(log, clock, table, seats, gate));
         };
+        let Ok(places) = ReadPlaces::for_clients(alloc, count) else {
+            return Err(OpenRefused::of(log, clock, table, seats, gate));
+        };
         let Ok(clients) = Vec::with_capacity(alloc, count as usize) else {
             return Err(OpenRefused::of(log, clock, table, seats, gate));
         };
         let last = options.last;
-        let path = LogPath { log, last };
+        let path = LogPath { log, last, places };
         let held = match Box::new(alloc, Held { path, clock }) {
             Ok(held) => held,
             Err(AllocFailed { value: held }) => {
                 clients.destroy_empty();
-                let Held {
-                    path: LogPath { log, last: _ },
-                    clock,
-                } = held;
+                let Held { path, clock } = held;
+                let LogPath {
+                    log,
+                    last: _,
+                    places: _,
+                } = path;
                 return Err(OpenRefused::of(log, clock, table, seats, gate));
             }
         };
@@ -264,6 +274,7 @@ impl<
         requires clients { (0 < (Versions.opening table).clients)
             × ((Versions.opening table).clients ≤ MAX_CLIENTS) }
         requires log { (fault_of held.value.path.log ≡ None) × (held.value.path.last ≡ options.last) }
+        requires places { AllByRecursion (λ p. p ≡ first_place) held.value.path.places }
         requires turn { Versions.our_turn table seats.turn × (Versions.history seats.turn ≡ []) }
         requires seats { AreSeatsAtStart Versions.Table table (Versions.opening table).clients
             seats.clients.items }

@@ -36,6 +36,7 @@ fn pause_for_sync<R: Wait + rt::Clock>(rt: &R, yields: &Bell) {
 /// Spins, and yields where yields are quick, as far as the bell has learned.
 fn spin_and_yield<R: Wait + rt::Clock>(rt: &R, yields: &Bell) {
     let pauses = Pauses::new();
+    // A pause changes nothing.
     for _ in 0..PAUSES_TO_YIELD {
         yields.pause(rt, &pauses);
     }

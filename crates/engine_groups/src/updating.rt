@@ -160,6 +160,7 @@ impl<
             Role::LogLeader(leadership) => leadership,
             Role::Done(_) => {
                 let backoff = Backoff::new();
+                // A pause changes nothing.
                 for _ in rt.forever() {
                     backoff.snooze();
                 }

@@ -1,5 +1,6 @@
 pub mod Letters
 pub mod Commits
+pub mod Places
 pub mod ReadsLaw
 pub mod LogOrder
 pub mod LogReading

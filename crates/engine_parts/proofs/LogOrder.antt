@@ -16,6 +16,7 @@ use Rattle.log_recovery.specs.Updating.{updates_in}
 use Rattle.log_writer.specs.ReadableLogs.{batch_of_call, batches_by}
 use Rattle.log_writer.specs.Written.{if_worked}
 use Rattle.table_rule.specs.declared.content.MemberVersions.{MemberVersions}
+use Rattle.engine_rule.specs.Asked.{LedGroup}
 use Rattle.engine_rule.specs.Commits.{Commit}
 use Rattle.engine_rule.specs.Consistent.{AreConsistent}
 use Rattle.engine_rule.specs.Entries.{entries_of}
@@ -142,9 +143,9 @@ batches_worked (group ∷ groups) (c ∷ calls) more each =
     let rest = batches_worked groups calls more each.1 in
     ap (λ (f : Option ℕ). if_worked f (batch_of_call c ∷ batches_by (calls ++ more)) []) (each.0).ok ∙ (λ i. one i ∷ rest i)
 
-batches_lost : (group_bytes : ℕ) (commits : List Commit) (fault : Option ℕ) (last : ℕ) (lost : List GroupCall) → AreLostWrites group_bytes commits fault last lost → batches_by lost ≡ []
-batches_lost group_bytes commits None last lost none = ap batches_by none
-batches_lost group_bytes commits (Some count) last lost one =
+batches_lost : (group_bytes : ℕ) (groups : List LedGroup) (fault : Option ℕ) (last : ℕ) (lost : List GroupCall) → AreLostWrites group_bytes groups fault last lost → batches_by lost ≡ []
+batches_lost group_bytes groups None last lost none = ap batches_by none
+batches_lost group_bytes groups (Some count) last lost one =
     ap batches_by one.1 ∙ ap (λ (f : Option ℕ). if_worked f (batch_of_call one.0 ∷ []) []) one.2.failed
 
 -- so they are in order after those that the log had kept
@@ -157,7 +158,7 @@ all_in_order start clients group_bytes asked commits last fault published calls 
     let history : IsHistory start (entries_of commits) = (entries_history start None [] commits k.answered).0 in
     let rise : Rise low (all_of p.parts) = subst (Rise low) (sym p.cut) (logged_rise low start (entries_of commits) below history) in
     let mine : batches_by calls ≡ map as_logged p.parts =
-    ap batches_by w.both ∙ (batches_worked p.parts w.worked w.lost p.each ∙ (ap (λ (l : List Logged). map as_logged p.parts ++ l) (batches_lost group_bytes commits fault last w.lost w.are_lost) ∙ append-nil (map as_logged p.parts))) in
+    ap batches_by w.both ∙ (batches_worked p.parts w.worked w.lost p.each ∙ (ap (λ (l : List Logged). map as_logged p.parts ++ l) (batches_lost group_bytes k.in_groups.groups fault last w.lost w.are_lost) ∙ append-nil (map as_logged p.parts))) in
     order_joined 0 kept (batches_by calls) ordered (subst (AreInOrder low) (sym mine) (in_order low low p.parts (omega arith) (are_runs p.parts w.worked p.each p.runs) rise))
 
 -- and the records of those batches are the records of the calls

@@ -31,6 +31,7 @@ use Rattle.engine_parts.specs.declared.requests.Answer.{Answer}
 use Rattle.engine_parts.specs.Asking.{HasAskedFor, OnlyLooks, all_seen}
 use Rattle.engine_parts.specs.Handled.{ComesBack, HandsBack, InOrder, IsDelayed, IsHeldUp, IsNotHeldUp, IsReplyOf, ShowsDelay, answer_in, commit_if, commit_of, commit_request_of, commit_requests_of, handled_with, noted_in, reads_handled, reads_of, seen_at, seen_for, commits_in}
 use Rattle.engine_parts.specs.LogLaw.{Covers}
+use Rattle.log_updates.specs.declared.places.LogPlace.{LogPlace}
 use Rattle.engine_parts.specs.Led.{AreAlike, IsLedGroup, LeadsBy}
 use Rattle.engine_parts.specs.Handled.{IsReplyAt}
 use Rattle.engine_parts.proofs.Views.{Saw, unnoted, unseen_commits}
@@ -261,18 +262,18 @@ module _ {C : Type 0} (controller : Controller C) (d : Delay) (numbers : Look) w
 
 -- The law of log and table
 
-module _ {D : Type 0} {ghosts : Ghosts D} {T U : Type 0} (our_turn : T → U → Type 0) (history : U → List (List MemberVersions)) (opened : OpenLog D ghosts) (log : OpenLog D ghosts) (turn : U) (last : ℕ) where
+module _ {D : Type 0} {ghosts : Ghosts D} {T U : Type 0} (our_turn : T → U → Type 0) (history : U → List (List MemberVersions)) (opened : OpenLog D ghosts) (log : OpenLog D ghosts) (places : List LogPlace) (turn : U) (last : ℕ) where
   -- the law holds for equal numbers under other names
   pub stands_by : (table table' : T) (start start' clients clients' group_bytes group_bytes' : ℕ) (asked asked' : List ControllerCall) (hs : List (Handling Request Answer))
       → table ≡ table' → start ≡ start' → clients ≡ clients' → group_bytes ≡ group_bytes' → asked ≡ asked'
-      → Covers our_turn history table opened start clients group_bytes asked log turn last hs → Covers our_turn history table' opened start' clients' group_bytes' asked' log turn last hs
+      → Covers our_turn history table opened start clients group_bytes asked log places turn last hs → Covers our_turn history table' opened start' clients' group_bytes' asked' log places turn last hs
   stands_by table table' start start' clients clients' group_bytes group_bytes' asked asked' hs a b c d e s =
-      subst (λ (z : T × ℕ × ℕ × ℕ × List ControllerCall). Covers our_turn history z.0 opened z.1 z.2 z.3 z.4 log turn last hs) (λ i. (a i, b i, c i, d i, e i)) s
+      subst (λ (z : T × ℕ × ℕ × ℕ × List ControllerCall). Covers our_turn history z.0 opened z.1 z.2 z.3 z.4 log places turn last hs) (λ i. (a i, b i, c i, d i, e i)) s
 
   -- the law holds for the requests as they were, with their notes
   pub stands_noted : (table : T) (start clients group_bytes : ℕ) (asked : List ControllerCall) (hs : List (Handling Request Answer)) (requests : List (ℕ × Request)) (replies : List (ℕ × Answer))
-      → Covers our_turn history table opened start clients group_bytes asked log turn last (hs ++ handled_with (all_seen requests) replies)
-      → Covers our_turn history table opened start clients group_bytes asked log turn last (hs ++ handled_with requests replies)
+      → Covers our_turn history table opened start clients group_bytes asked log places turn last (hs ++ handled_with (all_seen requests) replies)
+      → Covers our_turn history table opened start clients group_bytes asked log places turn last (hs ++ handled_with requests replies)
   stands_noted table start clients group_bytes asked hs requests replies s =
       let same : commits_in (hs ++ handled_with (all_seen requests) replies) ≡ commits_in (hs ++ handled_with requests replies) =
       commits_append hs (handled_with (all_seen requests) replies) ∙ (ap (λ (l : List Commit). commits_in hs ++ l) (commits_unnoted requests replies) ∙ sym (commits_append hs (handled_with requests replies))) in
@@ -288,13 +289,14 @@ module _ {D : Type 0} {ghosts : Ghosts D} {T U : Type 0} (our_turn : T → U →
         right = reads.right;
         readers = reads.readers;
         counted = reads.counted;
+        begins = s.begins;
       }
 
   -- the law holds after the group is refused
   pub stands_held_up : {C : Type 0} (controller : Controller C) (d : Delay) (numbers : Look) (table : T) (start clients group_bytes : ℕ) (asked known : List ControllerCall) (hs : List (Handling Request Answer)) (requests : List (ℕ × Request)) (replies : List (ℕ × Answer))
       → AllZip (IsHeldUp controller d numbers) (all_seen requests) replies → seen_at d ≡ known → IsLedGroup group_bytes clients requests → IsAskedFor (commit_requests_of requests) numbers known → ComesAfter asked known → HoldUp numbers
-      → MayNotWait (commit_requests_of requests) → Covers our_turn history table opened start clients group_bytes asked log turn last hs
-      → Covers our_turn history table opened start clients group_bytes known log turn last (hs ++ handled_with requests replies)
+      → MayNotWait (commit_requests_of requests) → Covers our_turn history table opened start clients group_bytes asked log places turn last hs
+      → Covers our_turn history table opened start clients group_bytes known log places turn last (hs ++ handled_with requests replies)
   stands_held_up controller d numbers table start clients group_bytes asked known hs requests replies zip is led is_asked comes hold may s =
       let same : commits_in hs ++ all_held_up known numbers (commit_requests_of requests) ≡ commits_in (hs ++ handled_with requests replies) =
       ap (λ (l : List Commit). commits_in hs ++ l) (sym (held_commits controller d numbers known is requests replies led.writes zip)) ∙ sym (commits_append hs (handled_with requests replies)) in
@@ -308,4 +310,5 @@ module _ {D : Type 0} {ghosts : Ghosts D} {T U : Type 0} (our_turn : T → U →
         right = reads.right;
         readers = reads.readers;
         counted = reads.counted;
+        begins = s.begins;
       }

@@ -25,7 +25,9 @@ use Rattle.engine_parts.proofs.Replies.{commits_failed, commits_planned}
 use Rattle.engine_rule.proofs.Reaching.{last_bound, versions_length}
 use Rattle.engine_rule.proofs.Steps.{consistent_accepted, consistent_after_fault, consistent_with_fault}
 use Rattle.engine_rule.proofs.Plans.{versions_runs}
+use Rattle.log_updates.specs.declared.places.LogPlace.{LogPlace}
 use Rattle.engine_parts.proofs.Commits.{Writes, commits_append}
+use Rattle.engine_parts.proofs.Places.{MayBeginAt, PlacesStay, begin_all_on, places_added}
 use Rattle.engine_parts.proofs.ReadsLaw.{ReadsStand, with_call, with_failed_call, with_no_call, with_writes}
 
 -- the log stays as it was, since there was nothing to write; or one call that worked wrote the batches
@@ -33,10 +35,10 @@ abbrev pub LogsOn : {D : Type 0} {ghosts : Ghosts D} → ℕ → List CommitRequ
 LogsOn last asks old new = ((new ≡ old) × (AreUnlogged asks ⊎ (batches_from last asks ≡ []))) ⊎ ((c : GroupCall) × Adds c old new × WritesBatches last asks c × SyncsFor asks c.sync × (c.failed ≡ None))
 
 module _ {D : Type 0} {ghosts : Ghosts D} {T U : Type 0} (our_turn : T → U → Type 0) (history : U → List (List MemberVersions)) (table : T) (opened : OpenLog D ghosts) (start clients group_bytes : ℕ) where
-  abbrev pub Stands : List ControllerCall → OpenLog D ghosts → U → ℕ → List (Handling Request Answer) → Type 0
-  Stands asked log turn last hs = Covers our_turn history table opened start clients group_bytes asked log turn last hs
+  abbrev pub Stands : List ControllerCall → OpenLog D ghosts → List LogPlace → U → ℕ → List (Handling Request Answer) → Type 0
+  Stands asked log places turn last hs = Covers our_turn history table opened start clients group_bytes asked log places turn last hs
 
-  module _ (asked : List ControllerCall) (log : OpenLog D ghosts) (turn : U) (last : ℕ) (hs : List (Handling Request Answer)) (s : Stands asked log turn last hs) where
+  module _ (asked : List ControllerCall) (log : OpenLog D ghosts) (places : List LogPlace) (turn : U) (last : ℕ) (hs : List (Handling Request Answer)) (s : Stands asked log places turn last hs) where
     pub last_low : start ≤ max_sequence → last ≤ max_sequence
     last_low low = subst (λ n. n ≤ max_sequence) (sym s.consistent.last_is) (last_bound start None (commits_in hs) s.consistent.answered low)
 
@@ -52,7 +54,7 @@ module _ {D : Type 0} {ghosts : Ghosts D} {T U : Type 0} (our_turn : T → U →
     -- leader has seen
     module _ (xs : List (ℕ × Request)) (own : AllByRecursion Writes xs) (lawful : AreLawful clients (commit_requests_of xs)) (whole : IsWholeGroup group_bytes (commit_requests_of xs)) (delay : Delay) (numbers : Look)
         (is_asked : IsAskedFor (commit_requests_of xs) numbers (seen_at delay)) (comes : ComesAfter asked (seen_at delay)) (went : List ControllerCall) (proceeds : ProceedsWith (commit_requests_of xs) numbers (seen_at delay) went) where
-      pub stands_dead : (n : ℕ) → fault_of log ≡ Some n → Stands went log turn last (hs ++ handled_with xs (failures delay n xs))
+      pub stands_dead : (n : ℕ) → fault_of log ≡ Some n → Stands went log places turn last (hs ++ handled_with xs (failures delay n xs))
       stands_dead n dead =
           let old = subst (λ f. AreConsistent start clients group_bytes asked (commits_in hs) last f (history turn) s.calls) dead s.consistent in
           let new = consistent_after_fault start clients group_bytes (commits_in hs) last (history turn) s.calls (commit_requests_of xs) asked (seen_at delay) numbers lawful whole is_asked comes went proceeds n old in
@@ -66,10 +68,11 @@ module _ {D : Type 0} {ghosts : Ghosts D} {T U : Type 0} (our_turn : T → U →
             right = reads.right;
             readers = reads.readers;
             counted = reads.counted;
+            begins = s.begins;
           }
 
-      pub stands_failed : fault_of log ≡ None → (n : ℕ) (c : GroupCall) (log' : OpenLog D ghosts) → Adds c log log' → WritesBatches last (commit_requests_of xs) c → c.failed ≡ Some n → Stands went log' turn last (hs ++ handled_with xs (failures delay n xs))
-      stands_failed alive n c log' adds writes failed_is =
+      pub stands_failed : PlacesStay → fault_of log ≡ None → (n : ℕ) (c : GroupCall) (log' : OpenLog D ghosts) → Adds c log log' → WritesBatches last (commit_requests_of xs) c → c.failed ≡ Some n → Stands went log' places turn last (hs ++ handled_with xs (failures delay n xs))
+      stands_failed stay alive n c log' adds writes failed_is =
           let old = subst (λ f. AreConsistent start clients group_bytes asked (commits_in hs) last f (history turn) s.calls) alive s.consistent in
           let new = consistent_with_fault start clients group_bytes (commits_in hs) last (history turn) s.calls (commit_requests_of xs) asked (seen_at delay) numbers lawful whole is_asked comes went proceeds n old c writes failed_is in
           let commits = commits_append hs (handled_with xs (failures delay n xs)) ∙ ap (λ l. commits_in hs ++ l) (commits_failed delay n xs own) in
@@ -84,11 +87,12 @@ module _ {D : Type 0} {ghosts : Ghosts D} {T U : Type 0} (our_turn : T → U →
             right = reads.right;
             readers = reads.readers;
             counted = reads.counted;
+            begins = begin_all_on opened start log log' (places_added opened start stay s.calls c log log' s.wrote adds) places s.begins;
           }
 
-      pub stands_written : fault_of log ≡ None → (log' : OpenLog D ghosts) (turn' : U) → our_turn table turn' → LogsOn last (commit_requests_of xs) log log' → Publishes (versions_from last (commit_requests_of xs)) (history turn) (history turn')
-          → Stands went log' turn' (last_with_all last (commit_requests_of xs)) (hs ++ handled_with xs (replies_of delay last (last_with_all last (commit_requests_of xs)) xs))
-      stands_written alive log' turn' our logs published =
+      pub stands_written : PlacesStay → fault_of log ≡ None → (log' : OpenLog D ghosts) (turn' : U) → our_turn table turn' → LogsOn last (commit_requests_of xs) log log' → Publishes (versions_from last (commit_requests_of xs)) (history turn) (history turn')
+          → Stands went log' places turn' (last_with_all last (commit_requests_of xs)) (hs ++ handled_with xs (replies_of delay last (last_with_all last (commit_requests_of xs)) xs))
+      stands_written stay alive log' turn' our logs published =
           let old = subst (λ f. AreConsistent start clients group_bytes asked (commits_in hs) last f (history turn) s.calls) alive s.consistent in
           let end = last_with_all last (commit_requests_of xs) in
           let rises : last ≤ end = (let ends = (versions_runs last (commit_requests_of xs)).1 in omega (arith, ends)) in
@@ -106,6 +110,7 @@ module _ {D : Type 0} {ghosts : Ghosts D} {T U : Type 0} (our_turn : T → U →
             right = reads.right;
             readers = reads.readers;
             counted = reads.counted;
+            begins = subst (λ (l : OpenLog D ghosts). MayBeginAt opened start l places) (sym t.0) s.begins;
           })
           (λ (t : (c : GroupCall) × Adds c log log' × WritesBatches last (commit_requests_of xs) c × SyncsFor (commit_requests_of xs) c.sync × (c.failed ≡ None)).
           let c = t.0 in
@@ -121,6 +126,7 @@ module _ {D : Type 0} {ghosts : Ghosts D} {T U : Type 0} (our_turn : T → U →
             right = reads.right;
             readers = reads.readers;
             counted = reads.counted;
+            begins = begin_all_on opened start log log' (places_added opened start stay s.calls c log log' s.wrote t.1) places s.begins;
           })
           logs
 

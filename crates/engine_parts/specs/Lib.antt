@@ -9,4 +9,5 @@ pub mod Led
 pub mod Staged
 pub mod ReadAnswers
 pub mod Logs
+pub mod Places
 pub mod LogLaw

@@ -6,6 +6,8 @@ use Rattle.engine_parts.specs.Logs.{Had, fault_of, faults_of, Wrote}
 use Rattle.log_writer.specs.CountedFaults.{AreCounted}
 use Rattle.engine_rule.specs.Reading.{AnsweredRead, AreRight, answers_in, faults_in, reads_in}
 use Rattle.std.specs.List.{AllByRecursion}
+use Rattle.log_updates.specs.declared.places.LogPlace.{LogPlace}
+use Rattle.engine_parts.specs.Places.{MayBegin}
 use Rattle.model_base.specs.Controller.{ControllerCall}
 use Rattle.model_base.specs.LogContents.{GroupCall}
 use Rattle.table_rule.specs.declared.content.MemberVersions.{MemberVersions}
@@ -18,14 +20,14 @@ use Rattle.engine_parts.specs.Handled.{commits_in, handled_with, reads_handled}
 use Rattle.engine_parts.specs.Staged.{published_with}
 
 -- The right to launch is the table's. Calls have written the log since it was opened. Log, table and the last sequence
--- given are what the handled commits have made. What reads of the log gave is right, and each fault of the log or of a
--- read of it is a count of its own. `asked` is the controller's history as the last leader had seen it
--- when its group went on or was refused.
+-- given are what the handled commits have made. What reads of the log gave is right, each fault of the log or of a read
+-- of it is a count of its own, and the next reads may begin at these places. `asked` is the controller's history as the
+-- last leader had seen it when its group went on or was refused.
 pub record Covers {Log : Type 0} {ghosts : Ghosts Log} {Versions Turn : Type 0}
     (our_turn : Versions → Turn → Type 0) (history : Turn → List (List MemberVersions)) (table : Versions)
     (opened : OpenLog Log ghosts)
-    (start clients group_bytes : ℕ) (asked : List ControllerCall) (log : OpenLog Log ghosts) (turn : Turn)
-    (last : ℕ)
+    (start clients group_bytes : ℕ) (asked : List ControllerCall) (log : OpenLog Log ghosts) (places : List LogPlace)
+    (turn : Turn) (last : ℕ)
     (handled : List (Handling Request Answer)) : Type 0 where
   pub our : our_turn table turn
   pub calls : List GroupCall
@@ -36,13 +38,14 @@ pub record Covers {Log : Type 0} {ghosts : Ghosts Log} {Versions Turn : Type 0}
   pub readers : AllByRecursion (λ (r : AnsweredRead). (1 ≤ r.client) × (r.client ≤ clients)) (reads_handled handled)
   pub counted : AreCounted (faults_of opened) (faults_of log) (fault_of log)
       (faults_in (answers_in (reads_handled handled)))
+  pub begins : AllByRecursion (MayBegin opened start log) places
 
 -- What `Covers` says, for the log alone, where these groups are published or will be.
 abbrev pub LogCovers : {Log : Type 0} {ghosts : Ghosts Log} → OpenLog Log ghosts → ℕ → ℕ → ℕ
     → List ControllerCall
-    → OpenLog Log ghosts → List (List MemberVersions) → ℕ → List (Handling Request Answer) → Type 0
-LogCovers opened start clients group_bytes asked log published last handled =
-    Covers (λ (t : ⊤) (u : List (List MemberVersions)). ⊤) (λ u. u) tt opened start clients group_bytes asked log
+    → OpenLog Log ghosts → List LogPlace → List (List MemberVersions) → ℕ → List (Handling Request Answer) → Type 0
+LogCovers opened start clients group_bytes asked log places published last handled =
+    Covers (λ (t : ⊤) (u : List (List MemberVersions)). ⊤) (λ u. u) tt opened start clients group_bytes asked log places
     published last handled
 
 -- How a log was opened, and what happened to it so far: the controller's history as the last leader had seen it, what
@@ -55,11 +58,12 @@ pub record Past (Log : Type 0) : Type 0 where
   pub published : List (List MemberVersions)
   pub handled : List (Handling Request Answer)
 
--- the log and the last sequence given are what this past has made, in a write path with this number of clients
+-- The log and the last sequence given are what this past has made, in a write path with this number of clients, and
+-- reads may begin at these places.
 abbrev pub StandsForPast : {Log : Type 0} {ghosts : Ghosts Log} → ℕ → Past (OpenLog Log ghosts)
-    → OpenLog Log ghosts → ℕ → Type 0
-StandsForPast clients p log last =
-    LogCovers p.opened p.start clients p.group_bytes p.asked log p.published last p.handled
+    → OpenLog Log ghosts → List LogPlace → ℕ → Type 0
+StandsForPast clients p log places last =
+    LogCovers p.opened p.start clients p.group_bytes p.asked log places p.published last p.handled
 
 -- the past with a read of the log, which led alone
 abbrev pub with_read : {Log : Type 0} → Past Log → List (ℕ × Request) → List (ℕ × Answer) → Past Log

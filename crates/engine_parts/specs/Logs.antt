@@ -3,6 +3,7 @@ use Rattle.std.specs.Prelude.{◌≡◌, ℕ, ◌≤◌, List, [], ◌∷◌, �
 use Rattle.log_writer.specs.declared.group_log.GroupLog.{Ghosts}
 use Rattle.std.specs.List.{AllByRecursion}
 use Rattle.log_writer.specs.CountedFaults.{AreCounted}
+use Rattle.log_writer.specs.GoOn.{GoOn}
 use Rattle.model_base.specs.Batch.{IsBatch}
 use Rattle.model_base.specs.LogContents.{GroupCall}
 use Rattle.model_base.specs.Recovery.{AreInOrder, Logged, last_sequence, logged_bytes}
@@ -29,10 +30,16 @@ module _ {Log : Type 0} {ghosts : Ghosts Log} where
     pub in_order : AreInOrder 0 batches
     pub up_to : last_sequence 0 batches ≤ start
 
-  -- what one more call does: the log's fault is the call's, and the count of faults goes on with it
+  -- What one more call does: the log's fault is the call's, and the count of faults goes on with it. There are as many
+  -- logs, with the same number, and what they held is where it was.
   pub record Adds (c : GroupCall) (old new : OpenLog Log ghosts) : Type 0 where
     pub wrote : (opened : OpenLog Log ghosts) (calls : List GroupCall) → Wrote opened calls old
         → Wrote opened (calls ++ c ∷ []) new
     pub fault : fault_of old ≡ None → fault_of new ≡ c.failed
     pub counted : (before : ℕ) (reads : List ℕ) → fault_of old ≡ None
         → AreCounted before (faults_of old) None reads → AreCounted before (faults_of new) c.failed reads
+    pub number : ghosts.number new.log ≡ ghosts.number old.log
+    pub many : ghosts.many new.log ≡ ghosts.many old.log
+    pub grows : (opened : OpenLog Log ghosts) (kept : List Logged) (calls : List GroupCall) (files : List (List ℕ))
+        → ghosts.keeps opened.log kept → Wrote opened calls old → ghosts.holds old.log files
+        → (later : List (List ℕ)) × ghosts.holds new.log later × GoOn files later

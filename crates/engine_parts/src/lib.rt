@@ -11,6 +11,7 @@
 //! - `specs/Led`, `Staged`: the group that a leader has in hand, before and after it is logged.
 //! - `specs/ReadAnswers`: what a leader answers itself that reads the log.
 //! - `specs/Logs`: what the log shows, whatever it is made of.
+//! - `specs/Places`: from which places on a log may be read.
 //! - `specs/LogLaw`: what the log covers.
 #![tactic(auto)]
 

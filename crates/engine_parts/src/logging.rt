@@ -22,13 +22,15 @@ use crate::log::OpenLog;
 use crate::numbering::{GroupFate, answer_all, lay_out, refuse_all};
 use crate::requests::Delay;
 use log_batch::Batch;
+use log_updates::{ReadPlaces, places_stay};
 use log_writer::{Fault, GroupLog};
 use model_base::WriteOptions;
 
-/// The log, and the last sequence given.
+/// The log, the last sequence given, and where the clients' reads of the log may begin.
 pub struct LogPath<Log: GroupLog> {
     pub log: OpenLog<Log>,
     pub last: u64,
+    pub places: ReadPlaces,
 }
 
 /// Writes the batches that got runs after `last` to the log, unless they must stay out of it.
@@ -74,9 +76,9 @@ pub fn log_phase<Log: GroupLog>(
     requires replies { (replies.old.items ≡ []) × (length requests.old.items ≤ vec_capacity replies.old) }
     ensures path { (past : Past (Opened Log ⟦<Log as GroupLog>⟧)) (went : List ControllerCall)
         → GoesOnWith past.group_bytes layout.old.parts.clients past.asked requests.old.items (seen_at delay.now) went
-        → StandsForPast layout.old.parts.clients past path.old.log path.old.last
+        → StandsForPast layout.old.parts.clients past path.old.log path.old.places path.old.last
         → StandsForPast layout.old.parts.clients (with_group past went result layout.new.parts.parts
-        requests.old.items replies.new.items) path.new.log path.new.last }
+        requests.old.items replies.new.items) path.new.log path.new.places path.new.last }
     ensures staged { IsStaged leader layout.old.parts.clients path.old.last path.new.last result
         layout.new.members.items layout.new.parts.parts replies.new.items }
     ensures beside { IfSome result (λ _. AreHelpers apart (others_in requests.old.items) layout.new.members.items) }
@@ -91,6 +93,7 @@ pub fn log_phase<Log: GroupLog>(
         × (vec_capacity replies.new ≡ vec_capacity replies.old)
         × (vec_capacity layout.new.members ≡ vec_capacity layout.old.members) }
 {
+    places_stay();
     let last = path.last;
     // Nothing is written after a fault: nobody knows what the log holds there, and recovery may end at it.
     if let Some(count) = path.log.log.fault() {

@@ -5,6 +5,7 @@ use Rattle.std.specs.List.{AllByRecursion, AllZip}
 use Rattle.std.specs.Bool.{IsTrue}
 use Rattle.std.proofs.lemmas.Option.{slice_get-map, slice_get_cases}
 use mathlib.Core.List.{IsPrefix}
+use Rattle.std.proofs.lemmas.Grind.{flat_map-append}
 use Rattle.std.proofs.lemmas.List.Elements.{filter-append}
 use Rattle.model_base.specs.Batch.{count_of}
 use Rattle.model_base.specs.History.{Entry, IsHistory, max_sequence, last_sequence, IsBoundary}
@@ -12,7 +13,6 @@ use Rattle.model_base.specs.Attempts.{Attempt, slowed}
 use Rattle.model_base.specs.Controller.{ControllerCall, IsLegal}
 use Rattle.model_base.specs.Tokens.{is_token, tokens_of}
 use Rattle.model_base.specs.Recovery.{Logged}
-use Rattle.model_base.specs.Settings.{with_kept}
 use Rattle.model_base.specs.Trace.{Trace, Settings}
 use Rattle.model_base.specs.Groups.{Member, Group, Holds, AreOfOthers, AreStatuses, IsStatus, items_of}
 use Rattle.model_base.specs.Outcomes.{entries_of_client, AreOwnFaults}
@@ -22,25 +22,28 @@ use Rattle.table_rule.specs.declared.content.MemberVersions.{MemberVersions}
 use Rattle.model_runs.specs.Lost.{batches_that_fit, IsLost}
 use Rattle.model_accounts.specs.Sights.{Saw}
 use Rattle.model_accounts.specs.Accounts.{Account}
-use Rattle.model_accounts.specs.Closing.{IsAccountOf, IsClosing, RoseInRun, all_attempts, all_read_faults}
+use Rattle.model_accounts.specs.Closing.{HasOneTrace, IsAccountOf, RoseInRun, all_attempts, all_read_faults}
 use Rattle.model_accounts.specs.Led.{AreLed, Led, all_taken, groups_of}
-use Rattle.model_accounts.specs.Parts.{AreParts, ends_in}
+use Rattle.model_accounts.specs.Parts.{ends_in}
+use Rattle.model_runs.specs.Groups.{IsOfFirstLost, StaysDead, statuses_in}
+use Rattle.model_runs.specs.Parts.{AreParts}
 use Rattle.model_runs.specs.Written.{AreLost, IsLostCall, WritesLog}
 use Rattle.engine_rule.specs.Commits.{Answer, AreAnswered, AreOfClients, Commit, IsAnswer, accepted, held_up, commits_of, failed, fault_after, fault_after_all, last_after, last_after_all, no_room}
 use Rattle.engine_rule.specs.Consistent.{AreConsistent}
-use Rattle.engine_rule.specs.Asked.{HasAsked, place_of}
+use Rattle.engine_rule.specs.Asked.{HasAsked, LedGroup, commits_in, place_of}
 use Rattle.engine_rule.specs.Entries.{AreCallsOf, HasPart, trace_of, attempt_of, ends_of, entries_after, entries_of, entry_after, entry_with, status_of}
-use Rattle.engine_rule.specs.LogCalls.{AreLostWrites, IsLostWrite}
+use Rattle.engine_rule.specs.LogCalls.{AreLostWrites, IsLostWrite, led_of, parts_after}
 use Rattle.engine_rule.specs.Reading.{AnsweredRead, AreRight, IsRight, answers_in, answers_of, faults_in, reads_in, reads_with}
 use Rattle.engine_rule.specs.Plans.{AreLogged, CommitRequest, HaveOwnClients, all_failed, commit_of_request, batches_from, item_of_request}
 use Rattle.engine_rule.proofs.Chains.{entries_clients, entries_history, entries_own, images_entries}
-use Rattle.engine_rule.proofs.GroupParts.{ends_are, parts_after, parts_cut, parts_named}
-use Rattle.engine_rule.proofs.Leaders.{are_led, led_of}
+use Rattle.engine_rule.proofs.DeadLog.{AreOfGroups, ended, of_first_lost, statuses_are, stays_dead}
+use Rattle.engine_rule.proofs.GroupParts.{ends_are, parts_cut, parts_named}
+use Rattle.engine_rule.proofs.Leaders.{are_led, rising}
 use Rattle.engine_rule.proofs.OwnFaults.{all_of_client, by_client, faults_of_accounts, no_faults, own_by_client}
 use Rattle.engine_rule.proofs.ReadsEnd.{records_written, right_reads}
 use Rattle.model_accounts.proofs.Leading.{groups_from_led, slowed_holds}
 use Rattle.model_accounts.proofs.Logs.{parts_are_groups}
-use Rattle.model_accounts.proofs.Parts.{parts_made}
+use Rattle.model_accounts.proofs.Parts.{commits_led, parts_made}
 use Rattle.model_accounts.proofs.Seeing.{saw_published}
 use Rattle.engine_controller.specs.Delays.{delays_of}
 use Rattle.engine_controller.proofs.Account.{goes_begins, goes_tokens}
@@ -255,6 +258,35 @@ module _ (settings : Settings) (cs : List Commit) (last : ℕ) (fault : Option �
   are_groups : AreGroupsOf (entries_of cs) k.written.parts.parts
   are_groups = parts_are_groups (entries_of cs) k.written.parts.parts k.written.worked k.written.parts.cut k.written.parts.runs k.written.parts.each
 
+  lost_call : (n : ℕ) (c : GroupCall) → IsLostWrite settings.group_bytes k.in_groups.groups n last c → IsLostCall settings.group_bytes (all_attempts accounts) n (last_sequence settings.start (entries_of cs)) c
+  lost_call n c g =
+      let whole = g.is_group in
+      let known = g.group.known in
+      let front = commits_in g.before in
+      let rest = commits_in g.after in
+      let split : cs ≡ front ++ (all_failed known n g.requests ++ rest) = sym k.in_groups.cut ∙ (ap commits_in g.among ∙ (flat_map-append (λ (h : LedGroup). h.commits) g.before (g.group ∷ g.after) ∙ ap (λ l. front ++ (l ++ rest)) g.answers)) in
+      let named : AreOfClients settings.clients (all_failed known n g.requests) = all_front (λ (c : Commit). (1 ≤ c.client) × (c.client ≤ settings.clients)) (all_failed known n g.requests) rest (all_back (λ (c : Commit). (1 ≤ c.client) × (c.client ≤ settings.clients)) front (all_failed known n g.requests ++ rest) (subst (AreOfClients settings.clients) split k.of_clients)) in
+      record {
+        failed = g.failed;
+        first = g.writes.first ∙ ap (λ m. m + 1) last_is;
+        batches = record {
+          members = members_behind known front n g.requests;
+          is_group = record {
+            some = (let l = length_behind known front n g.requests in let s = whole.some in omega (arith, l, s));
+            whole = ap (λ is. group_len settings.group_bytes is) (items_behind known front n g.requests) ∙ (whole.whole ∙ sym (length_behind known front n g.requests));
+            of_others = others_behind known front n g.requests whole.of_others;
+          };
+          all = map (λ (a : CommitRequest). a.records) g.requests;
+          each = lost_members cs accounts settings.clients all (λ i a there. ap (λ b. b.attempts) (are i a there).is) known n front g.requests rest split g.writes.to_log named;
+          batches_are = g.writes.batches ∙ (sym (fitting_is last g.requests) ∙ ap (λ m. batches_that_fit m (map (λ (a : CommitRequest). a.records) g.requests)) last_is);
+          some = g.writes.some;
+        };
+      }
+
+  are_lost : (lost : List GroupCall) (f : Option ℕ) → AreLostWrites settings.group_bytes k.in_groups.groups f last lost → AreLost settings.group_bytes (all_attempts accounts) f (last_sequence settings.start (entries_of cs)) lost
+  are_lost lost None h = h
+  are_lost lost (Some n) h = (h.0, h.1, lost_call n h.0 h.2)
+
   module _ (legal : IsLegal history) (calls_of : AreCallsOf settings.clients history) (within : IsPrefix asked history) (right : AreRight (λ (batches : List Logged). kept ≡ Some batches) last calls (reads_in (answers_in reads))) where
     abbrev led : List Led
     led = map led_of k.in_groups.groups
@@ -291,7 +323,7 @@ module _ (settings : Settings) (cs : List Commit) (last : ℕ) (fault : Option �
           statuses = subst (λ (z : ℕ × List Attempt). AreStatuses trace (groups_of led) fault z.0 0 z.1) (λ j. (sym number j, sym (attempts_are i a there) j)) (own_statuses trace (groups_of led) fault (i + 1) 0 cs statuses held);
           seen = subst (λ (b : Account). Saw b.seen trace) (sym h.is)
               (saw_published trace published (images_entries [] cs published k.images) (record { start = settings.start; opening = settings.opening; published = h.seen; controller_calls = h.known; log_reads = reads_in (answers_of (i + 1) reads) }) refl refl h.begins (goes_begins (i + 1) h.known history h.goes_on)
-              (right_reads trace is_history.0 cs published k.named k.cuts are_groups last calls (records_written settings.start settings.group_bytes cs fault last calls k.written is_history.0) h.seen h.begins (reads_in (answers_of (i + 1) reads)) h.at_ends (all_of_client (IsRight (λ (batches : List Logged). kept ≡ Some batches) last calls) reads_with (i + 1) reads right)));
+              (right_reads trace is_history.0 cs published k.named k.cuts are_groups last calls (records_written settings.start settings.group_bytes k.in_groups.groups cs fault last calls k.written is_history.0) h.seen h.begins (reads_in (answers_of (i + 1) reads)) h.at_ends (all_of_client (IsRight (λ (batches : List Logged). kept ≡ Some batches) last calls) reads_with (i + 1) reads right)));
         }
       where
         from_none : (j : ℕ) → j ≡ 0 + j
@@ -310,9 +342,45 @@ module _ (settings : Settings) (cs : List Commit) (last : ℕ) (fault : Option �
         next : (i : ℕ) → 1 + i ≡ i + 1
         next i = omega arith
 
+    -- the commits of each group of the outcome, as its leader took them
+    of_groups : AreOfGroups (all_attempts accounts) (groups_of led) k.in_groups.groups
+    of_groups = commits_led (all_attempts accounts) (all_taken led) is_led.of_client [] led refl is_led.clients
+
+    of_first : (lost : List GroupCall) (f : Option ℕ) → AreLostWrites settings.group_bytes k.in_groups.groups f last lost → AllByRecursion (IsOfFirstLost (all_attempts accounts) (groups_of led) (last_sequence settings.start (entries_of cs))) lost
+    of_first lost None none = subst (AllByRecursion (IsOfFirstLost (all_attempts accounts) (groups_of led) (last_sequence settings.start (entries_of cs)))) (sym none) tt
+    of_first lost (Some n) h =
+        subst (AllByRecursion (IsOfFirstLost (all_attempts accounts) (groups_of led) (last_sequence settings.start (entries_of cs)))) (sym h.1)
+        (subst (λ m. IsOfFirstLost (all_attempts accounts) (groups_of led) m h.0) last_is (of_first_lost (all_attempts accounts) settings.group_bytes n last k.in_groups.groups h.0 of_groups (fitting_is last) h.2), tt)
+
+    dead : StaysDead false (map (statuses_in (all_attempts accounts)) (groups_of led))
+    dead =
+        subst (StaysDead false) (sym (statuses_are (all_attempts accounts) (groups_of led) k.in_groups.groups of_groups))
+        (stays_dead settings.group_bytes settings.start None k.in_groups.groups k.in_groups.each (subst (AreAnswered settings.start None) (sym k.in_groups.cut) k.answered))
+
+    writes_log : WritesLog settings.group_bytes (λ (made : List GroupCall). made ≡ calls) trace (all_attempts accounts) (groups_of led) fault
+    writes_log =
+        let w = k.written in record {
+          parts = w.parts.parts;
+          calls = w.worked;
+          lost = w.lost;
+          cut = w.parts.cut;
+          runs = w.parts.runs;
+          each = w.parts.each;
+          logged = refl;
+          none_else = are_lost w.lost fault w.are_lost;
+          by = sym w.both;
+          rise = rising settings.start settings.group_bytes asked history cs k.in_groups within;
+          made = parts;
+          are_made = are_parts;
+          by_groups = w.by_groups;
+          of_first = of_first w.lost fault w.are_lost;
+          dead = dead;
+        }
+
     pub closing : (ended : ℕ) → RoseInRun settings ended fault → AllByRecursion (λ (r : AnsweredRead). (1 ≤ r.client) × (r.client ≤ settings.clients)) reads → AreOwnFaults ended fault (faults_in (answers_in reads)) → (fault ≡ None → faults_in (answers_in reads) ≡ [] → ended ≡ settings.opened)
-        → (groups : List Group) × IsClosing (with_kept kept settings) ended trace groups accounts last fault
+        → HasOneTrace settings kept ended accounts last fault (λ (made : List GroupCall). made ≡ calls)
     closing ended rose of_clients own counted = (
+      trace,
       groups_of led,
       record {
         is_trace = record { start = refl; opening = refl; kept = refl; entries = is_history.0; logged = are_groups; controller_calls = legal; clients = entries_clients settings.clients [] cs k.of_clients; tokens = of_tokens settings.clients history calls_of };
@@ -325,43 +393,5 @@ module _ (settings : Settings) (cs : List Commit) (last : ℕ) (fault : Option �
         read_faults = subst (AreOwnFaults ended fault) (sym all_faults) (own_by_client ended fault settings.clients reads of_clients own);
         counted = λ worked none. counted worked (no_faults settings.clients reads of_clients (sym all_faults ∙ none));
       },
+      writes_log,
     )
-
-  lost_call : (n : ℕ) (c : GroupCall) → IsLostWrite settings.group_bytes cs n last c → IsLostCall settings.group_bytes (all_attempts accounts) n (last_sequence settings.start (entries_of cs)) c
-  lost_call n c g =
-      let whole = g.is_group in
-      let named : AreOfClients settings.clients (all_failed g.known n g.requests) = all_front (λ (c : Commit). (1 ≤ c.client) × (c.client ≤ settings.clients)) (all_failed g.known n g.requests) g.rest (all_back (λ (c : Commit). (1 ≤ c.client) × (c.client ≤ settings.clients)) g.front (all_failed g.known n g.requests ++ g.rest) (subst (AreOfClients settings.clients) g.split k.of_clients)) in
-      record {
-        failed = g.failed;
-        first = g.writes.first ∙ ap (λ m. m + 1) last_is;
-        batches = record {
-          members = members_behind g.known g.front n g.requests;
-          is_group = record {
-            some = (let l = length_behind g.known g.front n g.requests in let s = whole.some in omega (arith, l, s));
-            whole = ap (λ is. group_len settings.group_bytes is) (items_behind g.known g.front n g.requests) ∙ (whole.whole ∙ sym (length_behind g.known g.front n g.requests));
-            of_others = others_behind g.known g.front n g.requests whole.of_others;
-          };
-          all = map (λ (a : CommitRequest). a.records) g.requests;
-          each = lost_members cs accounts settings.clients all (λ i a there. ap (λ b. b.attempts) (are i a there).is) g.known n g.front g.requests g.rest g.split g.writes.to_log named;
-          batches_are = g.writes.batches ∙ (sym (fitting_is last g.requests) ∙ ap (λ m. batches_that_fit m (map (λ (a : CommitRequest). a.records) g.requests)) last_is);
-          some = g.writes.some;
-        };
-      }
-
-  are_lost : (lost : List GroupCall) (f : Option ℕ) → AreLostWrites settings.group_bytes cs f last lost → AreLost settings.group_bytes (all_attempts accounts) f (last_sequence settings.start (entries_of cs)) lost
-  are_lost lost None h = h
-  are_lost lost (Some n) h = (h.0, h.1, lost_call n h.0 h.2)
-
-  pub writes_log : (wrote : List GroupCall → Type 0) → wrote calls → WritesLog settings.group_bytes wrote trace (all_attempts accounts) fault
-  writes_log wrote by =
-      let w = k.written in record {
-        parts = w.parts.parts;
-        calls = w.worked;
-        lost = w.lost;
-        cut = w.parts.cut;
-        runs = w.parts.runs;
-        each = w.parts.each;
-        logged = refl;
-        none_else = are_lost w.lost fault w.are_lost;
-        by = subst wrote w.both by;
-      }

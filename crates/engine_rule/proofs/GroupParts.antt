@@ -7,28 +7,22 @@ use Rattle.model_base.specs.Batch.{count_of}
 use Rattle.model_base.specs.History.{Entry, last_sequence}
 use Rattle.model_base.specs.Outcomes.{entries_of_client}
 use Rattle.model_accounts.specs.Led.{attempts_of}
-use Rattle.model_accounts.specs.Parts.{ends_in, is_success, name_behind, name_of, successes}
+use Rattle.model_runs.specs.Parts.{is_success, name_behind, name_of, successes}
+use Rattle.model_accounts.specs.Parts.{ends_in}
 use Rattle.model_accounts.proofs.Parts.{AreNamed, names_after}
 use Rattle.engine_rule.specs.Commits.{Answer, AreAnswered, Commit, NamesEnd, accepted, held_up, commits_of, failed, fault_after, fault_after_all, last_after, last_after_all, no_room}
-use Rattle.engine_rule.specs.Asked.{LedGroup, NameEnds, place_of}
+use Rattle.engine_rule.specs.Asked.{LedGroup, NameEnds, commits_in, place_of}
 use Rattle.engine_rule.specs.Entries.{attempt_of, end_with, ends_of, entries_after, entries_of, entry_after, entry_with, mine_after, status_of}
+use Rattle.engine_rule.specs.LogCalls.{led_of, parts_after, taken_of}
 use Rattle.engine_rule.proofs.Chains.{entries_append, entries_history, entries_more, entries_own}
-use Rattle.engine_rule.proofs.Leaders.{attempts_taken, led_of, taken_of}
+use Rattle.engine_rule.proofs.Leaders.{attempts_taken}
 use Rattle.engine_rule.proofs.OneGroup.{NameEnd}
 
--- the entries of each group, where these commits came before
-abbrev pub parts_after : List Commit → List LedGroup → List (List Entry)
-parts_after before [] = []
-parts_after before (g ∷ groups) = entries_after (entries_of before) g.commits ∷ parts_after (before ++ g.commits) groups
-
-abbrev all_in : List LedGroup → List Commit
-all_in groups = flat_map (λ (g : LedGroup). g.commits) groups
-
-pub parts_cut : (before : List Commit) (groups : List LedGroup) → flat_map (λ part. part) (parts_after before groups) ≡ entries_after (entries_of before) (all_in groups)
+pub parts_cut : (before : List Commit) (groups : List LedGroup) → flat_map (λ part. part) (parts_after before groups) ≡ entries_after (entries_of before) (commits_in groups)
 parts_cut before [] = refl
 parts_cut before (g ∷ groups) =
-    ap (λ es. entries_after (entries_of before) g.commits ++ es) (parts_cut (before ++ g.commits) groups ∙ ap (λ b. entries_after b (all_in groups)) (entries_more before g.commits))
-    ∙ sym (entries_append (entries_of before) g.commits (all_in groups))
+    ap (λ es. entries_after (entries_of before) g.commits ++ es) (parts_cut (before ++ g.commits) groups ∙ ap (λ b. entries_after b (commits_in groups)) (entries_more before g.commits))
+    ∙ sym (entries_append (entries_of before) g.commits (commits_in groups))
 
 -- The names of the entries
 
@@ -104,18 +98,18 @@ from_any : (k last : ℕ) (part : List Entry) → map (λ (e : Entry). last_sequ
 from_any k last [] = refl
 from_any k last (e ∷ es) = refl
 
-answered_cut : (last : ℕ) (dead : Option ℕ) (xs ys : List Commit) → AreAnswered last dead (xs ++ ys) → AreAnswered last dead xs × AreAnswered (last_after_all last xs) (fault_after_all dead xs) ys
+pub answered_cut : (last : ℕ) (dead : Option ℕ) (xs ys : List Commit) → AreAnswered last dead (xs ++ ys) → AreAnswered last dead xs × AreAnswered (last_after_all last xs) (fault_after_all dead xs) ys
 answered_cut last dead [] ys h = (tt, h)
 answered_cut last dead (x ∷ xs) ys h = let t = answered_cut (last_after last (count_of x.records) x.answer) (fault_after dead x.answer) xs ys h.1 in ((h.0, t.0), t.1)
 
-pub ends_are : (k last : ℕ) (dead : Option ℕ) (before : List Commit) (groups : List LedGroup) → AreAnswered last dead (all_in groups) → NameEnds last groups → ends_in k (parts_after before groups) ≡ ends_of (commits_of k (all_in groups))
+pub ends_are : (k last : ℕ) (dead : Option ℕ) (before : List Commit) (groups : List LedGroup) → AreAnswered last dead (commits_in groups) → NameEnds last groups → ends_in k (parts_after before groups) ≡ ends_of (commits_of k (commits_in groups))
 ends_are k last dead before [] right names = refl
 ends_are k last dead before (g ∷ groups) right names =
-    let both = answered_cut last dead g.commits (all_in groups) right in
+    let both = answered_cut last dead g.commits (commits_in groups) right in
     let part : List Entry = entries_after (entries_of before) g.commits in
     let ends : last_sequence last part ≡ last_after_all last g.commits = (entries_history last dead (entries_of before) g.commits both.0).1 in
     let here : map (λ (e : Entry). last_sequence 0 part) (entries_of_client k part) ≡ ends_of (commits_of k g.commits) =
     from_any k last part ∙ (ap (λ n. map (λ (e : Entry). n) (entries_of_client k part)) ends ∙ told_all k (last_after_all last g.commits) (entries_of before) g.commits names.0) in
     (λ i. here i ++ ends_are k (last_after_all last g.commits) (fault_after_all dead g.commits) (before ++ g.commits) groups both.1 names.1 i)
-    ∙ (sym (flat_map-append (λ (c : Commit). end_with c.answer) (commits_of k g.commits) (commits_of k (all_in groups)))
-    ∙ ap ends_of (sym (filter-append (λ (c : Commit). c.client == k) g.commits (all_in groups))))
+    ∙ (sym (flat_map-append (λ (c : Commit). end_with c.answer) (commits_of k g.commits) (commits_of k (commits_in groups)))
+    ∙ ap ends_of (sym (filter-append (λ (c : Commit). c.client == k) g.commits (commits_in groups))))

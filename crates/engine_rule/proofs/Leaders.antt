@@ -14,6 +14,7 @@ use Rattle.model_base.specs.Grouping.{group_len, size_of}
 use Rattle.model_base.specs.Groups.{AreAsked, Group, HasPlace, HaveOwnPlaces, MayProceed, SawNoStop, HaveOneFate, is_delay, is_slowed}
 use Rattle.model_base.proofs.Prefixes.{prefix_at, prefix_length, prefix_trans}
 use Rattle.table_rule.specs.Histories.{In}
+use Rattle.model_runs.specs.Groups.{PlacesRise}
 use Rattle.model_accounts.specs.Led as leds
 use Rattle.model_accounts.specs.Led.{AreLed, IsLed, Led, Taken, all_taken, attempts_of, groups_after, groups_of, items_in}
 use Rattle.engine_controller.specs.Delays.{delays_from, delays_of, place_if}
@@ -23,12 +24,7 @@ use Rattle.engine_rule.specs.Commits.{Answer, AreOfClients, Commit, accepted, co
 use Rattle.engine_rule.specs.Plans.{CommitRequest, HasLooked, HaveOwnClients, LetsProceed, item_of_request}
 use Rattle.engine_rule.specs.Asked.{AreInGroups, AreTogether, HasAsked, IsLedGroup, LedGroup, Rise, is_held_up, place_of, request_of}
 use Rattle.engine_rule.specs.Entries.{attempt_of, status_of}
-
-abbrev pub taken_of : Commit → Taken
-taken_of c = record { client = c.client; attempt = attempt_of c }
-
-abbrev pub led_of : LedGroup → Led
-led_of g = record { place = length g.known - 1; commits = map taken_of g.commits }
+use Rattle.engine_rule.specs.LogCalls.{led_of, taken_of}
 
 -- a client's commits among the taken ones
 pub attempts_taken : (client : ℕ) (ds : List Commit) → attempts_of client (map taken_of ds) ≡ map attempt_of (commits_of client ds)
@@ -165,17 +161,25 @@ module _ (start group_bytes : ℕ) (asked history : List ControllerCall) (cs : L
       let long : length g.known ≡ length a.before + 1 = ap length a.is ∙ length-append a.before (t ∷ []) in
       omega (arith, long)
 
-  apart_after : (n : ℕ) (before : List Taken) (groups : List LedGroup) → 1 ≤ n → AllByRecursion (λ (g : LedGroup). n < length g.known) groups
-      → AllByRecursion (λ (h : Group). n - 1 ≢ h.place) (groups_after before (map led_of groups))
-  apart_after n before [] some h = tt
-  apart_after n before (g ∷ groups) some h = ((λ e. let below = h.0 in absurd (omega (arith, e, below, some))), apart_after n (before ++ map taken_of g.commits) groups some h.1)
+  above_after : (n : ℕ) (before : List Taken) (groups : List LedGroup) → 1 ≤ n → AllByRecursion (λ (g : LedGroup). n < length g.known) groups
+      → AllByRecursion (λ (h : Group). n - 1 < h.place) (groups_after before (map led_of groups))
+  above_after n before [] some h = tt
+  above_after n before (g ∷ groups) some h = ((let above = h.0 in omega (arith, above, some)), above_after n (before ++ map taken_of g.commits) groups some h.1)
 
-  own_places : (before : List Taken) (groups : List LedGroup) → AllByRecursion (IsLedGroup group_bytes) groups → Rise groups → HaveOwnPlaces (groups_after before (map led_of groups))
-  own_places before [] h r = tt
-  own_places before (g ∷ groups) h r =
+  -- the groups are in the order of their delays
+  places_rise : (before : List Taken) (groups : List LedGroup) → AllByRecursion (IsLedGroup group_bytes) groups → Rise groups → PlacesRise (groups_after before (map led_of groups))
+  places_rise before [] h r = tt
+  places_rise before (g ∷ groups) h r =
       let long = prefix_length g.known g.went h.0.seen_since in
       let later = all_map (λ (i : LedGroup). length g.went < length i.known) (λ (i : LedGroup). length g.known < length i.known) (λ i more. omega (arith, more, long)) groups r.0 in
-      (apart_after (length g.known) (before ++ map taken_of g.commits) groups (some_known g h.0) later, own_places (before ++ map taken_of g.commits) groups h.1 r.1)
+      (above_after (length g.known) (before ++ map taken_of g.commits) groups (some_known g h.0) later, places_rise (before ++ map taken_of g.commits) groups h.1 r.1)
+
+  pub rising : PlacesRise (groups_of led)
+  rising = places_rise [] k.groups k.each k.rise
+
+  own_places : (groups : List Group) → PlacesRise groups → HaveOwnPlaces groups
+  own_places [] r = tt
+  own_places (g ∷ groups) r = (all_map (λ (h : Group). g.place < h.place) (λ (h : Group). g.place ≢ h.place) (λ h later same. absurd (omega (arith, later, same))) groups r.0, own_places groups r.1)
 
   -- Each is held up as a whole, or goes on as a whole
 
@@ -313,7 +317,7 @@ module _ (start group_bytes : ℕ) (asked history : List ControllerCall) (cs : L
       → AreLed group_bytes history led attempts
   are_led n attempts number of_clients calls_of have_asked own_is = record {
     each = all_led k.groups k.each k.seen;
-    places = own_places [] k.groups k.each k.rise;
+    places = own_places (groups_of led) rising;
     all = asked_from (groups_of led) n 0 history calls_of (λ client low high. let h = have_asked client low high in places_of client h.0 h.1 h.2);
     clients = subst (λ (z : ℕ × List Taken). AllByRecursion (λ (t : Taken). (1 ≤ t.client) × (t.client ≤ z.0)) z.1) (λ i. (sym number i, sym taken_is i)) (clients_of n cs of_clients);
     together = all_stand k.groups k.each k.seen (all_clear group_bytes k.groups k.each k.rise);

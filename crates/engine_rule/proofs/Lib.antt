@@ -4,10 +4,12 @@ pub mod OneGroup
 pub mod Reaching
 pub mod Own
 pub mod Synced
+pub mod LoggedGroups
 pub mod Steps
 pub mod Leaders
 pub mod LogReads
 pub mod OwnFaults
 pub mod ReadsEnd
 pub mod GroupParts
+pub mod DeadLog
 pub mod Closing

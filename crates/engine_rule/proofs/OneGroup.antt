@@ -8,9 +8,9 @@ use Rattle.model_base.specs.Controller.{ControllerCall, HoldUp, Look}
 use Rattle.model_base.specs.History.{max_sequence}
 use Rattle.model_base.proofs.Prefixes.{prefix_length, prefix_self}
 pub use Rattle.model_base.proofs.Prefixes.{prefix_trans}
-use Rattle.engine_rule.specs.Commits.{Answer, Commit, NamesEnd, held_up, failed, last_after_all}
+use Rattle.engine_rule.specs.Commits.{Answer, Commit, NamesEnd, accepted, held_up, failed, no_room, last_after_all}
 use Rattle.engine_rule.specs.Plans.{ComesAfter, CommitRequest, IsAskedFor, IsWholeGroup, MayNotWait, ProceedsWith, all_failed, all_held_up, answer_with, commit_of_request, last_with, last_with_all, commits_of_plan}
-use Rattle.engine_rule.specs.Asked.{AreInGroups, AreTogether, IsHeldUp, IsLedGroup, LedGroup, NameEnds, Rise, is_held_up, request_of}
+use Rattle.engine_rule.specs.Asked.{AreInGroups, AreTogether, FailTogether, IsHeldUp, IsLedGroup, LedGroup, NameEnds, Rise, is_failed, is_held_up, request_of}
 use Rattle.engine_rule.proofs.Chains.{end_append}
 use Rattle.engine_rule.proofs.Plans.{planned_end}
 
@@ -34,6 +34,10 @@ ends_more last (h ∷ groups) g r now = (
       (subst (λ n. NameEnd (last_after_all n g.commits) g.commits) (end_append last h.commits (flat_map (λ (i : LedGroup). i.commits) groups)) now),
 )
 
+-- these commits and those of one more group are in the groups with that one
+abbrev pub OneMoreGroup : ℕ → ℕ → List Commit → List LedGroup → LedGroup → Type 0
+OneMoreGroup start group_bytes cs groups g = (k : AreInGroups start group_bytes g.went (cs ++ g.commits)) × (k.groups ≡ groups ++ g ∷ [])
+
 -- what the leaders before had seen is a beginning of what this leader had seen when it asked, and is shorter
 module _ (asked known went : List ControllerCall) (comes : ComesAfter asked known) (goes : IsPrefix known went) where
   begins : IsPrefix asked known
@@ -55,25 +59,28 @@ module _ (asked known went : List ControllerCall) (comes : ComesAfter asked know
   all_shorter [] h = tt
   all_shorter (g ∷ groups) h = (shorter g.went h.0, all_shorter groups h.1)
 
-  group_more : (start group_bytes : ℕ) (cs new : List Commit) → AreInGroups start group_bytes asked cs → IsLedGroup group_bytes (record { known = known; went = went; commits = new })
-      → NameEnd (last_after_all (last_after_all start cs) new) new → AreInGroups start group_bytes went (cs ++ new)
+  group_more : (start group_bytes : ℕ) (cs new : List Commit) (k : AreInGroups start group_bytes asked cs) → IsLedGroup group_bytes (record { known = known; went = went; commits = new })
+      → NameEnd (last_after_all (last_after_all start cs) new) new → OneMoreGroup start group_bytes cs k.groups (record { known = known; went = went; commits = new })
   group_more start group_bytes cs new k led named =
-      let g : LedGroup = record { known = known; went = went; commits = new } in record {
-        groups = k.groups ++ g ∷ [];
-        cut = flat_map-append (λ (h : LedGroup). h.commits) k.groups (g ∷ []) ∙ (λ i. k.cut i ++ append-nil new i);
-        each = all_append (IsLedGroup group_bytes) k.groups (g ∷ []) k.each (led, tt);
-        seen = all_append (λ (h : LedGroup). IsPrefix h.went went) k.groups (g ∷ []) (seen_later k.groups k.seen) (prefix_self went, tt);
-        rise = rise_more k.groups g k.rise (all_shorter k.groups k.seen);
-        name_ends = ends_more start k.groups g k.name_ends (subst (λ ds. NameEnd (last_after_all (last_after_all start ds) new) new) (sym k.cut) named);
-      }
+      let g : LedGroup = record { known = known; went = went; commits = new } in (
+        record {
+          groups = k.groups ++ g ∷ [];
+          cut = flat_map-append (λ (h : LedGroup). h.commits) k.groups (g ∷ []) ∙ (λ i. k.cut i ++ append-nil new i);
+          each = all_append (IsLedGroup group_bytes) k.groups (g ∷ []) k.each (led, tt);
+          seen = all_append (λ (h : LedGroup). IsPrefix h.went went) k.groups (g ∷ []) (seen_later k.groups k.seen) (prefix_self went, tt);
+          rise = rise_more k.groups g k.rise (all_shorter k.groups k.seen);
+          name_ends = ends_more start k.groups g k.name_ends (subst (λ ds. NameEnd (last_after_all (last_after_all start ds) new) new) (sym k.cut) named);
+        },
+        refl,
+      )
 
--- where the leader gives runs, no answer says that writes are held up
-planned_not : (last end : ℕ) (records : List Record) → is_held_up (answer_with last end records) ≡ false
-planned_not last end records = by (nat_le (last + count_of records) max_sequence) refl
+-- where the leader gives runs, each answer is an accepted one or says that there was no room
+planned_not : (test : Answer → Bool) → ((first end : ℕ) → test (accepted first end) ≡ false) → ((at : ℕ) → test (no_room at) ≡ false) → (last end : ℕ) (records : List Record) → test (answer_with last end records) ≡ false
+planned_not test given none last end records = by (nat_le (last + count_of records) max_sequence) refl
   where
-    by : (b : Bool) → nat_le (last + count_of records) max_sequence ≡ b → is_held_up (answer_with last end records) ≡ false
-    by true t = rw t refl
-    by false t = rw t refl
+    by : (b : Bool) → nat_le (last + count_of records) max_sequence ≡ b → test (answer_with last end records) ≡ false
+    by true t = rw t (given (last + 1) end)
+    by false t = rw t (none last)
 
 -- and the accepted answers name the group's end
 plan_named : (last end : ℕ) (records : List Record) → NamesEnd end (answer_with last end records)
@@ -97,9 +104,10 @@ module _ (known : List ControllerCall) where
   planned_same last end [] = tt
   planned_same last end (q ∷ rs) = (refl, planned_same (last_with last q.records) end rs)
 
-  planned_go_on : (last end : ℕ) (rs : List CommitRequest) → AllByRecursion (λ (c : Commit). is_held_up c.answer ≡ false) (commits_of_plan known last end rs)
-  planned_go_on last end [] = tt
-  planned_go_on last end (q ∷ rs) = (planned_not last end q.records, planned_go_on (last_with last q.records) end rs)
+  planned_alike : (test : Answer → Bool) → ((first end : ℕ) → test (accepted first end) ≡ false) → ((at : ℕ) → test (no_room at) ≡ false) → (last end : ℕ) (rs : List CommitRequest)
+      → AllByRecursion (λ (c : Commit). test c.answer ≡ false) (commits_of_plan known last end rs)
+  planned_alike test given none last end [] = tt
+  planned_alike test given none last end (q ∷ rs) = (planned_not test given none last end q.records, planned_alike test given none (last_with last q.records) end rs)
 
   planned_named : (last end : ℕ) (rs : List CommitRequest) → NameEnd end (commits_of_plan known last end rs)
   planned_named last end [] = tt
@@ -114,9 +122,9 @@ module _ (known : List ControllerCall) where
   alike_same v [] = tt
   alike_same v (q ∷ rs) = (refl, alike_same v rs)
 
-  alike_held : (v : Answer) (b : Bool) → is_held_up v ≡ b → (rs : List CommitRequest) → AllByRecursion (λ (c : Commit). is_held_up c.answer ≡ b) (map (λ (q : CommitRequest). commit_of_request known q v) rs)
-  alike_held v b is [] = tt
-  alike_held v b is (q ∷ rs) = (is, alike_held v b is rs)
+  alike_answers : (test : Answer → Bool) (v : Answer) (b : Bool) → test v ≡ b → (rs : List CommitRequest) → AllByRecursion (λ (c : Commit). test c.answer ≡ b) (map (λ (q : CommitRequest). commit_of_request known q v) rs)
+  alike_answers test v b is [] = tt
+  alike_answers test v b is (q ∷ rs) = (is, alike_answers test v b is rs)
 
   alike_named : (v : Answer) (end : ℕ) → NamesEnd end v → (rs : List CommitRequest) → NameEnd end (map (λ (q : CommitRequest). commit_of_request known q v) rs)
   alike_named v end named [] = tt
@@ -128,36 +136,42 @@ module _ (known : List ControllerCall) where
 
 module _ (start group_bytes : ℕ) (cs : List Commit) (asked known : List ControllerCall) (numbers : Look) (k : AreInGroups start group_bytes asked cs) (requests : List CommitRequest) (whole : IsWholeGroup group_bytes requests)
     (is_asked : IsAskedFor requests numbers known) (comes : ComesAfter asked known) where
+  abbrev pub with_these : List ControllerCall → List Commit → LedGroup
+  with_these went new = record { known = known; went = went; commits = new }
+
   with_group : (went : List ControllerCall) (new : List Commit) → map request_of new ≡ requests → AllByRecursion (λ (c : Commit). c.controller_calls ≡ known) new → AllByRecursion (IsHeldUp numbers) new
-      → AreTogether (record { known = known; went = went; commits = new }) numbers → IsPrefix known went → NameEnd (last_after_all (last_after_all start cs) new) new → AreInGroups start group_bytes went (cs ++ new)
-  with_group went new are same held together goes named = group_more asked known went comes goes start group_bytes cs new k (record {
+      → AreTogether (with_these went new) numbers → FailTogether new → IsPrefix known went → NameEnd (last_after_all (last_after_all start cs) new) new → OneMoreGroup start group_bytes cs k.groups (with_these went new)
+  with_group went new are same held together fail goes named = group_more asked known went comes goes start group_bytes cs new k (record {
     numbers = numbers;
     asked = subst (λ rs. IsAskedFor rs numbers known) (sym are) is_asked;
     is_group = subst (IsWholeGroup group_bytes) (sym are) whole;
     same = same;
     are_held_up = held;
     together = together;
+    fail = fail;
     seen_since = goes;
   }) named
 
   -- a group that goes on, where no member is held up, is one more of the groups
   going_on : (went : List ControllerCall) → ProceedsWith requests numbers known went → (new : List Commit) → map request_of new ≡ requests → AllByRecursion (λ (c : Commit). c.controller_calls ≡ known) new
-      → AllByRecursion (λ (c : Commit). is_held_up c.answer ≡ false) new → NameEnd (last_after_all (last_after_all start cs) new) new → AreInGroups start group_bytes went (cs ++ new)
-  going_on went proceeds new are same free = with_group went new are same (not_told numbers new free) (inr (free, subst (λ rs. ProceedsWith rs numbers known went) (sym are) proceeds)) proceeds.begins
+      → AllByRecursion (λ (c : Commit). is_held_up c.answer ≡ false) new → FailTogether new → NameEnd (last_after_all (last_after_all start cs) new) new → OneMoreGroup start group_bytes cs k.groups (with_these went new)
+  going_on went proceeds new are same free fail named = with_group went new are same (not_told numbers new free) (inr (free, subst (λ rs. ProceedsWith rs numbers known went) (sym are) proceeds)) fail proceeds.begins named
 
-  pub in_groups_planned : (went : List ControllerCall) → ProceedsWith requests numbers known went → (last : ℕ) → last ≡ last_after_all start cs → AreInGroups start group_bytes went (cs ++ commits_of_plan known last (last_with_all last requests) requests)
+  pub in_groups_planned : (went : List ControllerCall) → ProceedsWith requests numbers known went → (last : ℕ) → last ≡ last_after_all start cs → OneMoreGroup start group_bytes cs k.groups (with_these went (commits_of_plan known last (last_with_all last requests) requests))
   in_groups_planned went proceeds last is =
       let end = last_with_all last requests in
-      going_on went proceeds (commits_of_plan known last end requests) (planned_are known last end requests) (planned_same known last end requests) (planned_go_on known last end requests)
+      going_on went proceeds (commits_of_plan known last end requests) (planned_are known last end requests) (planned_same known last end requests)
+      (planned_alike known is_held_up (λ first ends. refl) (λ at. refl) last end requests) (inr (planned_alike known is_failed (λ first ends. refl) (λ at. refl) last end requests))
       (subst (λ n. NameEnd n (commits_of_plan known last end requests)) (sym (planned_end known last end requests) ∙ ap (λ n. last_after_all n (commits_of_plan known last end requests)) is) (planned_named known last end requests))
 
-  pub in_groups_failed : (went : List ControllerCall) → ProceedsWith requests numbers known went → (n : ℕ) → AreInGroups start group_bytes went (cs ++ all_failed known n requests)
+  pub in_groups_failed : (went : List ControllerCall) → ProceedsWith requests numbers known went → (n : ℕ) → OneMoreGroup start group_bytes cs k.groups (with_these went (all_failed known n requests))
   in_groups_failed went proceeds n =
-      going_on went proceeds (all_failed known n requests) (alike_are known (failed n) requests) (alike_same known (failed n) requests) (alike_held known (failed n) false refl requests)
+      going_on went proceeds (all_failed known n requests) (alike_are known (failed n) requests) (alike_same known (failed n) requests) (alike_answers known is_held_up (failed n) false refl requests)
+      (inl (alike_answers known is_failed (failed n) true refl requests))
       (alike_named known (failed n) (last_after_all (last_after_all start cs) (all_failed known n requests)) tt requests)
 
-  pub in_groups_held_up : HoldUp numbers → MayNotWait requests → AreInGroups start group_bytes known (cs ++ all_held_up known numbers requests)
+  pub in_groups_held_up : HoldUp numbers → MayNotWait requests → OneMoreGroup start group_bytes cs k.groups (with_these known (all_held_up known numbers requests))
   in_groups_held_up hold may =
       with_group known (all_held_up known numbers requests) (alike_are known (held_up numbers) requests) (alike_same known (held_up numbers) requests) (held_held known numbers hold requests may)
-      (inl (alike_held known (held_up numbers) true refl requests)) (prefix_self known)
+      (inl (alike_answers known is_held_up (held_up numbers) true refl requests)) (inr (alike_answers known is_failed (held_up numbers) false refl requests)) (prefix_self known)
       (alike_named known (held_up numbers) (last_after_all (last_after_all start cs) (all_held_up known numbers requests)) tt requests)

@@ -19,6 +19,7 @@ use Rattle.table_rule.specs.declared.content.MemberVersions.{MemberVersions}
 use Rattle.table_rule.specs.Histories.{Begins, last_of as last_shown}
 use Rattle.table_rule.proofs.Histories.{begins_trans}
 use Rattle.model_accounts.proofs.Logs.{same_record}
+use Rattle.engine_rule.specs.Asked.{LedGroup}
 use Rattle.engine_rule.specs.LogCalls.{AreLostWrites, WroteCommits}
 use Rattle.engine_rule.specs.Commits.{Commit}
 use Rattle.engine_rule.specs.Consistent.{EndsAreNamed, IsNamed}
@@ -62,14 +63,14 @@ records_are (part ∷ parts) (c ∷ calls) h all =
     ap (λ f. if_worked f (record_by c ∷ records_by calls)) h.0.ok ∙ (λ i. one i ∷ more i)
 
 -- a call that failed has written none
-records_of_all : (group_bytes : ℕ) (commits : List Commit) (fault : Option ℕ) (last : ℕ) (worked lost : List GroupCall) → AreLostWrites group_bytes commits fault last lost → records_by (worked ++ lost) ≡ records_by worked
-records_of_all group_bytes commits None last worked lost is = ap (λ l. records_by (worked ++ l)) is ∙ ap records_by (append-nil worked)
-records_of_all group_bytes commits (Some count) last worked lost is = ap (λ l. records_by (worked ++ l)) is.1 ∙ records_failed worked is.0 count is.2.failed
+records_of_all : (group_bytes : ℕ) (groups : List LedGroup) (fault : Option ℕ) (last : ℕ) (worked lost : List GroupCall) → AreLostWrites group_bytes groups fault last lost → records_by (worked ++ lost) ≡ records_by worked
+records_of_all group_bytes groups None last worked lost is = ap (λ l. records_by (worked ++ l)) is ∙ ap records_by (append-nil worked)
+records_of_all group_bytes groups (Some count) last worked lost is = ap (λ l. records_by (worked ++ l)) is.1 ∙ records_failed worked is.0 count is.2.failed
 
-pub records_written : (start group_bytes : ℕ) (commits : List Commit) (fault : Option ℕ) (last : ℕ) (calls : List GroupCall) (w : WroteCommits group_bytes commits fault last calls) → IsHistory start (entries_of commits) → records_by calls ≡ map record_of_group w.parts.parts
-records_written start group_bytes commits fault last calls w is_history =
+pub records_written : (start group_bytes : ℕ) (groups : List LedGroup) (commits : List Commit) (fault : Option ℕ) (last : ℕ) (calls : List GroupCall) (w : WroteCommits group_bytes groups commits fault last calls) → IsHistory start (entries_of commits) → records_by calls ≡ map record_of_group w.parts.parts
+records_written start group_bytes groups commits fault last calls w is_history =
     let counted = all_filter IsCounted (λ (e : Entry). is_logged e.flag) (entries_of commits) (all_counted start (entries_of commits) is_history) in
-    ap records_by w.both ∙ (records_of_all group_bytes commits fault last w.worked w.lost w.are_lost ∙ records_are w.parts.parts w.worked w.parts.each (subst (AllByRecursion IsCounted) (sym w.parts.cut) counted))
+    ap records_by w.both ∙ (records_of_all group_bytes groups fault last w.worked w.lost w.are_lost ∙ records_are w.parts.parts w.worked w.parts.each (subst (AllByRecursion IsCounted) (sym w.parts.cut) counted))
 
 -- Where the log's parts are cut, the later ones have the later entries
 cut_behind : (start at : ℕ) (entries : List Entry) (parts : List (List Entry)) (c : IsCutAt start entries parts at) → flat_map (λ part. part) parts ≡ logged_entries entries → flat_map (λ part. part) c.more ≡ logged_entries c.is_front.rest

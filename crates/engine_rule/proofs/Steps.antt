@@ -10,21 +10,25 @@ use Rattle.model_base.specs.declared.history.Flag.TheVariants.{Log, NoLog, Sync}
 use Rattle.model_base.specs.History.{Entry, IsHistory, RunsFollow, last_sequence, logged_entries, is_logged, flag_of, max_sequence}
 use Rattle.model_base.specs.Controller.{ControllerCall, HoldUp, Look}
 use Rattle.model_base.specs.LogContents.{GroupCall}
+use Rattle.model_base.specs.Groups.{Member}
 use Rattle.table_rule.specs.declared.content.MemberVersions.{MemberVersions}
 use Rattle.table_rule.specs.Histories.{made_by, versions_in, versions_of, last_of, Begins, Images, In}
 use Rattle.table_rule.proofs.Images.{images_more, images_none, images_versions}
 use Rattle.engine_rule.specs.Reading.{IsCutAt}
 use Rattle.engine_rule.proofs.Reaching.{versions_length}
+use Rattle.model_runs.specs.Groups.{has_entries, is_in_log, is_kept_out, leader_syncs}
 use Rattle.model_runs.specs.Written.{AreOfOwnClients, WroteEntries, first_of}
+use Rattle.model_accounts.specs.Led.{Taken, members_after}
 use Rattle.engine_rule.specs.Commits.{Answer, AreAnswered, AreOfClients, Commit, accepted, held_up, failed, fault_after_all, last_after, last_after_all, no_room}
-use Rattle.engine_rule.specs.Asked.{AreInGroups}
+use Rattle.engine_rule.specs.Asked.{LedGroup, commits_in}
 use Rattle.engine_rule.specs.Consistent.{AreConsistent, EndsAreNamed, IsNamed, Publishes}
 use Rattle.engine_rule.specs.Entries.{entries_after, entries_of, entry_after, entry_with, versions_made, versions_with}
-use Rattle.engine_rule.specs.LogCalls.{AreLostWrites, IsLostWrite, LogsGroup, SyncsFor, WritesBatches, WroteCommits, WroteParts}
-use Rattle.engine_rule.specs.Plans.{HaveOwnClients, AreLawful, AreUnlogged, ComesAfter, CommitRequest, IsAskedFor, IsWholeGroup, MayNotWait, ProceedsWith, all_failed, all_held_up, answer_with, commit_of_request, batches_from, last_with, last_with_all, commits_of_plan, versions_at, versions_from}
+use Rattle.engine_rule.specs.LogCalls.{AreLostWrites, IsLostWrite, LogsGroup, SyncsFor, WritesBatches, WroteCommits, WroteParts, leader_syncs as leader_asks_sync, taken_of}
+use Rattle.engine_rule.specs.Plans.{HaveOwnClients, AreLawful, AreLogged, AreUnlogged, ComesAfter, CommitRequest, IsAskedFor, IsWholeGroup, MayNotWait, ProceedsWith, all_failed, all_held_up, answer_with, commit_of_request, batches_from, last_with, last_with_all, commits_of_plan, versions_at, versions_from}
 use Rattle.table_rule.specs.Batches.{new_versions, number_from}
 use Rattle.engine_rule.proofs.Chains.{answered_append, dead_append, end_append, entries_history, entries_more}
-use Rattle.engine_rule.proofs.OneGroup.{all_append, in_groups_failed, in_groups_held_up, in_groups_planned}
+use Rattle.engine_rule.proofs.LoggedGroups.{LogsLed, goes_in, group_at, left_out, made_after, none_made, not_logged, one_logged}
+use Rattle.engine_rule.proofs.OneGroup.{OneMoreGroup, all_append, in_groups_failed, in_groups_held_up, in_groups_planned}
 use Rattle.engine_rule.proofs.Plans.{planned_answered, planned_batches, planned_clients, planned_dead, planned_end, planned_versions}
 
 zip_append : {A B : Type 0} (R : A → B → Type 0) (xs : List A) (cs : List B) (ys : List A) (ds : List B) → AllZip R xs cs → AllZip R ys ds → AllZip R (xs ++ ys) (cs ++ ds)
@@ -121,9 +125,13 @@ all_synced sync (e ∷ es) h = ((λ is. h.0.1 (syncs_flag h.0.0 (sym h.0.2 ∙ i
 
 -- The log's calls
 
--- the log's parts, which are cut wherever one of these commits says that its group ends
-abbrev CutParts : ℕ → List Commit → List Entry → List GroupCall → Type 0
-CutParts start cs es calls = (w : WroteParts es calls) × ((at : ℕ) → IsNamed cs at → IsCutAt start es w.parts at)
+-- the log's parts, which go by the groups, and are cut wherever one of these commits says that its group ends
+abbrev CutParts : ℕ → List Commit → List LedGroup → List Entry → List GroupCall → Type 0
+CutParts start cs groups es calls = (w : WroteParts es calls) × ((at : ℕ) → IsNamed cs at → IsCutAt start es w.parts at) × LogsLed groups w.parts calls
+
+abbrev WroteCut : ℕ → ℕ → List LedGroup → List Commit → Option ℕ → ℕ → List GroupCall → Type 0
+WroteCut start group_bytes groups commits fault last calls =
+    (w : WroteCommits group_bytes groups commits fault last calls) × ((at : ℕ) → IsNamed commits at → IsCutAt start (entries_of commits) w.parts.parts at)
 
 -- more entries and parts come behind
 cut_more : (start at : ℕ) (es new : List Entry) (parts more : List (List Entry)) → IsCutAt start es parts at → IsCutAt start (es ++ new) (parts ++ more) at
@@ -147,15 +155,18 @@ cut_whole start at es parts ends logged = record {
   logged = logged;
 }
 
-no_more_calls : (start : ℕ) (cs : List Commit) (old new : List Entry) (calls : List GroupCall) → logged_entries new ≡ [] → CutParts start cs old calls → CutParts start cs (old ++ new) calls
-no_more_calls start cs old new calls none k = (
+-- one more group, which made no call
+no_more_calls : (start : ℕ) (cs : List Commit) (groups : List LedGroup) (g : LedGroup) (old : List Entry) (calls : List GroupCall) → commits_in groups ≡ cs → ((before : List Taken) → is_in_log (group_at before g, made_after cs g) ≡ false)
+    → logged_entries (made_after cs g) ≡ [] → CutParts start cs groups old calls → CutParts start cs (groups ++ g ∷ []) (old ++ made_after cs g) calls
+no_more_calls start cs groups g old calls cut out none k = (
   record {
     parts = k.0.parts;
-    cut = k.0.cut ∙ (sym (append-nil (logged_entries old)) ∙ ((λ i. logged_entries old ++ sym none i) ∙ sym (filter-append (λ (e : Entry). is_logged e.flag) old new)));
+    cut = k.0.cut ∙ (sym (append-nil (logged_entries old)) ∙ ((λ i. logged_entries old ++ sym none i) ∙ sym (filter-append (λ (e : Entry). is_logged e.flag) old (made_after cs g))));
     runs = k.0.runs;
     each = k.0.each;
   },
-  (λ at is. subst (λ (ps : List (List Entry)). IsCutAt start (old ++ new) ps at) (append-nil k.0.parts) (cut_more start at old new k.0.parts [] (k.1 at is))),
+  (λ at is. subst (λ (ps : List (List Entry)). IsCutAt start (old ++ made_after cs g) ps at) (append-nil k.0.parts) (cut_more start at old (made_after cs g) k.0.parts [] (k.1 at is))),
+  not_logged groups g cs cut k.0.parts calls k.2 out,
 )
 
 first_is : (last : ℕ) (es : List Entry) → IsHistory last es → 0 < length es → first_of es ≡ Some (last + 1)
@@ -166,17 +177,46 @@ runs_follow : (last : ℕ) (es : List Entry) → IsHistory last es → RunsFollo
 runs_follow last [] h = tt
 runs_follow last (e ∷ es) h = h.1
 
-one_more_call : (start last : ℕ) (cs : List Commit) (old new : List Entry) (calls : List GroupCall) (c : GroupCall) → IsHistory last new → logged_entries new ≡ new → 0 < length new → c.first ≡ last + 1 → c.batches ≡ map (λ (e : Entry). e.records) new
-    → AllByRecursion (λ (e : Entry). e.flag ≡ Sync → c.sync ≡ true) new → c.failed ≡ None → AreOfOwnClients new → CutParts start cs old calls → CutParts start cs (old ++ new) (calls ++ c ∷ [])
-one_more_call start last cs old new calls c h all some first batches synced ok own k = (
-  record {
-    parts = k.0.parts ++ new ∷ [];
-    cut = flat_map-append (λ part. part) k.0.parts (new ∷ []) ∙ ((λ i. k.0.cut i ++ append-nil new i) ∙ ((λ i. logged_entries old ++ sym all i) ∙ sym (filter-append (λ (e : Entry). is_logged e.flag) old new)));
-    runs = all_append RunsFollow k.0.parts (new ∷ []) k.0.runs (runs_follow last new h, tt);
-    each = zip_append WroteEntries k.0.parts calls (new ∷ []) (c ∷ []) k.0.each (record { some = first_is last new h some ∙ ap Some (sym first); apart = own; batches = batches; synced = synced; ok = ok }, tt);
-  },
-  (λ at is. cut_more start at old new k.0.parts (new ∷ []) (k.1 at is)),
-)
+-- one more group, which made one call
+module _ (start last : ℕ) (cs : List Commit) (groups : List LedGroup) (g : LedGroup) (old : List Entry) (calls : List GroupCall) (c : GroupCall) (cut : commits_in groups ≡ cs) where
+  abbrev part : List Entry
+  part = made_after cs g
+
+  one_more_call : ((before : List Taken) → is_in_log (group_at before g, part) ≡ true) → ((before : List Taken) → c.sync ≡ leader_syncs (members_after before (map taken_of g.commits)))
+      → IsHistory last part → logged_entries part ≡ part → 0 < length part → c.first ≡ last + 1 → c.batches ≡ map (λ (e : Entry). e.records) part
+      → AllByRecursion (λ (e : Entry). e.flag ≡ Sync → c.sync ≡ true) part → c.failed ≡ None → AreOfOwnClients part → CutParts start cs groups old calls → CutParts start cs (groups ++ g ∷ []) (old ++ part) (calls ++ c ∷ [])
+  one_more_call within by_leader h all some first batches synced ok own k = (
+    record {
+      parts = k.0.parts ++ part ∷ [];
+      cut = flat_map-append (λ part. part) k.0.parts (part ∷ []) ∙ ((λ i. k.0.cut i ++ append-nil part i) ∙ ((λ i. logged_entries old ++ sym all i) ∙ sym (filter-append (λ (e : Entry). is_logged e.flag) old part)));
+      runs = all_append RunsFollow k.0.parts (part ∷ []) k.0.runs (runs_follow last part h, tt);
+      each = zip_append WroteEntries k.0.parts calls (part ∷ []) (c ∷ []) k.0.each (record { some = first_is last part h some ∙ ap Some (sym first); apart = own; batches = batches; synced = synced; ok = ok }, tt);
+    },
+    (λ at is. cut_more start at old part k.0.parts (part ∷ []) (k.1 at is)),
+    one_logged groups g cs cut k.0.parts calls k.2 c within by_leader,
+  )
+
+-- What a group's leader asked for
+
+module _ (known : List ControllerCall) (last end : ℕ) (before : List Taken) where
+  abbrev members : List CommitRequest → List Member
+  members requests = members_after before (map taken_of (commits_of_plan known last end requests))
+
+  by_leader : (requests : List CommitRequest) → leader_asks_sync requests ≡ leader_syncs (members requests)
+  by_leader [] = refl
+  by_leader (q ∷ requests) = refl
+
+  kept_out : (requests : List CommitRequest) → 0 < length requests → AreUnlogged requests → is_kept_out (members requests) ≡ true
+  kept_out [] some h = absurd (omega (arith, some))
+  kept_out (q ∷ requests) some h = h.0
+
+  kept_in : (requests : List CommitRequest) → AreLogged requests → is_kept_out (members requests) ≡ false
+  kept_in [] h = refl
+  kept_in (q ∷ requests) h = h.0
+
+some_entries : (es : List Entry) → 0 < length es → has_entries es ≡ true
+some_entries [] some = absurd (omega (arith, some))
+some_entries (e ∷ es) some = refl
 
 -- Which ends are named
 
@@ -279,26 +319,48 @@ module _ (start clients group_bytes : ℕ) (asked known went : List ControllerCa
   answered_all = answered_append start None cs new k.answered (subst (λ (z : ℕ × Option ℕ). AreAnswered z.0 z.1 new) (λ i. (k.last_is i, k.fault_is i)) answered_new)
 
   -- the log's parts, with the group's own
-  written_new : (calls' : List GroupCall) → LogsGroup last requests calls calls' → (w : WroteCommits group_bytes (cs ++ new) None end calls') × ((at : ℕ) → IsNamed (cs ++ new) at → IsCutAt start (entries_of (cs ++ new)) w.parts.parts at)
+  abbrev old_groups : List LedGroup
+  old_groups = k.in_groups.groups
+
+  abbrev this_group : LedGroup
+  this_group = record { known = known; went = went; commits = new }
+
+  no_call : (calls' : List GroupCall) → calls' ≡ calls → AreUnlogged requests ⊎ (batches_from last requests ≡ []) → CutParts start cs old_groups (entries_of cs) calls → CutParts start cs (old_groups ++ this_group ∷ []) (entries_of cs ++ new_entries) calls'
+  unfolding new_entries
+  no_call calls' same (inl u) old =
+      subst (CutParts start cs (old_groups ++ this_group ∷ []) (entries_of cs ++ new_entries)) (sym same) (no_more_calls start cs old_groups this_group (entries_of cs) calls k.in_groups.cut
+      (λ before. left_out (group_at before this_group) new_entries (kept_out known last end before requests whole.some u))
+      (none_logged new_entries (flags_of known (λ options. options.no_log ≡ true) last end (entries_of cs) requests u)) old)
+  no_call calls' same (inr u) old =
+      let none : new_entries ≡ [] = none_of (λ (e : Entry). e.records) new_entries (batches_are ∙ u) in
+      subst (CutParts start cs (old_groups ++ this_group ∷ []) (entries_of cs ++ new_entries)) (sym same) (no_more_calls start cs old_groups this_group (entries_of cs) calls k.in_groups.cut
+      (λ before. none_made (group_at before this_group) new_entries none) (ap logged_entries none) old)
+
+  a_call : (calls' : List GroupCall) (c : GroupCall) → calls' ≡ calls ++ c ∷ [] → WritesBatches last requests c → SyncsFor requests c.sync → c.failed ≡ None → CutParts start cs old_groups (entries_of cs) calls
+      → CutParts start cs (old_groups ++ this_group ∷ []) (entries_of cs ++ new_entries) calls'
+  unfolding new_entries
+  a_call calls' c one writes syncs ok old =
+      let same : c.batches ≡ map (λ (e : Entry). e.records) new_entries = writes.batches ∙ sym batches_are in
+      let some : 0 < length new_entries = some_of (λ (e : Entry). e.records) new_entries (subst (λ l. 0 < length l) same writes.some) in
+      subst (CutParts start cs (old_groups ++ this_group ∷ []) (entries_of cs ++ new_entries)) (sym one) (one_more_call start last cs old_groups this_group (entries_of cs) calls c k.in_groups.cut
+      (λ before. goes_in (group_at before this_group) new_entries (kept_in known last end before requests writes.to_log) (some_entries new_entries some))
+      (λ before. writes.sync ∙ by_leader known last end before requests)
+      history_new (all_logged new_entries (flags_of known (λ options. options.no_log ≡ false) last end (entries_of cs) requests writes.to_log)) some writes.first same
+      (all_synced c.sync new_entries (flags_of known (λ options. options.sync ≡ true → c.sync ≡ true) last end (entries_of cs) requests syncs)) ok (own_clients known last end (entries_of cs) requests whole.of_others) old)
+
+  written_new : (calls' : List GroupCall) → LogsGroup last requests calls calls' → WroteCut start group_bytes (old_groups ++ this_group ∷ []) (cs ++ new) None end calls'
   unfolding new_entries
   written_new calls' logs =
       let w = k.written in
       let all_good : calls ≡ w.worked = w.both ∙ ((λ i. w.worked ++ w.are_lost i) ∙ append-nil w.worked) in
-      let old : CutParts start cs (entries_of cs) calls = subst (CutParts start cs (entries_of cs)) (sym all_good) (w.parts, k.cuts) in
-      let now : CutParts start cs (entries_of cs ++ new_entries) calls' = ⊎_elim
-      (λ (t : (calls' ≡ calls) × (AreUnlogged requests ⊎ (batches_from last requests ≡ []))). subst (CutParts start cs (entries_of cs ++ new_entries)) (sym t.0) (no_more_calls start cs (entries_of cs) new_entries calls
-      (⊎_elim (λ (u : AreUnlogged requests). none_logged new_entries (flags_of known (λ options. options.no_log ≡ true) last end (entries_of cs) requests u))
-      (λ (u : batches_from last requests ≡ []). ap logged_entries (none_of (λ (e : Entry). e.records) new_entries (batches_are ∙ u))) t.1) old))
-      (λ (t : (c : GroupCall) × (calls' ≡ calls ++ c ∷ []) × WritesBatches last requests c × SyncsFor requests c.sync × (c.failed ≡ None)).
-      let c = t.0 in
-      let same : c.batches ≡ map (λ (e : Entry). e.records) new_entries = t.2.batches ∙ sym batches_are in
-      let some : 0 < length new_entries = some_of (λ (e : Entry). e.records) new_entries (subst (λ l. 0 < length l) same t.2.some) in
-      subst (CutParts start cs (entries_of cs ++ new_entries)) (sym t.1) (one_more_call start last cs (entries_of cs) new_entries calls c history_new (all_logged new_entries (flags_of known (λ options. options.no_log ≡ false) last end (entries_of cs) requests t.2.to_log)) some t.2.first same
-      (all_synced c.sync new_entries (flags_of known (λ options. options.sync ≡ true → c.sync ≡ true) last end (entries_of cs) requests t.3)) t.4 (own_clients known last end (entries_of cs) requests whole.of_others) old))
+      let old : CutParts start cs old_groups (entries_of cs) calls = subst (CutParts start cs old_groups (entries_of cs)) (sym all_good) (w.parts, k.cuts, w.by_groups) in
+      let now : CutParts start cs (old_groups ++ this_group ∷ []) (entries_of cs ++ new_entries) calls' = ⊎_elim
+      (λ (t : (calls' ≡ calls) × (AreUnlogged requests ⊎ (batches_from last requests ≡ []))). no_call calls' t.0 t.1 old)
+      (λ (t : (c : GroupCall) × (calls' ≡ calls ++ c ∷ []) × WritesBatches last requests c × SyncsFor requests c.sync × (c.failed ≡ None)). a_call calls' t.0 t.1 t.2 t.3 t.4 old)
       logs in
-      let all : CutParts start cs (entries_of (cs ++ new)) calls' = subst (λ es. CutParts start cs es calls') (sym (entries_more cs new)) now in
+      let all : CutParts start cs (old_groups ++ this_group ∷ []) (entries_of (cs ++ new)) calls' = subst (λ es. CutParts start cs (old_groups ++ this_group ∷ []) es calls') (sym (entries_more cs new)) now in
       let whole_history : last_sequence start (entries_of (cs ++ new)) ≡ end = (entries_history start None [] (cs ++ new) answered_all).1 ∙ all_end in (
-        record { worked = calls'; lost = []; both = sym (append-nil calls'); parts = all.0; are_lost = refl },
+        record { worked = calls'; lost = []; both = sym (append-nil calls'); parts = all.0; by_groups = all.2; are_lost = refl },
         (λ at is. ⊎_elim
             (λ (a : IsNamed cs at). all.1 at a)
             (λ (b : IsNamed new at). cut_whole start at (entries_of (cs ++ new)) all.0.parts (named_end at last requests b ∙ sym whole_history) all.0.cut)
@@ -336,22 +398,28 @@ module _ (start clients group_bytes : ℕ) (asked known went : List ControllerCa
       publishes
 
   pub consistent_accepted : (published' : List (List MemberVersions)) (calls' : List GroupCall) → Publishes (versions_from last requests) published published' → LogsGroup last requests calls calls' → AreConsistent start clients group_bytes went (cs ++ new) end None published' calls'
-  consistent_accepted published' calls' publishes logs = let w = written_new calls' logs in let images = images_new published' publishes in record {
-    answered = answered_all;
-    of_clients = all_append (λ (c : Commit). (1 ≤ c.client) × (c.client ≤ clients)) cs new k.of_clients (planned_clients known clients last end requests lawful);
-    last_is = sym all_end;
-    fault_is = sym (dead_append None cs new ∙ (ap (λ d. fault_after_all d new) (sym k.fault_is) ∙ planned_dead known last end None requests));
-    in_groups = in_groups_planned start group_bytes cs asked known numbers k.in_groups requests whole is_asked comes went proceeds last k.last_is;
-    images = images;
-    written = w.0;
-    named = named_new published' publishes images;
-    cuts = w.1;
-  }
+  consistent_accepted published' calls' publishes logs =
+      let images = images_new published' publishes in
+      let more = in_groups_planned start group_bytes cs asked known numbers k.in_groups requests whole is_asked comes went proceeds last k.last_is in
+      let w = subst (λ gs. WroteCut start group_bytes gs (cs ++ new) None end calls') (sym more.1) (written_new calls' logs) in record {
+        answered = answered_all;
+        of_clients = all_append (λ (c : Commit). (1 ≤ c.client) × (c.client ≤ clients)) cs new k.of_clients (planned_clients known clients last end requests lawful);
+        last_is = sym all_end;
+        fault_is = sym (dead_append None cs new ∙ (ap (λ d. fault_after_all d new) (sym k.fault_is) ∙ planned_dead known last end None requests));
+        in_groups = more.0;
+        images = images;
+        written = w.0;
+        named = named_new published' publishes images;
+        cuts = w.1;
+      }
 
 -- All members of a group got the same answer, and no runs
 
 abbrev alike : List ControllerCall → Answer → List CommitRequest → List Commit
 alike known v requests = map (λ (q : CommitRequest). commit_of_request known q v) requests
+
+abbrev led_alike : List ControllerCall → Answer → List ControllerCall → List CommitRequest → LedGroup
+led_alike known v went requests = record { known = known; went = went; commits = alike known v requests }
 
 record GivesNoRun (v : Answer) : Type 0 where
   last : (n count : ℕ) → last_after n count v ≡ n
@@ -400,25 +468,32 @@ module _ (known : List ControllerCall) (v : Answer) (none : GivesNoRun v) where
   named_alike cs at requests n = ⊎_elim (λ (a : IsNamed cs at). a) (λ (b : IsNamed (alike known v requests) at). absurd (alike_unnamed at requests b)) (named_in cs (alike known v requests) at n)
 
   -- the log's parts stay as they are
-  same_parts : (start : ℕ) (cs : List Commit) (requests : List CommitRequest) (calls : List GroupCall) → CutParts start cs (entries_of cs) calls → CutParts start (cs ++ alike known v requests) (entries_of (cs ++ alike known v requests)) calls
-  same_parts start cs requests calls k = let t = subst (λ es. CutParts start cs es calls) (sym (same_entries cs requests)) k in (t.0, (λ at is. t.1 at (named_alike cs at requests is)))
+  same_parts : (start : ℕ) (cs : List Commit) (groups : List LedGroup) (went : List ControllerCall) (requests : List CommitRequest) (calls : List GroupCall) → commits_in groups ≡ cs → CutParts start cs groups (entries_of cs) calls
+      → CutParts start (cs ++ alike known v requests) (groups ++ led_alike known v went requests ∷ []) (entries_of (cs ++ alike known v requests)) calls
+  same_parts start cs groups went requests calls cut k =
+      let t = subst (λ es. CutParts start cs groups es calls) (sym (same_entries cs requests)) k in (
+        t.0,
+        (λ at is. t.1 at (named_alike cs at requests is)),
+        not_logged groups (led_alike known v went requests) cs cut t.0.parts calls t.2 (λ before. none_made (group_at before (led_alike known v went requests)) (made_after cs (led_alike known v went requests)) (alike_entries (entries_of cs) requests)),
+      )
 
   consistent_alike : (start clients group_bytes : ℕ) (asked went : List ControllerCall) (cs : List Commit) (last : ℕ) (fault now : Option ℕ) (published : List (List MemberVersions)) (calls more : List GroupCall) (requests : List CommitRequest)
-      → AreConsistent start clients group_bytes asked cs last fault published calls → AreLawful clients requests → AreAnswered last fault (alike known v requests) → fault_after_all fault (alike known v requests) ≡ now
-      → AreInGroups start group_bytes went (cs ++ alike known v requests)
-      → (w : WroteCommits group_bytes (cs ++ alike known v requests) now last more) × ((at : ℕ) → IsNamed (cs ++ alike known v requests) at → IsCutAt start (entries_of (cs ++ alike known v requests)) w.parts.parts at)
+      (k : AreConsistent start clients group_bytes asked cs last fault published calls) → AreLawful clients requests → AreAnswered last fault (alike known v requests) → fault_after_all fault (alike known v requests) ≡ now
+      → OneMoreGroup start group_bytes cs k.in_groups.groups (led_alike known v went requests)
+      → WroteCut start group_bytes (k.in_groups.groups ++ led_alike known v went requests ∷ []) (cs ++ alike known v requests) now last more
       → AreConsistent start clients group_bytes went (cs ++ alike known v requests) last now published more
-  consistent_alike start clients group_bytes asked went cs last fault now published calls more requests k lawful right fault_now in_groups written = record {
-    answered = answered_append start None cs (alike known v requests) k.answered (subst (λ (z : ℕ × Option ℕ). AreAnswered z.0 z.1 (alike known v requests)) (λ i. (k.last_is i, k.fault_is i)) right);
-    of_clients = all_append (λ (c : Commit). (1 ≤ c.client) × (c.client ≤ clients)) cs (alike known v requests) k.of_clients (alike_clients clients requests lawful);
-    last_is = k.last_is ∙ sym (end_append start cs (alike known v requests) ∙ alike_end (last_after_all start cs) requests);
-    fault_is = sym (dead_append None cs (alike known v requests) ∙ (ap (λ d. fault_after_all d (alike known v requests)) (sym k.fault_is) ∙ fault_now));
-    in_groups = in_groups;
-    images = images_none versions_made cs (alike known v requests) published k.images (alike_versions requests);
-    written = written.0;
-    named = λ shown begins. ⊎_elim (λ (e : last_of start shown ≡ start). inl e) (λ (n : IsNamed cs (last_of start shown)). inr (named_more cs (alike known v requests) (last_of start shown) n)) (k.named shown begins);
-    cuts = written.1;
-  }
+  consistent_alike start clients group_bytes asked went cs last fault now published calls more requests k lawful right fault_now in_groups written =
+      let w = subst (λ gs. WroteCut start group_bytes gs (cs ++ alike known v requests) now last more) (sym in_groups.1) written in record {
+        answered = answered_append start None cs (alike known v requests) k.answered (subst (λ (z : ℕ × Option ℕ). AreAnswered z.0 z.1 (alike known v requests)) (λ i. (k.last_is i, k.fault_is i)) right);
+        of_clients = all_append (λ (c : Commit). (1 ≤ c.client) × (c.client ≤ clients)) cs (alike known v requests) k.of_clients (alike_clients clients requests lawful);
+        last_is = k.last_is ∙ sym (end_append start cs (alike known v requests) ∙ alike_end (last_after_all start cs) requests);
+        fault_is = sym (dead_append None cs (alike known v requests) ∙ (ap (λ d. fault_after_all d (alike known v requests)) (sym k.fault_is) ∙ fault_now));
+        in_groups = in_groups.0;
+        images = images_none versions_made cs (alike known v requests) published k.images (alike_versions requests);
+        written = w.0;
+        named = λ shown begins. ⊎_elim (λ (e : last_of start shown ≡ start). inl e) (λ (n : IsNamed cs (last_of start shown)). inr (named_more cs (alike known v requests) (last_of start shown) n)) (k.named shown begins);
+        cuts = w.1;
+      }
 
 -- the log's fault stays the same after members whose answer is this fault
 failed_dead_on : (known : List ControllerCall) (n : ℕ) (requests : List CommitRequest) → fault_after_all (Some n) (all_failed known n requests) ≡ Some n
@@ -445,38 +520,49 @@ held_up_answered : (known : List ControllerCall) (last : ℕ) (numbers : Look) (
 held_up_answered known last numbers fault [] = tt
 held_up_answered known last numbers fault (a ∷ requests) = (tt, held_up_answered known last numbers fault requests)
 
--- the call that failed is still the lost write when later commits are added
-lost_later : (group_bytes n last : ℕ) (cs new : List Commit) (c : GroupCall) → IsLostWrite group_bytes cs n last c → IsLostWrite group_bytes (cs ++ new) n last c
-lost_later group_bytes n last cs new c g = record {
-  front = g.front;
-  known = g.known;
-  requests = g.requests;
-  rest = g.rest ++ new;
-  split = ap (λ l. l ++ new) g.split ∙ (append_assoc g.front (all_failed g.known n g.requests ++ g.rest) new ∙ ap (λ l. g.front ++ l) (append_assoc (all_failed g.known n g.requests) g.rest new));
-  is_group = g.is_group;
-  writes = g.writes;
-  failed = g.failed;
+-- the call that failed is still the lost write when a later group is added
+lost_later : (group_bytes n last : ℕ) (groups : List LedGroup) (g : LedGroup) (c : GroupCall) → IsLostWrite group_bytes groups n last c → IsLostWrite group_bytes (groups ++ g ∷ []) n last c
+lost_later group_bytes n last groups g c lost = record {
+  before = lost.before;
+  group = lost.group;
+  after = lost.after ++ g ∷ [];
+  among = ap (λ l. l ++ g ∷ []) lost.among ∙ append_assoc lost.before (lost.group ∷ lost.after) (g ∷ []);
+  worked = lost.worked;
+  requests = lost.requests;
+  answers = lost.answers;
+  is_group = lost.is_group;
+  writes = lost.writes;
+  failed = lost.failed;
 }
 
-lost_as_before : (group_bytes last : ℕ) (cs more : List Commit) (fault : Option ℕ) (lost : List GroupCall) → AreLostWrites group_bytes cs fault last lost → AreLostWrites group_bytes (cs ++ more) fault last lost
-lost_as_before group_bytes last cs more None lost h = h
-lost_as_before group_bytes last cs more (Some n) lost h = (h.0, h.1, lost_later group_bytes n last cs more h.0 h.2)
+lost_as_before : (group_bytes last : ℕ) (groups : List LedGroup) (g : LedGroup) (fault : Option ℕ) (lost : List GroupCall) → AreLostWrites group_bytes groups fault last lost → AreLostWrites group_bytes (groups ++ g ∷ []) fault last lost
+lost_as_before group_bytes last groups g None lost h = h
+lost_as_before group_bytes last groups g (Some n) lost h = (h.0, h.1, lost_later group_bytes n last groups g h.0 h.2)
 
-wrote_as_before : (start group_bytes last : ℕ) (cs new : List Commit) (fault : Option ℕ) (calls : List GroupCall) (w : WroteCommits group_bytes cs fault last calls) → CutParts start (cs ++ new) (entries_of (cs ++ new)) w.worked
-    → (x : WroteCommits group_bytes (cs ++ new) fault last calls) × ((at : ℕ) → IsNamed (cs ++ new) at → IsCutAt start (entries_of (cs ++ new)) x.parts.parts at)
-wrote_as_before start group_bytes last cs new fault calls w parts = (
+wrote_as_before : (start group_bytes last : ℕ) (cs more : List Commit) (groups : List LedGroup) (g : LedGroup) (fault : Option ℕ) (calls : List GroupCall) (w : WroteCommits group_bytes groups cs fault last calls)
+    → CutParts start (cs ++ more) (groups ++ g ∷ []) (entries_of (cs ++ more)) w.worked → WroteCut start group_bytes (groups ++ g ∷ []) (cs ++ more) fault last calls
+wrote_as_before start group_bytes last cs more groups g fault calls w parts = (
   record {
     worked = w.worked;
     lost = w.lost;
     both = w.both;
     parts = parts.0;
-    are_lost = lost_as_before group_bytes last cs new fault w.lost w.are_lost;
+    by_groups = parts.2;
+    are_lost = lost_as_before group_bytes last groups g fault w.lost w.are_lost;
   },
   parts.1,
 )
 
 module _ (start clients group_bytes : ℕ) (cs : List Commit) (last : ℕ) (published : List (List MemberVersions)) (calls : List GroupCall) (requests : List CommitRequest) (asked known : List ControllerCall) (numbers : Look)
     (lawful : AreLawful clients requests) (whole : IsWholeGroup group_bytes requests) (is_asked : IsAskedFor requests numbers known) (comes : ComesAfter asked known) where
+  -- the log was written as before, where all members get the same answer and no runs
+  as_before : (v : Answer) → GivesNoRun v → (went : List ControllerCall) (fault : Option ℕ) (k : AreConsistent start clients group_bytes asked cs last fault published calls)
+      → WroteCut start group_bytes (k.in_groups.groups ++ led_alike known v went requests ∷ []) (cs ++ alike known v requests) fault last calls
+  as_before v none went fault k =
+      let w = k.written in
+      wrote_as_before start group_bytes last cs (alike known v requests) k.in_groups.groups (led_alike known v went requests) fault calls w
+      (same_parts known v none start cs k.in_groups.groups went requests w.worked k.in_groups.cut (w.parts, k.cuts, w.by_groups))
+
   -- writes are held up
   pub consistent_held_up : (fault : Option ℕ) → AreConsistent start clients group_bytes asked cs last fault published calls → HoldUp numbers → MayNotWait requests
       → AreConsistent start clients group_bytes known (cs ++ all_held_up known numbers requests) last fault published calls
@@ -484,7 +570,7 @@ module _ (start clients group_bytes : ℕ) (cs : List Commit) (last : ℕ) (publ
       let none = held_up_no_run numbers in
       consistent_alike known (held_up numbers) none start clients group_bytes asked known cs last fault fault published calls calls requests k lawful (held_up_answered known last numbers fault requests) (held_up_dead known numbers fault requests)
       (in_groups_held_up start group_bytes cs asked known numbers k.in_groups requests whole is_asked comes hold may)
-      (wrote_as_before start group_bytes last cs (all_held_up known numbers requests) fault calls k.written (same_parts known (held_up numbers) none start cs requests k.written.worked (k.written.parts, k.cuts)))
+      (as_before (held_up numbers) none known fault k)
 
   module _ (went : List ControllerCall) (proceeds : ProceedsWith requests numbers known went) where
     -- the log had failed before
@@ -493,32 +579,36 @@ module _ (start clients group_bytes : ℕ) (cs : List Commit) (last : ℕ) (publ
         let none = failed_no_run n in
         consistent_alike known (failed n) none start clients group_bytes asked went cs last (Some n) (Some n) published calls calls requests k lawful (failed_answered_on known last n requests) (failed_dead_on known n requests)
         (in_groups_failed start group_bytes cs asked known numbers k.in_groups requests whole is_asked comes went proceeds n)
-        (wrote_as_before start group_bytes last cs (all_failed known n requests) (Some n) calls k.written (same_parts known (failed n) none start cs requests k.written.worked (k.written.parts, k.cuts)))
+        (as_before (failed n) none went (Some n) k)
 
     -- the log fails with this group
     pub consistent_with_fault : (n : ℕ) → AreConsistent start clients group_bytes asked cs last None published calls → (c : GroupCall) → WritesBatches last requests c → c.failed ≡ Some n
         → AreConsistent start clients group_bytes went (cs ++ all_failed known n requests) last (Some n) published (calls ++ c ∷ [])
     consistent_with_fault n k c writes failed_is =
         let none = failed_no_run n in let w = k.written in
+        let groups = k.in_groups.groups in let g = led_alike known (failed n) went requests in
         let all_good : calls ≡ w.worked = w.both ∙ ((λ i. w.worked ++ w.are_lost i) ∙ append-nil w.worked) in
-        let lost : IsLostWrite group_bytes (cs ++ all_failed known n requests) n last c = record {
-          front = cs;
-          known = known;
+        let lost : IsLostWrite group_bytes (groups ++ g ∷ []) n last c = record {
+          before = groups;
+          group = g;
+          after = [];
+          among = refl;
+          worked = ap (fault_after_all None) k.in_groups.cut ∙ sym k.fault_is;
           requests = requests;
-          rest = [];
-          split = ap (λ l. cs ++ l) (sym (append-nil (all_failed known n requests)));
+          answers = refl;
           is_group = whole;
           writes = writes;
           failed = failed_is;
         } in
         consistent_alike known (failed n) none start clients group_bytes asked went cs last None (Some n) published calls (calls ++ c ∷ []) requests k lawful (failed_answered known last n requests) (failed_dead known n None requests whole.some)
         (in_groups_failed start group_bytes cs asked known numbers k.in_groups requests whole is_asked comes went proceeds n)
-        (let parts = same_parts known (failed n) none start cs requests w.worked (w.parts, k.cuts) in (
+        (let parts = same_parts known (failed n) none start cs groups went requests w.worked k.in_groups.cut (w.parts, k.cuts, w.by_groups) in (
           record {
             worked = w.worked;
             lost = c ∷ [];
             both = (λ i. all_good i ++ c ∷ []);
             parts = parts.0;
+            by_groups = parts.2;
             are_lost = (c, refl, lost);
           },
           parts.1,
@@ -533,7 +623,7 @@ consistent_first start clients group_bytes = record {
   fault_is = refl;
   in_groups = record { groups = []; cut = refl; each = tt; seen = tt; rise = tt; name_ends = tt };
   images = refl;
-  written = record { worked = []; lost = []; both = refl; parts = record { parts = []; cut = refl; runs = tt; each = tt }; are_lost = refl };
+  written = record { worked = []; lost = []; both = refl; parts = record { parts = []; cut = refl; runs = tt; each = tt }; by_groups = record { parts_are = refl; syncs_are = refl }; are_lost = refl };
   named = λ shown begins. inl (shown_first start shown begins);
   cuts = λ at n. absurd n.2;
 }

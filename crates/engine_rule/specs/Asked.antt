@@ -23,6 +23,9 @@ pub record LedGroup : Type 0 where
   pub went : List ControllerCall
   pub commits : List Commit
 
+abbrev pub commits_in : List LedGroup → List Commit
+commits_in groups = flat_map (λ (g : LedGroup). g.commits) groups
+
 -- a member that is held up may not wait, and its answer has the numbers of the group's delay, which say that writes are
 -- held up
 abbrev pub IsHeldUp : Look → Commit → Type 0
@@ -35,6 +38,17 @@ is_held_up (accepted first group_last) = false
 is_held_up (failed count) = false
 is_held_up (no_room last) = false
 
+abbrev pub is_failed : Answer → Bool
+is_failed (failed count) = true
+is_failed (accepted first group_last) = false
+is_failed (held_up numbers) = false
+is_failed (no_room last) = false
+
+-- all of them are answered the log's fault, or none is
+abbrev pub FailTogether : List Commit → Type 0
+FailTogether commits = AllByRecursion (λ (c : Commit). is_failed c.answer ≡ true) commits
+    ⊎ AllByRecursion (λ (c : Commit). is_failed c.answer ≡ false) commits
+
 -- either all are held up; or none is, and what the leader saw allows each to go on
 abbrev pub AreTogether : LedGroup → Look → Type 0
 AreTogether g numbers = AllByRecursion (λ (c : Commit). is_held_up c.answer ≡ true) g.commits
@@ -42,7 +56,7 @@ AreTogether g numbers = AllByRecursion (λ (c : Commit). is_held_up c.answer ≡
     × ProceedsWith (map request_of g.commits) numbers g.known g.went)
 
 -- it is a whole group, its leader asked for its delay, its commits all have the history `known`, and all of them are
--- held up or all go on
+-- held up or all go on, and all are answered the log's fault or none is
 pub record IsLedGroup (group_bytes : ℕ) (g : LedGroup) : Type 0 where
   pub numbers : Look
   pub asked : IsAskedFor (map request_of g.commits) numbers g.known
@@ -50,6 +64,7 @@ pub record IsLedGroup (group_bytes : ℕ) (g : LedGroup) : Type 0 where
   pub same : AllByRecursion (λ (c : Commit). c.controller_calls ≡ g.known) g.commits
   pub are_held_up : AllByRecursion (IsHeldUp numbers) g.commits
   pub together : AreTogether g numbers
+  pub fail : FailTogether g.commits
   pub seen_since : IsPrefix g.known g.went
 
 -- each leader asked for its delay after all that the leaders before it had seen
@@ -68,7 +83,7 @@ NameEnds last (g ∷ groups) =
 -- seen it when it answered. Each leader asked for its own group's delay after all that the leaders before it had seen.
 pub record AreInGroups (start group_bytes : ℕ) (asked : List ControllerCall) (commits : List Commit) : Type 0 where
   pub groups : List LedGroup
-  pub cut : flat_map (λ (g : LedGroup). g.commits) groups ≡ commits
+  pub cut : commits_in groups ≡ commits
   pub each : AllByRecursion (IsLedGroup group_bytes) groups
   pub seen : AllByRecursion (λ (g : LedGroup). IsPrefix g.went asked) groups
   pub rise : Rise groups

@@ -30,8 +30,8 @@ EndsAreNamed start commits published = (shown : List (List MemberVersions)) → 
 
 -- All commits have right answers, group by group, and `asked` is the controller's history as the last leader had seen
 -- it when it answered. `last` is the last sequence given. The log's fault is the one in the answers. What is published
--- was made by whole commits, and the log's calls wrote the commits. Where a published group ends, some answer says that a
--- group ends, and there the log's parts are cut too.
+-- was made by whole commits, and the log's calls wrote the commits, group by group. Where a published group ends, some
+-- answer says that a group ends, and there the log's parts are cut too.
 pub record AreConsistent (start clients group_bytes : ℕ) (asked : List ControllerCall) (commits : List Commit)
     (last : ℕ) (fault : Option ℕ) (published : List (List MemberVersions)) (calls : List GroupCall) : Type 0 where
   pub answered : AreAnswered start None commits
@@ -40,7 +40,7 @@ pub record AreConsistent (start clients group_bytes : ℕ) (asked : List Control
   pub fault_is : fault ≡ fault_after_all None commits
   pub in_groups : AreInGroups start group_bytes asked commits
   pub images : Images versions_made commits published
-  pub written : WroteCommits group_bytes commits fault last calls
+  pub written : WroteCommits group_bytes in_groups.groups commits fault last calls
   pub named : EndsAreNamed start commits published
   pub cuts : (at : ℕ) → IsNamed commits at → IsCutAt start (entries_of commits) written.parts.parts at
 

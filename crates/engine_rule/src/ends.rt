@@ -7,24 +7,22 @@ ghost use Rattle.model_base.specs.declared.write.WriteOptions.{WriteOptions};
 ghost use Rattle.model_base.specs.History.{max_sequence};
 ghost use Rattle.model_base.specs.Batch.{Record};
 ghost use Rattle.model_base.specs.Controller.{ControllerCall, Look, HoldUp, IsLegal, delay, look};
-ghost use Rattle.model_base.specs.Groups.{Group};
 ghost use Rattle.model_base.specs.LogContents.{GroupCall};
 ghost use Rattle.model_base.specs.Progress.{early_refusal};
 ghost use Rattle.model_base.specs.Replies.{IsLater, MetStall};
 ghost use Rattle.model_base.specs.Tokens.{tokens_of, holds_stop};
 ghost use Rattle.model_base.specs.Counts.{Rose};
 ghost use Rattle.model_base.specs.Recovery.{Logged};
-ghost use Rattle.model_base.specs.Settings.{with_kept};
 ghost use Rattle.model_base.specs.Since.{LogRead};
 ghost use Rattle.model_base.specs.Trace.{Settings};
 ghost use Rattle.table_rule.specs.Histories.{Begins, made_by, last_of};
 ghost use Rattle.model_accounts.specs.Accounts.{Account, FailsToRead, Keeps, ReadsLog, Wrote};
-ghost use Rattle.model_accounts.specs.Closing.{all_attempts, IsClosing};
-ghost use Rattle.model_runs.specs.Written.{WritesLog, IsSyncedBy};
+ghost use Rattle.model_accounts.specs.Closing.{HasOneTrace};
+ghost use Rattle.model_runs.specs.Written.{IsSyncedBy};
 ghost use Rattle.engine_controller.specs.Passes.{EndsWith};
 ghost use Rattle.engine_rule.specs.Commits.{Commit, accepted, held_up, failed, no_room, last_after_all, AreAnswered, commits_of};
 ghost use Rattle.engine_rule.specs.Asked.{place_of};
-ghost use Rattle.engine_rule.specs.Entries.{trace_of, entries_of, versions_made, account_of, ClientCall, account_before, account_with, account_told, HasSeenMore, IsFree, IsNewest, EndsRefused, StaysOutside, AreCallsOf};
+ghost use Rattle.engine_rule.specs.Entries.{entries_of, versions_made, ClientCall, account_before, account_with, account_told, HasSeenMore, IsFree, IsNewest, EndsRefused, StaysOutside, AreCallsOf};
 ghost use Rattle.engine_rule.specs.Reading.{gave, broke, lacked};
 ghost use Rattle.engine_rule.specs.LogCalls.{WroteParts};
 ghost use Rattle.engine_rule.specs.Consistent.{Standing, IsConsistent, AreAccountsOf, AreReadsRight};
@@ -92,20 +90,13 @@ pub fn synced_commits()
 {}
 
 /// Once all clients are at rest, their accounts are parts of one trace: of the commits and of the controller's one
-/// history. And the log was written by exactly the calls that wrote its history. What reads of the log gave is right in
-/// that trace, where the log had kept these batches.
+/// history. And the log was written by exactly the calls that wrote its history, one for each group that is in it: so
+/// no batch is written twice, or apart from its group. What reads of the log gave is right in that trace, where the log
+/// had kept these batches.
 pub fn closings()
     ensures closing { (settings : Settings) (kept : Option (List Logged)) (ended : ℕ) (s : Standing)
-        (history : List ControllerCall) (accounts : List Account) → (is : IsConsistent settings s)
+        (history : List ControllerCall) (accounts : List Account) → IsConsistent settings s
         → AreAccountsOf settings s history accounts → IsLegal history → AreCallsOf settings.clients history
-        → IsPrefix s.asked history → AreReadsRight settings kept ended s → (groups : List Group)
-        × IsClosing (with_kept kept settings) ended
-        (trace_of settings.start settings.opening kept s.commits is.written.parts.parts history) groups accounts s.last
-        s.fault }
-    // The calls that wrote the history and no others: so no batch is written twice, or apart from its group.
-    ensures log { (settings : Settings) (kept : Option (List Logged)) (s : Standing) (history : List ControllerCall)
-        (accounts : List Account) → (is : IsConsistent settings s) → AreAccountsOf settings s history accounts
-        → WritesLog settings.group_bytes (λ (made : List GroupCall). made ≡ s.calls)
-        (trace_of settings.start settings.opening kept s.commits is.written.parts.parts history) (all_attempts accounts)
-        s.fault }
+        → IsPrefix s.asked history → AreReadsRight settings kept ended s
+        → HasOneTrace settings kept ended accounts s.last s.fault (λ made. made ≡ s.calls) }
 {}

@@ -4,7 +4,8 @@ use Rattle.model_base.specs.History.{max_sequence}
 use Rattle.model_base.specs.Batch.{count_of}
 use Rattle.table_rule.specs.declared.content.MemberVersions.{MemberVersions}
 use Rattle.table_rule.specs.Batches.{new_versions, number_from}
-use Rattle.table_rule.specs.Histories.{Images}
+use Rattle.table_rule.specs.Histories.{Images, made_by}
+use Rattle.engine_rule.specs.Asked.{LedGroup}
 use Rattle.engine_rule.specs.Commits.{Answer, accepted, held_up, failed, no_room, Commit}
 use Rattle.engine_rule.specs.Entries.{versions_made}
 use Rattle.engine_rule.specs.Plans.{CommitRequest, last_with}
@@ -23,6 +24,11 @@ accepted_of (c ∷ commits) = if_accepted c c.answer ++ accepted_of commits
 -- the published groups were made by exactly these commits, group by group, in their order
 abbrev pub AreServed : List Commit → List (List MemberVersions) → Type 0
 AreServed = Images versions_made
+
+-- Each published group was made by whole groups of commits as leaders led them, in their order. So no group of commits
+-- is published in two pieces.
+abbrev pub ArePublishedAtOnce : List LedGroup → List (List MemberVersions) → Type 0
+ArePublishedAtOnce = Images (λ (g : LedGroup). made_by versions_made g.commits)
 
 -- a group's parts, where each member with a run inserts its own: the part of one request, if its run fits after `last`,
 -- and the parts of all requests

@@ -3,11 +3,12 @@
 //! after another, in the order in which they were logged, while the next groups are logged. The right to publish
 //! covers exactly those commits that were given runs and whose groups are published.
 //!
-//! - `specs/Served`: which commits are published, and the parts of a group.
+//! - `specs/Served`: which commits are published, what it is that no group is published in two pieces, and the parts of
+//!   a group.
 //!
 //! Each law is a clause of a function that does nothing. Code that needs the law calls the function.
 #![tactic(auto)]
 
 mod served;
 
-pub use served::{groups_are_served, parts_of_a_group};
+pub use served::{groups_are_published_at_once, groups_are_served, parts_of_a_group};

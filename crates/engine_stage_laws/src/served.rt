@@ -9,7 +9,7 @@ ghost use Rattle.table_rule.specs.Histories.{Members, last_of, versions_in};
 ghost use Rattle.engine_rule.specs.Commits.{Commit, AreAnswered, last_after_all};
 ghost use Rattle.engine_rule.specs.Plans.{CommitRequest, commits_of_plan, versions_from, all_failed, all_held_up, AreLawful, HaveOwnClients};
 ghost use Rattle.engine_rule.specs.Consistent.{AreConsistent, EndsAreNamed, Publishes};
-ghost use Rattle.engine_stage_laws.specs.Served.{accepted_of, AreServed, parts_from};
+ghost use Rattle.engine_stage_laws.specs.Served.{accepted_of, ArePublishedAtOnce, AreServed, parts_from};
 
 /// The parts of a group, one for each member that has a run, are together the group's versions. Each of these members
 /// is one of the clients, and has one part only.
@@ -18,6 +18,15 @@ pub fn parts_of_a_group()
         → versions_in (parts_from last requests) ≡ versions_from last requests }
     ensures members { (clients last : ℕ) (requests : List CommitRequest) → AreLawful clients requests
         → HaveOwnClients requests → Members clients (parts_from last requests) }
+{}
+
+/// Each published group ends where some answer says, and an answer names the end of its whole group. So no group is
+/// published in two pieces, whether groups go into the table in a stage of their own or not.
+pub fn groups_are_published_at_once()
+    ensures whole { (start clients group_bytes : ℕ) (asked : List ControllerCall) (commits : List Commit) (last : ℕ)
+        (fault : Option ℕ) (published : List (List MemberVersions)) (calls : List GroupCall)
+        → (is : AreConsistent start clients group_bytes asked commits last fault published calls)
+        → ArePublishedAtOnce is.in_groups.groups published }
 {}
 
 /// At the beginning nothing is served. A group that is published is served, and a group without runs changes nothing.

@@ -1,7 +1,8 @@
 -- Reading logs one after another: what is read of one of them, and whether that was all.
-use Rattle.std.proofs.Common.{◌≡◌, ◌≢◌, ℕ, ◌+◌, ◌-◌, ◌<◌, ◌≤◌, List, [], ◌∷◌, ◌++◌, length, take, drop, map, slice_get, Option, Some, None, MatchOption, IfSome, is_some, true, false, ◌&&◌, nat_lt, refl, sym, ◌∙◌, ap, subst, arith, append_assoc, append-nil, length-append}
+use Rattle.std.proofs.Common.{◌≡◌, ◌≢◌, ℕ, ◌+◌, ◌-◌, ◌<◌, ◌≤◌, List, [], ◌∷◌, ◌++◌, length, take, drop, map, slice_get, Option, Some, None, MatchOption, IfSome, is_some, Bool, true, false, ◌&&◌, nat_lt, if◌then◌else◌, refl, sym, ◌∙◌, ap, subst, arith, append_assoc, append-nil, length-append}
 use Rattle.std.proofs.lemmas.Bool.{and_parts, ltb-true, ltb-false, false≢true}
-use Rattle.std.proofs.lemmas.List.{map-append, take-append-drop, take_all}
+use Rattle.std.proofs.Math.Seq.{take-take}
+use Rattle.std.proofs.lemmas.List.{map-append, length-map, take-append-drop, take_all}
 use Rattle.std.proofs.lemmas.List.Sums.{fold-append}
 use Rattle.model_base.specs.declared.log.EndReason.{EndReason}
 use Rattle.model_base.specs.declared.log.EndReason.TheVariants as ends
@@ -24,7 +25,7 @@ use Rattle.log_updates.specs.declared.places.LogPlace.{LogPlace}
 use Rattle.log_updates.specs.declared.reading.LogUpdates.{LogUpdates}
 use Rattle.log_updates.specs.Places.{StandsIn, IsReadTo, HasAll, is_clean}
 use Rattle.log_updates.specs.Places as places
-use Rattle.log_updates.proofs.Texts.{in_order_parts, batches_parts, get_behind, same_record, same_records, both_same, hold_same, last_same, order_same, updates_same, hold_none, hold_more, Parted, parted, split_batches}
+use Rattle.log_updates.proofs.Texts.{in_order_parts, in_order_joined, batches_parts, get_behind, same_record, same_records, both_same, hold_same, last_same, order_same, updates_same, hold_none, hold_more, Parted, parted, split_batches}
 use Rattle.log_writer.specs.ReadableLogs.{AreBatches, IsTextOf, HoldInTurn}
 
 -- Before all records.
@@ -43,6 +44,10 @@ starts_there number (file ∷ files) place is some = subst (λ (p : LogPlace). S
   stands = record { keeps = keeps_none 0 number file; last = refl };
 })
 
+no_length : {A : Type 0} (l : List A) → length l ≡ 0 → l ≡ []
+no_length [] e = refl
+no_length (x ∷ l) e = absurd (omega (arith, e))
+
 -- what reading one log says of its file
 abbrev pub SaysOf : Option ℕ → ℕ → ℕ → LogPlace → MoreUpdates → List ℕ → Type 0
 SaysOf number s upto place more file = (start : ℕ) (before : List Logged) → StandsAt start number file (record { at = place.at; last = place.last }) before → HasMore start number file s upto before more
@@ -53,6 +58,16 @@ pub says_there : (number : Option ℕ) (s upto : ℕ) (place : LogPlace) (more :
 says_there number s upto place more files held from from_is held_is says =
     subst (λ (o : Option (List ℕ)). IfSome o (SaysOf number s upto place more)) held_is
     (subst (λ (p : Place). IfSome held (λ file. (start : ℕ) (before : List Logged) → StandsAt start number file p before → HasMore start number file s upto before more)) from_is says)
+
+-- what was read of the log of a place
+own_more : (number : Option ℕ) (files : List (List ℕ)) (s upto : ℕ) (place : LogPlace) (more : MoreUpdates) (old : List (List ℕ)) → IfSome (slice_get files place.log) (SaysOf number s upto place more) → (read : IsReadTo number files s upto place old)
+    → HasMore (last_sequence 0 read.stands.earlier) number read.stands.file s upto read.stands.here more
+own_more number files s upto place more old says read =
+    let st = read.stands in
+    let there : slice_get files place.log ≡ Some st.file =
+    ap (λ (l : List (List ℕ)). slice_get l place.log) st.cut ∙ (ap (slice_get (st.firsts ++ st.file ∷ st.others)) st.which ∙ get_behind st.firsts st.others st.file) in
+    let here : SaysOf number s upto place more st.file = subst (λ (o : Option (List ℕ)). IfSome o (SaysOf number s upto place more)) there says in
+    here (last_sequence 0 st.earlier) st.here st.stands
 
 -- What is read after one log more: the batches of the logs before it are `earlier`, those that are read of it `front`.
 pub record OneLog (number : Option ℕ) (files : List (List ℕ)) (s upto : ℕ) (place : LogPlace) (more : MoreUpdates) (records : List (List ℕ)) : Type 0 where
@@ -73,10 +88,7 @@ pub one_log : (number : Option ℕ) (files : List (List ℕ)) (s upto : ℕ) (pl
     → OneLog number files s upto place more new
 one_log number files s upto place more old new says read new_is =
     let st = read.stands in
-    let there : slice_get files place.log ≡ Some st.file =
-    ap (λ (l : List (List ℕ)). slice_get l place.log) st.cut ∙ (ap (slice_get (st.firsts ++ st.file ∷ st.others)) st.which ∙ get_behind st.firsts st.others st.file) in
-    let here : SaysOf number s upto place more st.file = subst (λ (o : Option (List ℕ)). IfSome o (SaysOf number s upto place more)) there says in
-    let m = here (last_sequence 0 st.earlier) st.here st.stands in
+    let m = own_more number files s upto place more old says read in
     let before : List Logged = st.earlier ++ st.here in
     record {
       firsts = st.firsts;
@@ -154,10 +166,6 @@ read_last number files s upto place more records batches end o holds ordered is 
       same = both_same p.earlier p.mine o.earlier o.front (hold_same number o.firsts p.earlier o.earlier p.before o.whole) (same_records p.mine o.front w.same p.are o.stands.keeps.are_batches);
       none = ap (updates_in s upto) no_later;
     }
-  where
-    no_length : {A : Type 0} (l : List A) → length l ≡ 0 → l ≡ []
-    no_length [] e = refl
-    no_length (x ∷ l) e = absurd (omega (arith, e))
 
 -- Or the next record goes past `upto`.
 read_past : (number : Option ℕ) (files : List (List ℕ)) (s upto : ℕ) (place : LogPlace) (more : MoreUpdates) (records : List (List ℕ)) (batches : List Logged) (o : OneLog number files s upto place more records) → HoldInTurn number files batches → AreInOrder 0 batches → more.end ≡ None
@@ -195,29 +203,98 @@ read_past number files s upto place more records batches o holds ordered is =
         }
 
 -- So all is answered.
-has_all : (number : Option ℕ) (files : List (List ℕ)) (s upto : ℕ) (place : LogPlace) (more : MoreUpdates) (records : List (List ℕ)) (batches : List Logged) (r : LogUpdates) (o : OneLog number files s upto place more records) → AreInOrder 0 batches → AllRead s upto batches (o.earlier ++ o.front)
-    → r.records.items ≡ records → r.place ≡ record { log = place.log; at = more.place.at; last = more.place.last } → HasAll number files s upto batches r
-has_all number files s upto place more records batches r o ordered a records_are place_is =
-    let read : List Logged = o.earlier ++ o.front in
-    let order : AreInOrder 0 read = order_same 0 read a.first (sym a.same) (in_order_parts 0 a.first a.others (subst (λ (l : List Logged). AreInOrder 0 l) a.all ordered)).0 in
-    let last_is : r.place.last ≡ last_sequence 0 read = ap (λ (p : LogPlace). p.last) place_is ∙ (o.stands.last ∙ sym (fold-append last_after 0 o.earlier o.front)) in
-    record {
-      records = records_are ∙ (o.are ∙ sym (ap (updates_in s upto) a.all ∙ (updates_append s upto a.first a.others ∙ (ap (λ (l : List (List ℕ)). updates_in s upto a.first ++ l) a.none ∙ (append-nil (updates_in s upto a.first) ∙ updates_same s upto a.first read a.same)))));
-      before = read;
-      stands = subst (λ (p : LogPlace). StandsIn number files p read) (sym place_is) (record {
-        firsts = o.firsts;
-        file = o.file;
-        others = o.others;
-        cut = o.cut;
-        which = o.which;
-        earlier = o.earlier;
-        here = o.front;
-        all = refl;
-        whole = o.whole;
-        stands = record { keeps = o.stands.keeps; last = o.stands.last };
-      });
-      none_before = λ t u below. none_before t u 0 read order (subst (λ n. n < t) last_is below);
-    }
+all_records : (number : Option ℕ) (files : List (List ℕ)) (s upto : ℕ) (place : LogPlace) (more : MoreUpdates) (records : List (List ℕ)) (batches : List Logged) (o : OneLog number files s upto place more records) → AllRead s upto batches (o.earlier ++ o.front) → records ≡ updates_in s upto batches
+all_records number files s upto place more records batches o a =
+    o.are
+    ∙ sym (ap (updates_in s upto) a.all
+    ∙ (updates_append s upto a.first a.others
+    ∙ (ap (λ (l : List (List ℕ)). updates_in s upto a.first ++ l) a.none ∙ (append-nil (updates_in s upto a.first) ∙ updates_same s upto a.first (o.earlier ++ o.front) a.same))))
+
+-- The batches before a place are in order, and it has the last sequence of them.
+ordered_to : (number : Option ℕ) (files : List (List ℕ)) (place : LogPlace) (before batches : List Logged) → HoldInTurn number files batches → AreInOrder 0 batches → StandsIn number files place before → AreInOrder 0 before
+ordered_to number files place before batches holds ordered st =
+    let p = parted number st.firsts st.file st.others batches (subst (λ (l : List (List ℕ)). HoldInTurn number l batches) st.cut holds) in
+    let first : AreInOrder 0 p.earlier = (in_order_parts 0 p.earlier (p.mine ++ p.later) (subst (λ (l : List Logged). AreInOrder 0 l) p.all ordered)).0 in
+    let earlier : AreInOrder 0 st.earlier = order_same 0 st.earlier p.earlier (hold_same number st.firsts st.earlier p.earlier st.whole p.before) first in
+    subst (λ (l : List Logged). AreInOrder 0 l) (sym st.all) (in_order_joined 0 st.earlier st.here earlier st.stands.keeps.in_order)
+
+last_to : (number : Option ℕ) (files : List (List ℕ)) (place : LogPlace) (before : List Logged) → StandsIn number files place before → place.last ≡ last_sequence 0 before
+last_to number files place before st = st.stands.last ∙ (sym (fold-append last_after 0 st.earlier st.here) ∙ ap (last_sequence 0) (sym st.all))
+
+has_all : (number : Option ℕ) (files : List (List ℕ)) (s upto : ℕ) (batches : List Logged) (r : LogUpdates) → HoldInTurn number files batches → AreInOrder 0 batches → r.records.items ≡ updates_in s upto batches → IsReadTo number files s upto r.place r.records.items
+    → HasAll number files s upto batches r
+has_all number files s upto batches r holds ordered records end = record {
+  records = records;
+  before = end.reached;
+  stands = end.stands;
+  are_before = end.are;
+  none_before = λ t u below.
+      none_before t u 0 end.reached (ordered_to number files r.place end.reached batches holds ordered end.stands) (subst (λ n. n < t) (last_to number files r.place end.reached end.stands) below);
+}
+
+-- How far the last record that was read reaches.
+
+-- the end of the last record is where it was, if no record was read; or it is where reading ended
+pub further_is : (P : LogPlace → Type 0) (reached from : LogPlace) (more : Place) → (more.at ≤ from.at → P reached) → (from.at < more.at → P (record { log = from.log; at = more.at; last = more.last })) → P (places.further reached from more)
+further_is P reached from more stayed moved = by_test (nat_lt from.at more.at) refl
+  where
+    by_test : (b : Bool) → nat_lt from.at more.at ≡ b → P (if b then record { log = from.log; at = more.at; last = more.last } else reached)
+    by_test true e = moved (let less = ltb-true from.at more.at e in omega (arith, less))
+    by_test false e = stayed (let most = ltb-false from.at more.at e in omega (arith, most))
+
+-- Where reading ends no later than it began, no batch was read.
+none_read : (start : ℕ) (number : Option ℕ) (file : List ℕ) (at end : ℕ) (before read : List Logged) → KeepsAfter start number file at before → KeepsAfter start number file end (before ++ read) → end ≤ at → read ≡ []
+none_read start number file at end before read keeps keeps_more le =
+    let front : List ℕ = take at file in
+    let cut : front ≡ take end file ++ drop end front = sym (take-append-drop end front) ∙ ap (λ (l : List ℕ). l ++ drop end front) (take-take end at file le) in
+    let rest = spells_front number front (take end file) (drop end front) (map logged_bytes before) (map logged_bytes (before ++ read)) cut keeps.spelled keeps_more.spelled in
+    no_length read (
+    omega (
+      arith,
+      ap length rest.1,
+      length-append (map logged_bytes (before ++ read)) rest.0,
+      length-map (before ++ read) logged_bytes,
+      length-map before logged_bytes,
+      length-append before read,
+    )
+    )
+
+-- All that was read is before the end of the last record.
+pub reads_to_end : (number : Option ℕ) (files : List (List ℕ)) (s upto : ℕ) (place reached later : LogPlace) (more : MoreUpdates) (old new : List (List ℕ)) → IfSome (slice_get files place.log) (SaysOf number s upto place more) → IsReadTo number files s upto place old → IsReadTo number files s upto reached old
+    → new ≡ old ++ more.records.items → later ≡ places.further reached place more.place → IsReadTo number files s upto later new
+reads_to_end number files s upto place reached later more old new says read end new_is later_is =
+    subst (λ (p : LogPlace). IsReadTo number files s upto p new) (sym later_is) (further_is (λ (p : LogPlace). IsReadTo number files s upto p new) reached place more.place stayed moved)
+  where
+    stayed : more.place.at ≤ place.at → IsReadTo number files s upto reached new
+    stayed le =
+        let st = read.stands in
+        let m = own_more number files s upto place more old says read in
+        let none : m.read ≡ [] = none_read (last_sequence 0 st.earlier) number st.file place.at more.place.at st.here m.read st.stands.keeps m.stands.keeps le in
+        record {
+          reached = end.reached;
+          stands = end.stands;
+          are = new_is ∙ (ap (λ (l : List (List ℕ)). l ++ more.records.items) end.are ∙ (ap (λ (l : List (List ℕ)). updates_in s upto end.reached ++ l) (m.records ∙ ap (updates_in s upto) none) ∙ append-nil (updates_in s upto end.reached)));
+        }
+
+    moved : place.at < more.place.at → IsReadTo number files s upto (record { log = place.log; at = more.place.at; last = more.place.last }) new
+    moved past =
+        let o = one_log number files s upto place more old new says read new_is in
+        record {
+          reached = o.earlier ++ o.front;
+          stands = record {
+            firsts = o.firsts;
+            file = o.file;
+            others = o.others;
+            cut = o.cut;
+            which = o.which;
+            earlier = o.earlier;
+            here = o.front;
+            all = refl;
+            whole = o.whole;
+            stands = record { keeps = o.stands.keeps; last = o.stands.last };
+          };
+          are = o.are;
+        }
 
 -- whether reading goes on
 pub goes_yes : (end : Option End) (which logs : ℕ) → places.goes_further end which logs ≡ true → (is_some end ≡ true) × (which + 1 < logs)
@@ -230,12 +307,14 @@ goes_no (Some end) which logs stops = λ clean.
     let most = ltb-false (which + 1) logs (ap (λ (w : EndReason). is_clean w && nat_lt (which + 1) logs) (sym clean) ∙ stops) in omega (arith, most)
 
 -- The answer where reading doesn't go on.
-pub all_answered : (number : Option ℕ) (files : List (List ℕ)) (s upto logs : ℕ) (place : LogPlace) (more : MoreUpdates) (old new : List (List ℕ)) (batches : List Logged) (r : LogUpdates) → IfSome (slice_get files place.log) (SaysOf number s upto place more) → IsReadTo number files s upto place old
-    → new ≡ old ++ more.records.items → HoldInTurn number files batches → AreInOrder 0 batches → length files ≡ logs → places.goes_further more.end place.log logs ≡ false → r.records.items ≡ new → r.place ≡ record { log = place.log; at = more.place.at; last = more.place.last }
+pub all_answered : (number : Option ℕ) (files : List (List ℕ)) (s upto logs : ℕ) (place reached : LogPlace) (more : MoreUpdates) (old new : List (List ℕ)) (batches : List Logged) (r : LogUpdates) → IfSome (slice_get files place.log) (SaysOf number s upto place more) → IsReadTo number files s upto place old
+    → IsReadTo number files s upto reached old → new ≡ old ++ more.records.items → HoldInTurn number files batches → AreInOrder 0 batches → length files ≡ logs → places.goes_further more.end place.log logs ≡ false → r.records.items ≡ new → r.place ≡ places.further reached place more.place
     → HasAll number files s upto batches r
-all_answered number files s upto logs place more old new batches r says read new_is holds ordered many stops records_are place_is =
+all_answered number files s upto logs place reached more old new batches r says read end new_is holds ordered many stops records_are place_is =
     let o = one_log number files s upto place more old new says read new_is in
-    has_all number files s upto place more new batches r o ordered (by_end o more.end refl) records_are place_is
+    let all = all_records number files s upto place more new batches o (by_end o more.end refl) in
+    let to_end = reads_to_end number files s upto place reached r.place more old new says read end new_is place_is in
+    has_all number files s upto batches r holds ordered (records_are ∙ all) (subst (λ (l : List (List ℕ)). IsReadTo number files s upto r.place l) (sym records_are) to_end)
   where
     by_end : (o : OneLog number files s upto place more new) (end : Option End) → more.end ≡ end → AllRead s upto batches (o.earlier ++ o.front)
     by_end o None is = read_past number files s upto place more new batches o holds ordered is

@@ -28,6 +28,10 @@ pub in_order_parts : (last : ℕ) (xs ys : List Logged) → AreInOrder last (xs 
 in_order_parts last [] ys ordered = (tt, ordered)
 in_order_parts last (x ∷ xs) ys ordered = let t = in_order_parts (last_after last x) xs ys ordered.1 in ((ordered.0, t.0), t.1)
 
+pub in_order_joined : (last : ℕ) (xs ys : List Logged) → AreInOrder last xs → AreInOrder (last_sequence last xs) ys → AreInOrder last (xs ++ ys)
+in_order_joined last [] ys first second = second
+in_order_joined last (x ∷ xs) ys first second = (first.0, in_order_joined (last_after last x) xs ys first.1 second)
+
 pub get_behind : {A : Type 0} (xs ys : List A) (x : A) → slice_get (xs ++ x ∷ ys) (length xs) ≡ Some x
 get_behind [] ys x = refl
 get_behind (y ∷ xs) ys x = get_behind xs ys x

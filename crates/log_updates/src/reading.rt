@@ -7,7 +7,7 @@ ghost use Rattle.log_recovery.specs.declared.modes.Mode.TheVariants.{Point};
 ghost use Rattle.log_recovery.specs.Recovering.{IsRecoverError};
 ghost use Rattle.log_recovery.specs.Updating.{updates_in};
 ghost use Rattle.log_writer.specs.ReadableLogs.{HoldInTurn, batches_by};
-ghost use Rattle.log_updates.specs.Places.{StandsIn, HasAll, is_clean, goes_further};
+ghost use Rattle.log_updates.specs.Places.{IsFixed, StandsIn, HasAll, is_clean, further, goes_further};
 
 use crate::places::LogPlace;
 use base_bytes::Bytes;
@@ -28,6 +28,10 @@ pub struct LogUpdates {
 /// an earlier call answered. It reads on in the next log where one was read to its end, and stops at the first record
 /// that goes past `upto`.
 ///
+/// The place that is answered is the end of a record, or `from`, and all that was asked for is before it. It is never in
+/// a log that has no bytes yet. So a call that begins there later misses nothing that was written meanwhile, in whichever
+/// log.
+///
 /// The error is `Fault` where a read failed, with the count of all disks, and `NoMemory` where there was no memory for a
 /// block or a record. It is never `Damage`. The log is left as it was, and can still be written.
 pub fn updates_of_logs<Log: ReadableLog>(
@@ -46,6 +50,7 @@ pub fn updates_of_logs<Log: ReadableLog>(
         → updates_in since upto before ≡ []
         → IfOk result (HasAll (Log.number log.old) files since upto (kept ++ batches_by calls)) }
     ensures place { IfOk result (λ r. (r.place.log < Log.many log.new) × (r.place.at < 2 ^ 63)) }
+    ensures fixed { IsFixed from → IfOk result (λ r. IsFixed r.place) }
     ensures worked { OnOk result (Log.faults log.new ≡ Log.faults log.old) }
     ensures error { IfErr result (IsRecoverError Point (Log.faults log.old) (Log.faults log.new)) }
     ensures stays { Log.stays log.old log.new }
@@ -73,24 +78,40 @@ fn read_on<Log: ReadableLog>(
         → HoldInTurn number files batches → AreInOrder 0 batches → StandsIn number files from before
         → updates_in since upto before ≡ [] → IfOk result (HasAll number files since upto batches) }
     ensures place { IfOk result (λ r. (r.place.log < logs) × (r.place.at < 2 ^ 63)) }
+    ensures fixed { IsFixed from → IfOk result (λ r. IsFixed r.place) }
     ensures worked { OnOk result (Log.faults log.new ≡ Log.faults log.old) }
     ensures error { IfErr result (IsRecoverError Point (Log.faults log.old) (Log.faults log.new)) }
     ensures stays { Log.stays log.old log.new }
 {
     let mut records = Vec::new(alloc);
     let mut place = from;
-    // Of the batches before the place, the records are there that are asked for.
+    let mut reached = from;
+    // Of the batches before the place, the records are there that are asked for, and they are all before the end of the
+    // last record that was read.
     loop {
         log.turn_to(place.log);
         let more = updates_from(alloc, log, number, place_of(place), since, upto)?;
         add_all(&mut records, more.records)?;
+        reached = reached_in(reached, place, more.place);
         if !goes_on(more.end, place.log, logs) {
             return Ok(LogUpdates {
                 records,
-                place: place_in(place.log, more.place),
+                place: reached,
             });
         }
         place = start_of(place.log + 1, more.place.last);
+    }
+}
+
+/// The end of the last record that was read, once the log of the place `from` was read up to `more`; before that it was
+/// `reached`.
+fn reached_in(reached: LogPlace, from: LogPlace, more: Place) -> LogPlace
+    ensures { result ≡ further reached from more }
+{
+    if from.at < more.at {
+        place_in(from.log, more)
+    } else {
+        reached
     }
 }
 

@@ -27,3 +27,4 @@ pub mod SetUnused
 pub mod ReadContents
 pub mod ReadFront
 pub mod ReadsIn
+pub mod Growing

@@ -7,6 +7,7 @@ pub mod Adding
 pub mod Reads
 pub mod Written
 pub mod GroupLogs
+pub mod GoOn
 pub mod CountedFaults
 pub mod FaultLaws
 pub mod Sets

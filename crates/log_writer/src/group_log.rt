@@ -5,6 +5,7 @@ ghost use Rattle.model_base.specs.History.{max_sequence};
 ghost use Rattle.log_writer.specs.Groups.{counts_of, body_lens_of};
 ghost use Rattle.log_writer.specs.Adding.{call_of, count_of_fault};
 ghost use Rattle.log_writer.specs.GroupLogs.{CameInCall, CameInCalls};
+ghost use Rattle.log_writer.specs.GoOn.{GoOn};
 
 use crate::{Fault, LogSet, LogWriter};
 use base_devices::Disk;
@@ -35,6 +36,16 @@ pub trait GroupLog {
     /// How many calls of its disks have failed.
     ghost faults: { Self → ℕ };
 
+    /// These are the bytes of its logs, one after another. Where a disk doesn't tell what it holds, there are none of
+    /// which this is known.
+    ghost holds: { Self → List (List ℕ) → Type 0 };
+
+    /// How many logs it has.
+    ghost many: { Self → ℕ };
+
+    /// The number of its logs, if they have one.
+    ghost number: { Self → Option ℕ };
+
     /// Writes a group of batches as one record, after what the log has, and syncs it if that is asked. It takes no
     /// memory. A fault ends the log: each later call is answered with the count that was kept, and does nothing.
     fn add_group(&mut self, first: u64, members: &[Batch], sync: bool) -> Result<(), Fault>
@@ -49,7 +60,13 @@ pub trait GroupLog {
             (λ count. (count_of_fault result ≡ Some count) × (self.new ≡ self.old)) }
         // The disks have counted a fault where the call failed, and else none.
         ensures cause { fault self.old ≡ None
-            → CameInCall (faults self.old) (faults self.new) (count_of_fault result) };
+            → CameInCall (faults self.old) (faults self.new) (count_of_fault result) }
+        // It has as many logs, with the same number.
+        ensures same { (number self.new ≡ number self.old) × (many self.new ≡ many self.old) }
+        // What its logs held is a front of what they hold.
+        ensures grows { (opened : Self) (kept : List Logged) (calls : List GroupCall) (files : List (List ℕ))
+            → keeps opened kept → wrote opened calls self.old → holds self.old files
+            → (later : List (List ℕ)) × holds self.new later × GoOn files later };
 
     /// The length of the log: the bytes that it kept, and those of the groups that were written whole.
     fn len(&self) -> u64
@@ -72,10 +89,10 @@ pub trait GroupLog {
 }
 
 impl<D: Disk> GroupLog for LogWriter<D> {
-    ghost use Rattle.log_writer.specs.Words.{disk_of, len_of, fault_of};
+    ghost use Rattle.log_writer.specs.Words.{disk_of, number_of, len_of, fault_of};
     ghost use Rattle.log_writer.specs.Written.{Wrote, no_call};
     ghost use Rattle.log_writer.specs.FaultLaws.{caused_in_calls};
-    ghost use Rattle.log_writer.specs.ReadableLogs.{KeepsBatches};
+    ghost use Rattle.log_writer.specs.ReadableLogs.{KeepsBatches, IsOneFile};
 
     ghost wrote = { λ old calls new. Wrote old calls new };
 
@@ -86,6 +103,12 @@ impl<D: Disk> GroupLog for LogWriter<D> {
     ghost fault = { λ log. fault_of log };
 
     ghost faults = { λ log. D.faults (disk_of log) };
+
+    ghost holds = { λ log files. IsOneFile log files };
+
+    ghost many = { λ log. 1 };
+
+    ghost number = { λ log. number_of log };
 
     ghost no_call = { λ log. no_call };
 
@@ -112,7 +135,7 @@ impl<D: Disk> GroupLog for LogSet<D> {
     ghost use Rattle.log_writer.specs.Sets.{WroteSet, count_in, fault_in, len_in, logs_of};
     ghost use Rattle.log_writer.specs.Sets as sets;
     ghost use Rattle.log_writer.specs.SetFaultLaws.{caused_in_set};
-    ghost use Rattle.log_writer.specs.ReadableLogs.{SetKeepsNone};
+    ghost use Rattle.log_writer.specs.ReadableLogs.{SetKeepsNone, AreSetFiles};
 
     ghost wrote = { λ old calls new. WroteSet old calls new };
 
@@ -123,6 +146,13 @@ impl<D: Disk> GroupLog for LogSet<D> {
     ghost fault = { λ set. fault_in set };
 
     ghost faults = { λ set. count_in (logs_of set) };
+
+    ghost holds = { λ set files. AreSetFiles set files };
+
+    ghost many = { λ set. length (logs_of set) };
+
+    // Its logs have no number.
+    ghost number = { λ set. None };
 
     ghost no_call = { λ set. sets.no_call };
 

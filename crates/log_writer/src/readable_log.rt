@@ -13,57 +13,47 @@ use base_devices::{Disk, ReadAt};
 ///
 /// [`LogSet`]: crate::LogSet
 pub trait ReadableLog: GroupLog + ReadAt {
-    ghost use Rattle.std.specs.Prelude.{ℕ, List, [], Option, None};
+    ghost use Rattle.std.specs.Prelude.{ℕ, List, []};
     ghost use Rattle.model_base.specs.LogContents.{GroupCall};
     ghost use Rattle.model_base.specs.Recovery.{Logged};
 
-    /// These are the bytes of its logs, one after another. Where a disk doesn't tell what it holds, there are none of
-    /// which this is known.
-    ghost holds: { Self → List (List ℕ) → Type 0 };
-
     /// Which of its logs is read, counted from 0.
     ghost chosen: { Self → ℕ };
-
-    /// How many logs it has.
-    ghost many: { Self → ℕ };
-
-    /// The number of its logs, if they have one.
-    ghost number: { Self → Option ℕ };
 
     /// The second value is the first one after calls that only read, or choose another log.
     ghost stays: { Self → Self → Type 0 };
 
     /// How many logs it has.
     fn logs(&self) -> usize
-        ensures many { result ≡ many self.now }
+        ensures many { result ≡ Self.many self.now }
         // Its logs hold the batches that they kept, and those of the calls that wrote it, and nothing else.
         ensures holds { (opened : Self) (kept : List Logged) (calls : List GroupCall) (files : List (List ℕ))
-            → Self.keeps opened kept → Self.wrote opened calls self.now → holds self.now files
-            → HoldInTurn (number self.now) files (kept ++ batches_by calls) };
+            → Self.keeps opened kept → Self.wrote opened calls self.now → Self.holds self.now files
+            → HoldInTurn (Self.number self.now) files (kept ++ batches_by calls) };
 
     /// Chooses the log that is read from now on.
     fn turn_to(&mut self, which: usize)
-        requires there { which < many self.old }
+        requires there { which < Self.many self.old }
         ensures chosen { chosen self.new ≡ which }
         ensures stays { stays self.old self.new }
         ensures counts_none { Self.faults self.new ≡ Self.faults self.old };
 
     /// The number of its logs, if they have one.
     fn number(&self) -> Option<u32>
-        ensures { result ≡ number self.now };
+        ensures { result ≡ Self.number self.now };
 
     /// What its logs hold stays known.
     ghost known: { (opened log : Self) (kept : List Logged) (calls : List GroupCall) → Self.keeps opened kept
-        → Self.wrote opened calls log → (files : List (List ℕ)) × holds log files };
+        → Self.wrote opened calls log → (files : List (List ℕ)) × Self.holds log files };
 
     /// There is a log.
-    ghost some_logs: { (log : Self) → 0 < many log };
+    ghost some_logs: { (log : Self) → 0 < Self.many log };
 
     /// The bytes of the log that is chosen are what is read.
-    ghost holds_chosen: { (log : Self) (files : List (List ℕ)) → holds log files → chosen log < many log
+    ghost holds_chosen: { (log : Self) (files : List (List ℕ)) → Self.holds log files → chosen log < Self.many log
         → Self.held log ≡ slice_get files (chosen log) };
 
-    ghost as_many: { (log : Self) (files : List (List ℕ)) → holds log files → length files ≡ many log };
+    ghost as_many: { (log : Self) (files : List (List ℕ)) → Self.holds log files → length files ≡ Self.many log };
 
     /// No call at all, and two stretches of reading, one after the other.
     ghost stays_none: { (log : Self) → stays log log };
@@ -80,11 +70,11 @@ pub trait ReadableLog: GroupLog + ReadAt {
     /// And where no call was made, it was only read.
     ghost only_stays: { (opened log : Self) → Self.wrote opened [] log → stays opened log };
 
-    ghost stays_held: { (a b : Self) (files : List (List ℕ)) → stays a b → holds a files → holds b files };
+    ghost stays_held: { (a b : Self) (files : List (List ℕ)) → stays a b → Self.holds a files → Self.holds b files };
 
-    ghost stays_many: { (a b : Self) → stays a b → many b ≡ many a };
+    ghost stays_many: { (a b : Self) → stays a b → Self.many b ≡ Self.many a };
 
-    ghost stays_number: { (a b : Self) → stays a b → number b ≡ number a };
+    ghost stays_number: { (a b : Self) → stays a b → Self.number b ≡ Self.number a };
 
     ghost stays_long: { (a b : Self) → stays a b → Self.len b ≡ Self.len a };
 
@@ -98,19 +88,11 @@ pub trait ReadableLog: GroupLog + ReadAt {
 
 impl<D: Disk> ReadableLog for LogWriter<D> {
     ghost use Rattle.std.specs.Prelude.{refl};
-    ghost use Rattle.log_writer.specs.Words.{number_of};
     ghost use Rattle.log_writer.specs.Reads.{WasRead};
-    ghost use Rattle.log_writer.specs.ReadableLogs.{IsOneFile};
     ghost use Rattle.log_writer.specs.ReadLaws as laws;
     ghost use Rattle.log_writer.specs.TellLaws as telling;
 
-    ghost holds = { λ log files. IsOneFile log files };
-
     ghost chosen = { λ log. 0 };
-
-    ghost many = { λ log. 1 };
-
-    ghost number = { λ log. number_of log };
 
     ghost stays = { λ a b. WasRead a b };
 
@@ -160,20 +142,12 @@ impl<D: Disk> ReadableLog for LogWriter<D> {
 }
 
 impl<D: Disk> ReadableLog for LogSet<D> {
-    ghost use Rattle.std.specs.Prelude.{None, refl};
-    ghost use Rattle.log_writer.specs.Sets.{chosen_of, logs_of, SetWasRead};
-    ghost use Rattle.log_writer.specs.ReadableLogs.{AreSetFiles};
+    ghost use Rattle.std.specs.Prelude.{refl};
+    ghost use Rattle.log_writer.specs.Sets.{chosen_of, SetWasRead};
     ghost use Rattle.log_writer.specs.ReadLaws as laws;
     ghost use Rattle.log_writer.specs.TellLaws as telling;
 
-    ghost holds = { λ set files. AreSetFiles set files };
-
     ghost chosen = { λ set. chosen_of set };
-
-    ghost many = { λ set. length (logs_of set) };
-
-    // Its logs have no number.
-    ghost number = { λ set. None };
 
     ghost stays = { λ a b. SetWasRead a b };
 

@@ -42,30 +42,33 @@ faults_shown (a ∷ accounts) (calls ∷ transcripts) same each =
 
 pub closing : (settings : Settings) (kept : Option (List Logged)) (ended : ℕ) (script : List (List Command)) (transcripts : List (List Call)) (accounts : List Account) (trace : Trace) (groups : List Group) (last : ℕ) (log_lens : List ℕ)
     (fault : Option ℕ) → settings.clients ≡ length script → HaveRun settings script transcripts accounts → IsClosing (with_kept kept settings) ended trace groups accounts last fault
-    → IsLegalIn (with_kept kept settings) ended script trace (all_attempts accounts) (outcome_of trace transcripts last log_lens fault)
-closing settings kept ended script transcripts accounts trace groups last log_lens fault clients runs close = record {
-  is_trace = close.is_trace;
-  history = refl;
-  clients = clients;
-  count = runs.transcripts_of;
-  count_attempts = length-map accounts (λ (a : Account). a.attempts) ∙ runs.clients;
-  groups = groups;
-  are_groups = close.are_groups;
-  each = λ i commands calls in_script in_transcripts. elim (slice_get_cases accounts i).1 [
-    | inl at ↦ (
-        let a = at.0 in (
-          a.attempts,
-          slice_get-map (λ (x : Account). x.attempts) accounts i ∙ ap (option_map (λ (x : Account). x.attempts)) at.2,
-          transcript_closes settings kept trace groups close.parts fault (i + 1) commands calls a close.is_trace.entries (close.each i a at.2) (runs.each i commands calls a in_script in_transcripts at.2),
-        ))
-    | inr none ↦ absurd (none_left i commands in_script none)
-  ];
-  last = close.last_is;
-  state = refl;
-  fault = close.fault_is;
-  read_faults = subst (AreOwnFaults ended fault) shown close.read_faults;
-  counted = λ no_fault none. close.counted no_fault (shown ∙ none);
-}
+    → (is : IsLegalIn (with_kept kept settings) ended script trace (all_attempts accounts) (outcome_of trace transcripts last log_lens fault)) × (is.groups ≡ groups)
+closing settings kept ended script transcripts accounts trace groups last log_lens fault clients runs close = (
+  record {
+    is_trace = close.is_trace;
+    history = refl;
+    clients = clients;
+    count = runs.transcripts_of;
+    count_attempts = length-map accounts (λ (a : Account). a.attempts) ∙ runs.clients;
+    groups = groups;
+    are_groups = close.are_groups;
+    each = λ i commands calls in_script in_transcripts. elim (slice_get_cases accounts i).1 [
+      | inl at ↦ (
+          let a = at.0 in (
+            a.attempts,
+            slice_get-map (λ (x : Account). x.attempts) accounts i ∙ ap (option_map (λ (x : Account). x.attempts)) at.2,
+            transcript_closes settings kept trace groups close.parts fault (i + 1) commands calls a close.is_trace.entries (close.each i a at.2) (runs.each i commands calls a in_script in_transcripts at.2),
+          ))
+      | inr none ↦ absurd (none_left i commands in_script none)
+    ];
+    last = close.last_is;
+    state = refl;
+    fault = close.fault_is;
+    read_faults = subst (AreOwnFaults ended fault) shown close.read_faults;
+    counted = λ no_fault none. close.counted no_fault (shown ∙ none);
+  },
+  refl,
+)
   where
     none_there : (i : ℕ) → length script ≤ i → slice_get accounts i ≡ None
     none_there i past = elim (slice_get_cases accounts i).1 [

@@ -100,7 +100,7 @@ all_apart before (t ∷ ts) = (
 )
 
 -- Each member is a commit of its client, and has its status
-attempt_at : (before : List Taken) (t : Taken) (after : List Taken) → slice_get (attempts_of t.client (before ++ t ∷ after)) (count_of_client t.client before) ≡ Some t.attempt
+pub attempt_at : (before : List Taken) (t : Taken) (after : List Taken) → slice_get (attempts_of t.client (before ++ t ∷ after)) (count_of_client t.client before) ≡ Some t.attempt
 attempt_at [] t after = rw (own_is t) refl
 attempt_at (u ∷ before) t after = by_test (is_of t.client u) refl (attempt_at before t after)
   where

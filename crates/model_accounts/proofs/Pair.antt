@@ -10,7 +10,8 @@ use Rattle.model_base.specs.Attempts.{Attempt, succeeded, item_of}
 use Rattle.model_base.specs.Groups.{Group, HaveOwnPlaces, Holds, IsAskedFor, IsCommit, AreGroups}
 use Rattle.model_accounts.specs.Sights.{Saw}
 use Rattle.model_accounts.specs.Accounts.{Account}
-use Rattle.model_accounts.specs.Parts.{ends_in, name_of, names_made}
+use Rattle.model_runs.specs.Parts.{name_of, names_made}
+use Rattle.model_accounts.specs.Parts.{ends_in}
 use Rattle.model_accounts.specs.Closing.{IsAccountOf, IsClosing}
 use Rattle.model_accounts.specs.Examples.{pair_settings, first_records, second_records, entry_with, attempt_with, pair_delay, pair_trace, pair_group, pair_sight, account_with, pair_accounts}
 

@@ -1,6 +1,6 @@
--- Which entries each group made, from what the holder of the log knows.
+-- Which commits each group has, and which entries it made, from what the holder of the log knows.
 use Rattle.std.proofs.Common.{◌≡◌, inl, inr, ℕ, zero, suc, ◌+◌, ◌-◌, ◌≤◌, Bool, false, Some, List, [], ◌∷◌, ◌++◌, length, map, filter, flat_map, take, get_or, slice_get, refl, ap, sym, ◌∙◌, arith, append_assoc}
-use Rattle.std.specs.List.{AllByRecursion, AllZip}
+use Rattle.std.specs.List.{AllByRecursion, AllZip, cons_option, filter_map}
 use Rattle.std.proofs.lemmas.Option.{slice_get_cases}
 use Rattle.std.proofs.lemmas.List.{length-map, map-append}
 use Rattle.std.proofs.Math.Seq.{take-append_seam, get_or-append_seam}
@@ -8,8 +8,9 @@ use Rattle.model_base.specs.History.{Entry}
 use Rattle.model_base.specs.Attempts.{Attempt, item_of}
 use Rattle.model_base.specs.Groups.{Group}
 use Rattle.model_accounts.specs.Led.{Taken, Led, all_taken, is_of, count_of_client, attempts_of, members_after, groups_after}
-use Rattle.model_accounts.specs.Parts.{is_success, successes, name_behind, name_made, names_made, name_of}
-use Rattle.model_accounts.proofs.Leading.{all_left, all_right, attempts_append, own_is}
+use Rattle.model_runs.specs.Groups.{commit_of, commits_in}
+use Rattle.model_runs.specs.Parts.{is_success, successes, name_behind, name_made, names_made, name_of}
+use Rattle.model_accounts.proofs.Leading.{all_left, all_right, attempt_at, attempts_append, own_is}
 
 -- the names of the entries that these commits made, after the commits `before`
 abbrev pub names_after : List Taken → List Taken → List (ℕ × ℕ)
@@ -78,3 +79,20 @@ module _ (attempts : List (List Attempt)) (all : List Taken) (of_client : (i : �
     named.0 ∙ sym (names_are before g.commits (all_taken led) split (all_left _ g.commits (all_taken led) h)),
     parts_made (before ++ g.commits) led parts (append_assoc before g.commits (all_taken led) ∙ split) (all_right _ g.commits (all_taken led) h) named.1,
   )
+
+  -- the commits of each group's members are those that its leader took
+  commit_is : (before : List Taken) (t : Taken) (after : List Taken) → before ++ t ∷ after ≡ all → 1 ≤ t.client → t.client ≤ length attempts
+      → commit_of attempts (record { client = t.client; call = count_of_client t.client before; item = item_of t.attempt }) ≡ Some t.attempt
+  commit_is before t after split low high =
+      ap (λ own. slice_get own (count_of_client t.client before)) (own_are t.client low high ∙ ap (attempts_of t.client) (sym split)) ∙ attempt_at before t after
+
+  commits_are : (before ts after : List Taken) → before ++ (ts ++ after) ≡ all → AreOfClients ts → filter_map (commit_of attempts) (members_after before ts) ≡ map (λ (t : Taken). t.attempt) ts
+  commits_are before [] after split h = refl
+  commits_are before (t ∷ ts) after split h =
+      λ i. cons_option (commit_is before t (ts ++ after) split h.0.0 h.0.1 i) (commits_are (before ++ t ∷ []) ts after (append_assoc before (t ∷ []) (ts ++ after) ∙ split) h.1 i)
+
+  pub commits_led : (before : List Taken) (led : List Led) → before ++ all_taken led ≡ all → AreOfClients (all_taken led) → map (commits_in attempts) (groups_after before led) ≡ map (λ (g : Led). map (λ (t : Taken). t.attempt) g.commits) led
+  commits_led before [] split h = refl
+  commits_led before (g ∷ led) split h =
+      λ i. commits_are before g.commits (all_taken led) split (all_left _ g.commits (all_taken led) h) i
+      ∷ commits_led (before ++ g.commits) led (append_assoc before g.commits (all_taken led) ∙ split) (all_right _ g.commits (all_taken led) h) i

@@ -10,10 +10,11 @@ use Rattle.model_base.specs.Attempts.{Attempt}
 use Rattle.model_base.specs.Groups.{Group, AreGroups, AreStatuses}
 use Rattle.model_base.specs.Outcomes.{entries_of_client, IsTrace, AreOwnFaults}
 use Rattle.model_base.specs.LogContents.{GroupCall}
+use Rattle.model_runs.specs.Parts.{AreParts}
 use Rattle.model_runs.specs.Written.{WritesLog}
 use Rattle.model_accounts.specs.Sights.{Saw}
 use Rattle.model_accounts.specs.Accounts.{Account}
-use Rattle.model_accounts.specs.Parts.{AreParts, ends_in}
+use Rattle.model_accounts.specs.Parts.{ends_in}
 
 -- these are all clients, in the order of their numbers
 pub record AreOurs {C : Type 0} (belongs : C → Type 0) (account : C → Account) (clients : ℕ)
@@ -58,10 +59,11 @@ pub record IsClosing (settings : Settings) (ended : ℕ) (trace : Trace) (groups
   pub read_faults : AreOwnFaults ended fault (all_read_faults accounts)
   pub counted : fault ≡ None → all_read_faults accounts ≡ [] → ended ≡ settings.opened
 
--- There is one trace of all that the clients did and saw, and the log was written by just the calls that wrote this
--- trace's history. The log kept these batches before, or it isn't known which.
+-- There is one trace of all that the clients did and saw, and there were groups of their commits: the log was written
+-- by just the calls that wrote this trace's history, for just these groups. The log kept these batches before, or it
+-- isn't known which.
 abbrev pub HasOneTrace : Settings → Option (List Logged) → ℕ → List Account → ℕ → Option ℕ
     → (List GroupCall → Type 0) → Type 0
 HasOneTrace settings kept ended accounts last fault wrote = (trace : Trace) × (groups : List Group)
     × IsClosing (with_kept kept settings) ended trace groups accounts last fault
-    × WritesLog settings.group_bytes wrote trace (all_attempts accounts) fault
+    × WritesLog settings.group_bytes wrote trace (all_attempts accounts) groups fault

@@ -28,16 +28,16 @@ ghost use Rattle.model_runs.specs.Written.{WroteEntries, AreLost};
 ghost use Rattle.model_accounts.specs.Answered.{IsAmong};
 
 /// If each client has run its part of the script, and the closing says that their accounts are parts of one trace, the
-/// outcome is legal, whatever the log had kept before: what a client is told doesn't depend on it, only whether its reads
-/// of the log are right.
+/// outcome is legal, with the closing's groups, whatever the log had kept before: what a client is told doesn't depend
+/// on it, only whether its reads of the log are right.
 pub fn closed_runs_are_legal()
     ensures legal { (settings : Settings) (kept : Option (List Logged)) (ended : ℕ) (script : Script) (calls : List (List Call))
         (accounts : List Account) (trace : Trace) (groups : List Group) (last : ℕ) (log_lens : List ℕ)
         (fault : Option ℕ)
         → settings.clients ≡ length script → HaveRun settings script calls accounts
         → IsClosing (with_kept kept settings) ended trace groups accounts last fault
-        → IsLegalIn (with_kept kept settings) ended script trace (all_attempts accounts)
-        (outcome_of trace calls last log_lens fault) }
+        → (is : IsLegalIn (with_kept kept settings) ended script trace (all_attempts accounts)
+        (outcome_of trace calls last log_lens fault)) × (is.groups ≡ groups) }
 {}
 
 /// The groups of an outcome, from what the holder of the log knew, one leader after another.

@@ -8,7 +8,7 @@ ghost use Rattle.model_accounts.specs.Accounts.{Wrote};
 ghost use Rattle.model_accounts.specs.Closing.{IsClosing};
 ghost use Rattle.model_accounts.specs.ClientRuns.{HaveRun};
 ghost use Rattle.model_accounts.specs.Examples.{settings, two_records, plain, one_batch, one_group, first_version, second_version, sight_of, before, after, commands, calls, pair_settings, pair_trace, pair_group, pair_accounts, three_attempts, group_of_call};
-ghost use Rattle.model_accounts.specs.Parts.{names_made};
+ghost use Rattle.model_runs.specs.Parts.{names_made};
 
 /// A batch is seen whole or not at all.
 pub fn whole_batches_alone()

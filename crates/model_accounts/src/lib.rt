@@ -8,7 +8,7 @@
 //! - `specs/Sights`: what a client sees while a run goes on, and of which traces that may have been seen.
 //!   `specs/Versions` has the versions of entries.
 //! - `specs/Accounts`: a client's account, and what each kind of call does to it.
-//! - `specs/Parts`: which entries each group of commits made.
+//! - `specs/Parts`: where each client's entries end, by the groups that made them.
 //! - `specs/Closing`: what the closing says of all accounts.
 //! - `specs/ClientRuns`: a client's calls one after another, and its whole run.
 //! - `specs/Led`: what the current holder of the log knows of the groups that leaders took.

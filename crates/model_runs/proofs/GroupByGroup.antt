@@ -1,12 +1,15 @@
 -- Calls that may have written a log.
 use Rattle.std.proofs.Common.{◌≡◌, ℕ, List, [], ◌∷◌, ◌++◌, flat_map, Option, Some, None, refl, ap, sym, ◌∙◌}
+use Rattle.std.proofs.Math.Dec.{lit<}
 use Rattle.std.specs.List.{AllZip}
 use Rattle.model_base.specs.History.{Entry, logged_entries, last_sequence}
 use Rattle.model_base.specs.Trace.{Trace}
 use Rattle.model_base.specs.Attempts.{Attempt}
+use Rattle.model_base.specs.Groups.{Group}
 use Rattle.model_base.specs.LogContents.{GroupCall}
 use Rattle.model_runs.specs.Written.{WroteEntries, AreLost, WritesLog}
 use Rattle.model_runs.specs.Examples.{two_groups, two_entries, failed_then_worked, in_one_record, in_two_records}
+use Rattle.model_runs.specs.GroupExamples.{own_commits, own_groups}
 
 -- at most one call failed, so these two aren't the failed ones
 one_lost : (group_bytes : ℕ) (attempts : List (List Attempt)) (fault : Option ℕ) (last : ℕ) (lost : List GroupCall) → AreLost group_bytes attempts fault last lost → lost ≡ failed_then_worked → ⊥
@@ -22,8 +25,8 @@ failed_first group_bytes attempts fault last (part ∷ parts) (c ∷ calls) lost
     let failed : c.failed ≡ Some 1 = cc is in
     cc (failed, (each.0).ok)
 
-pub accepted_after_a_failed_write : (group_bytes : ℕ) (trace : Trace) (attempts : List (List Attempt)) (fault : Option ℕ) → WritesLog group_bytes (λ calls. calls ≡ failed_then_worked) trace attempts fault → ⊥
-accepted_after_a_failed_write group_bytes trace attempts fault writes =
+pub accepted_after_a_failed_write : (group_bytes : ℕ) (trace : Trace) (attempts : List (List Attempt)) (groups : List Group) (fault : Option ℕ) → WritesLog group_bytes (λ calls. calls ≡ failed_then_worked) trace attempts groups fault → ⊥
+accepted_after_a_failed_write group_bytes trace attempts groups fault writes =
     failed_first group_bytes attempts fault (last_sequence trace.start trace.entries) writes.parts writes.calls writes.lost writes.each writes.none_else writes.by
 
 -- the one call worked, so it isn't a failed one
@@ -45,14 +48,13 @@ both_in_one group_bytes attempts fault last parts [] lost each are is cut = none
 both_in_one group_bytes attempts fault last [] (c ∷ calls) lost each are is cut = absurd each
 both_in_one group_bytes attempts fault last (part ∷ parts) (c ∷ calls) lost each are is cut = not_of_one part (flat_map (λ p. p) parts) c each.0 (cc is) cut
 
-pub one_record_at_the_end : (group_bytes : ℕ) (trace : Trace) (attempts : List (List Attempt)) (fault : Option ℕ) → trace.entries ≡ two_entries
-    → WritesLog group_bytes (λ calls. calls ≡ in_one_record) trace attempts fault → ⊥
-one_record_at_the_end group_bytes trace attempts fault entries writes =
+pub one_record_at_the_end : (group_bytes : ℕ) (trace : Trace) (attempts : List (List Attempt)) (groups : List Group) (fault : Option ℕ) → trace.entries ≡ two_entries
+    → WritesLog group_bytes (λ calls. calls ≡ in_one_record) trace attempts groups fault → ⊥
+one_record_at_the_end group_bytes trace attempts groups fault entries writes =
     both_in_one group_bytes attempts fault (last_sequence trace.start trace.entries) writes.parts writes.calls writes.lost writes.each writes.none_else writes.by (writes.cut ∙ ap logged_entries entries)
 
-pub a_record_for_each : (group_bytes : ℕ) (trace : Trace) (attempts : List (List Attempt)) → trace.entries ≡ two_entries → trace.logged ≡ two_groups
-    → WritesLog group_bytes (λ calls. calls ≡ in_two_records) trace attempts None
-a_record_for_each group_bytes trace attempts entries logged = record {
+pub a_record_for_each : (group_bytes : ℕ) (trace : Trace) → trace.entries ≡ two_entries → trace.logged ≡ two_groups → WritesLog group_bytes (λ calls. calls ≡ in_two_records) trace own_commits own_groups None
+a_record_for_each group_bytes trace entries logged = record {
   parts = two_groups;
   calls = in_two_records;
   lost = [];
@@ -65,4 +67,10 @@ a_record_for_each group_bytes trace attempts entries logged = record {
   logged = sym logged;
   none_else = refl;
   by = refl;
+  rise = ((lit< tt, tt), (tt, tt));
+  made = two_groups;
+  are_made = record { cut = sym entries; made = (refl, (refl, tt)) };
+  by_groups = record { parts_are = refl; syncs_are = refl };
+  of_first = tt;
+  dead = ((λ dead. absurd (cc dead)), ((λ dead. absurd (cc dead)), tt));
 }

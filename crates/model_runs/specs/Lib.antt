@@ -1,6 +1,9 @@
 pub mod Lost
+pub mod Parts
+pub mod Groups
 pub mod Written
 pub mod Crashes
 pub mod Examples
+pub mod GroupExamples
 pub mod Refusals
 pub mod SeveralLogs

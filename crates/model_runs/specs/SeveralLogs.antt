@@ -41,15 +41,15 @@ pub data HoldLogs (x : Option (List ℕ)) : List (List (List Entry)) → List He
       → HoldLogs x (groups ∷ next ∷ logs) (held ∷ others)
 
 -- A run over several logs: its outcome is legal in one trace, with these commits in the leaders' groups, and its logs
--- were written by the right calls, one log after another. `limit` is the length from which on a log is full, `disks` is
--- how many logs there may be, and `wrote` says which calls turned the set that began into the one that was taken apart,
--- and how long its logs were then. The printed lengths are those of the logs that were begun.
+-- were written by the right calls for just these groups, one log after another. `limit` is the length from which on a
+-- log is full, `disks` is how many logs there may be, and `wrote` says which calls turned the set that began into the
+-- one that was taken apart, and how long its logs were then. The printed lengths are those of the logs that were begun.
 pub record IsRunOverLogs (settings : Settings) (ended : ℕ) (script : List (List Command)) (limit disks : ℕ)
     (wrote : List GroupCall → List ℕ → Type 0) (o : Outcome) : Type 0 where
   pub trace : Trace
   pub attempts : List (List Attempt)
   pub legal : IsLegalIn settings ended script trace attempts o
-  pub writes : WritesLog settings.group_bytes (λ calls. wrote calls o.log_lens) trace attempts o.fault
+  pub writes : WritesLog settings.group_bytes (λ calls. wrote calls o.log_lens) trace attempts legal.groups o.fault
   pub logs : List (List (List Entry))
   pub cut : flat_map (λ groups. groups) logs ≡ writes.parts
   pub some : 0 < length logs

@@ -1,13 +1,16 @@
--- Which calls wrote the closed log: one for each group of the history, and no other, except one that failed.
-use Rattle.std.specs.Prelude.{◌≡◌, ◌≢◌, ⊤, ℕ, ◌+◌, true, List, [], ◌∷◌, ◌++◌, map, flat_map, sum_by, Option, Some, None, MatchOption}
+-- Which calls wrote the closed log: one for each group that is in the log, and no other, except one that failed.
+use Rattle.std.specs.Prelude.{◌≡◌, ◌≢◌, ⊤, ℕ, ◌+◌, true, false, List, [], ◌∷◌, ◌++◌, map, flat_map, sum_by, Option, Some, None, MatchOption}
 use Rattle.std.specs.List.{AllByRecursion, AllZip}
 use Rattle.model_base.specs.declared.history.Flag.TheVariants.{Sync}
 use Rattle.model_base.specs.Batch.{Record, count_of}
 use Rattle.model_base.specs.History.{Entry, RunsFollow, last_sequence, logged_entries}
 use Rattle.model_base.specs.Trace.{Trace}
 use Rattle.model_base.specs.Attempts.{Attempt}
+use Rattle.model_base.specs.Groups.{Group}
 use Rattle.model_base.specs.LogContents.{GroupCall}
 use Rattle.model_runs.specs.Lost.{IsLostGroup}
+use Rattle.model_runs.specs.Parts.{AreParts}
+use Rattle.model_runs.specs.Groups.{PlacesRise, StaysDead, statuses_in, LogsGroups, IsOfFirstLost}
 
 -- the first sequence of these entries, if there are any
 abbrev pub first_of : List Entry → Option ℕ
@@ -40,11 +43,12 @@ AreLost group_bytes attempts fault last lost =
     MatchOption fault (lost ≡ [])
     (λ count. (c : GroupCall) × (lost ≡ c ∷ []) × IsLostCall group_bytes attempts count last c)
 
--- How a log was written, where `wrote` says that these calls, and no others, wrote it: one call for each group of the
--- logged entries, in their order, and if the log has a fault one more call, which failed, after all the others. Between
--- two entries of one call no other entry comes in the history, logged or not. Reads of the log see these groups.
+-- How a log was written by these groups of commits, where `wrote` says that these calls, and no others, wrote it: one
+-- call for each group that is in the log, in their order, and if the log has a fault one more call, which failed, after
+-- all the others. Between two entries of one call no other entry comes in the history, logged or not. Reads of the log
+-- see these parts of it. After the fault no commit succeeds. `made` are the entries that each group made.
 pub record WritesLog (group_bytes : ℕ) (wrote : List GroupCall → Type 0) (trace : Trace)
-    (attempts : List (List Attempt)) (fault : Option ℕ) : Type 0 where
+    (attempts : List (List Attempt)) (groups : List Group) (fault : Option ℕ) : Type 0 where
   pub parts : List (List Entry)
   pub calls : List GroupCall
   pub lost : List GroupCall
@@ -54,6 +58,13 @@ pub record WritesLog (group_bytes : ℕ) (wrote : List GroupCall → Type 0) (tr
   pub logged : parts ≡ trace.logged
   pub none_else : AreLost group_bytes attempts fault (last_sequence trace.start trace.entries) lost
   pub by : wrote (calls ++ lost)
+  pub rise : PlacesRise groups
+  pub made : List (List Entry)
+  pub are_made : AreParts attempts groups trace.entries made
+  pub by_groups : LogsGroups groups made parts calls
+  pub of_first : AllByRecursion
+      (IsOfFirstLost attempts groups (last_sequence trace.start trace.entries)) lost
+  pub dead : StaysDead false (map (statuses_in attempts) groups)
 
 -- The call wrote this batch, with the run that begins at this sequence, and synced.
 pub record IsSynced (first : ℕ) (records : List Record) (c : GroupCall) : Type 0 where

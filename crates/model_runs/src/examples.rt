@@ -3,11 +3,13 @@
 ghost use Rattle.std.specs.Prelude.{◌≡◌, ◌++◌, ℕ, List, [], Option, None};
 ghost use Rattle.model_base.specs.Trace.{Trace};
 ghost use Rattle.model_base.specs.Attempts.{Attempt};
+ghost use Rattle.model_base.specs.Groups.{Group};
 ghost use Rattle.model_base.specs.Calls.{Outcome};
 ghost use Rattle.model_base.specs.Log.{new_log};
 ghost use Rattle.model_runs.specs.Crashes.{HoldsSynced, KeepsSynced, IsCrashSafe};
 ghost use Rattle.model_runs.specs.Written.{WritesLog};
 ghost use Rattle.model_runs.specs.Examples.{two_groups, two_entries, text_of_both, text_of_first, zeros, failed_then_worked, in_one_record, in_two_records, over_old_bytes, nothing_written};
+ghost use Rattle.model_runs.specs.GroupExamples.{own_commits, own_groups};
 
 /// A run may not put the second group into the log before the first one is safe.
 pub fn synced_before_the_next_group()
@@ -33,14 +35,15 @@ pub fn written_group_by_group()
     // Client 1 commits `put a 1`, and client 2 `put b 2`. The output is `no logfault 1` and `ok 1 1`: the run went on
     // after the failed write. No log was written so, whatever trace, commits and fault are given for it.
     ensures accepted_after_a_failed_write { (group_bytes : ℕ) (trace : Trace) (attempts : List (List Attempt))
-        (fault : Option ℕ) → WritesLog group_bytes (λ calls. calls ≡ failed_then_worked) trace attempts fault → ⊥ }
+        (groups : List Group) (fault : Option ℕ)
+        → WritesLog group_bytes (λ calls. calls ≡ failed_then_worked) trace attempts groups fault → ⊥ }
     // A client commits `put a 1`, to be synced, and then `put b 2`. The output is `ok 1 1` and `ok 2 2`, and both were
     // written as one record: when the first batch was acknowledged the log was still empty.
     ensures one_record_at_the_end { (group_bytes : ℕ) (trace : Trace) (attempts : List (List Attempt))
-        (fault : Option ℕ) → trace.entries ≡ two_entries
-        → WritesLog group_bytes (λ calls. calls ≡ in_one_record) trace attempts fault → ⊥ }
+        (groups : List Group) (fault : Option ℕ) → trace.entries ≡ two_entries
+        → WritesLog group_bytes (λ calls. calls ≡ in_one_record) trace attempts groups fault → ⊥ }
     // In two records they are written as they should be.
-    ensures a_record_for_each { (group_bytes : ℕ) (trace : Trace) (attempts : List (List Attempt))
-        → trace.entries ≡ two_entries → trace.logged ≡ two_groups
-        → WritesLog group_bytes (λ calls. calls ≡ in_two_records) trace attempts None }
+    ensures a_record_for_each { (group_bytes : ℕ) (trace : Trace) → trace.entries ≡ two_entries
+        → trace.logged ≡ two_groups
+        → WritesLog group_bytes (λ calls. calls ≡ in_two_records) trace own_commits own_groups None }
 {}

@@ -27,7 +27,7 @@ use Rattle.program_call.specs.Outcomes.{AcceptsCommits, GivesUpdates, IsUnharmed
 -- no write of the log failed and no read of it, the disk has counted no fault in the run. Where the disk tells its
 -- bytes, the run found the log empty, or wrote one with a number over what was there, or went on after what the log
 -- recovered; and it left the batches of this outcome there. A crash at any moment of the run leaves a prefix to
--- recover: of these batches, or of what the run went on from, followed by these batches.
+-- recover: of these batches, or of what the run went on from, followed by these batches. What was safe of that stays.
 pub record IsOutcome (execution : Execution) (opened ended : Option Disk) (o : calls.Outcome) : Type 0 where
   pub run : IsRunOf execution o
   pub counted : IsUnharmed o → execution.ended ≡ execution.settings.opened

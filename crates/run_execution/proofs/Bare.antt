@@ -14,7 +14,7 @@ use Rattle.run_execution.proofs.KeptBatches.{if_known}
 
 module _ {L : Type 0} {ghosts : Ghosts L} (settings : Settings) (script : List (List Command)) (opened : OpenLog L ghosts) where
   have_run : (log : OpenLog L ghosts) (last : ℕ) → HaveRun settings script (Wrote opened) fault_of faults_of log last → HaveRun settings script (ghosts.wrote opened.log) ghosts.fault ghosts.faults log.log last
-  have_run log last run = record { trace = run.trace; attempts = run.attempts; transcripts = run.transcripts; writes = run.writes; legal = run.legal }
+  have_run log last run = record { trace = run.trace; attempts = run.attempts; groups = run.groups; transcripts = run.transcripts; writes = run.writes; legal = run.legal; of_groups = run.of_groups }
 
   pub bare_comes : (ran : ClientsEnd (OpenLog L ghosts)) → ComesTo settings script (Wrote opened) fault_of faults_of ran → ComesTo settings script (ghosts.wrote opened.log) ghosts.fault ghosts.faults (bare_of ran)
   unfolding have_run

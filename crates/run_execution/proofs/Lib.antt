@@ -4,6 +4,7 @@ mod LoggedGroups
 mod GroupCalls
 pub mod SafeLogs
 mod Openings
+mod Staying
 mod Resumed
 mod RunEnds
 mod KeptBatches

@@ -15,6 +15,7 @@ use Rattle.model_base.specs.LogContents.{GroupCall, record_of_entries, records_o
 use Rattle.model_base.specs.Recovery.{Logged, logged_bytes, last_after, AreInOrder, last_sequence as last_kept}
 use Rattle.log_writer.specs.Crashes.{AreRisingBatches}
 use Rattle.model_runs.specs.Written.{AreOfOwnClients, WroteEntries}
+use Rattle.run_outcome.specs.Running.{AreReadable, batch_of_group as as_logged}
 
 -- A small batch can be read
 
@@ -72,10 +73,6 @@ few_records (r ∷ records) = omega (arith, few_records records, length-append (
 
 abbrev joined : List Entry → List Record
 joined entries = flat_map (λ (records : List Record). records) (map (λ (e : Entry). e.records) entries)
-
-abbrev as_logged : List Entry → Logged
-as_logged [] = record { first = 0; records = [] }
-as_logged (e ∷ entries) = record { first = e.first; records = joined (e ∷ entries) }
 
 abbrev HasEntries : List Entry → Type 0
 HasEntries group = 0 < length group
@@ -303,3 +300,15 @@ rising_groups start entries groups calls n is suit cut runs each records kept =
       each = all_joined IsOwnBatch kept.batches (take n batches) kept.each (all_take IsOwnBatch n batches (are_own low groups small rise));
       rising = order_joined 0 kept.batches (take n batches) kept.rising (order_take low n batches (in_order low low groups (omega arith) small rise));
     }
+
+-- kept batches, and after them one batch for each group, can be recovered
+pub readable_groups : (start : ℕ) (entries : List Entry) (groups : List (List Entry)) (calls : List GroupCall) → IsHistory start entries → AllByRecursion Suits entries
+    → all_of groups ≡ logged_entries entries → AllByRecursion RunsFollow groups → AllZip WroteEntries groups calls → (records : List (List ℕ)) (kept : AreKept start records) → AreReadable (kept.batches ++ map as_logged groups)
+readable_groups start entries groups calls is suit cut runs each records kept =
+    let small = are_small groups calls each runs (subst (AllByRecursion Suits) (sym cut) (all_logged Suits entries suit)) in
+    let low : ℕ = last_kept 0 kept.batches in
+    let rise = subst (Rise low) (sym cut) (logged_rise low start entries kept.below is) in (
+      refl,
+      all_joined IsOwnBatch kept.batches (map as_logged groups) kept.each (are_own low groups small rise),
+      order_joined 0 kept.batches (map as_logged groups) kept.rising (in_order low low groups (omega arith) small rise),
+    )

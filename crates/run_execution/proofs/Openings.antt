@@ -120,12 +120,12 @@ untold_before (Some x) (Some y) R told none = absurd (cc)
 -- What a run goes on from
 
 -- what a run goes on from is batches whose runs rise, up to its last sequence
-pub keeps_as : (start : LogStart) (before : Before) (told : Option Disk) (from : ℕ) → GoesOnFrom start told before → before.last ≤ from → IfSome told (λ d. KeepsBatches (beginning_of start before) from)
-keeps_as New before told from goes below = if_any told _ (λ d. subst (λ (b : Before). KeepsBatches (beginning_of New b) from) (sym goes) (keeps_none (number_in New) from))
-keeps_as (Over number) before told from goes below = if_any told _ (λ d. subst (λ (b : Before). KeepsBatches (beginning_of (Over number) b) from) (sym goes) (keeps_none (number_in (Over number)) from))
+pub keeps_as : (start : LogStart) (before : Before) (told : Option Disk) (from : ℕ) → GoesOnFrom start told before → before.last ≤ from → IfSome told (λ d. KeepsBatches (beginning_of start before) from before.batches)
+keeps_as New before told from goes below = if_any told _ (λ d. subst (λ (b : Before). KeepsBatches (beginning_of New b) from b.batches) (sym goes) (keeps_none (number_in New) from))
+keeps_as (Over number) before told from goes below = if_any told _ (λ d. subst (λ (b : Before). KeepsBatches (beginning_of (Over number) b) from b.batches) (sym goes) (keeps_none (number_in (Over number)) from))
 keeps_as (Behind number) before told from goes below = if_so told (λ d. RecoversTo number d.content before) _ of_recovered goes
   where
-    of_recovered : (d : Disk) → RecoversTo number d.content before → KeepsBatches (beginning_of (Behind number) before) from
+    of_recovered : (d : Disk) → RecoversTo number d.content before → KeepsBatches (beginning_of (Behind number) before) from before.batches
     of_recovered d to =
         let r : Recovered = to.recovered in
         let keeps = (to.is).keeps in
@@ -134,6 +134,7 @@ keeps_as (Behind number) before told from goes below = if_so told (λ d. Recover
           records = map logged_bytes r.batches;
           spelled = subst (λ (l : List ℕ). SpellsWhole number l (map logged_bytes r.batches)) (sym to.kept) keeps.spelled;
           are = record { batches = r.batches; same = refl; each = keeps.are_batches; rising = keeps.in_order; below = omega (arith, last, below) };
+          these = sym to.batches;
         }
 
 -- the law of an image of the file

@@ -7,6 +7,7 @@ use Rattle.base_devices.specs.Disk.{LeavesOnly}
 use Rattle.model_base.specs.Log.{Beginning, text_after}
 use Rattle.model_base.specs.LogContents.{GroupCall}
 use Rattle.model_base.specs.Trace.{Settings}
+use Rattle.model_base.specs.Groups.{Group}
 use Rattle.model_base.specs.Calls.{Command}
 use Rattle.model_base.specs.Outcomes.{outcome_of}
 use Rattle.model_base.specs.Map.{Pairs}
@@ -24,6 +25,7 @@ use Rattle.log_writer.specs.Opening.{HasBegun}
 use Rattle.log_writer.specs.Written.{Wrote, no_call, one_more, read, IsWritten, first_fault, written_by, HoldsSynced, HoldsCalls, IsTextOver, Stands}
 use Rattle.log_writer.specs.Reads.{WasRead}
 use Rattle.log_writer.specs.ReadLaws.{not_read, read_on}
+use Rattle.model_runs.specs.Written.{WritesLog}
 use Rattle.run_outcome.specs.declared.log_start.LogStart.{LogStart}
 use Rattle.run_outcome.specs.Running.{Execution, Before, GoesOnFrom, batches_told, beginning_of, IsRunOf, HasRun, IsAsFound, GoesOn}
 use Rattle.run_threads.specs.declared.run.ClientsEnd.{ClientsEnd}
@@ -36,6 +38,7 @@ use Rattle.log_recovery.specs.declared.modes.Mode.{Mode}
 use Rattle.run_execution.specs.Ends.{HasFewFamilies, HasOutcome, HasOpenedAs, IsOpenedFor, IsAccepted, IsRefused, options_behind, execution_on, EndsOn, IsEndOfRun}
 use Rattle.run_execution.proofs.LegalRuns.{small_entries, refused_for_themselves}
 use Rattle.run_execution.proofs.Openings.{OnlyNow, IsCountedNow, ImageLaw, keeps_as, recovers_as, content_as, empty_as, found_as, no_fault_as, crash_as, crash_read}
+use Rattle.run_execution.proofs.Staying.{stays_as}
 use Rattle.run_execution.proofs.SafeLogs.{len_is, safe_log, left_since, kept_left, held_images, is_written, goes_on, later}
 
 -- the same result for equal settings, scripts and calls
@@ -102,35 +105,45 @@ module _ {D : Type 0} {ghosts : Ghosts D} where
           let b = beginning_of start before in
           let ended = ghosts.faults (disk_of log) in
           let legal = ran.legal (len_of log ∷ []) in
-          let calls = ran.writes.calls ++ ran.writes.lost in
-          let written = is_written b disk opened log calls begun ran.writes.by in
+          let writes : WritesLog settings.group_bytes (λ cs. Wrote opened cs log) ran.trace ran.attempts legal.groups (fault_of log) =
+          subst (λ (groups : List Group). WritesLog settings.group_bytes (λ cs. Wrote opened cs log) ran.trace ran.attempts groups (fault_of log)) (sym (ran.of_groups (len_of log ∷ []))) ran.writes in
+          let calls = writes.calls ++ writes.lost in
+          let written = is_written b disk opened log calls begun writes.by in
+          let stands_begun = stands [] opened (is_written b disk opened opened [] begun no_call) in
           let run : IsRunOf execution o = record {
             trace = ran.trace;
             attempts = ran.attempts;
             legal = legal;
             writes = record {
-              parts = ran.writes.parts;
-              calls = ran.writes.calls;
-              lost = ran.writes.lost;
-              cut = ran.writes.cut;
-              runs = ran.writes.runs;
-              each = ran.writes.each;
-              logged = ran.writes.logged;
-              none_else = ran.writes.none_else;
+              parts = writes.parts;
+              calls = writes.calls;
+              lost = writes.lost;
+              cut = writes.cut;
+              runs = writes.runs;
+              each = writes.each;
+              logged = writes.logged;
+              none_else = writes.none_else;
               by = (log, written, refl);
+              rise = writes.rise;
+              made = writes.made;
+              are_made = writes.are_made;
+              by_groups = writes.by_groups;
+              of_first = writes.of_first;
+              dead = writes.dead;
             };
-            length_is = ap (λ (n : ℕ). n ∷ []) (len_is b ran.trace ran.attempts settings.group_bytes (λ cs. Wrote opened cs log) log ran.writes (stands calls log written));
+            length_is = ap (λ (n : ℕ). n ∷ []) (len_is b ran.trace ran.attempts legal.groups settings.group_bytes (λ cs. Wrote opened cs log) log writes (stands calls log written));
           } in
           record {
             outcome = o;
             run = run;
             refusals = refused_for_themselves settings ended script ran.trace ran.attempts o legal;
             log = safe_log disk opened log execution o run few (small_entries settings ended script ran.trace ran.attempts o legal bounded families)
-                (keeps_as start before (ghosts.told disk) ran.trace.start goes (let first = (legal.is_trace).start in omega (arith, first))) (empty_as start before disk opened has_opened) (content_as start before disk opened has_opened) begun ran.writes.by
-                (stands calls log written) (content calls opened log begun ran.writes.by) (held_images b ghosts.moment ghosts.from ghosts.since (ghosts.told disk) disk (disk_of log) calls (held calls log written))
+                (keeps_as start before (ghosts.told disk) ran.trace.start goes (let first = (legal.is_trace).start in omega (arith, first))) (empty_as start before disk opened has_opened) (content_as start before disk opened has_opened) begun writes.by
+                (stands calls log written) (content calls opened log begun writes.by) (held_images b ghosts.moment ghosts.from ghosts.since (ghosts.told disk) disk (disk_of log) calls (held calls log written))
                 (kept_left b disk (disk_of log) calls stands begins)
-                (left_since b disk (disk_of log) settings.group_bytes ran.attempts _ ran.writes.parts ran.writes.calls ran.writes.lost ran.writes.each (fault_of log) ran.writes.none_else stands begins)
-                (recovers_as recovers start before (ghosts.told disk) execution.images goes);
+                (left_since b disk (disk_of log) settings.group_bytes ran.attempts _ writes.parts writes.calls writes.lost writes.each (fault_of log) writes.none_else stands begins)
+                (recovers_as recovers start before (ghosts.told disk) execution.images goes)
+                (stays_as ghosts start before disk opened log has_opened stands_begun.told (begins [] calls opened log writes.by));
           }
 
       -- and the values show it, where they are at hand

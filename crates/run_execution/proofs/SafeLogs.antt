@@ -9,11 +9,12 @@ use Rattle.base_devices.specs.declared.disk.Disk.{Ghosts}
 use Rattle.model_base.specs.Log.{Beginning, text_after, SpellsWhole}
 use Rattle.model_base.specs.History.{Entry, RunsFollow, IsHistory, last_sequence, logged_entries}
 use Rattle.model_base.specs.Attempts.{Attempt}
+use Rattle.model_base.specs.Groups.{Group}
 use Rattle.model_base.specs.Trace.{Settings, Trace}
 use Rattle.model_base.specs.Outcomes.{IsClient}
 use Rattle.model_base.specs.Calls.{Outcome}
 use Rattle.model_base.specs.LogContents.{records_of, IsLogOf}
-use Rattle.model_base.specs.Recovery.{logged_bytes, NoChance}
+use Rattle.model_base.specs.Recovery.{Logged, logged_bytes, NoChance}
 use Rattle.log_laws.specs.Prefixes.{RecoversPrefix, BeginsWith}
 use Rattle.log_laws.proofs.Placed.{length_map}
 use Rattle.log_laws.proofs.Written.{text_spells, spells_on}
@@ -32,9 +33,9 @@ use Rattle.log_writer.proofs.Keeping.{keeps_prefix, after_none}
 use Rattle.model_runs.specs.Crashes.{IsImageSince, with_failed_record, HasSync, HasAllSafe, KeepsSynced, text_through, over, LeavesPrefix, IsCrashSafe}
 use Rattle.run_outcome.specs.declared.log_start.LogStart.{LogStart}
 use Rattle.run_outcome.specs.declared.log_start.LogStart.TheVariants.{New}
-use Rattle.run_outcome.specs.Running.{Execution, Before, beginning_of, begun_on, IsRunOf, IfGoesOn, RecoversKept, LeavesSafeLog, GoesOn}
+use Rattle.run_outcome.specs.Running.{Execution, Before, beginning_of, begun_on, IsRunOf, IfGoesOn, RecoversKept, SafeStays, AreReadable, batch_of_group, LeavesSafeLog, GoesOn}
 use Rattle.model_runs.specs.Written.{WroteEntries, AreLost, WritesLog}
-use Rattle.run_execution.proofs.LoggedGroups.{IsBounded, Suits, each_has_entries, AreKept, rising_groups}
+use Rattle.run_execution.proofs.LoggedGroups.{IsBounded, Suits, each_has_entries, AreKept, rising_groups, readable_groups}
 use Rattle.run_execution.proofs.GroupCalls.{written_front, safe_front, written_is, synced_is, held_is, kept_is, failed_write}
 
 -- how the log of an execution begins
@@ -53,22 +54,24 @@ begins_with : (records : List (List ℕ)) (x : Option (List ℕ)) → (more : Li
 begins_with records None = ([], sym (append-nil records))
 begins_with records (Some x) = (x ∷ [], refl)
 
--- what a log keeps: its bytes spell batches whose runs rise, up to a last sequence
-pub record KeepsBatches (b : Beginning) (start : ℕ) : Type 0 where
+-- what a log keeps: its bytes spell these batches, whose runs rise, up to a last sequence
+pub record KeepsBatches (b : Beginning) (start : ℕ) (batches : List Logged) : Type 0 where
   pub records : List (List ℕ)
   pub spelled : SpellsWhole b.number b.kept records
   pub are : AreKept start records
+  pub these : are.batches ≡ batches
 
 -- a log may keep nothing
-pub keeps_none : (number : Option ℕ) (start : ℕ) → KeepsBatches (record { number = number; kept = [] }) start
+pub keeps_none : (number : Option ℕ) (start : ℕ) → KeepsBatches (record { number = number; kept = [] }) start []
 keeps_none number start = record {
   records = [];
   spelled = text_spells number [];
   are = record { batches = []; same = refl; each = tt; rising = tt; below = omega arith };
+  these = refl;
 }
 
 -- The calls that wrote the groups of a trace, and perhaps one that failed
-module _ (b : Beginning) (trace : Trace) (keeps : KeepsBatches b trace.start) (attempts : List (List Attempt)) (group_bytes : ℕ) (o : Outcome) (history : o.history ≡ trace.entries) (end : o.last ≡ last_sequence trace.start trace.entries) (is_history : IsHistory trace.start trace.entries)
+module _ (b : Beginning) (trace : Trace) (batches : List Logged) (keeps : KeepsBatches b trace.start batches) (attempts : List (List Attempt)) (group_bytes : ℕ) (o : Outcome) (history : o.history ≡ trace.entries) (end : o.last ≡ last_sequence trace.start trace.entries) (is_history : IsHistory trace.start trace.entries)
     (suit : AllByRecursion Suits trace.entries) (groups : List (List Entry)) (calls lost : List GroupCall) (cut : flat_map (λ group. group) groups ≡ logged_entries trace.entries) (runs : AllByRecursion RunsFollow groups)
     (each : AllZip WroteEntries groups calls) (are : AreLost group_bytes attempts o.fault (last_sequence trace.start trace.entries) lost) where
   abbrev records : List (List ℕ)
@@ -82,6 +85,10 @@ module _ (b : Beginning) (trace : Trace) (keeps : KeepsBatches b trace.start) (a
 
   written : written_by all ≡ records
   written = written_is b group_bytes attempts last groups calls lost each o.fault are
+
+  -- all that the log holds can be recovered
+  can_be_read : AreReadable (batches ++ map batch_of_group groups)
+  can_be_read = subst (λ (l : List Logged). AreReadable (l ++ map batch_of_group groups)) keeps.these (readable_groups trace.start trace.entries groups calls is_history suit cut runs each keeps.records keeps.are)
 
   module _ (begun : List ℕ) (d : Disk) (safe : ℕ) (holds : HoldsCalls b d all safe) (whole : first_fault all ≡ None → d.content ≡ over (text_after b (written_by all)) begun) where
     -- all that had to be synced is recovered
@@ -254,9 +261,9 @@ module _ {D : Type 0} {ghosts : Ghosts D} where
   later opened log calls wrote = (calls_go_on opened calls log wrote).faults
 
   -- the length of the closed log, where its calls wrote the groups of an outcome's trace
-  pub len_is : (b : Beginning) (trace : Trace) (attempts : List (List Attempt)) (group_bytes : ℕ) (wrote : List GroupCall → Type 0) (log : LogWriter D ghosts) (writes : WritesLog group_bytes wrote trace attempts (fault_of log))
+  pub len_is : (b : Beginning) (trace : Trace) (attempts : List (List Attempt)) (groups : List Group) (group_bytes : ℕ) (wrote : List GroupCall → Type 0) (log : LogWriter D ghosts) (writes : WritesLog group_bytes wrote trace attempts groups (fault_of log))
       → Stands b (writes.calls ++ writes.lost) log → len_of log ≡ length (text_after b (records_of writes.parts))
-  len_is b trace attempts group_bytes wrote log writes stands =
+  len_is b trace attempts groups group_bytes wrote log writes stands =
       stands.len ∙ ap (λ (l : List (List ℕ)). length (text_after b l)) (written_is b group_bytes attempts (last_sequence trace.start trace.entries) writes.parts writes.calls writes.lost writes.each (fault_of log) writes.none_else)
 
   -- Once the call that wrote a synced group had returned, each image that a crash left begins with the text up to that
@@ -301,7 +308,7 @@ module _ {D : Type 0} {ghosts : Ghosts D} where
   -- what the log holds, and what a crash leaves of it
   pub safe_log : (disk : D) (opened log : LogWriter D ghosts) (execution : Execution) (o : Outcome) (run : IsRunOf execution o) → length execution.script ≤ MAX_CLIENTS
       → AllByRecursion IsBounded run.trace.entries
-      → IfSome (ghosts.told disk) (λ d. KeepsBatches (own execution) run.trace.start)
+      → IfSome (ghosts.told disk) (λ d. KeepsBatches (own execution) run.trace.start execution.before.batches)
       → (execution.start ≡ New → IfSome (ghosts.told disk) (λ d. d.content ≡ []))
       → Told (ghosts.told disk) (ghosts.told (disk_of opened)) (λ x y. y.content ≡ begun_on execution.start execution.before x.content)
       → HasBegun (own execution) disk opened → Wrote opened (run.writes.calls ++ run.writes.lost) log → Stands (own execution) (run.writes.calls ++ run.writes.lost) log
@@ -311,33 +318,36 @@ module _ {D : Type 0} {ghosts : Ghosts D} where
       → ((k n : ℕ) (group : List Entry) → slice_get run.writes.parts k ≡ Some group → HasSync group → k < n
       → (image : List ℕ) → execution.since (take n (run.writes.calls ++ run.writes.lost)) (drop n (run.writes.calls ++ run.writes.lost)) image → IfSome (ghosts.told disk) (λ d. BeginsWith (text_through (own execution) run.writes.parts k) image))
       → IfSome (ghosts.told disk) (λ d. IfGoesOn execution.start (RecoversKept execution.start execution.before d.content execution.images))
+      → IfSome (ghosts.told disk) (λ d. IfGoesOn execution.start (SafeStays execution.before d execution.images))
       → Told (ghosts.told disk) (ghosts.told (disk_of log)) (LeavesSafeLog execution o run)
-  safe_log disk opened log execution o run few small keeps empty same begun wrote stands content held kept kept_since went =
+  safe_log disk opened log execution o run few small keeps empty same begun wrote stands content held kept kept_since went stay =
       by_told (ghosts.told disk) (ghosts.told (disk_of log)) keeps empty held kept kept_since
       (λ none. over_begun execution.start execution.before (text_after (own execution) (written_by (run.writes.calls ++ run.writes.lost))) (ghosts.told disk) (ghosts.told (disk_of opened)) (ghosts.told (disk_of log)) same (content none))
-      (tells_since (own execution) disk opened log (run.writes.calls ++ run.writes.lost) begun wrote) stands.told went
+      (tells_since (own execution) disk opened log (run.writes.calls ++ run.writes.lost) begun wrote) stands.told went stay
     where
       suit : AllByRecursion Suits run.trace.entries
       suit = all_suit execution.settings (let legal = run.legal in let many = legal.clients in omega (arith, many, few)) run.trace.entries (run.legal.is_trace).clients small
 
-      by_told : (a c : Option Disk) → IfSome a (λ d. KeepsBatches (own execution) run.trace.start) → (execution.start ≡ New → IfSome a (λ d. d.content ≡ []))
+      by_told : (a c : Option Disk) → IfSome a (λ d. KeepsBatches (own execution) run.trace.start execution.before.batches) → (execution.start ≡ New → IfSome a (λ d. d.content ≡ []))
           → IfSome a (λ d. (image : List ℕ) → execution.images image → HoldsCallsSynced (own execution) d.reach (run.writes.calls ++ run.writes.lost) image)
           → ((image : List ℕ) → execution.since [] (run.writes.calls ++ run.writes.lost) image → IfSome a (λ d. BeginsWith execution.before.kept image))
           → ((k n : ℕ) (group : List Entry) → slice_get run.writes.parts k ≡ Some group → HasSync group → k < n
           → (image : List ℕ) → execution.since (take n (run.writes.calls ++ run.writes.lost)) (drop n (run.writes.calls ++ run.writes.lost)) image → IfSome a (λ d. BeginsWith (text_through (own execution) run.writes.parts k) image))
           → (first_fault (run.writes.calls ++ run.writes.lost) ≡ None → Told a c (λ x z. z.content ≡ over (text_after (own execution) (written_by (run.writes.calls ++ run.writes.lost))) (begun_on execution.start execution.before x.content)))
           → Told a c (λ x y. ⊤) → IfSome c (λ d. (safe : ℕ) × HoldsCalls (own execution) d (run.writes.calls ++ run.writes.lost) safe)
-          → IfSome a (λ d. IfGoesOn execution.start (RecoversKept execution.start execution.before d.content execution.images)) → Told a c (LeavesSafeLog execution o run)
-      by_told None None keeps empty held kept kept_since text told holds went = tt
-      by_told None (Some y) keeps empty held kept kept_since text told holds went = told
-      by_told (Some x) None keeps empty held kept kept_since text told holds went = told
-      by_told (Some x) (Some y) keeps empty held kept kept_since text told holds went =
+          → IfSome a (λ d. IfGoesOn execution.start (RecoversKept execution.start execution.before d.content execution.images)) → IfSome a (λ d. IfGoesOn execution.start (SafeStays execution.before d execution.images)) → Told a c (LeavesSafeLog execution o run)
+      by_told None None keeps empty held kept kept_since text told holds went stay = tt
+      by_told None (Some y) keeps empty held kept kept_since text told holds went stay = told
+      by_told (Some x) None keeps empty held kept kept_since text told holds went stay = told
+      by_told (Some x) (Some y) keeps empty held kept kept_since text told holds went stay =
           let begun : List ℕ = begun_on execution.start execution.before x.content in
           record {
             found_empty = empty;
             safe = record {
-              log = log_left (own execution) run.trace keeps run.attempts execution.settings.group_bytes o run.legal.history run.legal.last (run.legal.is_trace).entries suit run.writes.parts run.writes.calls run.writes.lost run.writes.cut run.writes.runs run.writes.each run.writes.none_else begun y holds.0 holds.1 text run.length_is;
-              crash = crash_safe (own execution) run.trace keeps run.attempts execution.settings.group_bytes o run.legal.history run.legal.last (run.legal.is_trace).entries suit run.writes.parts run.writes.calls run.writes.lost run.writes.cut run.writes.runs run.writes.each run.writes.none_else begun y holds.0 holds.1 text run.length_is x.reach execution.images execution.since held kept kept_since;
+              log = log_left (own execution) run.trace execution.before.batches keeps run.attempts execution.settings.group_bytes o run.legal.history run.legal.last (run.legal.is_trace).entries suit run.writes.parts run.writes.calls run.writes.lost run.writes.cut run.writes.runs run.writes.each run.writes.none_else begun y holds.0 holds.1 text run.length_is;
+              crash = crash_safe (own execution) run.trace execution.before.batches keeps run.attempts execution.settings.group_bytes o run.legal.history run.legal.last (run.legal.is_trace).entries suit run.writes.parts run.writes.calls run.writes.lost run.writes.cut run.writes.runs run.writes.each run.writes.none_else begun y holds.0 holds.1 text run.length_is x.reach execution.images execution.since held kept kept_since;
             };
             went_on = went;
+            stays = stay;
+            readable = can_be_read (own execution) run.trace execution.before.batches keeps run.attempts execution.settings.group_bytes o run.legal.history run.legal.last (run.legal.is_trace).entries suit run.writes.parts run.writes.calls run.writes.lost run.writes.cut run.writes.runs run.writes.each run.writes.none_else;
           }

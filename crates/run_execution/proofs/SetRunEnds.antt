@@ -6,6 +6,7 @@ use Rattle.model_base.specs.declared.limits.TheConstants.{MAX_CLIENTS, MAX_SIZE}
 use Rattle.base_devices.specs.declared.disk.Disk.{Ghosts}
 use Rattle.base_devices.specs.Faults.{count_in_all}
 use Rattle.model_base.specs.LogContents.{GroupCall}
+use Rattle.model_base.specs.Groups.{Group}
 use Rattle.model_base.specs.Trace.{Settings}
 use Rattle.model_base.specs.Calls.{Command}
 use Rattle.model_base.specs.Calls as calls
@@ -32,6 +33,7 @@ use Rattle.log_writer.specs.ReadLaws.{none_were_read, were_read_on}
 use Rattle.log_writer.proofs.Reading.{all_were_read}
 use Rattle.log_writer.specs.SetCrashes.{HasOpenedSet}
 use Rattle.log_writer.specs.SetWritten.{disks_of}
+use Rattle.model_runs.specs.Written.{WritesLog}
 use Rattle.run_threads.specs.declared.run.ClientsEnd.{ClientsEnd}
 use Rattle.run_threads.specs.declared.run.ClientsEnd.TheVariants.{NotRun, Untold, Told}
 use Rattle.run_threads.specs.Runs.{HaveRun, ComesTo, log_of, outcome_with}
@@ -147,8 +149,21 @@ module _ {D : Type 0} {ghosts : Ghosts D} where
       abbrev outcome : calls.Outcome
       outcome = outcome_of ran.trace ran.transcripts last (lens_of (begun_in set)) (fault_in set)
 
+      -- it is legal, in the groups by which the log was written
+      abbrev InGroups : ℕ → Type 0
+      InGroups n = (is : IsLegalIn settings n script ran.trace ran.attempts outcome) × (is.groups ≡ ran.groups)
+
+      in_groups : InGroups (count_in_all ghosts.faults (disks_of set))
+      in_groups = subst InGroups (count_is (logs_of set)) (ran.legal (lens_of (begun_in set)), ran.of_groups (lens_of (begun_in set)))
+
       legal : IsLegalIn settings (count_in_all ghosts.faults (disks_of set)) script ran.trace ran.attempts outcome
-      legal = subst (λ (n : ℕ). IsLegalIn settings n script ran.trace ran.attempts outcome) (count_is (logs_of set)) (ran.legal (lens_of (begun_in set)))
+      legal = in_groups.0
+
+      abbrev Writes : List Group → Type 0
+      Writes groups = WritesLog settings.group_bytes (λ calls. WroteSet opened calls set) ran.trace ran.attempts groups (fault_in set)
+
+      writes : Writes in_groups.0.groups
+      writes = subst Writes (sym in_groups.1) ran.writes
 
       history : IsHistory (ran.trace).start (ran.trace).entries
       history = (legal.is_trace).entries
@@ -156,11 +171,11 @@ module _ {D : Type 0} {ghosts : Ghosts D} where
       -- all clients have run: there is an outcome
       has_outcome : HasSetOutcome ghosts disks (disks_of set) execution outcome
       has_outcome =
-          let w = ran.writes in
+          let w = writes in
           let run : IsRunOfSet execution outcome = record {
             trace = ran.trace;
             attempts = ran.attempts;
-            legal = legal;
+            legal = in_groups.0;
             writes = record {
               parts = w.parts;
               calls = w.calls;
@@ -171,6 +186,12 @@ module _ {D : Type 0} {ghosts : Ghosts D} where
               logged = w.logged;
               none_else = w.none_else;
               by = (set, record { opened = opened; has_opened = has; limit_is = limit_is; wrote = w.by }, refl, refl);
+              rise = w.rise;
+              made = w.made;
+              are_made = w.are_made;
+              by_groups = w.by_groups;
+              of_first = w.of_first;
+              dead = w.dead;
             };
             logs = (in_logs laws limit disks opened has limit_is ran.trace ran.attempts settings.group_bytes (fault_in set) history w.parts w.calls w.lost w.cut w.runs w.each w.none_else set w.by).logs;
             cut = (in_logs laws limit disks opened has limit_is ran.trace ran.attempts settings.group_bytes (fault_in set) history w.parts w.calls w.lost w.cut w.runs w.each w.none_else set w.by).all;

@@ -1,19 +1,21 @@
 -- What a run of a script results in: an outcome, and the log that it leaves.
-use Rattle.std.specs.Prelude.{◌≡◌, ◌⊎◌, ℕ, ◌≤◌, ⊤, List, [], length, take, Option, Some, None, option_map, IfSome}
+use Rattle.std.specs.Prelude.{◌≡◌, ◌⊎◌, ℕ, ◌≤◌, ⊤, min, List, [], ◌∷◌, ◌++◌, length, take, map, flat_map, Option, Some, None, option_map, IfSome}
 use Rattle.std.specs.List.{AllByRecursion}
 use Rattle.base_devices.specs.Disk.{Disk, Told, IsImage, all_safe, rewound, cut_at}
+use Rattle.model_base.specs.Batch.{Record}
 use Rattle.model_base.specs.Counts.{Rose}
+use Rattle.model_base.specs.History.{Entry}
 use Rattle.model_base.specs.Map.{Pairs}
 use Rattle.model_base.specs.Trace.{Settings}
 use Rattle.model_base.specs.Calls as calls
 use Rattle.model_base.specs.Log.{Beginning, plain_log, SpellsWhole}
-use Rattle.model_base.specs.Recovery.{Logged, Recovered, IsRecovered, recovered_map, recovered_last}
+use Rattle.model_base.specs.Recovery.{Logged, logged_bytes, Recovered, IsRecovered, recovered_map, recovered_last}
 use Rattle.model_base.specs.LogContents.{GroupCall}
 use Rattle.run_outcome.specs.declared.outcome.Outcome.{Outcome}
 use Rattle.run_outcome.specs.declared.log_start.LogStart.{LogStart}
 use Rattle.run_outcome.specs.declared.log_start.LogStart.TheVariants.{New, Over, Behind}
 use Rattle.run_outcome.specs.Shows.{ShowsOutcome}
-use Rattle.log_laws.specs.Prefixes.{RecoversPrefix}
+use Rattle.log_laws.specs.Prefixes.{RecoversPrefix, AreTheseBatches}
 use Rattle.log_recovery_laws.specs.Images.{MeetsNoOther}
 use Rattle.model_runs.specs.Refusals.{AreRefusedForThemselves}
 use Rattle.model_runs.specs.Crashes.{IsRun, IsSafe}
@@ -92,13 +94,40 @@ RecoversKept start before content images = (image : List ℕ) → images image
     → MeetsNoOther (number_in start) image content → (kept : List (List ℕ))
     → SpellsWhole (number_in start) before.kept kept → RecoversPrefix (number_in start) kept image (λ n. ⊤)
 
+-- the image has the first `n` bytes of the content, as they were
+abbrev pub HasFirst : ℕ → List ℕ → List ℕ → Type 0
+HasFirst n content image = (n ≤ length image) × (take n image ≡ take n content)
+
+-- What was safe as the run began stays, as far as its log keeps it: at each moment of the run, the opening of its log
+-- too, an image has these bytes.
+abbrev pub SafeStays : Before → Disk → (List ℕ → Type 0) → Type 0
+SafeStays before opened images = (image : List ℕ) → images image
+    → HasFirst (min opened.synced (length before.kept)) opened.content image
+
 abbrev pub IfGoesOn : LogStart → Type 0 → Type 0
 IfGoesOn New T = Unit {0}
 IfGoesOn (Over number) T = Unit {0}
 IfGoesOn (Behind number) T = T
 
+-- the batch that the one record of a group is: with the group's first sequence, and the records of all its entries
+abbrev pub batch_of_group : List Entry → Logged
+batch_of_group [] = record { first = 0; records = [] }
+batch_of_group (e ∷ entries) = record {
+  first = e.first;
+  records = flat_map (λ (records : List Record). records) (map (λ (x : Entry). x.records) (e ∷ entries));
+}
+
+-- the batches of a log: those that it kept, and one for each group
+abbrev pub batches_of_log : Before → List (List Entry) → List Logged
+batches_of_log before groups = before.batches ++ map batch_of_group groups
+
+-- recovery reads these batches from their bytes, each after those before it, since their runs rise
+abbrev pub AreReadable : List Logged → Type 0
+AreReadable batches = AreTheseBatches (map logged_bytes batches) batches
+
 -- Where the log is a new one, the disk was found empty. The log holds the logged batches of the outcome after what it
--- keeps, and a crash leaves a prefix of them, unless a checksum matches by chance.
+-- keeps, and a crash leaves a prefix of them, unless a checksum matches by chance. What a log that goes on keeps, and was
+-- safe, stays. All that the log holds can be recovered.
 pub record LeavesSafeLog (execution : Execution) (o : calls.Outcome) (run : IsRunOf execution o)
     (opened ended : Disk) : Type 0 where
   pub found_empty : execution.start ≡ New → opened.content ≡ []
@@ -106,6 +135,8 @@ pub record LeavesSafeLog (execution : Execution) (o : calls.Outcome) (run : IsRu
       execution.images execution.since (IsImage ended)
   pub went_on : IfGoesOn execution.start
       (RecoversKept execution.start execution.before opened.content execution.images)
+  pub stays : IfGoesOn execution.start (SafeStays execution.before opened execution.images)
+  pub readable : AreReadable (batches_of_log execution.before run.writes.parts)
 
 -- the disk as the opening of the log leaves it, or would leave it
 abbrev pub IsOpened : LogStart → Before → Disk → Disk → Type 0

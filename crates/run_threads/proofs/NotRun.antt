@@ -96,7 +96,7 @@ module _ (settings : Settings) (kept : Option (List Logged)) (ended : ℕ) (trac
         | inr w ↦ (let over = w.0 in absurd (omega (arith, count)))
       ])
 
-  log_by_no_call : (wrote : List GroupCall → Type 0) → WritesLog settings.group_bytes wrote trace (all_attempts accounts) fault → wrote []
+  log_by_no_call : (wrote : List GroupCall → Type 0) → WritesLog settings.group_bytes wrote trace (all_attempts accounts) groups fault → wrote []
   log_by_no_call wrote writes =
       let cut : flat_map (λ part. part) writes.parts ≡ [] = writes.cut ∙ ap logged_entries none_written in
       let calls : writes.calls ≡ [] = no_calls writes.parts writes.calls cut writes.each in
@@ -117,7 +117,7 @@ module _ (settings : Settings) (kept : Option (List Logged)) (ended : ℕ) (trac
   no_read_faults (a ∷ vs) none = ap (λ ns. ns ++ all_read_faults vs) (none 0 a refl) ∙ no_read_faults vs (λ i b at. none (suc i) b at)
 
   -- it was written by no call, and no fault was counted
-  pub log_untouched : (wrote : List GroupCall → Type 0) → WritesLog settings.group_bytes wrote trace (all_attempts accounts) fault → wrote [] × (ended ≡ settings.opened)
+  pub log_untouched : (wrote : List GroupCall → Type 0) → WritesLog settings.group_bytes wrote trace (all_attempts accounts) groups fault → wrote [] × (ended ≡ settings.opened)
   log_untouched wrote writes = (
     log_by_no_call wrote writes,
     closing.counted (no_fault fault writes.lost writes.none_else) (no_read_faults accounts (λ i a at. ap (λ (b : Account). b.read_faults) (new i a at))),

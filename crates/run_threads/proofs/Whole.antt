@@ -86,15 +86,17 @@ module _ {L : Type 0} (settings : Settings) (kept : Option (List Logged)) (wrote
   -- the clients' replies show a legal outcome of the trace, whether its values are at hand or not
   module _ (script : List (List calls.Command)) (replies : Vec (Vec Reply Global) Global) (told : HaveReplied settings script replies.items accounts)
       (legal : (transcripts : List (List calls.Call)) (log_lens : List ℕ) → clients.HaveRun settings script transcripts accounts
-      → IsLegalIn (with_kept kept settings) (faults log) script trace (all_attempts accounts) (outcome_of trace transcripts last log_lens (fault log)))
-      (writes : WritesLog settings.group_bytes (λ calls. wrote calls log) trace (all_attempts accounts) (fault log)) where
+      → (is : IsLegalIn (with_kept kept settings) (faults log) script trace (all_attempts accounts) (outcome_of trace transcripts last log_lens (fault log))) × (is.groups ≡ groups))
+      (writes : WritesLog settings.group_bytes (λ calls. wrote calls log) trace (all_attempts accounts) groups (fault log)) where
     pub have_run : HaveRun (with_kept kept settings) script wrote fault faults log last
     have_run = record {
       trace = trace;
       attempts = all_attempts accounts;
+      groups = groups;
       transcripts = told.transcripts;
       writes = writes;
-      legal = λ log_lens. legal told.transcripts log_lens told.run;
+      legal = λ log_lens. (legal told.transcripts log_lens told.run).0;
+      of_groups = λ log_lens. (legal told.transcripts log_lens told.run).1;
     }
 
     pub have_told : (shown : List (HistoryEntry Contents)) (state : Pairs) → ShowsEntries shown trace.entries → state ≡ history.map_over trace.opening trace.entries

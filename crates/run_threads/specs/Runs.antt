@@ -3,6 +3,7 @@ use Rattle.std.specs.Prelude.{◌≡◌, ℕ, List, [], ◌∷◌, ◌++◌, Opt
 use Rattle.std.specs.declared.alloc.Global.{Global}
 use Rattle.model_base.specs.Trace.{Trace, Settings}
 use Rattle.model_base.specs.Attempts.{Attempt}
+use Rattle.model_base.specs.Groups.{Group}
 use Rattle.model_base.specs.LogContents.{GroupCall}
 use Rattle.model_base.specs.Calls.{Command, Call}
 use Rattle.model_base.specs.Outcomes.{IsLegalIn, outcome_of}
@@ -39,15 +40,17 @@ log_of (Told log last transcripts history state) = log
 -- its disk's count of faults.
 module _ {L : Type 0} (settings : Settings) (script : List (List Command)) (wrote : List GroupCall → L → Type 0)
     (fault : L → Option ℕ) (faults : L → ℕ) where
-  -- All clients have run: there is one trace, their replies are a legal outcome of it, whatever the logs' lengths, and
-  -- the log was written by the calls for its history.
+  -- All clients have run: there is one trace with one list of groups, their replies are a legal outcome of these,
+  -- whatever the logs' lengths, and the log was written by the calls for these groups.
   pub record HaveRun (log : L) (last : ℕ) : Type 0 where
     pub trace : Trace
     pub attempts : List (List Attempt)
+    pub groups : List Group
     pub transcripts : List (List Call)
-    pub writes : WritesLog settings.group_bytes (λ calls. wrote calls log) trace attempts (fault log)
+    pub writes : WritesLog settings.group_bytes (λ calls. wrote calls log) trace attempts groups (fault log)
     pub legal : (log_lens : List ℕ)
         → IsLegalIn settings (faults log) script trace attempts (outcome_of trace transcripts last log_lens (fault log))
+    pub of_groups : (log_lens : List ℕ) → (legal log_lens).groups ≡ groups
 
   -- Where there was no memory for the run itself, the log was written by no call, and its disk has counted no fault.
   -- Else all clients have run, and the values, where they are at hand, show the outcome.

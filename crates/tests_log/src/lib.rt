@@ -18,6 +18,7 @@
 //! - `several_logs`: what several logs recover, one after another
 //! - `log_sets`: groups on several disks, one after another, their faults and crashes
 //! - `since`: what logs have since a sequence, also while they are open
+//! - `growing`: what logs have that is new, while they are written
 //! - `numbered_logs`: logs with a number, read and recovered
 #![tactic(auto)]
 
@@ -31,6 +32,8 @@ mod changes;
 mod checks;
 #[cfg(test)]
 mod damage;
+#[cfg(test)]
+mod growing;
 #[cfg(test)]
 mod log_sets;
 #[cfg(test)]

@@ -157,7 +157,7 @@ fn a_read_that_fails_leaves_the_log(rt: HostRuntime) -> Result<(), Fail> {
 // one records are asked for, how many these are, and the place after what was read.
 const IN_SET: [(u64, u64, InLogs); 4] = [
     (1, 9, (3, 1, 48, 3)),
-    (1, 1, (1, 1, 0, 1)),
+    (1, 1, (1, 0, 24, 1)),
     (2, 2, (1, 1, 24, 2)),
     (4, 9, (0, 1, 48, 3)),
 ];

@@ -29,8 +29,8 @@ returns-in-Some-clause-path g c past went goes s =
     let opened = past.opened in let start = past.start in let gb = past.group_bytes in let asked = past.asked in let published = past.published in let hs = past.handled in
     let led = goes.led in let numbers = goes.numbers in let comes = goes.comes_after in let is_asked = goes.asked_for in let proceeds = goes.proceeds in
     let xs = c.args.requests.now.items in let h = c.args.path.now in let clients = c.args.layout.now.parts.clients in
-    subst (λ ys. Stands our_log as_is tt opened start clients gb went h.log published h.last (hs ++ handled_with xs ys)) (sym c.refuse_all.ensures.replies)
-    (stands_dead our_log as_is tt opened start clients gb asked h.log published h.last hs s xs led.writes led.lawful led.whole c.args.delay.now numbers is_asked comes went proceeds c.in-Some.count (sym c.fault.ensures ∙ c.in-Some.is))
+    subst (λ ys. Stands our_log as_is tt opened start clients gb went h.log h.places published h.last (hs ++ handled_with xs ys)) (sym c.refuse_all.ensures.replies)
+    (stands_dead our_log as_is tt opened start clients gb asked h.log h.places published h.last hs s xs led.writes led.lawful led.whole c.args.delay.now numbers is_asked comes went proceeds c.in-Some.count (sym c.fault.ensures ∙ c.in-Some.is))
 
 pub returns-in-Some-clause-replies : goal.returns-in-Some-clause-replies
 returns-in-Some-clause-replies g c = pays_faulted c.args.delay.now c.in-Some.count c.args.requests.now.items c.refuse_all.new.replies.items c.refuse_all.ensures.replies
@@ -55,8 +55,8 @@ returns-then-is_empty-clause-path g c past went goes s =
     let no_batches : batches_from h.last (commit_requests_of xs) ≡ [] = sym (batches_are h.last xs) ∙ ap (map (λ (b : Contents). b.records)) (sym n.batches ∙ none) in
     let alive : fault_of h.log ≡ None = sym c.fault.ensures ∙ none_is c.fault.result c.in_default.not-Some in
     let replies = c.answer_layout.ensures.replies ∙ layout_written c.args.delay.now h.last c.lay_out-end.result xs c.drop_parts.new.self.numberings.items c.drop_parts.new.self.batches.items (ap (λ v. v.items) d.0 ∙ n.numberings) (ap (λ v. v.items) d.1 ∙ n.batches) in
-    subst (λ (z : ℕ × List _). Stands our_log as_is tt opened start clients gb went h.log published z.0 (hs ++ handled_with xs z.1)) (λ i. (sym n.reached i, sym (replies ∙ ap (λ m. replies_of c.args.delay.now h.last m xs) n.reached) i))
-    (stands_written our_log as_is tt opened start clients gb asked h.log published h.last hs s xs led.writes led.lawful led.whole c.args.delay.now numbers is_asked comes went proceeds alive h.log published s.our (inl (refl, inr no_batches)) (inl (no_versions h.last (commit_requests_of xs) no_batches, refl)))
+    subst (λ (z : ℕ × List _). Stands our_log as_is tt opened start clients gb went h.log h.places published z.0 (hs ++ handled_with xs z.1)) (λ i. (sym n.reached i, sym (replies ∙ ap (λ m. replies_of c.args.delay.now h.last m xs) n.reached) i))
+    (stands_written our_log as_is tt opened start clients gb asked h.log h.places published h.last hs s xs led.writes led.lawful led.whole c.args.delay.now numbers is_asked comes went proceeds c.places_stay.ensures.stay alive h.log published s.our (inl (refl, inr no_batches)) (inl (no_versions h.last (commit_requests_of xs) no_batches, refl)))
 
 pub returns-then-is_empty-clause-replies : goal.returns-then-is_empty-clause-replies
 returns-then-is_empty-clause-replies g c =
@@ -103,8 +103,8 @@ returns-in-Err-clause-path g c past went goes s =
     let off = log c.in-Err.field-0 c.in-Err.is in
     let w = writes gb clients h.last xs led c.as_request.result.now.options same c.as_slice.result.now are some h.log c.log_group.new.log c.log_group.result c.log_group.ensures.skipped c.log_group.ensures.adds off in
     let replies = c.answer_layout-in-Err.ensures.replies ∙ layout_faulted c.args.delay.now h.last c.in-Err.field-0.count xs c.drop_parts-in-Err.new.self.numberings.items c.drop_parts-in-Err.new.self.batches.items (ap (λ v. v.items) d.0 ∙ n.numberings) (ap (λ v. v.items) d.1 ∙ n.batches) in
-    subst (λ ys. Stands our_log as_is tt opened start clients gb went c.log_group.new.log published h.last (hs ++ handled_with xs ys)) (sym replies)
-    (stands_failed our_log as_is tt opened start clients gb asked h.log published h.last hs s xs led.writes led.lawful led.whole c.args.delay.now numbers is_asked comes went proceeds alive c.in-Err.field-0.count (call_of (h.last + 1) c.as_slice.result.now c.as_request.result.now.options.sync c.log_group.result) c.log_group.new.log (c.log_group.ensures.adds off) w (ap count_of_fault c.in-Err.is ∙ search rules))
+    subst (λ ys. Stands our_log as_is tt opened start clients gb went c.log_group.new.log h.places published h.last (hs ++ handled_with xs ys)) (sym replies)
+    (stands_failed our_log as_is tt opened start clients gb asked h.log h.places published h.last hs s xs led.writes led.lawful led.whole c.args.delay.now numbers is_asked comes went proceeds c.places_stay.ensures.stay alive c.in-Err.field-0.count (call_of (h.last + 1) c.as_slice.result.now c.as_request.result.now.options.sync c.log_group.result) c.log_group.new.log (c.log_group.ensures.adds off) w (ap count_of_fault c.in-Err.is ∙ search rules))
 
 pub returns-in-Err-clause-replies : goal.returns-in-Err-clause-replies
 returns-in-Err-clause-replies g c =
@@ -136,8 +136,8 @@ returns-clause-path g c past went goes s =
     let some_vs : 0 < length vs = some_versions clients h.last (commit_requests_of xs) led.lawful some_batches in
     let are_parts = n.parts.0 in let same_parts = c.answer_layout-2.ensures.taken.2 in
     let replies = c.answer_layout-2.ensures.replies ∙ layout_written c.args.delay.now h.last c.lay_out-end.result xs c.lay_out-end.new.numberings.items c.lay_out-end.new.batches.items n.numberings n.batches in
-    subst (λ (z : ℕ × List _ × Members). Stands our_log as_is tt opened start clients gb went c.log_group.new.log (published ++ group_of z.2.parts ∷ []) z.0 (hs ++ handled_with xs z.1)) (λ i. (sym n.reached i, sym (replies ∙ ap (λ m. replies_of c.args.delay.now h.last m xs) n.reached) i, sym same_parts i))
-    (stands_written our_log as_is tt opened start clients gb asked h.log published h.last hs s xs led.writes led.lawful led.whole c.args.delay.now numbers is_asked comes went proceeds alive c.log_group.new.log (published ++ group_of c.lay_out-end.new.parts.parts ∷ []) tt on (inr (group_of c.lay_out-end.new.parts.parts, refl, are_parts.versions_are)))
+    subst (λ (z : ℕ × List _ × Members). Stands our_log as_is tt opened start clients gb went c.log_group.new.log h.places (published ++ group_of z.2.parts ∷ []) z.0 (hs ++ handled_with xs z.1)) (λ i. (sym n.reached i, sym (replies ∙ ap (λ m. replies_of c.args.delay.now h.last m xs) n.reached) i, sym same_parts i))
+    (stands_written our_log as_is tt opened start clients gb asked h.log h.places published h.last hs s xs led.writes led.lawful led.whole c.args.delay.now numbers is_asked comes went proceeds c.places_stay.ensures.stay alive c.log_group.new.log (published ++ group_of c.lay_out-end.new.parts.parts ∷ []) tt on (inr (group_of c.lay_out-end.new.parts.parts, refl, are_parts.versions_are)))
 
 pub returns-clause-replies : goal.returns-clause-replies
 returns-clause-replies g c =

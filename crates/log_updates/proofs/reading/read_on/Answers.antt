@@ -1,11 +1,12 @@
-use Rattle.std.proofs.Common.{◌-◌, ◌<◌, ◌^◌, slice_get, refl, sym, ◌∙◌, ap, subst, arith}
+use Rattle.std.proofs.Common.{◌-◌, ◌<◌, ◌^◌, inr, slice_get, refl, sym, ◌∙◌, ap, subst, arith}
 use Rattle.log_recovery.specs.declared.following.Place.{Place}
 use Rattle.log_recovery.specs.declared.modes.Mode.TheVariants.{Point}
 use Rattle.log_recovery.specs.declared.recovery.RecoverError.TheVariants.{NoMemory}
 use Rattle.log_recovery.specs.Recovering.{IsRecoverError}
 use Rattle.log_updates.specs.declared.places.LogPlace.{LogPlace}
+use Rattle.log_updates.specs.Places.{IsFixed}
 use Rattle.log_updates.proofs.Errors.{handed_on, error_of}
-use Rattle.log_updates.proofs.Reached.{says_there, all_answered, reads_further, goes_yes}
+use Rattle.log_updates.proofs.Reached.{says_there, all_answered, reads_further, reads_to_end, further_is, goes_yes}
 use Rattle.log_updates.proofs.reading.read_on.Goals as goal
 
 pub turn_to-requires : goal.turn_to-requires
@@ -22,7 +23,12 @@ pub loop-records-init : goal.loop-records-init
 loop-records-init g c = record {
   there = c.requires.there;
   small = c.requires.small;
-  so_far = λ files batches before holds in_turn ordered stands none. record { reached = before; stands = stands; are = c.new-records.ensures.items ∙ sym none };
+  within = (c.requires.there, c.requires.small);
+  fixed = λ fixed. fixed;
+  so_far = λ files batches before holds in_turn ordered stands none. (
+    record { reached = before; stands = stands; are = c.new-records.ensures.items ∙ sym none },
+    record { reached = before; stands = stands; are = c.new-records.ensures.items ∙ sym none },
+  );
   worked = refl;
   stays = g.met.Log.ReadableLog.stays_none c.args.log.now;
 }
@@ -45,9 +51,13 @@ loop-records-preserved g c =
     let goes = sym c.goes_on.ensures ∙ c.if-not-goes_on.false in
     let further = goes_yes c.in_ok-more.more.end c.loop-records.place.log c.args.logs goes in
     let later = c.start_of-place.ensures in
+    let end = c.reached_in-reached.ensures in
     record {
       there = subst (λ (p : LogPlace). p.log < c.args.logs) (sym later) further.1;
       small = subst (λ (p : LogPlace). p.at < 2 ^ 63) (sym later) (omega arith);
+      within = subst (λ (p : LogPlace). (p.log < c.args.logs) × (p.at < 2 ^ 63)) (sym end)
+          (further_is (λ (p : LogPlace). (p.log < c.args.logs) × (p.at < 2 ^ 63)) c.loop-records.reached place more.place (λ stayed. old.within) (λ moved. (old.there, c.in_ok-more.ensures.small)));
+      fixed = λ fixed. subst IsFixed (sym end) (further_is IsFixed c.loop-records.reached place more.place (λ stayed. old.fixed fixed) (λ moved. inr (omega (arith, moved))));
       so_far = λ files batches before holds in_turn ordered stands none.
           let many_is = g.met.Log.ReadableLog.stays_many start turned turns in
           let chosen = c.turn_to.ensures.chosen in
@@ -55,8 +65,11 @@ loop-records-preserved g c =
           let there = old.there in
           let held = g.met.Log.ReadableLog.holds_chosen turned files (g.met.Log.ReadableLog.stays_held start turned files turns holds) (omega (arith, chosen, many_is, many, there)) ∙ ap (slice_get files) chosen in
           let says = says_there c.args.number c.args.since c.args.upto place more files (g.Log.ReadAt.held turned) c.place_of.result c.place_of.ensures held c.in_ok-more.ensures.more in
-          reads_further c.args.number files c.args.since c.args.upto c.args.logs place c.start_of-place.result more c.loop-records.records.items c.add_all.new.records.items batches
-          says (old.so_far files batches before holds in_turn ordered stands none) c.in_ok-add_all.ensures in_turn ordered (g.met.Log.ReadableLog.as_many start files holds ∙ sym c.requires.many) goes later;
+          let read = old.so_far files batches before holds in_turn ordered stands none in (
+            reads_further c.args.number files c.args.since c.args.upto c.args.logs place c.start_of-place.result more c.loop-records.records.items c.add_all.new.records.items batches
+                says read.0 c.in_ok-add_all.ensures in_turn ordered (g.met.Log.ReadableLog.as_many start files holds ∙ sym c.requires.many) goes later,
+            reads_to_end c.args.number files c.args.since c.args.upto place c.loop-records.reached c.reached_in-reached.result more c.loop-records.records.items c.add_all.new.records.items says read.0 read.1 c.in_ok-add_all.ensures end,
+          );
       worked = sym (g.met.Log.ReadableLog.one_count after) ∙ (c.in_ok-more.ensures.worked ∙ (g.met.Log.ReadableLog.one_count turned ∙ (c.turn_to.ensures.counts_none ∙ old.worked)));
       stays = g.met.Log.ReadableLog.stays_on start turned after turns (g.met.Log.ReadableLog.reads_stay turned after c.in_ok-more.ensures.disk);
     }
@@ -75,13 +88,20 @@ returns-then-not-goes_on-clause-updates g c = λ files batches before holds in_t
     let there = old.there in
     let held = g.met.Log.ReadableLog.holds_chosen turned files (g.met.Log.ReadableLog.stays_held start turned files turns holds) (omega (arith, chosen, many_is, many, there)) ∙ ap (slice_get files) chosen in
     let says = says_there c.args.number c.args.since c.args.upto place more files (g.Log.ReadAt.held turned) c.place_of.result c.place_of.ensures held c.in_ok-more.ensures.more in
-    all_answered c.args.number files c.args.since c.args.upto c.args.logs place more c.loop-records.records.items c.add_all.new.records.items batches
-    (record { records = c.add_all.new.records; place = c.place_in.result }) says (old.so_far files batches before holds in_turn ordered stands none) c.in_ok-add_all.ensures in_turn ordered
-    (g.met.Log.ReadableLog.as_many start files holds ∙ sym c.requires.many) (sym c.goes_on.ensures ∙ c.if-not-goes_on.true) refl c.place_in.ensures
+    let read = old.so_far files batches before holds in_turn ordered stands none in
+    all_answered c.args.number files c.args.since c.args.upto c.args.logs place c.loop-records.reached more c.loop-records.records.items c.add_all.new.records.items batches
+    (record { records = c.add_all.new.records; place = c.reached_in-reached.result }) says read.0 read.1 c.in_ok-add_all.ensures in_turn ordered
+    (g.met.Log.ReadableLog.as_many start files holds ∙ sym c.requires.many) (sym c.goes_on.ensures ∙ c.if-not-goes_on.true) refl c.reached_in-reached.ensures
 
 pub returns-then-not-goes_on-clause-place : goal.returns-then-not-goes_on-clause-place
 returns-then-not-goes_on-clause-place g c =
-    subst (λ (p : LogPlace). (p.log < c.args.logs) × (p.at < 2 ^ 63)) (sym c.place_in.ensures) (c.loop-records.invariant.there, c.in_ok-more.ensures.small)
+    let old = c.loop-records.invariant in
+    subst (λ (p : LogPlace). (p.log < c.args.logs) × (p.at < 2 ^ 63)) (sym c.reached_in-reached.ensures)
+    (further_is (λ (p : LogPlace). (p.log < c.args.logs) × (p.at < 2 ^ 63)) c.loop-records.reached c.loop-records.place c.in_ok-more.more.place (λ stayed. old.within) (λ moved. (old.there, c.in_ok-more.ensures.small)))
+
+pub returns-then-not-goes_on-clause-fixed : goal.returns-then-not-goes_on-clause-fixed
+returns-then-not-goes_on-clause-fixed g c = λ fixed.
+    subst IsFixed (sym c.reached_in-reached.ensures) (further_is IsFixed c.loop-records.reached c.loop-records.place c.in_ok-more.more.place (λ stayed. c.loop-records.invariant.fixed fixed) (λ moved. inr (omega (arith, moved))))
 
 pub returns-then-not-goes_on-clause-worked : goal.returns-then-not-goes_on-clause-worked
 returns-then-not-goes_on-clause-worked g c =

@@ -17,5 +17,5 @@ pub returns-clause-place : goal.returns-clause-place
 returns-clause-place g c =
     let many = c.logs-logs.ensures.many in
     let same = g.met.Log.ReadableLog.stays_many c.args.log.now c.read_on.new.log c.read_on.ensures.stays in
-    if_ok (λ (r : LogUpdates). (r.place.log < c.logs-logs.result) × (r.place.at < 2 ^ 63)) (λ (r : LogUpdates). (r.place.log < g.Log.ReadableLog.many c.read_on.new.log) × (r.place.at < 2 ^ 63)) c.read_on.result c.read_on.ensures.place
+    if_ok (λ (r : LogUpdates). (r.place.log < c.logs-logs.result) × (r.place.at < 2 ^ 63)) (λ (r : LogUpdates). (r.place.log < g.Log.GroupLog.many c.read_on.new.log) × (r.place.at < 2 ^ 63)) c.read_on.result c.read_on.ensures.place
     (λ r p. ((let below = p.0 in omega (arith, many, same, below)), p.1))

@@ -38,6 +38,13 @@ read_phase-requires-clause-at g c =
     let path_is = ap (λ (h : Held _ _ _). h.path.last) c.deref.ensures ∙ sym (ap (λ (h : Held _ _ _). h.path.last) c.deref_mut.ensures.value) in
     subst (λ (k : ℕ). c.await_end-at.result ≤ k) path_is c.await_end-at.ensures.low
 
+pub read_phase-requires-clause-stands : goal.read_phase-requires-clause-stands
+read_phase-requires-clause-stands g c =
+    let L = c.requires.leads in let about = about_of c.args.self.now.list in let st = L.6 in let old = c.args.leadership in
+    let past : Past _ = record { opened = about.opened.value; start = about.start; group_bytes = about.group_bytes; asked = seen_by_note old.asked; published = st.published; handled = L.1 } in
+    let path_is = ap (λ (h : Held _ _ _). h.path) c.deref_mut.ensures.value in
+    (about.clients, past, subst (λ (q : LogPath _ _). LogCovers about.opened.value about.start about.clients about.group_bytes (seen_by_note old.asked) q.log q.places st.published q.last L.1) (sym path_is) st.path)
+
 pub read_phase-requires-clause-read : goal.read_phase-requires-clause-read
 read_phase-requires-clause-read g c =
     let L = c.requires.leads in let e = c.args.self.now in let n : ℕ = clients_of e.list in let own : QueuedWriter Request = L.0 in
@@ -66,7 +73,7 @@ returns-clause-leaves g c =
     let leadership = record old { held = record old.held { value = record old.held.value { path = p } } } in
     let past : Past _ = record { opened = about.opened.value; start = about.start; group_bytes = about.group_bytes; asked = seen_by_note old.asked; published = st.published; handled = L.1 } in
     let path_is = ap (λ (h : Held _ _ _). h.path) c.deref_mut.ensures.value in
-    let before = subst (λ (q : LogPath _ _). LogCovers about.opened.value about.start about.clients about.group_bytes (seen_by_note old.asked) q.log st.published q.last L.1) (sym path_is) st.path in
+    let before = subst (λ (q : LogPath _ _). LogCovers about.opened.value about.start about.clients about.group_bytes (seen_by_note old.asked) q.log q.places st.published q.last L.1) (sym path_is) st.path in
     let after = H.path about.clients past (subst (λ (k : ℕ). IsOneRead k xs) (sym E.about_clients) one) before in
     let shown = shown_as e.controller about.controller.value (handled_with xs ys) (sym E.controller) (replies_shown e.controller d xs ys H.replies.2) in
     let led = has_led about leadership st.published own G.0 L.1 xs ys G.3 H.replies.0 after (of_list g.Versions.Table e E.controller E.start L.1 L.5) H.replies.1 shown in

@@ -222,9 +222,9 @@ returns-then-not-proceeds-clause-leadership g c hs st =
     record {
       turn = st.turn;
       note = subst (λ ctl. IsNoteOf ctl c.note.result) (sym q.is_engine.controller) N.note.0;
-      path = subst (λ (h : Held _ _ _). LogCovers about.opened.value about.start about.clients about.group_bytes (seen_by_note c.note.result) h.path.log st.published h.path.last (hs ++ handled_with xs ys)) (sym c.deref_mut.ensures.value)
-          (stands_by our_log as_is about.opened.value path.log st.published path.last tt tt about.start about.start about.clients about.clients about.group_bytes about.group_bytes known (seen_by_note c.note.result) (hs ++ handled_with xs ys) refl refl refl refl (sym (N.note.1 ∙ no.2))
-          (stands_held_up our_log as_is about.opened.value path.log st.published path.last e.controller d n tt about.start about.clients about.group_bytes asked known hs xs ys zip is led (asked_is k was asked known xs n h about.group_bytes about.clients led S.leads) (asked_after k was asked known xs n h) no.1 may st.path));
+      path = subst (λ (h : Held _ _ _). LogCovers about.opened.value about.start about.clients about.group_bytes (seen_by_note c.note.result) h.path.log h.path.places st.published h.path.last (hs ++ handled_with xs ys)) (sym c.deref_mut.ensures.value)
+          (stands_by our_log as_is about.opened.value path.log path.places st.published path.last tt tt about.start about.start about.clients about.clients about.group_bytes about.group_bytes known (seen_by_note c.note.result) (hs ++ handled_with xs ys) refl refl refl refl (sym (N.note.1 ∙ no.2))
+          (stands_held_up our_log as_is about.opened.value path.log path.places st.published path.last e.controller d n tt about.start about.clients about.group_bytes asked known hs xs ys zip is led (asked_is k was asked known xs n h about.group_bytes about.clients led S.leads) (asked_after k was asked known xs n h) no.1 may st.path));
     }
 
 pub refuse_held_up-requires-clause-room : goal.refuse_held_up-requires-clause-room
@@ -255,7 +255,7 @@ log_phase-end-requires-clause-last g c =
     let q = c.requires.served.seats in let e = c.args.self.now in let about = about_of e.list in let path = c.args.leadership.held.value.path in let st = c.requires.leadership.1 in
     let path_is = ap (λ (h : Held _ _ _). h.path) c.deref_mut-3.ensures.value ∙ ap (λ (h : Held _ _ _). h.path) c.deref_mut.ensures.value in
     subst (λ (p : LogPath _ _). p.last ≤ max_sequence) (sym path_is)
-    (last_low our_log as_is tt about.opened.value about.start about.clients about.group_bytes (seen_by_note c.args.leadership.asked) path.log st.published path.last c.requires.leadership.0 st.path
+    (last_low our_log as_is tt about.opened.value about.start about.clients about.group_bytes (seen_by_note c.args.leadership.asked) path.log path.places st.published path.last c.requires.leadership.0 st.path
     (subst (λ (k : ℕ). k ≤ max_sequence) (sym q.is_engine.start) q.is_engine.low))
 
 pub log_phase-end-requires-clause-group : goal.log_phase-end-requires-clause-group
@@ -345,7 +345,7 @@ returns-clause-leadership g c hs st =
     let lets : LetsProceed k n known went S.led.first.1.options.no_slowdown = subst (λ (z : ℕ × Bool). LetsProceed z.0 n known went z.1) (λ i. (own i, sym flag i)) (P.proceeds c.if-not-proceeds.false) in
     let on : ProceedsWith (commit_requests_of left) n (seen_at d) went = subst (λ (z : List CommitRequest × List ControllerCall). ProceedsWith z.0 n z.1 went) (λ i. (sym alike i, sym is i)) (proceeds k n known went (bound_of e.list) (clients_of e.list) xs S.led S.leads P.looks.begins lets) in
     let clients_are : about.clients ≡ many = E.about_clients ∙ sym S.layout.clear.3 in
-    let before : LogCovers about.opened.value about.start many about.group_bytes asked path.log st.published path.last hs = stands_by our_log as_is about.opened.value path.log st.published path.last tt tt about.start about.start about.clients many about.group_bytes about.group_bytes asked asked hs refl refl clients_are refl refl st.path in
+    let before : LogCovers about.opened.value about.start many about.group_bytes asked path.log path.places st.published path.last hs = stands_by our_log as_is about.opened.value path.log path.places st.published path.last tt tt about.start about.start about.clients many about.group_bytes about.group_bytes asked asked hs refl refl clients_are refl refl st.path in
     let p = c.log_phase-end.new.path in
     let now = published_with c.log_phase-end.result c.log_phase-end.new.layout.parts.parts st.published in
     let past : Past _ = record {
@@ -358,12 +358,12 @@ returns-clause-leadership g c hs st =
     } in
     let goes_on : GoesOnWith about.group_bytes many asked left (seen_at d) went = record { led = led; numbers = n; comes_after = comes; asked_for = is_for; proceeds = on } in
     let path_is = ap (λ (h : Held _ _ _). h.path) c.deref_mut-3.ensures.value ∙ ap (λ (h : Held _ _ _). h.path) c.deref_mut.ensures.value in
-    let after = H.path past went goes_on (subst (λ (p : LogPath _ _). LogCovers about.opened.value about.start many about.group_bytes asked p.log st.published p.last hs) (sym path_is) before) in
-    let unnoted = subst (λ l. LogCovers about.opened.value about.start many about.group_bytes went p.log now p.last (hs ++ handled_with l ys)) left_is after in
-    let as_was = stands_noted our_log as_is about.opened.value p.log now p.last tt about.start many about.group_bytes went hs xs ys unnoted in
+    let after = H.path past went goes_on (subst (λ (p : LogPath _ _). LogCovers about.opened.value about.start many about.group_bytes asked p.log p.places st.published p.last hs) (sym path_is) before) in
+    let unnoted = subst (λ l. LogCovers about.opened.value about.start many about.group_bytes went p.log p.places now p.last (hs ++ handled_with l ys)) left_is after in
+    let as_was = stands_noted our_log as_is about.opened.value p.log p.places now p.last tt about.start many about.group_bytes went hs xs ys unnoted in
     record {
       note = subst (λ ctl. IsNoteOf ctl c.note.result) (sym E.controller) N.note.0;
-      path = stands_by our_log as_is about.opened.value p.log now p.last tt tt about.start about.start many about.clients about.group_bytes about.group_bytes went (seen_by_note c.note.result) (hs ++ handled_with xs ys) refl refl (sym clients_are) refl (sym N.note.1) as_was;
+      path = stands_by our_log as_is about.opened.value p.log p.places now p.last tt tt about.start about.start many about.clients about.group_bytes about.group_bytes went (seen_by_note c.note.result) (hs ++ handled_with xs ys) refl refl (sym clients_are) refl (sym N.note.1) as_was;
       turn = st.turn;
     }
 

@@ -1,0 +1,9 @@
+pub mod Lists
+pub mod Batches
+pub mod Sequences
+pub mod Promised
+pub mod Front
+pub mod Certain
+pub mod Whole
+pub mod Turns
+pub mod Wrong

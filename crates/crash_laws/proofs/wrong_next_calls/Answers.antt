@@ -1,0 +1,11 @@
+-- The examples, by their premises.
+use Rattle.crash_laws.proofs.Wrong.{not_all_lost, no_gap, not_twice, no_hole}
+use Rattle.crash_laws.proofs.wrong_next_calls.Goals as goal
+
+pub returns : goal.returns
+returns g c = record {
+  all_lost = λ call image group groups are has left to. not_all_lost call image group groups are has left to;
+  gap = λ call image next first second groups kept are differ none to found. no_gap call image next none to kept first second groups are differ found;
+  twice = λ call image next group kept are fault none to found. not_twice call image next none to kept group are fault found;
+  hole = λ last earlier a b c kept differ one. no_hole last earlier a b c kept differ one;
+}
