@@ -105,6 +105,8 @@ pub enum Error {
     Damage(End),
     /// The bytes are no batch, or there is no record at this place.
     NoBatch(End),
+    /// The log ends before the place where reading should begin.
+    PastEnd,
 }
 
 impl fmt::Display for Error {
@@ -114,6 +116,7 @@ impl fmt::Display for Error {
             Error::TooLarge => f.write_str("the batch would have too many bytes"),
             Error::Damage(end) => write!(f, "the log ends at {} by {}", end.at, end.why),
             Error::NoBatch(end) => write!(f, "no batch: at {} {}", end.at, end.why),
+            Error::PastEnd => f.write_str("the log ends before this place"),
         }
     }
 }
@@ -124,7 +127,7 @@ impl From<Error> for io::Error {
     fn from(error: Error) -> io::Error {
         let kind = match error {
             Error::NoMemory => io::ErrorKind::OutOfMemory,
-            Error::TooLarge => io::ErrorKind::InvalidInput,
+            Error::TooLarge | Error::PastEnd => io::ErrorKind::InvalidInput,
             Error::Damage(_) | Error::NoBatch(_) => io::ErrorKind::InvalidData,
         };
         io::Error::new(kind, error)

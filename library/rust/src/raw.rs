@@ -88,8 +88,17 @@ extern "C" {
     fn wz_crc32c_extend(crc: u32, bytes: *const u8, len: usize) -> u32;
     fn wz_crc32c_mask(crc: u32) -> u32;
     fn wz_reader_open(handle: *mut RawHandle, number: u32) -> u32;
+    fn wz_reader_open_at(handle: *mut RawHandle, number: u32, place: u64, log: *const u8, log_len: usize) -> u32;
     fn wz_reader_next(
         handle: *mut RawHandle,
+        log: *const u8,
+        log_len: usize,
+        record: *mut RawRecord,
+        end: *mut RawEnd,
+    ) -> u32;
+    fn wz_reader_next_since(
+        handle: *mut RawHandle,
+        since: u64,
         log: *const u8,
         log_len: usize,
         record: *mut RawRecord,
@@ -246,12 +255,28 @@ impl Handle {
         Ok(handle)
     }
 
-    /// Reads on in the log.
-    pub fn next(&mut self, log: &[u8]) -> Result<Next, Error> {
+    /// A reader that begins at a place of the log.
+    pub fn reader_at(number: Option<NonZeroU32>, place: u64, log: &[u8]) -> Result<Handle, Error> {
+        let handle = Handle::empty();
+        // SAFETY: the handle holds nothing, and the slice is that many bytes, as all slices below are.
+        let code = unsafe { wz_reader_open_at(handle.raw.get(), number_of(number), place, log.as_ptr(), log.len()) };
+        if code == RANGE {
+            return Err(Error::PastEnd);
+        }
+        done(code)?;
+        Ok(handle)
+    }
+
+    /// Reads on in the log; given a sequence, up to a batch that has it or a later one.
+    pub fn next(&mut self, log: &[u8], since: Option<u64>) -> Result<Next, Error> {
         let (mut record, mut end) = (RawRecord::default(), RawEnd::default());
-        // SAFETY: the handle is ours alone, and the slice is that many bytes, as all slices below are. `Records` sees
-        // to it that these are equal at each call; where they aren't, other records are read.
-        let code = unsafe { wz_reader_next(self.raw.get(), log.as_ptr(), log.len(), &mut record, &mut end) };
+        let (handle, at, len) = (self.raw.get(), log.as_ptr(), log.len());
+        // SAFETY: the handle is ours alone. `Records` sees to it that the bytes are equal at each call; where they
+        // aren't, other records are read.
+        let code = match since {
+            None => unsafe { wz_reader_next(handle, at, len, &mut record, &mut end) },
+            Some(since) => unsafe { wz_reader_next_since(handle, since, at, len, &mut record, &mut end) },
+        };
         match code {
             DONE => Ok(Next::Record { start: record.start, end: record.end, len: record.len }),
             END => Ok(Next::End(end_of(&end))),

@@ -30,12 +30,13 @@ impl From<Record> for Cursor<Vec<u8>> {
     }
 }
 
-/// The records of a log from its first on, up to where reading ends. [`Records::end`] says then where that is, and
-/// why.
+/// The records of a log from its first on, or from a place on, up to where reading ends. [`Records::end`] says then
+/// where that is, and why.
 #[derive(Debug)]
 pub struct Records<'a> {
     reader: Handle,
     log: &'a [u8],
+    since: Option<u64>,
     end: Option<End>,
     failed: Option<Error>,
 }
@@ -44,7 +45,22 @@ impl<'a> Records<'a> {
     /// The records of a log with this number, if it has one.
     pub fn new(log: &'a [u8], number: Option<NonZeroU32>) -> Result<Records<'a>, Error> {
         let reader = Handle::reader(number)?;
-        Ok(Records { reader, log, end: None, failed: None })
+        Ok(Records { reader, log, since: None, end: None, failed: None })
+    }
+
+    /// The records after a place of a log with this number, if it has one: after the end of a record
+    /// ([`Record::end`]), or 0. So of a log that grows, each record is read once: `log` is then all that it has by now,
+    /// from its start on. At any other place they are those that would be read if a record ended there.
+    /// [`Error::PastEnd`] if the log ends before the place.
+    pub fn after(log: &'a [u8], number: Option<NonZeroU32>, place: u64) -> Result<Records<'a>, Error> {
+        let reader = Handle::reader_at(number, place, log)?;
+        Ok(Records { reader, log, since: None, end: None, failed: None })
+    }
+
+    /// Skips the batches that take no sequence, or whose last one is lower than `sequence`. A record that is no batch
+    /// isn't skipped.
+    pub fn since(self, sequence: u64) -> Records<'a> {
+        Records { since: Some(sequence), ..self }
     }
 
     /// Where reading ended, and why: once there was no next record.
@@ -65,7 +81,7 @@ impl<'a> Records<'a> {
     }
 
     fn try_read_into(&mut self, buffer: &mut Vec<u8>) -> Result<Option<(u64, u64)>, Error> {
-        match self.reader.next(self.log)? {
+        match self.reader.next(self.log, self.since)? {
             Next::Record { start, end, len } => {
                 buffer.clear();
                 buffer.try_reserve_exact(len).map_err(|_| Error::NoMemory)?;

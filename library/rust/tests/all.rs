@@ -78,6 +78,34 @@ fn records_of_a_log() {
 }
 
 #[test]
+fn records_after_a_place() {
+    let mut batch = Batch::new().unwrap();
+    batch.put(b"b", b"2").unwrap();
+    batch.put(b"c", b"3").unwrap();
+    batch.set_sequence(2);
+    for number in [None, NonZeroU32::new(7)] {
+        let log = log_of(&[BATCH, b"none", &batch.bytes()], number);
+        let all: Vec<Record> = Records::new(&log, number).unwrap().collect::<Result<_, _>>().unwrap();
+        // The log has grown by its last two records.
+        let place = all[0].end;
+        let mut first = Records::new(&log[..place as usize], number).unwrap();
+        assert_eq!(first.by_ref().collect::<Result<Vec<_>, _>>().unwrap(), all[..1]);
+        let mut more = Records::after(&log, number, place).unwrap();
+        assert_eq!(more.by_ref().collect::<Result<Vec<_>, _>>().unwrap(), all[1..]);
+        assert_eq!(more.end(), Some(End { at: log.len() as u64, why: Why::Clean }));
+        // What is no batch isn't skipped, and 3 is the last sequence of the last batch.
+        for (since, from) in [(1, 0), (2, 1), (3, 1)] {
+            let found = Records::after(&log, number, 0).unwrap().since(since);
+            assert_eq!(found.collect::<Result<Vec<_>, _>>().unwrap(), all[from..]);
+        }
+        let last = Records::new(&log, number).unwrap().since(4);
+        assert_eq!(last.collect::<Result<Vec<_>, _>>().unwrap(), all[1..2]);
+        let past = Records::after(&log, number, log.len() as u64 + 1).unwrap_err();
+        assert_eq!((past, io::Error::from(past).kind()), (Error::PastEnd, io::ErrorKind::InvalidInput));
+    }
+}
+
+#[test]
 fn a_recovery() {
     let mut log = LogWriter::new(Vec::new(), None);
     let mut batch = Batch::new().unwrap();
