@@ -143,8 +143,8 @@ module _ {D : Type 0} {disk : Ghosts D} where
     -- Whatever the image is: if nothing in it is right by chance, or if it is one that the log's opening leaves, these
     -- are the first batches of the log.
     pub found : NoneByChance call image ⊎ IsLeftInOpening call image → AreFirst call next.batches
-    -- Which of them are there for certain depends on the moment of the crash. At each moment of the call these are those
-    -- that were safe as it began,
+    -- Which of them are there for certain depends on the moment of the crash. At each moment of the call these are
+    -- those that were safe as it began,
     pub safe : (many : ℕ) → (execution_of call).images image → WereSafe call many
         → take many next.batches ≡ take many (kept_in call)
     -- once the log has begun all that it kept,
@@ -206,8 +206,8 @@ module _ {D : Type 0} {disk : Ghosts D} where
   WereLeftSafe (later ∷ earlier ∷ calls) =
       (length earlier.image ≤ later.call.found.synced) × WereLeftSafe (earlier ∷ calls)
 
-  -- One history: what is left after the last call is the first of its log, which is what that call kept and then what it
-  -- adds. What it kept was left after the call before it, in the same way. The first call kept nothing.
+  -- One history: what is left after the last call is the first of its log, which is what that call kept and then what
+  -- it adds. What it kept was left after the call before it, in the same way. The first call kept nothing.
   abbrev pub AreOneHistory : List (Crashed disk) → List Logged → Type 0
   AreOneHistory [] batches = batches ≡ []
   AreOneHistory (c ∷ calls) batches = AreFirst c.call batches × AreOneHistory calls (kept_in c.call)
