@@ -21,7 +21,7 @@ use Rattle.engine_parts.specs.declared.numbering.GroupFate.TheVariants.{Written,
 use Rattle.engine_parts.specs.Handled.{HandsBack, InOrder, IsReplyOf, commit_requests_of, failures, handled_with, replies_of}
 use Rattle.engine_parts.specs.Led.{IsLedGroup}
 use Rattle.engine_parts.specs.Numbering.{AreEnough, HasVersions, answers, batches_of, numberings_of}
-use Rattle.engine_rule.specs.LogCalls.{SyncsFor, WritesBatches, leader_syncs}
+use Rattle.engine_rule.specs.LogCalls.{SyncsFor, WritesBatches, leader_asks_sync}
 use Rattle.engine_rule.specs.Plans.{AreLawful, CommitRequest, batches_from, last_with, versions_from}
 use Rattle.engine_parts.proofs.Replies.{answers_faulted, answers_written, are_enough, backs_failed, backs_planned, batches_are, plans_count, replies_failed, replies_planned}
 use Rattle.engine_parts.proofs.Standing.{LogsOn}
@@ -106,7 +106,7 @@ module _ {D : Type 0} {ghosts : Ghosts D} (group_bytes clients last : ℕ) (xs :
     first = refl;
     batches = from;
     some = (let l = same_length (λ (c : Contents). c.records) batches (map (λ (c : Contents). c.records) batches) refl in omega (arith, l, some));
-    sync = ap (λ (h : WriteOptions). h.sync) same ∙ ap (λ (l : List (ℕ × Request)). leader_syncs (commit_requests_of l)) (sym led.leads);
+    sync = ap (λ (h : WriteOptions). h.sync) same ∙ ap (λ (l : List (ℕ × Request)). leader_asks_sync (commit_requests_of l)) (sym led.leads);
   }
 
   logs_by : (b : Bool) → options.no_log ≡ b → (x : Unit {0}) → result ≡ Ok x → LogsOn last (commit_requests_of xs) log log'

@@ -38,10 +38,10 @@ use Rattle.engine_rule.specs.Plans.{AreLogged, CommitRequest, HaveOwnClients, al
 use Rattle.engine_rule.proofs.Chains.{entries_clients, entries_history, entries_own, images_entries}
 use Rattle.engine_rule.proofs.DeadLog.{AreOfGroups, ended, of_first_lost, statuses_are, stays_dead}
 use Rattle.engine_rule.proofs.GroupParts.{ends_are, parts_cut, parts_named}
-use Rattle.engine_rule.proofs.Leaders.{are_led, rising}
+use Rattle.engine_rule.proofs.Leaders.{are_led, by_leaders, rising}
 use Rattle.engine_rule.proofs.OwnFaults.{all_of_client, by_client, faults_of_accounts, no_faults, own_by_client}
 use Rattle.engine_rule.proofs.ReadsEnd.{records_written, right_reads}
-use Rattle.model_accounts.proofs.Leading.{groups_from_led, slowed_holds}
+use Rattle.model_accounts.proofs.Leading.{groups_from_led, led_in_turn, slowed_holds}
 use Rattle.model_accounts.proofs.Logs.{parts_are_groups}
 use Rattle.model_accounts.proofs.Parts.{commits_led, parts_made}
 use Rattle.model_accounts.proofs.Seeing.{saw_published}
@@ -370,6 +370,8 @@ module _ (settings : Settings) (cs : List Commit) (last : â„•) (fault : Option â
           none_else = are_lost w.lost fault w.are_lost;
           by = sym w.both;
           rise = rising settings.start settings.group_bytes asked history cs k.in_groups within;
+          in_turn = led_in_turn led;
+          by_leaders = by_leaders settings.start settings.group_bytes asked history cs k.in_groups within;
           made = parts;
           are_made = are_parts;
           by_groups = w.by_groups;

@@ -8,14 +8,14 @@ use Rattle.model_base.specs.Controller.{ControllerCall}
 use Rattle.model_base.specs.Groups.{Group}
 use Rattle.model_base.specs.LogContents.{GroupCall}
 use Rattle.model_runs.specs.Groups as outcome
-use Rattle.model_runs.specs.Groups.{IsOfFirstLost, MeetsDeadLog, StaysDead, is_lost, leader_syncs, statuses_in}
+use Rattle.model_runs.specs.Groups.{IsOfFirstLost, MeetsDeadLog, StaysDead, is_kept_out, is_lost, leader_syncs, statuses_in}
 use Rattle.model_runs.specs.Lost.{batches_that_fit}
 use Rattle.model_accounts.specs.Led.{Led, Taken, groups_after, members_after}
 use Rattle.engine_rule.specs.Commits.{Answer, AreAnswered, Commit, IsAnswer, accepted, held_up, failed, no_room, fault_after, fault_after_all, last_after, last_after_all}
 use Rattle.engine_rule.specs.Asked.{FailTogether, IsLedGroup, LedGroup, commits_in, is_failed, place_of}
 use Rattle.engine_rule.specs.Entries.{status_of}
-use Rattle.engine_rule.specs.LogCalls.{IsLostWrite, led_of, leader_syncs as leader_asks_sync, outcome_groups, taken_of}
-use Rattle.engine_rule.specs.Plans.{CommitRequest, all_failed, batches_from}
+use Rattle.engine_rule.specs.LogCalls.{IsLostWrite, led_of, leader_asks_sync, outcome_groups, taken_of}
+use Rattle.engine_rule.specs.Plans.{AreLogged, CommitRequest, all_failed, batches_from}
 use Rattle.engine_rule.proofs.Chains.{dead_append}
 use Rattle.engine_rule.proofs.GroupParts.{answered_cut}
 use Rattle.engine_rule.proofs.LoggedGroups.{group_at}
@@ -178,6 +178,10 @@ sync_failed : (before : List Taken) (known : List ControllerCall) (n : ℕ) (req
 sync_failed before known n [] = refl
 sync_failed before known n (q ∷ requests) = refl
 
+kept_failed : (before : List Taken) (known : List ControllerCall) (n : ℕ) (requests : List CommitRequest) → AreLogged requests → is_kept_out (members_after before (map taken_of (all_failed known n requests))) ≡ false
+kept_failed before known n [] logged = refl
+kept_failed before known n (q ∷ requests) logged = logged.0
+
 pub of_first_lost : (attempts : List (List Attempt)) (group_bytes n last : ℕ) (groups : List LedGroup) (c : GroupCall) → AreOfGroups attempts (outcome_groups groups) groups
     → ((requests : List CommitRequest) → batches_that_fit last (map (λ (q : CommitRequest). q.records) requests) ≡ batches_from last requests) → IsLostWrite group_bytes groups n last c → IsOfFirstLost attempts (outcome_groups groups) last c
 of_first_lost attempts group_bytes n last groups c same fitting lost =
@@ -189,6 +193,7 @@ of_first_lost attempts group_bytes n last groups c same fitting lost =
     record {
       group = group_at first.0 g;
       first = ap (λ gs. find (is_lost attempts) (outcome_groups gs)) lost.among ∙ first.1;
+      to_log = ap (λ cs. is_kept_out (members_after first.0 (map taken_of cs))) lost.answers ∙ kept_failed first.0 g.known n lost.requests lost.writes.to_log;
       batches = lost.writes.batches ∙ (sym (fitting lost.requests) ∙ ap (batches_that_fit last) (sym batches));
       sync = lost.writes.sync ∙ (sync_failed first.0 g.known n lost.requests ∙ ap (λ cs. leader_syncs (members_after first.0 (map taken_of cs))) (sym lost.answers));
     }

@@ -8,13 +8,13 @@ use Rattle.std.proofs.lemmas.List.{length-map, map-append}
 use Rattle.std.proofs.lemmas.Option.{slice_get_within}
 use mathlib.Core.List.{IsPrefix}
 use Rattle.model_base.specs.declared.group.Item.{Item}
-use Rattle.model_base.specs.Attempts.{Attempt, WriteStatus, slowed}
+use Rattle.model_base.specs.Attempts.{Attempt, WriteStatus, slowed, item_of}
 use Rattle.model_base.specs.Controller.{ControllerCall, Look, delay}
 use Rattle.model_base.specs.Grouping.{group_len, size_of}
-use Rattle.model_base.specs.Groups.{AreAsked, Group, HasPlace, HaveOwnPlaces, MayProceed, SawNoStop, HaveOneFate, is_delay, is_slowed}
+use Rattle.model_base.specs.Groups.{AreAsked, Group, Member, HasPlace, HaveOwnPlaces, MayProceed, SawNoStop, HaveOneFate, is_delay, is_slowed}
 use Rattle.model_base.proofs.Prefixes.{prefix_at, prefix_length, prefix_trans}
 use Rattle.table_rule.specs.Histories.{In}
-use Rattle.model_runs.specs.Groups.{PlacesRise}
+use Rattle.model_runs.specs.Groups.{IsAskedByLeader, PlacesRise}
 use Rattle.model_accounts.specs.Led as leds
 use Rattle.model_accounts.specs.Led.{AreLed, IsLed, Led, Taken, all_taken, attempts_of, groups_after, groups_of, items_in}
 use Rattle.engine_controller.specs.Delays.{delays_from, delays_of, place_if}
@@ -176,6 +176,23 @@ module _ (start group_bytes : ℕ) (asked history : List ControllerCall) (cs : L
 
   pub rising : PlacesRise (groups_of led)
   rising = places_rise [] k.groups k.each k.rise
+
+  -- the delay at each group's place was asked for by the client of its first member
+  first_member : (before : List Taken) (ds : List Commit) (leader : CommitRequest) (rest : List CommitRequest) → map request_of ds ≡ leader ∷ rest
+      → (m : Member) × (slice_get (leds.members_after before (map taken_of ds)) 0 ≡ Some m) × (leader.client ≡ m.client)
+  first_member before [] leader rest are = absurd (cc are)
+  first_member before (d ∷ ds) leader rest are =
+      let is : request_of d ≡ leader = cc are in
+      (record { client = d.client; call = leds.count_of_client d.client before; item = item_of (attempt_of d) }, refl, ap (λ (q : CommitRequest). q.client) (sym is))
+
+  asked_by_leaders : (before : List Taken) (groups : List LedGroup) → AllByRecursion (IsLedGroup group_bytes) groups → AllByRecursion (λ (g : LedGroup). IsPrefix g.went asked) groups → AllByRecursion (IsAskedByLeader history) (groups_after before (map led_of groups))
+  asked_by_leaders before [] h p = tt
+  asked_by_leaders before (g ∷ groups) h p =
+      let first = first_member before g.commits (h.0.asked).leader (h.0.asked).rest (h.0.asked).leads in
+      (record { leader = first.0; call = _; leads = first.1; there = delay_there g h.0 p.0; by = first.2 }, asked_by_leaders (before ++ map taken_of g.commits) groups h.1 p.1)
+
+  pub by_leaders : AllByRecursion (IsAskedByLeader history) (groups_of led)
+  by_leaders = asked_by_leaders [] k.groups k.each k.seen
 
   own_places : (groups : List Group) → PlacesRise groups → HaveOwnPlaces groups
   own_places [] r = tt

@@ -23,7 +23,7 @@ use Rattle.engine_rule.specs.Commits.{Answer, AreAnswered, AreOfClients, Commit,
 use Rattle.engine_rule.specs.Asked.{LedGroup, commits_in}
 use Rattle.engine_rule.specs.Consistent.{AreConsistent, EndsAreNamed, IsNamed, Publishes}
 use Rattle.engine_rule.specs.Entries.{entries_after, entries_of, entry_after, entry_with, versions_made, versions_with}
-use Rattle.engine_rule.specs.LogCalls.{AreLostWrites, IsLostWrite, LogsGroup, SyncsFor, WritesBatches, WroteCommits, WroteParts, leader_syncs as leader_asks_sync, taken_of}
+use Rattle.engine_rule.specs.LogCalls.{AreLostWrites, IsLostWrite, LogsGroup, SyncsFor, WritesBatches, WroteCommits, WroteParts, leader_asks_sync, taken_of}
 use Rattle.engine_rule.specs.Plans.{HaveOwnClients, AreLawful, AreLogged, AreUnlogged, ComesAfter, CommitRequest, IsAskedFor, IsWholeGroup, MayNotWait, ProceedsWith, all_failed, all_held_up, answer_with, commit_of_request, batches_from, last_with, last_with_all, commits_of_plan, versions_at, versions_from}
 use Rattle.table_rule.specs.Batches.{new_versions, number_from}
 use Rattle.engine_rule.proofs.Chains.{answered_append, dead_append, end_append, entries_history, entries_more}

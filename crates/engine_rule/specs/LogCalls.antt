@@ -20,18 +20,18 @@ pub record WroteParts (entries : List Entry) (calls : List GroupCall) : Type 0 w
   pub each : AllZip WroteEntries parts calls
 
 -- the first request is the leader's
-abbrev pub leader_syncs : List CommitRequest → Bool
-leader_syncs [] = false
-leader_syncs (leader ∷ requests) = leader.options.sync
+abbrev pub leader_asks_sync : List CommitRequest → Bool
+leader_asks_sync [] = false
+leader_asks_sync (leader ∷ requests) = leader.options.sync
 
--- the call was asked to write those batches of these requests whose runs fit after `last`, and to sync just where the
--- leader asked for it
+-- the call was asked to write those batches of these requests whose runs fit after `last`, and it was asked to sync
+-- exactly if the leader was
 pub record WritesBatches (last : ℕ) (requests : List CommitRequest) (c : GroupCall) : Type 0 where
   pub to_log : AreLogged requests
   pub first : c.first ≡ last + 1
   pub batches : c.batches ≡ batches_from last requests
   pub some : 0 < length c.batches
-  pub sync : c.sync ≡ leader_syncs requests
+  pub sync : c.sync ≡ leader_asks_sync requests
 
 -- The call that failed was asked to write a whole group of the commits, after the last sequence given, and each member
 -- of that group got the fault as its answer. No member of a group before it did.
@@ -47,7 +47,7 @@ pub record IsLostWrite (group_bytes : ℕ) (groups : List LedGroup) (count last 
   pub writes : WritesBatches last requests c
   pub failed : c.failed ≡ Some count
 
--- the calls that failed: one where the log has a fault, and else none
+-- the calls that failed: one if the log has a fault, and otherwise none
 abbrev pub AreLostWrites : ℕ → List LedGroup → Option ℕ → ℕ → List GroupCall → Type 0
 AreLostWrites group_bytes groups fault last lost = MatchOption fault (lost ≡ [])
     (λ count. (c : GroupCall) × (lost ≡ c ∷ []) × IsLostWrite group_bytes groups count last c)
@@ -69,7 +69,7 @@ parts_after before [] = []
 parts_after before (g ∷ groups) = entries_after (entries_of before) g.commits ∷ parts_after (before ++ g.commits) groups
 
 -- All calls: those that worked, one for each group that is in the log, and after them the one that failed, if one did.
--- The groups have these commits.
+-- `commits` are all commits of the groups.
 pub record WroteCommits (group_bytes : ℕ) (groups : List LedGroup) (commits : List Commit) (fault : Option ℕ) (last : ℕ)
     (calls : List GroupCall) : Type 0 where
   pub worked : List GroupCall

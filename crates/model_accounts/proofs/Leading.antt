@@ -6,6 +6,7 @@ use Rattle.std.proofs.lemmas.List.{append-nil, length-map}
 use Rattle.model_base.specs.Controller.{ControllerCall}
 use Rattle.model_base.specs.Attempts.{Attempt, WriteStatus, slowed, item_of}
 use Rattle.model_base.specs.Groups.{Member, Group, IsAskedFor, IsCommit, AreOfOthers, AreApart, AreAllApart, AreGroups, HaveOneFate, HasOneFate, Holds, items_of, members_of}
+use Rattle.model_runs.specs.Groups.{CallsRise}
 use Rattle.model_accounts.specs.Led.{Taken, Led, HaveOwnClients, items_in, all_taken, is_of, count_of_client, attempts_of, members_after, groups_after, groups_of, IsLed, AreLed}
 
 -- Lists
@@ -76,28 +77,38 @@ asked_after group_bytes controller_calls before (g ∷ led) h = (
   asked_after group_bytes controller_calls (before ++ g.commits) led h.1,
 )
 
--- No commit is there twice: of two commits of one client the later one has the greater number
+-- Of two commits of one client the later one has the greater number, so no commit is there twice
 pub own_is : (t : Taken) → is_of t.client t ≡ true
 own_is t = nat_same t.client
   where
     nat_same : (n : ℕ) → (n == n) ≡ true
     nat_same n = grind arith
 
-apart_from : (m : Member) (before ts : List Taken) → m.call < count_of_client m.client before → AllByRecursion (AreApart m) (members_after before ts)
-apart_from m before [] h = tt
-apart_from m before (t ∷ ts) h = (
-  λ same call. (let n = count_of_client m.client before in
-      let less : m.call < count_of_client t.client before = subst (λ c. m.call < count_of_client c before) same h in absurd (omega (arith, call))),
-  apart_from m (before ++ t ∷ []) ts (let e = count_append m.client before (t ∷ []) in omega (arith, e)),
+earlier_than : (m : Member) (before ts : List Taken) → m.call < count_of_client m.client before → AllByRecursion (λ (n : Member). m.client ≡ n.client → m.call < n.call) (members_after before ts)
+earlier_than m before [] h = tt
+earlier_than m before (t ∷ ts) h = (
+  λ same. subst (λ c. m.call < count_of_client c before) same h,
+  earlier_than m (before ++ t ∷ []) ts (let e = count_append m.client before (t ∷ []) in omega (arith, e)),
 )
 
-all_apart : (before ts : List Taken) → AreAllApart (members_after before ts)
-all_apart before [] = tt
-all_apart before (t ∷ ts) = (
-  apart_from (record { client = t.client; call = count_of_client t.client before; item = item_of t.attempt }) (before ++ t ∷ []) ts
+calls_rise : (before ts : List Taken) → CallsRise (members_after before ts)
+calls_rise before [] = tt
+calls_rise before (t ∷ ts) = (
+  earlier_than (record { client = t.client; call = count_of_client t.client before; item = item_of t.attempt }) (before ++ t ∷ []) ts
       (let e = count_append t.client before (t ∷ []) in let one : count_of_client t.client (t ∷ []) ≡ 1 = rw (own_is t) refl in omega (arith, e, one)),
-  all_apart (before ++ t ∷ []) ts,
+  calls_rise (before ++ t ∷ []) ts,
 )
+
+pub led_in_turn : (led : List Led) → CallsRise (members_of (groups_of led))
+led_in_turn led = rw (members_of_groups [] led) (calls_rise [] (all_taken led))
+
+all_apart : (members : List Member) → CallsRise members → AreAllApart members
+all_apart [] rise = tt
+all_apart (m ∷ members) rise = (apart_from m members rise.0, all_apart members rise.1)
+  where
+    apart_from : (m : Member) (members : List Member) → AllByRecursion (λ (n : Member). m.client ≡ n.client → m.call < n.call) members → AllByRecursion (AreApart m) members
+    apart_from m [] h = tt
+    apart_from m (n ∷ members) h = ((λ same call. let less = h.0 same in absurd (omega (arith, less, call))), apart_from m members h.1)
 
 -- Each member is a commit of its client, and has its status
 pub attempt_at : (before : List Taken) (t : Taken) (after : List Taken) → slice_get (attempts_of t.client (before ++ t ∷ after)) (count_of_client t.client before) ≡ Some t.attempt
@@ -317,7 +328,7 @@ module _ (group_bytes : ℕ) (controller_calls : List ControllerCall) (led : Lis
     all = a.all;
     places = a.places;
     commits = rw (members_of_groups [] led) (left_of_zip (IsCommit attempts) (HasStatus attempts all a.of_client) _ _ (statuses_after attempts all a.of_client [] all [] (append-nil all) a.clients));
-    apart = rw (members_of_groups [] led) (all_apart [] all);
+    apart = all_apart (members_of (groups_of led)) (led_in_turn led);
     none_else = λ i own k h of there. (let s = holds i own k h of there in (s.0, s.1));
     together = together_after attempts all a.of_client controller_calls (groups_of led) [] led refl a.clients (rw (same_places [] led) a.together);
   }

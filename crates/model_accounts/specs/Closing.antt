@@ -60,8 +60,8 @@ pub record IsClosing (settings : Settings) (ended : ℕ) (trace : Trace) (groups
   pub counted : fault ≡ None → all_read_faults accounts ≡ [] → ended ≡ settings.opened
 
 -- There is one trace of all that the clients did and saw, and there were groups of their commits: the log was written
--- by just the calls that wrote this trace's history, for just these groups. The log kept these batches before, or it
--- isn't known which.
+-- by exactly the calls that wrote this trace's history, for exactly these groups. The log kept these batches before, or
+-- it isn't known which.
 abbrev pub HasOneTrace : Settings → Option (List Logged) → ℕ → List Account → ℕ → Option ℕ
     → (List GroupCall → Type 0) → Type 0
 HasOneTrace settings kept ended accounts last fault wrote = (trace : Trace) × (groups : List Group)

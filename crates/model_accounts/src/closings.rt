@@ -31,8 +31,8 @@ ghost use Rattle.model_accounts.specs.Answered.{IsAmong};
 /// outcome is legal, with the closing's groups, whatever the log had kept before: what a client is told doesn't depend
 /// on it, only whether its reads of the log are right.
 pub fn closed_runs_are_legal()
-    ensures legal { (settings : Settings) (kept : Option (List Logged)) (ended : ℕ) (script : Script) (calls : List (List Call))
-        (accounts : List Account) (trace : Trace) (groups : List Group) (last : ℕ) (log_lens : List ℕ)
+    ensures legal { (settings : Settings) (kept : Option (List Logged)) (ended : ℕ) (script : Script)
+        (calls : List (List Call)) (accounts : List Account) (trace : Trace) (groups : List Group) (last : ℕ) (log_lens : List ℕ)
         (fault : Option ℕ)
         → settings.clients ≡ length script → HaveRun settings script calls accounts
         → IsClosing (with_kept kept settings) ended trace groups accounts last fault
@@ -78,7 +78,7 @@ pub fn logs_hold_the_history()
     ensures records { (parts : List (List Entry)) (calls : List GroupCall) → AllZip WroteEntries parts calls
         → map record_of_call calls ≡ records_of parts }
     ensures synced { (part : List Entry) (c : GroupCall) → WroteEntries part c → HasSync part → c.sync ≡ true }
-    // if the log has a fault, the call that failed was to write the record of the lost group
+    // if the log has a fault, the call that failed was asked to write the record of the lost group
     ensures lost { (group_bytes : ℕ) (attempts : List (List Attempt)) (count last : ℕ) (lost : List GroupCall)
         → AreLost group_bytes attempts (Some count) last lost
         → (c : GroupCall) × (lost ≡ c ∷ []) × (c.failed ≡ Some count)

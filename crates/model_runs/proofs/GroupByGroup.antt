@@ -1,15 +1,17 @@
 -- Calls that may have written a log.
-use Rattle.std.proofs.Common.{◌≡◌, ℕ, List, [], ◌∷◌, ◌++◌, flat_map, Option, Some, None, refl, ap, sym, ◌∙◌}
+use Rattle.std.proofs.Common.{◌≡◌, ℕ, List, [], ◌∷◌, ◌++◌, flat_map, Option, Some, None, refl, ap, sym, ◌∙◌, subst}
 use Rattle.std.proofs.Math.Dec.{lit<}
-use Rattle.std.specs.List.{AllZip}
+use Rattle.std.specs.List.{AllByRecursion, AllZip}
 use Rattle.model_base.specs.History.{Entry, logged_entries, last_sequence}
 use Rattle.model_base.specs.Trace.{Trace}
 use Rattle.model_base.specs.Attempts.{Attempt}
+use Rattle.model_base.specs.Controller.{ControllerCall}
 use Rattle.model_base.specs.Groups.{Group}
 use Rattle.model_base.specs.LogContents.{GroupCall}
+use Rattle.model_runs.specs.Groups.{IsAskedByLeader}
 use Rattle.model_runs.specs.Written.{WroteEntries, AreLost, WritesLog}
 use Rattle.model_runs.specs.Examples.{two_groups, two_entries, failed_then_worked, in_one_record, in_two_records}
-use Rattle.model_runs.specs.GroupExamples.{own_commits, own_groups}
+use Rattle.model_runs.specs.GroupExamples.{delays_by, own_commits, own_groups}
 
 -- at most one call failed, so these two aren't the failed ones
 one_lost : (group_bytes : ℕ) (attempts : List (List Attempt)) (fault : Option ℕ) (last : ℕ) (lost : List GroupCall) → AreLost group_bytes attempts fault last lost → lost ≡ failed_then_worked → ⊥
@@ -53,8 +55,9 @@ pub one_record_at_the_end : (group_bytes : ℕ) (trace : Trace) (attempts : List
 one_record_at_the_end group_bytes trace attempts groups fault entries writes =
     both_in_one group_bytes attempts fault (last_sequence trace.start trace.entries) writes.parts writes.calls writes.lost writes.each writes.none_else writes.by (writes.cut ∙ ap logged_entries entries)
 
-pub a_record_for_each : (group_bytes : ℕ) (trace : Trace) → trace.entries ≡ two_entries → trace.logged ≡ two_groups → WritesLog group_bytes (λ calls. calls ≡ in_two_records) trace own_commits own_groups None
-a_record_for_each group_bytes trace entries logged = record {
+pub a_record_for_each : (group_bytes : ℕ) (trace : Trace) → trace.entries ≡ two_entries → trace.logged ≡ two_groups → trace.controller_calls ≡ delays_by (1 ∷ 1 ∷ [])
+    → WritesLog group_bytes (λ calls. calls ≡ in_two_records) trace own_commits own_groups None
+a_record_for_each group_bytes trace entries logged asked = record {
   parts = two_groups;
   calls = in_two_records;
   lost = [];
@@ -68,6 +71,11 @@ a_record_for_each group_bytes trace entries logged = record {
   none_else = refl;
   by = refl;
   rise = ((lit< tt, tt), (tt, tt));
+  in_turn = (((λ same. lit< tt), tt), (tt, tt));
+  by_leaders = subst (λ (calls : List ControllerCall). AllByRecursion (IsAskedByLeader calls) own_groups) (sym asked) (
+    record { leader = _; call = _; leads = refl; there = refl; by = refl },
+    (record { leader = _; call = _; leads = refl; there = refl; by = refl }, tt),
+  );
   made = two_groups;
   are_made = record { cut = sym entries; made = (refl, (refl, tt)) };
   by_groups = record { parts_are = refl; syncs_are = refl };

@@ -118,9 +118,9 @@ module _ (group_bytes : ℕ) (attempts : List (List Attempt)) (o : Outcome) wher
       pub at_end : LeavesPrefix now (HasAllSafe groups)
 
 -- A run over a log that began as `b`: its outcome is legal in one trace, with these commits in the leaders' groups, and
--- its log was written by the right calls for just these groups. `wrote` says which calls of the log writer turned the
--- log that began into the log that was handed back. The printed length is that of the bytes that the log kept and of
--- the text of the groups' records.
+-- its log was written by the right calls for exactly these groups. `wrote` says which calls of the log writer turned
+-- the log that began into the log that was handed back. The printed length is that of the bytes that the log kept and
+-- of the text of the groups' records.
 pub record IsRun (settings : Settings) (ended : ℕ) (script : List (List Command)) (b : Beginning)
     (wrote : List GroupCall → Type 0) (o : Outcome) : Type 0 where
   pub trace : Trace

@@ -3,6 +3,7 @@ use Rattle.std.specs.Prelude.{◌≡◌, ℕ, ◌-◌, ◌<◌, ⊤, Bool, true,
 use Rattle.std.specs.List.{AllByRecursion, list_any}
 use Rattle.model_base.specs.Batch.{Record}
 use Rattle.model_base.specs.History.{Entry}
+use Rattle.model_base.specs.Controller.{ControllerCall}
 use Rattle.model_base.specs.Attempts.{Attempt, WriteStatus, succeeded, slowed, faulted, full, is_faulted}
 use Rattle.model_base.specs.Groups.{Member, Group}
 use Rattle.model_base.specs.LogContents.{GroupCall}
@@ -13,10 +14,25 @@ abbrev pub PlacesRise : List Group → Type 0
 PlacesRise [] = ⊤
 PlacesRise (g ∷ groups) = AllByRecursion (λ (h : Group). g.place < h.place) groups × PlacesRise groups
 
--- the commits of a group, in the order of its members, among those of all clients
+-- a client's commits are among these members in the order in which it made them
+abbrev pub CallsRise : List Member → Type 0
+CallsRise [] = ⊤
+CallsRise (m ∷ members) = AllByRecursion (λ (n : Member). m.client ≡ n.client → m.call < n.call) members
+    × CallsRise members
+
+-- the controller's call at the group's place is one of the client whose commit is the group's first member
+pub record IsAskedByLeader (controller_calls : List ControllerCall) (g : Group) : Type 0 where
+  pub leader : Member
+  pub call : ControllerCall
+  pub leads : slice_get g.members 0 ≡ Some leader
+  pub there : slice_get controller_calls g.place ≡ Some call
+  pub by : call.client ≡ leader.client
+
+-- a member's commit, among those of all clients
 abbrev pub commit_of : List (List Attempt) → Member → Option Attempt
 commit_of attempts m = slice_get (get_or attempts (m.client - 1) []) m.call
 
+-- the commits of a group, in the order of its members
 abbrev pub commits_in : List (List Attempt) → Group → List Attempt
 commits_in attempts g = filter_map (commit_of attempts) g.members
 
@@ -45,8 +61,8 @@ MeetsDeadLog (full last) = ⊥
 MeetsDeadLog (slowed place) = ⊤
 MeetsDeadLog (faulted count) = ⊤
 
--- From the first group on that was answered the log's fault, nobody succeeds, whether or not a batch was to be logged.
--- `dead` says that there was such a group before these.
+-- In the order of these groups nobody succeeds in the first group that was answered the log's fault, or in a later one,
+-- whether or not a batch is one for the log. `dead` says that there was such a group before these.
 abbrev pub StaysDead : Bool → List (List WriteStatus) → Type 0
 StaysDead dead [] = ⊤
 StaysDead dead (statuses ∷ rest) = let now = dead || list_any is_faulted statuses in
@@ -58,12 +74,14 @@ StaysDead dead (statuses ∷ rest) = let now = dead || list_any is_faulted statu
 abbrev pub is_lost : List (List Attempt) → Group → Bool
 is_lost attempts g = list_any is_faulted (statuses_in attempts g)
 
--- The failed call was made for the first group that was answered the log's fault: it was to write those of the group's
--- batches whose runs fit after `last`, and to sync just where the group's leader asked for it.
+-- The failed call was made for the first group that was answered the log's fault, and the group's leader didn't keep it
+-- out of the log. The call was asked to write those of the group's batches whose runs fit after `last`, and it was
+-- asked to sync exactly if the leader was.
 pub record IsOfFirstLost (attempts : List (List Attempt)) (groups : List Group) (last : ℕ) (c : GroupCall)
     : Type 0 where
   pub group : Group
   pub first : find (is_lost attempts) groups ≡ Some group
+  pub to_log : is_kept_out group.members ≡ false
   pub batches : c.batches ≡ batches_that_fit last (batches_in attempts group)
   pub sync : c.sync ≡ leader_syncs group.members
 
@@ -79,8 +97,9 @@ is_in_log g = if is_kept_out g.0.members then false else has_entries g.1
 abbrev pub logged_groups : List Group → List (List Entry) → List (Group × List Entry)
 logged_groups groups made = filter is_in_log (zip groups made)
 
--- Where `made` are the entries that each group made: the logged parts are just those of the groups that are in the log,
--- in their order. There is one call for each of these groups, which synced just where the group's leader asked for it.
+-- Where `made` are the entries that each group made: the logged parts are those of the groups that are in the log, and
+-- no others, in their order. There is one call for each of these groups, which was asked to sync exactly if the group's
+-- leader was.
 pub record LogsGroups (groups : List Group) (made parts : List (List Entry)) (calls : List GroupCall) : Type 0 where
   pub parts_are : parts ≡ map (λ (g : Group × List Entry). g.1) (logged_groups groups made)
   pub syncs_are : map (λ (c : GroupCall). c.sync) calls

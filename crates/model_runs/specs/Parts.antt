@@ -34,7 +34,7 @@ names_made attempts g = flat_map (name_made attempts) g.members
 abbrev pub name_of : Entry → ℕ × ℕ
 name_of e = (e.client, e.ordinal)
 
--- The history's entries are cut into parts, one for each group of commits: just those that its members made.
+-- The history's entries are cut into parts, one for each group of commits: those that its members made, and no others.
 pub record AreParts (attempts : List (List Attempt)) (groups : List Group) (entries : List Entry)
     (parts : List (List Entry)) : Type 0 where
   pub cut : flat_map (λ part. part) parts ≡ entries

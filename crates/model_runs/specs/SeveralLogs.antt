@@ -41,8 +41,8 @@ pub data HoldLogs (x : Option (List ℕ)) : List (List (List Entry)) → List He
       → HoldLogs x (groups ∷ next ∷ logs) (held ∷ others)
 
 -- A run over several logs: its outcome is legal in one trace, with these commits in the leaders' groups, and its logs
--- were written by the right calls for just these groups, one log after another. `limit` is the length from which on a
--- log is full, `disks` is how many logs there may be, and `wrote` says which calls turned the set that began into the
+-- were written by the right calls for exactly these groups, one log after another. A log is full once it is at least
+-- `limit` long, `disks` is how many logs there may be, and `wrote` says which calls turned the set that began into the
 -- one that was taken apart, and how long its logs were then. The printed lengths are those of the logs that were begun.
 pub record IsRunOverLogs (settings : Settings) (ended : ℕ) (script : List (List Command)) (limit disks : ℕ)
     (wrote : List GroupCall → List ℕ → Type 0) (o : Outcome) : Type 0 where

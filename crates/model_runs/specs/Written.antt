@@ -6,11 +6,11 @@ use Rattle.model_base.specs.Batch.{Record, count_of}
 use Rattle.model_base.specs.History.{Entry, RunsFollow, last_sequence, logged_entries}
 use Rattle.model_base.specs.Trace.{Trace}
 use Rattle.model_base.specs.Attempts.{Attempt}
-use Rattle.model_base.specs.Groups.{Group}
+use Rattle.model_base.specs.Groups.{Group, members_of}
 use Rattle.model_base.specs.LogContents.{GroupCall}
 use Rattle.model_runs.specs.Lost.{IsLostGroup}
 use Rattle.model_runs.specs.Parts.{AreParts}
-use Rattle.model_runs.specs.Groups.{PlacesRise, StaysDead, statuses_in, LogsGroups, IsOfFirstLost}
+use Rattle.model_runs.specs.Groups.{PlacesRise, CallsRise, IsAskedByLeader, StaysDead, statuses_in, LogsGroups, IsOfFirstLost}
 
 -- the first sequence of these entries, if there are any
 abbrev pub first_of : List Entry → Option ℕ
@@ -31,7 +31,7 @@ pub record WroteEntries (entries : List Entry) (c : GroupCall) : Type 0 where
   pub synced : AllByRecursion (λ (e : Entry). e.flag ≡ Sync → c.sync ≡ true) entries
   pub ok : c.failed ≡ None
 
--- the one call that failed was to write the batches of a lost group, after the sequence that was given last
+-- the one call that failed was asked to write the batches of a lost group, after the sequence that was given last
 pub record IsLostCall (group_bytes : ℕ) (attempts : List (List Attempt)) (count last : ℕ) (c : GroupCall) : Type 0 where
   pub failed : c.failed ≡ Some count
   pub first : c.first ≡ last + 1
@@ -46,7 +46,9 @@ AreLost group_bytes attempts fault last lost =
 -- How a log was written by these groups of commits, where `wrote` says that these calls, and no others, wrote it: one
 -- call for each group that is in the log, in their order, and if the log has a fault one more call, which failed, after
 -- all the others. Between two entries of one call no other entry comes in the history, logged or not. Reads of the log
--- see these parts of it. After the fault no commit succeeds. `made` are the entries that each group made.
+-- see these parts of it. The groups are in the order of their delays, which their leaders asked for, and a client's
+-- commits are in them in the order in which it made them. In the order of the groups no commit succeeds after the
+-- fault. `made` are the entries that each group made.
 pub record WritesLog (group_bytes : ℕ) (wrote : List GroupCall → Type 0) (trace : Trace)
     (attempts : List (List Attempt)) (groups : List Group) (fault : Option ℕ) : Type 0 where
   pub parts : List (List Entry)
@@ -59,6 +61,8 @@ pub record WritesLog (group_bytes : ℕ) (wrote : List GroupCall → Type 0) (tr
   pub none_else : AreLost group_bytes attempts fault (last_sequence trace.start trace.entries) lost
   pub by : wrote (calls ++ lost)
   pub rise : PlacesRise groups
+  pub in_turn : CallsRise (members_of groups)
+  pub by_leaders : AllByRecursion (IsAskedByLeader trace.controller_calls) groups
   pub made : List (List Entry)
   pub are_made : AreParts attempts groups trace.entries made
   pub by_groups : LogsGroups groups made parts calls

@@ -1,6 +1,6 @@
 //! Images of a log of two groups, the first of which was to be synced; and calls that may have written a log.
 
-ghost use Rattle.std.specs.Prelude.{◌≡◌, ◌++◌, ℕ, List, [], Option, None};
+ghost use Rattle.std.specs.Prelude.{◌≡◌, ◌++◌, ℕ, List, [], ◌∷◌, Option, None};
 ghost use Rattle.model_base.specs.Trace.{Trace};
 ghost use Rattle.model_base.specs.Attempts.{Attempt};
 ghost use Rattle.model_base.specs.Groups.{Group};
@@ -9,7 +9,7 @@ ghost use Rattle.model_base.specs.Log.{new_log};
 ghost use Rattle.model_runs.specs.Crashes.{HoldsSynced, KeepsSynced, IsCrashSafe};
 ghost use Rattle.model_runs.specs.Written.{WritesLog};
 ghost use Rattle.model_runs.specs.Examples.{two_groups, two_entries, text_of_both, text_of_first, zeros, failed_then_worked, in_one_record, in_two_records, over_old_bytes, nothing_written};
-ghost use Rattle.model_runs.specs.GroupExamples.{own_commits, own_groups};
+ghost use Rattle.model_runs.specs.GroupExamples.{delays_by, own_commits, own_groups};
 
 /// A run may not put the second group into the log before the first one is safe.
 pub fn synced_before_the_next_group()
@@ -44,6 +44,6 @@ pub fn written_group_by_group()
         → WritesLog group_bytes (λ calls. calls ≡ in_one_record) trace attempts groups fault → ⊥ }
     // In two records they are written as they should be.
     ensures a_record_for_each { (group_bytes : ℕ) (trace : Trace) → trace.entries ≡ two_entries
-        → trace.logged ≡ two_groups
+        → trace.logged ≡ two_groups → trace.controller_calls ≡ delays_by (1 ∷ 1 ∷ [])
         → WritesLog group_bytes (λ calls. calls ≡ in_two_records) trace own_commits own_groups None }
 {}

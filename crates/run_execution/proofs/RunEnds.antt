@@ -125,6 +125,8 @@ module _ {D : Type 0} {ghosts : Ghosts D} where
               none_else = writes.none_else;
               by = (log, written, refl);
               rise = writes.rise;
+              in_turn = writes.in_turn;
+              by_leaders = writes.by_leaders;
               made = writes.made;
               are_made = writes.are_made;
               by_groups = writes.by_groups;

@@ -187,6 +187,8 @@ module _ {D : Type 0} {ghosts : Ghosts D} where
               none_else = w.none_else;
               by = (set, record { opened = opened; has_opened = has; limit_is = limit_is; wrote = w.by }, refl, refl);
               rise = w.rise;
+              in_turn = w.in_turn;
+              by_leaders = w.by_leaders;
               made = w.made;
               are_made = w.are_made;
               by_groups = w.by_groups;

@@ -7,5 +7,7 @@ returns c = record {
   second_lost = calls.second_lost;
   lost_with_a_sync = calls.lost_with_a_sync;
   lost_later = calls.lost_later;
+  lost_though_kept_out = calls.lost_though_kept_out;
   written_after_a_fault = calls.written_after_a_fault;
+  kept_out_before_the_fault = calls.kept_out_before_the_fault;
 }
