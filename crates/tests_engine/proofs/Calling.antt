@@ -1,8 +1,6 @@
 -- What the engine's calls promise of its clients, in the words of `Callers`.
-use Rattle.std.proofs.Common.{◌≡◌, ◌≢◌, ℕ, ◌+◌, ◌<◌, Bool, true, false, eqb, inl, inr, ⊎_elim, List, ◌++◌, length, get_or, set, take, drop, Option, Some, None, MatchOption, subst, sym, ap, ◌∙◌}
+use Rattle.std.proofs.Common.{◌≡◌, ℕ, ◌+◌, inl, inr, List, ◌++◌, length, take, drop, Option, Some, None, MatchOption, subst, sym, ap, ◌∙◌}
 use Rattle.std.proofs.Math.Seq.{take-append_seam}
-use Rattle.std.proofs.lemmas.Bool.Decides.{eqb_tells}
-use Rattle.std.proofs.lemmas.List.{get_or-set_other, get_or-set_same, length-set}
 use Rattle.std.specs.Vec.{with_items}
 use Rattle.std.proofs.lemmas.Option.{slice_get-get_or, slice_get_within, get_or_from_slice_get}
 use Rattle.log_writer.specs.declared.group_log.GroupLog.{Ghosts}
@@ -46,13 +44,3 @@ module _ {D : Type 0} {ghosts : Ghosts D} (e : Path D ghosts) where
   all_after all new a may same =
       let whole = whole_slice all.clients.len new all.clients.items (same ∙ sym all.clients.ok.0) in
       record { may = subst (AllMayCall e) (sym whole) may; len = ap length whole ∙ (same ∙ a.len); room = a.room }
-
-  -- one of them has called, and may call again
-  pub set_may : (cs : List (Member D ghosts)) (i : ℕ) (c : Member D ghosts) → i < length cs → AllMayCall e cs → IsCaller e (i + 1) c → AllMayCall e (set cs i c)
-  set_may cs i c lt all may = record { each = λ j d within. ⊎_elim (same j d) (other j d within) (eqb_tells j i) }
-    where
-      same : (j : ℕ) (d : Member D ghosts) → (eqb j i ≡ true) × (j ≡ i) → IsCaller e (j + 1) (get_or (set cs i c) j d)
-      same j d is = subst (λ k. IsCaller e (k + 1) (get_or (set cs i c) k d)) (sym is.1) (subst (IsCaller e (i + 1)) (sym (get_or-set_same cs i c d lt)) may)
-
-      other : (j : ℕ) (d : Member D ghosts) → j < length (set cs i c) → (eqb j i ≡ false) × (j ≢ i) → IsCaller e (j + 1) (get_or (set cs i c) j d)
-      other j d within isnt = subst (IsCaller e (j + 1)) (sym (get_or-set_other cs i j c d isnt.1)) (all.each j d (subst (λ n. j < n) (length-set cs i c) within))

@@ -3,7 +3,7 @@
 //! - `alone`: what one client's calls answer, and what its log has then
 //! - `at_once`: runs and reads of clients that write at once
 //! - `faults`: clients that write at once, while a call of the disk fails
-//! - `following`: clients that ask again and again for what is new in the log
+//! - `following`: a client that asks again and again for what is new in the log
 //! - `stops`: a client that stops writes, while another one writes
 
 ghost use Rattle.std.specs.Prelude.{◌<◌, ◌≤◌};

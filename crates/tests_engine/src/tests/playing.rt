@@ -1,6 +1,6 @@
 //! Clients that call an engine over a disk in memory. The contract of each step says when it is allowed.
 
-ghost use Rattle.std.specs.Prelude.{◌≡◌, ◌+◌, ◌<◌, ◌≤◌, None, length};
+ghost use Rattle.std.specs.Prelude.{◌≡◌, ◌+◌, ◌<◌, ◌≤◌, length};
 ghost use Rattle.model_base.specs.History.{max_sequence};
 ghost use Rattle.line_writers.specs.Seats.{clients_of};
 ghost use Rattle.tests_engine.specs.Callers.{number_of, MayCall, IsCaller, AllMayCall, AreAll};
@@ -14,7 +14,7 @@ use engine_groups::{ClosingRoom, EngineClient, GroupEngine};
 use engine_memory::open_engine;
 use engine_parts::OpenLog;
 use log_batch::Batch;
-use log_writer::{LogWriter, ReadableLog};
+use log_writer::LogWriter;
 use model_base::{MAX_CLIENTS, MAX_SIZE, Options, ReadRefused, WriteOptions};
 use std::alloc::Global;
 use std::process::Abort;
@@ -23,18 +23,19 @@ use std::thread::Threads;
 use std::{rt, thread};
 use table_memory::MemoryTable;
 
-pub(super) type OneLog = LogWriter<MemDisk>;
+pub(super) type Log = LogWriter<MemDisk>;
 
-pub(super) type Path<Log> = GroupEngine<Log, MemoryTable, SteppedClock, OpenGate>;
+pub(super) type Path = GroupEngine<Log, MemoryTable, SteppedClock, OpenGate>;
 
-pub(super) type Member<Log> = EngineClient<Log, MemoryTable, SteppedClock>;
+pub(super) type Member = EngineClient<Log, MemoryTable, SteppedClock>;
 
-pub(super) type Members<Log> = Clients<Member<Log>, ClosingRoom<Log, MemoryTable, SteppedClock>>;
+pub(super) type Members = Clients<Member, ClosingRoom<Log, MemoryTable, SteppedClock>>;
 
 pub(super) type Notes = Mutex<Vec<StepAnswer>>;
 
 // Opens an engine with an empty table of `shards` shards, in one stage or two, over an empty disk with room for `room`
-// bytes. The disk's calls with the numbers in `fails` fail; the first call looks at the disk's length.
+// bytes. The disk's calls with the numbers in `fails` fail; the first call looks at the disk's length. The clock is at
+// 1000.
 pub(super) fn opened(
     rt: &impl Abort,
     alloc: Global,
@@ -44,7 +45,7 @@ pub(super) fn opened(
     options: Options,
     shards: u32,
     pipelined: bool,
-) -> (Path<OneLog>, Members<OneLog>)
+) -> (Path, Members)
     requires options { (options.last ≤ max_sequence) × (options.batch_bytes ≤ MAX_SIZE) }
     requires clients { (0 < clients) × (clients ≤ MAX_CLIENTS) }
     requires shards { 0 < shards }
@@ -55,26 +56,6 @@ pub(super) fn opened(
     let Ok(log) = LogWriter::open(alloc, disk) else {
         panic!(rt; "the log isn't opened")
     };
-    opened_over(rt, alloc, log, clients, options, shards, pipelined)
-}
-
-// Opens such an engine over a log. The clock is at 1000.
-pub(super) fn opened_over<Log: ReadableLog>(
-    rt: &impl Abort,
-    alloc: Global,
-    log: Log,
-    clients: u32,
-    options: Options,
-    shards: u32,
-    pipelined: bool,
-) -> (Path<Log>, Members<Log>)
-    requires options { (options.last ≤ max_sequence) × (options.batch_bytes ≤ MAX_SIZE) }
-    requires clients { (0 < clients) × (clients ≤ MAX_CLIENTS) }
-    requires log { Log.fault log ≡ None }
-    requires shards { 0 < shards }
-    ensures all { AreAll result.0 result.1 }
-    ensures clients { clients_of result.0.list ≡ clients }
-{
     match open_engine(
         alloc,
         OpenLog { log },
@@ -123,10 +104,10 @@ fn saw(read: &Read) -> StepAnswer {
 }
 
 // Where the write is refused, `back` gets its batch.
-fn write<Log: ReadableLog, R: Wait + rt::Clock>(
+fn write<R: Wait + rt::Clock>(
     rt: &R,
-    engine: &Path<Log>,
-    client: &mut Member<Log>,
+    engine: &Path,
+    client: &mut Member,
     batch: Batch,
     options: WriteOptions,
     back: &mut Option<Batch>,
@@ -143,12 +124,7 @@ fn write<Log: ReadableLog, R: Wait + rt::Clock>(
     }
 }
 
-fn read<Log: ReadableLog, R: Wait + rt::Clock>(
-    rt: &R,
-    engine: &Path<Log>,
-    client: &mut Member<Log>,
-    key: &[u8],
-) -> StepAnswer
+fn read<R: Wait + rt::Clock>(rt: &R, engine: &Path, client: &mut Member, key: &[u8]) -> StepAnswer
     requires { MayCall engine.now client.old }
     ensures { MayCall engine.now client.new × (number_of client.new ≡ number_of client.old) }
 {
@@ -158,10 +134,10 @@ fn read<Log: ReadableLog, R: Wait + rt::Clock>(
     }
 }
 
-fn read_in<Log: ReadableLog, R: Wait + rt::Clock>(
+fn read_in<R: Wait + rt::Clock>(
     rt: &R,
-    engine: &Path<Log>,
-    client: &mut Member<Log>,
+    engine: &Path,
+    client: &mut Member,
     family: u32,
     key: &[u8],
 ) -> StepAnswer
@@ -175,10 +151,10 @@ fn read_in<Log: ReadableLog, R: Wait + rt::Clock>(
     }
 }
 
-fn updates<Log: ReadableLog, R: Wait + rt::Clock>(
+fn updates<R: Wait + rt::Clock>(
     rt: &R,
-    engine: &Path<Log>,
-    client: &mut Member<Log>,
+    engine: &Path,
+    client: &mut Member,
     since: u64,
 ) -> StepAnswer
     requires { MayCall engine.now client.old }
@@ -195,11 +171,7 @@ fn updates<Log: ReadableLog, R: Wait + rt::Clock>(
     }
 }
 
-fn stop<Log: ReadableLog, R: Wait + rt::Clock>(
-    rt: &R,
-    engine: &Path<Log>,
-    client: &mut Member<Log>,
-) -> StepAnswer
+fn stop<R: Wait + rt::Clock>(rt: &R, engine: &Path, client: &mut Member) -> StepAnswer
     requires { MayCall engine.now client.old }
     ensures { MayCall engine.now client.new × (number_of client.new ≡ number_of client.old) }
 {
@@ -209,11 +181,7 @@ fn stop<Log: ReadableLog, R: Wait + rt::Clock>(
     }
 }
 
-fn unstop<Log: ReadableLog, R: Wait + rt::Clock>(
-    rt: &R,
-    engine: &Path<Log>,
-    client: &mut Member<Log>,
-) -> StepAnswer
+fn unstop<R: Wait + rt::Clock>(rt: &R, engine: &Path, client: &mut Member) -> StepAnswer
     requires { MayCall engine.now client.old }
     ensures { MayCall engine.now client.new × (number_of client.new ≡ number_of client.old) }
 {
@@ -223,12 +191,7 @@ fn unstop<Log: ReadableLog, R: Wait + rt::Clock>(
     }
 }
 
-fn slow<Log: ReadableLog, R: Wait + rt::Clock>(
-    rt: &R,
-    engine: &Path<Log>,
-    client: &mut Member<Log>,
-    rate: u64,
-) -> StepAnswer
+fn slow<R: Wait + rt::Clock>(rt: &R, engine: &Path, client: &mut Member, rate: u64) -> StepAnswer
     requires { MayCall engine.now client.old }
     ensures { MayCall engine.now client.new × (number_of client.new ≡ number_of client.old) }
 {
@@ -238,11 +201,7 @@ fn slow<Log: ReadableLog, R: Wait + rt::Clock>(
     }
 }
 
-fn unslow<Log: ReadableLog, R: Wait + rt::Clock>(
-    rt: &R,
-    engine: &Path<Log>,
-    client: &mut Member<Log>,
-) -> StepAnswer
+fn unslow<R: Wait + rt::Clock>(rt: &R, engine: &Path, client: &mut Member) -> StepAnswer
     requires { MayCall engine.now client.old }
     ensures { MayCall engine.now client.new × (number_of client.new ≡ number_of client.old) }
 {
@@ -252,11 +211,11 @@ fn unslow<Log: ReadableLog, R: Wait + rt::Clock>(
     }
 }
 
-fn step<Log: ReadableLog, R: Wait + rt::Clock + Abort>(
+fn step<R: Wait + rt::Clock + Abort>(
     rt: &R,
     alloc: Global,
-    engine: &Path<Log>,
-    client: &mut Member<Log>,
+    engine: &Path,
+    client: &mut Member,
     step: Step,
     back: &mut Option<Batch>,
 ) -> StepAnswer
@@ -291,11 +250,11 @@ fn step<Log: ReadableLog, R: Wait + rt::Clock + Abort>(
 }
 
 // Makes the calls one after another, and notes their answers.
-fn play<Log: ReadableLog, R: Wait + rt::Clock + Abort>(
+fn play<R: Wait + rt::Clock + Abort>(
     rt: &R,
     alloc: Global,
-    engine: &Path<Log>,
-    client: &mut Member<Log>,
+    engine: &Path,
+    client: &mut Member,
     steps: &[Step],
     notes: &Notes,
 )
@@ -310,11 +269,11 @@ fn play<Log: ReadableLog, R: Wait + rt::Clock + Abort>(
 }
 
 // A client plays its own script, and notes the answers in its own notes.
-fn play_own<Log: ReadableLog, R: Wait + rt::Clock + Abort>(
+fn play_own<R: Wait + rt::Clock + Abort>(
     rt: &R,
     alloc: Global,
-    engine: &Path<Log>,
-    client: &mut Member<Log>,
+    engine: &Path,
+    client: &mut Member,
     scripts: &[Vec<Step>],
     notes: &[Notes],
     i: usize,
@@ -332,8 +291,8 @@ fn play_own<Log: ReadableLog, R: Wait + rt::Clock + Abort>(
 pub(super) fn play_at_once<R: Threads + Wait + rt::Clock + Abort + Sync>(
     rt: &R,
     alloc: Global,
-    engine: &Path<OneLog>,
-    clients: &mut [Member<OneLog>],
+    engine: &Path,
+    clients: &mut [Member],
     scripts: &[Vec<Step>],
     notes: &[Notes],
 )
@@ -341,37 +300,15 @@ pub(super) fn play_at_once<R: Threads + Wait + rt::Clock + Abort + Sync>(
     ensures { AllMayCall engine.now clients.new × (length clients.new ≡ length clients.old) }
 {
     let threads = clients.len();
-    let each = |i: usize, client: &mut Member<OneLog>|
+    let each = |i: usize, client: &mut Member|
         requires { IsCaller engine.now (i + 1) client.now }
         ensures { IsCaller engine.entry.now (i + 1) client.exit.now }
     { play_own(rt, alloc, engine, client, scripts, notes, i) };
     thread::for_each_mut(rt, clients, threads, &each);
 }
 
-// All clients play, one after another.
-pub(super) fn play_in_turn<Log: ReadableLog, R: Wait + rt::Clock + Abort>(
-    rt: &R,
-    alloc: Global,
-    engine: &Path<Log>,
-    clients: &mut [Member<Log>],
-    scripts: &[Vec<Step>],
-    notes: &[Notes],
-)
-    requires { AllMayCall engine.now clients.old }
-    ensures { AllMayCall engine.now clients.new × (length clients.new ≡ length clients.old) }
-{
-    // All clients may call, those that have played and the others.
-    for i in 0..clients.len() {
-        play_own(rt, alloc, engine, &mut clients[i], scripts, notes, i);
-    }
-}
-
 // Closes the engine. Answers the log and the last published sequence.
-pub(super) fn closed<Log: ReadableLog, R: Wait + rt::Clock>(
-    rt: &R,
-    engine: Path<Log>,
-    all: Members<Log>,
-) -> (Log, u64)
+pub(super) fn closed<R: Wait + rt::Clock>(rt: &R, engine: Path, all: Members) -> (Log, u64)
     requires { AreAll engine all }
 {
     let Closed {
