@@ -3,6 +3,7 @@ use Rattle.std.proofs.Common.{◌≡◌, ℕ, ◌+◌, ◌<◌, ◌≤◌, min, 
 use Rattle.std.proofs.Math.Seq.{take-append_seam}
 use Rattle.std.proofs.Math.ListN.{drop_of_length-le}
 use Rattle.std.proofs.lemmas.List.{take-append-drop, drop-drop}
+use Rattle.std.proofs.lemmas.Slice.{drop-append-drop}
 use Rattle.base_devices.specs.declared.failed.Failed.{Failed}
 use Rattle.base_devices.specs.Streams.{Reads}
 
@@ -10,6 +11,10 @@ pub front_copied : (rest copied buf : List ℕ) (n : ℕ) → copied ≡ take n 
 front_copied rest copied buf n e le =
     let len : length copied ≡ n = omega (arith, ap length e, length-take n rest) in
     ap (λ (k : ℕ). take k (copied ++ drop n buf)) (sym len) ∙ take-append_seam copied (drop n buf) ∙ e
+
+-- what the buffer has after them is as it was
+pub rest_kept : (rest copied buf : List ℕ) (n : ℕ) → copied ≡ take n rest → n ≤ length rest → drop n (copied ++ drop n buf) ≡ drop n buf
+rest_kept rest copied buf n e le = drop-append-drop n buf copied n (omega arith) (omega (arith, ap length e, length-take n rest, le))
 
 -- a read gives as many bytes as are left, as the buffer holds and as a piece has: the least of the three
 pub reads_front : (bytes buf copied : List ℕ) (at n m piece : ℕ) → copied ≡ take n (drop at bytes) → m ≡ min (length (drop at bytes)) (length buf) → n ≡ min m piece → 0 < piece

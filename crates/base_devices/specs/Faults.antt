@@ -1,10 +1,12 @@
 -- Counts of faults, and when a call may fail.
-use Rattle.std.specs.Prelude.{◌≡◌, ℕ, ◌-◌, ◌^◌, ◌≤◌, min, List, sum_by, Result, OnErr, OnOk}
+use Rattle.std.specs.Prelude.{◌≡◌, ℕ, ◌+◌, ◌-◌, ◌^◌, ◌≤◌, min, List, sum_by, Result, OnErr, OnOk}
 pub use Rattle.model_base.specs.Counts.{Rose}
 
--- the count hasn't fallen in the call; it rose if the call failed, and stayed if it worked
+-- A call that works leaves the count, and one that fails counts one fault: the count rises by one, unless it is the
+-- greatest u64.
 pub record HasCause {T E : Type 0} (before now : ℕ) (result : Result T E) : Type 0 where
   pub later : before ≤ now
+  pub once : now ≤ before + 1
   pub failed : OnErr result (Rose before now)
   pub worked : OnOk result (now ≡ before)
 

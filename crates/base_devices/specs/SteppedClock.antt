@@ -9,3 +9,7 @@ clock_at c = c.at
 -- the last moment that it answered
 abbrev pub clock_answered : SteppedClock → Option ℕ
 clock_answered c = c.answered
+
+-- how many microseconds it was asked to let pass
+abbrev pub clock_paused : SteppedClock → ℕ
+clock_paused c = c.paused

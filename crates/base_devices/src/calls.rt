@@ -49,6 +49,7 @@ impl Calls {
         ensures listed { is_err result ≡ list_any (λ n. n == self.new.calls) self.old.fails }
         ensures faults { self.new.faults ≡ faults_after_call (is_err result) self.old.faults }
         ensures later { self.old.faults ≤ self.new.faults }
+        ensures once { self.new.faults ≤ self.old.faults + 1 }
     {
         self.made = self.made.saturating_add(1);
         if self.fails.contains(&self.made) {

@@ -1,6 +1,6 @@
 //! A disk that holds one file. Bytes are appended to it, and it may be cut, and be written again from the start.
 
-ghost use Rattle.std.specs.Prelude.{◌≡◌, ℕ, ◌+◌, ◌<◌, ◌≤◌, ◌^◌, List, length, Option, IfSome, IfOk, OnOk};
+ghost use Rattle.std.specs.Prelude.{◌≡◌, ℕ, ◌+◌, ◌<◌, ◌≤◌, ◌^◌, List, length, drop, Option, IfSome, IfOk, OnOk};
 ghost use Rattle.base_devices.specs.Disk.{Disk as State, IsDisk, Appended, GrowsBy, Rewound, Cut, Synced, ReadsAt};
 ghost use Rattle.base_devices.specs.Disk.{CountsNow, IsOnlyNow, Told, TimePasses};
 ghost use Rattle.base_devices.specs.Faults.{HasCause};
@@ -45,9 +45,9 @@ pub trait Disk {
         // Moments only go on. From some moment on the disk tells what a crash might have left then, and what it has
         // forgotten it doesn't tell again.
         ensures time { TimePasses told moment from since self.old self.new }
-        // Each call of a device has such a clause: it fails only where the count of faults rises in it, or is at its
+        // Each call of a device has such a clause: one that fails counts exactly one fault, until the count is at its
         // greatest, and one that works leaves the count as it was. So whoever compares the count before and after knows
-        // whether a call failed.
+        // how many calls failed.
         ensures cause { HasCause (faults self.old) (faults self.new) result };
 
     /// Copies the content from the place `at` on to the start of `buf`, as many bytes as both have, and answers how
@@ -55,6 +55,8 @@ pub trait Disk {
     fn read(&mut self, at: u64, buf: &mut [u8]) -> Result<usize, Failed>
         ensures bytes { IfSome (told self.old) (λ d. ReadsAt d at buf.new result) }
         ensures at_most { IfOk result (λ n. n ≤ length buf.new) }
+        // What the buffer has after these bytes is as it was. After a call that failed its bytes may be any.
+        ensures rest { IfOk result (λ n. drop n buf.new ≡ drop n buf.old) }
         ensures small { IfOk result (λ n. 0 < n → at + n < 2 ^ 63) }
         ensures same { told self.new ≡ told self.old }
         ensures adds_none { added self.new ≡ added self.old }

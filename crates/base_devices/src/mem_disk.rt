@@ -297,10 +297,12 @@ impl Disk for MemDisk {
         Ok(self.content.len() as u64)
     }
 
-    /// This fails exactly at the listed calls.
+    /// This fails exactly at the listed calls, and then leaves the buffer as it was.
     fn read(&mut self, at: u64, buf: &mut [u8]) -> Result<usize, Failed>
         ensures bytes { ReadsAt (disk_of self.old) at buf.new result }
         ensures at_most { IfOk result (λ n. n ≤ length buf.new) }
+        ensures rest { IfOk result (λ n. drop n buf.new ≡ drop n buf.old) }
+        ensures failed { OnErr result (buf.new ≡ buf.old) }
         ensures small { IfOk result (λ n. 0 < n → at + n < 2 ^ 63) }
         ensures same { disk_of self.new ≡ disk_of self.old }
         ensures adds_none { place_of self.new ≡ place_of self.old }

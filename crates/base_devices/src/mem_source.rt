@@ -1,6 +1,6 @@
 //! A source in memory.
 
-ghost use Rattle.std.specs.Prelude.{◌≡◌, ◌<◌, ◌≤◌, length, false, Some, vec_len, IfOk};
+ghost use Rattle.std.specs.Prelude.{◌≡◌, ◌<◌, ◌≤◌, length, drop, false, Some, vec_len, IfOk, OnErr};
 
 use crate::calls::Calls;
 use crate::{Failed, Source};
@@ -55,9 +55,13 @@ impl Source for MemSource {
         self.calls.faults()
     }
 
-    /// It gives as many bytes as it may.
+    /// It gives as many bytes as it may. A read that fails leaves the buffer as it was.
     fn read(&mut self, buf: &mut [u8]) -> Result<usize, Failed>
         ensures bytes { Reads (Some (left_of self.old)) (Some (left_of self.new)) result buf.new }
+        // What the buffer has after these bytes is as it was. No clause of `Source` says so, since of standard input
+        // nobody knows it.
+        ensures rest { IfOk result (λ n. drop n buf.new ≡ drop n buf.old) }
+        ensures failed { OnErr result (buf.new ≡ buf.old) }
         ensures count { IfOk result (λ n. n ≡ gives_of self.old (length buf.old)) }
         ensures piece { source_piece self.new ≡ source_piece self.old }
         ensures listed { FailsAsListed (source_calls self.old) (source_calls self.new) false result }

@@ -1,6 +1,6 @@
 //! What can be read from any place.
 
-ghost use Rattle.std.specs.Prelude.{◌≡◌, ◌+◌, ◌<◌, ◌≤◌, ◌^◌, ℕ, List, length, Option, IfSome, IfOk};
+ghost use Rattle.std.specs.Prelude.{◌≡◌, ◌+◌, ◌<◌, ◌≤◌, ◌^◌, ℕ, List, length, drop, Option, IfSome, IfOk};
 ghost use Rattle.base_devices.specs.Disk.{BytesAt};
 ghost use Rattle.base_devices.specs.Faults.{HasCause};
 
@@ -26,6 +26,8 @@ pub trait ReadAt {
     fn read_at(&mut self, at: u64, buf: &mut [u8]) -> Result<usize, Failed>
         ensures bytes { IfSome (held self.old) (λ content. BytesAt content at buf.new result) }
         ensures at_most { IfOk result (λ n. n ≤ length buf.new) }
+        // What the buffer has after these bytes is as it was. After a call that failed its bytes may be any.
+        ensures rest { IfOk result (λ n. drop n buf.new ≡ drop n buf.old) }
         ensures small { IfOk result (λ n. 0 < n → at + n < 2 ^ 63) }
         ensures same { held self.new ≡ held self.old }
         ensures cause { HasCause (failures self.old) (failures self.new) result }

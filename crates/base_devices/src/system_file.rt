@@ -1,6 +1,6 @@
 //! A file of the system, opened at its first call.
 
-ghost use Rattle.std.specs.Prelude.{◌≡◌, ◌+◌, ◌^◌, ◌<◌, ◌≤◌, length, true, false, IfOk, OnOk};
+ghost use Rattle.std.specs.Prelude.{◌≡◌, ◌+◌, ◌^◌, ◌<◌, ◌≤◌, length, drop, true, false, IfOk, OnOk};
 
 use std::fs::{File, OpenOptions};
 use std::io::{self, ErrorKind};
@@ -90,6 +90,7 @@ impl<R: Files<File = File> + Drop> SystemFile<R> {
     /// Copies the content from a place on to the start of the buffer. It makes no file.
     pub(crate) fn read(&mut self, at: u64, buf: &mut [u8]) -> io::Result<usize>
         ensures at_most { IfOk result (λ n. n ≤ length buf.new) }
+        ensures rest { IfOk result (λ n. drop n buf.new ≡ drop n buf.old) }
         ensures small { IfOk result (λ n. 0 < n → at + n < 2 ^ 63) }
         ensures adds_none { added_to self.new ≡ added_to self.old }
     {

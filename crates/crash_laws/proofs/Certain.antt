@@ -4,6 +4,8 @@ use Rattle.std.proofs.Math.Seq.{take-take}
 use Rattle.std.proofs.lemmas.List.{take-append-le, take-map}
 use Rattle.base_devices.specs.Disk.{Disk, IsImage}
 use Rattle.base_devices.specs.declared.disk.Disk.{Ghosts}
+use Rattle.model_base.specs.Batch.{Record}
+use Rattle.model_base.specs.Calls.{Call as Answered}
 use Rattle.model_base.specs.Log.{SpellsWhole, text_after}
 use Rattle.model_base.specs.History.{Entry}
 use Rattle.model_base.specs.LogContents.{records_of}
@@ -11,12 +13,13 @@ use Rattle.model_base.specs.Recovery.{Logged, logged_bytes}
 use Rattle.log_laws.specs.Prefixes.{IsPrefix, BeginsWith}
 use Rattle.log_laws.proofs.Placed.{length_map}
 use Rattle.log_laws.proofs.Written.{spells_on}
+use Rattle.model_runs.specs.Acknowledged.{IsAcknowledged, HasBatch}
 use Rattle.model_runs.specs.Crashes.{with_failed_record, HasSync, HaveSynced, HasAllSafe}
 use Rattle.run_outcome.specs.declared.log_start.LogStart.{LogStart}
 use Rattle.run_outcome.specs.declared.log_start.LogStart.TheVariants.{New, Over, Behind}
 use Rattle.run_outcome.specs.Running.{Before, RecoversTo, GoesOnFrom, IfGoesOn, SafeStays, beginning_of, batch_of_group}
 use Rattle.crash_laws.specs.Restarts.{Call, execution_of, number_of, HaveGroups, ShouldSync, NoneByChance, WereSafe, IsLeftAfter}
-use Rattle.crash_laws.proofs.Promised.{goes_on, leaves}
+use Rattle.crash_laws.proofs.Promised.{is_run, goes_on, leaves}
 use Rattle.crash_laws.proofs.Lists.{take_past, all_take}
 use Rattle.crash_laws.proofs.Front.{kept, groups, all, some_entries, spelled, bytes_of_log, bytes_of_all, may_fail, first_by_bytes, at_least}
 
@@ -53,7 +56,7 @@ synced_within (g ∷ groups) (suc m) zero group at has have = omega arith
 synced_within (g ∷ groups) (suc m) (suc k) group at has have = let within = synced_within groups m k group at has have in omega (arith, within)
 
 -- a place in a list is within it, and within a front that reaches past it
-within_list : {A : Type 0} (xs : List A) (k : ℕ) (x : A) → slice_get xs k ≡ Some x → k < length xs
+pub within_list : {A : Type 0} (xs : List A) (k : ℕ) (x : A) → slice_get xs k ≡ Some x → k < length xs
 within_list [] k x at = absurd (cc at)
 within_list (y ∷ xs) zero x at = omega arith
 within_list (y ∷ xs) (suc k) x at = let within = within_list xs k x at in omega (arith, within)
@@ -87,7 +90,7 @@ module _ {D : Type 0} {disk : Ghosts D} (call : Call disk) (image : List ℕ) (n
       ∙ ap (λ (l : List Logged). kept call ++ l) (take-map batch_of_group k (groups call))
 
   -- an image that begins with the text of what the log kept and the first groups
-  through_found : (k : ℕ) → k ≤ length (groups call) → BeginsWith (text_after (beginning_of call.start call.ran.before) (records_of (take k (groups call)))) image → HaveGroups call k next.batches
+  pub through_found : (k : ℕ) → k ≤ length (groups call) → BeginsWith (text_after (beginning_of call.start call.ran.before) (records_of (take k (groups call)))) image → HaveGroups call k next.batches
   through_found k within begins =
       let some : List (List Entry) = take k (groups call) in
       let bytes : map logged_bytes (take (few + k) (all call)) ≡ map logged_bytes (kept call) ++ records_of some = ap (map logged_bytes) (with_groups k) ∙ bytes_of_log call some (all_take _ k (groups call) (some_entries call)) in
@@ -106,6 +109,15 @@ module _ {D : Type 0} {disk : Ghosts D} (call : Call disk) (image : List ℕ) (n
       let crash = ((leaves call).safe).crash in
       let short = within_list (groups call) k should.0 should.1 in
       through_found (k + 1) (omega (arith, short)) (crash.kept_since k n should.0 should.1 should.2 within image left)
+
+  -- a batch that was acknowledged as synced
+  pub acknowledged_found : (i : ℕ) (calls : List Answered) (first knew : ℕ) (records : List Record) → slice_get call.outcome.transcripts i ≡ Some calls
+      → IsAcknowledged (execution_of call).settings (is_run call).trace (i + 1) calls first knew records → IsLeftAfter call knew image
+      → (k : ℕ) × (group : List Entry) × (slice_get (groups call) k ≡ Some group) × HasBatch first records group × HaveGroups call (k + 1) next.batches
+  acknowledged_found i calls first knew records there is left =
+      let kept_safe = ((leaves call).safe).acknowledged i calls first knew records there is in
+      let short = within_list (groups call) kept_safe.0 kept_safe.1 kept_safe.2 in
+      (kept_safe.0, kept_safe.1, kept_safe.2, kept_safe.3, through_found (kept_safe.0 + 1) (omega (arith, short)) (kept_safe.4 image left))
 
   module _ (left : IsImage call.left image) (by : NoneByChance call image) where
     abbrev found_prefix : IsPrefix (map logged_bytes (to.recovered).batches) (map logged_bytes (kept call) ++ with_failed_record (records_of (groups call)) by.failed) (HasAllSafe (groups call) (length (map logged_bytes (kept call))))

@@ -65,10 +65,10 @@ module _ {D : Type 0} {disk : Ghosts D} (call : Call disk) where
   some_entries = let log = ((leaves call).safe).log in (log.of_history).none_empty
 
   pub own_all : AreBatches all
-  own_all = ((leaves call).readable).1
+  own_all = ((leaves call).readable).0
 
   pub rise_all : AreInOrder 0 all
-  rise_all = ((leaves call).readable).2
+  rise_all = ((leaves call).readable).1
 
   pub spelled : SpellsWhole (number_of call) call.ran.before.kept (map logged_bytes kept)
   spelled = kept_spelled call.start call.ran.before call.found (goes_on call)

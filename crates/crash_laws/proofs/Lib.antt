@@ -4,6 +4,8 @@ pub mod Sequences
 pub mod Promised
 pub mod Front
 pub mod Certain
+pub mod Answered
+pub mod FoundAgain
 pub mod Whole
 pub mod Turns
 pub mod Wrong

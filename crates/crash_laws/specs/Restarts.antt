@@ -3,10 +3,11 @@
 use Rattle.std.specs.Prelude.{◌≡◌, ◌≢◌, ⊤, ◌⊎◌, ℕ, ◌+◌, ◌<◌, ◌≤◌, slice_get, List, [], ◌∷◌, ◌++◌, length, take, drop, map, flat_map, fold, Option, Some, IfSome}
 use Rattle.base_devices.specs.Disk.{Disk, IsImage}
 use Rattle.base_devices.specs.declared.disk.Disk.{Ghosts}
+use Rattle.model_base.specs.Batch.{Record}
 use Rattle.model_base.specs.Map.{Pairs, after_records}
 use Rattle.model_base.specs.Log.{SpellsWhole, text_after}
 use Rattle.model_base.specs.History.{Entry, logged_entries, map_over, last_sequence as last_of_entries}
-use Rattle.model_base.specs.Calls.{Outcome}
+use Rattle.model_base.specs.Calls.{Outcome, Call as Answered}
 use Rattle.model_base.specs.Script.{Script}
 use Rattle.model_base.specs.LogContents.{GroupCall, records_of}
 use Rattle.model_base.specs.Recovery.{Logged, logged_bytes, NoChance, last_sequence, Recovered, recovered_map, recovered_last}
@@ -14,6 +15,7 @@ use Rattle.model_base.specs.Text.{recovered_text}
 use Rattle.model_base.specs.declared.options.Options.{Options}
 use Rattle.log_recovery_laws.specs.Images.{MeetsNoOther}
 use Rattle.log_recovery.specs.declared.modes.Mode.{Mode}
+use Rattle.model_runs.specs.Acknowledged.{IsAcknowledged, HasBatch}
 use Rattle.model_runs.specs.Crashes.{with_failed_record, failed_record, HasSync}
 use Rattle.run_outcome.specs.declared.log_start.LogStart.{LogStart}
 use Rattle.run_outcome.specs.declared.log_start.LogStart.TheVariants.{New, Over, Behind}
@@ -152,6 +154,13 @@ module _ {D : Type 0} {disk : Ghosts D} where
     -- and once some calls have returned all up to each group of theirs that should be synced. All this needs no premise
     -- on chance.
     pub synced : (n k : ℕ) → IsLeftAfter call n image → k < n → ShouldSync call k → HaveGroups call (k + 1) next.batches
+    -- So a batch that a client was answered `ok` for, and had asked to be synced, is among them, if the calls had
+    -- returned that the client knew of by then.
+    pub acknowledged : (i : ℕ) (calls : List Answered) (first knew : ℕ) (records : List Record)
+        → slice_get call.outcome.transcripts i ≡ Some calls
+        → IsAcknowledged (execution_of call).settings call.ran.is_outcome.run.trace (i + 1) calls first knew records
+        → IsLeftAfter call knew image → (k : ℕ) × (group : List Entry) × (slice_get (groups_in call) k ≡ Some group)
+        × HasBatch first records group × HaveGroups call (k + 1) next.batches
     -- After the call's end they have all that the log kept, and all up to each group that should be synced.
     pub ended : IsImage call.left image → NoneByChance call image → HaveGroups call 0 next.batches
         × ((k : ℕ) → ShouldSync call k → HaveGroups call (k + 1) next.batches)

@@ -3,21 +3,28 @@
 //! A crash at any moment of a call of `run` leaves some image of its log. `recover` prints what such an image recovers,
 //! and `run --resume` goes on from it. These laws put that together, for one log on a disk that tells its bytes. The
 //! next call goes on from whole batches: those that the call had kept, and then the first of those that it added, with
-//! all that were safe. So any number of calls, each with a crash after it, make one history.
+//! all that were safe. So any number of calls, each with a crash after it, make one history. Among what is safe is each
+//! batch that a client had asked to be synced, and was answered `ok` for, once those calls that wrote the log have
+//! returned that the client knew of by then.
 //!
-//! A crash in a call is one at a moment of a call that then ended, as that call would have ended. "Returned" is said of
-//! calls that wrote the log; no reply is tied to one of these here. Calls that ran no script are left out, since they
-//! leave no less (`IsLeftLog` of `program_call`).
+//! A crash in a call is one at a moment of a call that then ended, as that call would have ended. Calls that ran no
+//! script are left out, since they leave no less (`IsLeftLog` of `program_call`).
 //!
 //! Each law is the contract of a function that does nothing and that nobody calls: it is here so that the law is proved
 //! with the crate.
 #![tactic(auto)]
 
-ghost use Rattle.std.specs.Prelude.{◌≡◌, ◌≢◌, ℕ, List, [], ◌∷◌, None};
+ghost use Rattle.std.specs.Prelude.{◌≡◌, ◌≢◌, ℕ, List, [], ◌∷◌, Option, Some, None, slice_get};
+ghost use Rattle.model_base.specs.Attempts.{Attempt};
+ghost use Rattle.model_base.specs.Batch.{Record};
+ghost use Rattle.model_base.specs.Calls.{Command, Call as Answered};
 ghost use Rattle.model_base.specs.History.{Entry};
+ghost use Rattle.model_base.specs.Outcomes.{IsLegalTranscript};
 ghost use Rattle.model_base.specs.Recovery.{Logged};
+ghost use Rattle.model_base.specs.Trace.{Trace, Settings};
 ghost use Rattle.model_runs.specs.Crashes.{HasSync};
 ghost use Rattle.run_outcome.specs.Running.{Before, RecoversTo, batch_of_group, nothing};
+ghost use Rattle.crash_laws.specs.Answered.{WasAnswered, KnewByThen, IsFoundAgain};
 ghost use Rattle.crash_laws.specs.Restarts.{AllStays, AreInTurn, AreOneHistory, Call, Crashed, IsAfterCrash, IsAfterEnd};
 ghost use Rattle.crash_laws.specs.Restarts.{IsAlone, IsLeftAfter, NoneByChance, WereLeftSafe, groups_in, kept_in};
 ghost use Rattle.crash_laws.specs.Restarts.{Resumes, number_of};
@@ -34,6 +41,23 @@ pub fn crash_then_go_on<D: Disk>()
     // If no crash came, and no write of the log failed, it finds the whole log.
     ensures ended { (call : Call ⟦<D as Disk>⟧) (next : Before) → call.outcome.fault ≡ None → IsAlone call.start
         → RecoversTo (number_of call) call.left.content next → IsAfterEnd call next }
+{}
+
+/// Each batch that a client was answered `ok` for, and had asked to be synced, is acknowledged: the client knew by then
+/// that some first calls that wrote the log had returned, and one of these wrote the batch and synced. So the clause
+/// `acknowledged` of `IsAfterCrash`, and of what `run` promises of its logs, leaves out no such batch.
+pub fn answered_batches_are_acknowledged<D: Disk>()
+    // It is so for each client whose calls are right in a trace. If an `ok` shows the client no such call, the calls
+    // are right in no trace.
+    ensures each { (settings : Settings) (trace : Trace) (fault : Option ℕ) (client : ℕ) (commands : List Command)
+        (calls : List Answered) (attempts : List Attempt) (first last : ℕ) (records : List Record)
+        → IsLegalTranscript settings trace fault client commands calls attempts → WasAnswered calls first last records
+        → KnewByThen settings trace client calls first records }
+    // Once these calls have returned, the next call finds the batch. It doesn't go on without it.
+    ensures found { (call : Call ⟦<D as Disk>⟧) (i : ℕ) (calls : List Answered) (first last : ℕ)
+        (records : List Record)
+        → slice_get call.outcome.transcripts i ≡ Some calls → WasAnswered calls first last records
+        → IsFoundAgain call i calls first records }
 {}
 
 /// After any number of crashes there is still one history of whole batches: what the first call left, then what the

@@ -1,8 +1,8 @@
 //! The calls of a write path.
 
-ghost use Rattle.std.specs.Prelude.{◌≡◌, ◌+◌, true, false, [], ◌∷◌, None, map, List, Option, IfOk, IfErr, IfSome, OnOk, OnErr};
+ghost use Rattle.std.specs.Prelude.{◌≡◌, ◌+◌, ◌≤◌, true, false, [], ◌∷◌, None, length, map, List, Option, IfOk, IfErr, IfSome, OnOk, OnErr};
 ghost use Rattle.model_base.specs.Batch as model;
-ghost use Rattle.model_base.specs.LogContents.{GroupCall};
+ghost use Rattle.model_base.specs.LogContents.{GroupCall, IsLoggedBy};
 ghost use Rattle.model_base.specs.Recovery.{Logged};
 ghost use Rattle.model_base.specs.Map.{key_at, key_in, rows_within, value_at};
 ghost use Rattle.model_base.specs.Controller as controller;
@@ -12,7 +12,6 @@ ghost use Rattle.base_bytes.specs.declared.answers.Place as place;
 ghost use Rattle.engine_calls.specs.Reading.{IsOfFamilies, FailsFor};
 ghost use Rattle.model_accounts.specs.Accounts.{Keeps, Wrote, Refuses, Reads as ReadsAt, ReadsLog, Asks, GivesBack};
 ghost use Rattle.model_accounts.specs.Closing.{AreOurs, HasOneTrace};
-ghost use Rattle.model_runs.specs.Written.{IsSyncedBy};
 
 use crate::answers::{Closed, Receipt, Refused, Since, SinceRefused};
 use base_bytes::{Bytes, Place, Read, Reads, Rows};
@@ -44,13 +43,13 @@ pub trait Engine {
     ghost use Rattle.model_base.specs.LogContents.{GroupCall};
     ghost use Rattle.model_base.specs.Recovery.{Logged};
     ghost use Rattle.model_base.specs.Trace.{Settings};
-    ghost use Rattle.model_accounts.specs.Accounts.{Account};
+    ghost use Rattle.model_accounts.specs.Accounts.{Account, KnowsOwnTokens};
 
     /// What the write path was opened for. Which batches its log had kept isn't a part of it: `had` says that.
     ghost settings: { Self → Settings };
 
-    /// As the write path was opened, its log had these batches and no others, and what the log holds is known. Of a log on
-    /// a disk that doesn't tell what it holds there are no such batches.
+    /// As the write path was opened, its log had these batches and no others, and what the log holds is known. Of a log
+    /// on a disk that doesn't tell what it holds there are no such batches.
     ghost had: { Self → List Logged → Type 0 };
 
     /// What a client did and saw.
@@ -71,6 +70,9 @@ pub trait Engine {
 
     ghost faults: { Self.Log → ℕ };
 
+    /// A client knows of its own calls of the controller that take a token or give one back, and of no others of it.
+    ghost own_tokens: { (e : Self) (c : Self.Client) → belongs e c → KnowsOwnTokens (account c) };
+
     /// Writes a batch under a run of sequences of its own, and waits until reads see it.
     fn write<R: Wait + rt::Clock>(
         &self,
@@ -86,9 +88,12 @@ pub trait Engine {
             r.group_last (account client.new)) }
         ensures back { IfOk result (λ r. (r.batch ≡ record batch { sequence = r.run.first })
             × (r.run.last + 1 ≡ r.run.first + model.count_of batch.records)) }
-        // a batch that asked for a sync was written by a call of the log writer that synced
-        ensures synced { IfOk result (λ r. options.sync ≡ true → (calls : List GroupCall) × (log : Self.Log)
-            × wrote self.now calls log × IsSyncedBy r.run.first batch.records calls) }
+        // A batch that goes into the log was written by a call of the log writer that had returned, and that synced
+        // where the batch asked for it. The client knows of that call since, and knew less before.
+        ensures logged { IfOk result (λ r. options.no_log ≡ false → (calls : List GroupCall) × (log : Self.Log)
+            × wrote self.now calls log × ((account client.new).seen.logged ≤ length calls)
+            × IsLoggedBy calls (account client.old).seen.logged (account client.new).seen.logged r.run.first
+            batch.records options.sync) }
         // The cause holds of the batch, of the client, of the log as the client may know it, or of the controller by
         // the numbers of its group's own delay or of a look. A client that meets want of memory has made no attempt:
         // its commit was never in the line.
@@ -193,9 +198,9 @@ pub trait Engine {
             (account client.new)) }
         ensures family { IsOfFamilies (settings self.now) (family ∷ []) result };
 
-    /// The log's records that hold the sequence `since` or later ones, up to an end of what is published: those that the
-    /// log had kept and those of the groups that were logged, in order, without those that hold no sequence. It waits
-    /// until it leads the log alone; while it reads, groups that are in the log already go on into the table.
+    /// The log's records that hold the sequence `since` or later ones, up to an end of what is published: those that
+    /// the log had kept and those of the groups that were logged, in order, without those that hold no sequence. It
+    /// waits until it leads the log alone; while it reads, groups that are in the log already go on into the table.
     fn updates<R: Wait + rt::Clock>(
         &self,
         rt: &R,
@@ -204,13 +209,14 @@ pub trait Engine {
     ) -> Result<Since, SinceRefused>
         requires { belongs self.now client.old }
         ensures belongs { belongs self.now client.new }
-        // The end is that of what the client has then seen published. That the records are right is a part of the clause
-        // of `close`, since it speaks of the whole log.
+        // The end is that of what the client has then seen published. That the records are right is a part of the
+        // clause of `close`, since it speaks of the whole log.
         ensures ok { IfOk result (λ r. (holds_stop (account client.old).asked ≡ false)
             × ReadsLog (account client.old) since r.at r.records (account client.new)) }
-        // It is refused exactly where the client holds a stop token. A fault's count was reached by the disk in the run;
-        // at the closing no other call was answered it.
-        ensures err { IfErr result (λ why. FailsFor (settings self.now) (account client.old) why (account client.new)) };
+        // It is refused exactly where the client holds a stop token. A fault's count was reached by the disk in the
+        // run; at the closing no other call was answered it.
+        ensures err { IfErr result
+            (λ why. FailsFor (settings self.now) (account client.old) why (account client.new)) };
 
     /// Takes the client's stop token. While any client holds one, all writes wait, except that those that may not
     /// wait, and those of a client that holds one itself, are refused. Where the client already holds one, no call is

@@ -32,6 +32,8 @@ impl<Time: Clock> Controller<Time> {
         ensures asked { (now : ℕ) × IfSome (Time.last clock.new) (λ moment. moment ≡ now)
             × EndsWith (client_of pass.old) (seen_by pass.old) (delay now bytes) (Some (look_of result))
             (seen_by pass.new) }
+        // The caller waits, and not this call.
+        ensures pauses_none { Time.paused clock.new ≡ Time.paused clock.old }
     {
         // Where no client stops or slows writes, this load is the whole call, and no word is written.
         let found = self.ask_unslowed::<Brand, R>(rt, &mut pass.seat, clock, bytes);

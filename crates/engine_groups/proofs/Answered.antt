@@ -2,6 +2,7 @@
 use Rattle.std.proofs.Common.{◌≡◌, inr, ℕ, ◌+◌, ◌-◌, ◌<◌, ◌≤◌, Bool, true, false, not, cond, ◌==◌, ◌&&◌, List, [], ◌∷◌, ◌++◌, Option, Some, None, MatchOption, IfSome, Result, Ok, Err, IfOk, IfErr, length, refl, ap, sym, ◌∙◌, subst, arith, append_assoc, append-nil, length-append}
 use Rattle.std.specs.Prelude.{if◌then◌else◌, nat_lt}
 use Rattle.std.specs.List.{AllByRecursion}
+use Rattle.std.proofs.lemmas.Option.{slice_get_within}
 use mathlib.Core.List.{IsPrefix}
 use Rattle.log_writer.specs.declared.group_log.GroupLog.{Ghosts}
 use Rattle.model_base.specs.declared.write.Refusal.{Refusal}
@@ -13,11 +14,11 @@ use Rattle.std.specs.Option.{option_map_or}
 use Rattle.model_base.specs.Progress.{families_in, first_missing, early_refusal}
 use Rattle.model_base.specs.Batch.{Record, count_of, size_of_batch}
 use Rattle.model_base.specs.Controller.{ControllerCall, Look, delay, look}
-use Rattle.model_base.specs.LogContents.{GroupCall}
-use Rattle.model_base.specs.Replies.{IsLater, MetStall}
+use Rattle.model_base.specs.LogContents.{GroupCall, IsLoggedBy}
+use Rattle.model_base.specs.Replies.{IsLater, IsWithinCall, MetStall}
 use Rattle.model_base.specs.Tokens.{tokens_of, holds_stop}
 use Rattle.model_base.proofs.Prefixes.{prefix_length, prefix_self, prefix_trans}
-use Rattle.model_base.proofs.Runs.{later_in}
+use Rattle.model_base.proofs.Runs.{later_in, logged_in}
 use Rattle.engine_parts.specs.declared.log.OpenLog.{OpenLog}
 use Rattle.engine_parts.specs.Logs.{Wrote as LogWrote}
 use Rattle.log_batch.specs.Contents.{Contents}
@@ -28,22 +29,24 @@ use Rattle.line_rule.specs.declared.view.Handling.{Handling}
 use Rattle.line_rule.specs.Chain.{of}
 use Rattle.engine_controller.specs.declared.controller.Controller.{Controller}
 use Rattle.engine_controller.specs.Noted.{Noted}
-use Rattle.engine_controller.specs.Passes.{seen_by_note, IsNoteOf}
+use Rattle.engine_controller.specs.Passes.{seen_by_note}
 use Rattle.engine_parts.specs.declared.requests.Request.{Request}
 use Rattle.engine_calls.specs.declared.answers.Receipt.{Receipt}
 use Rattle.engine_calls.specs.declared.answers.Refused.{Refused}
 use Rattle.engine_parts.specs.declared.requests.Answer.{Answer}
-use Rattle.model_accounts.specs.Accounts.{Account, IsRefused, IsRefusedLate, Keeps, Refuses, Wrote}
-use Rattle.model_runs.specs.Written.{IsSyncedBy}
-use Rattle.engine_groups.specs.Clients.{own_answers, own_commits}
-use Rattle.engine_groups.proofs.Told.{answers_same, commit, commits_told, own_more}
-use Rattle.engine_parts.specs.Handled.{AreHandled, ComesBack, HandsBack, IsLate, ShowsDelay, answer_in, answer_of_refusal, held_up_with, noted_in, seen_for, commits_in}
+use Rattle.model_accounts.specs.Accounts.{Account, IsRefused, IsRefusedLate, Keeps, KnowsOwnTokens, Refuses, Wrote}
+use Rattle.engine_groups.specs.Clients.{own_answers, own_commits, own_sights}
+use Rattle.engine_groups.proofs.Told.{answers_same, commit, commits_told, own_more, sight, sights_more, sights_told}
+use Rattle.engine_parts.specs.Handled.{AreHandled, ComesBack, HandsBack, IsDelayed, IsLate, ShowsDelay, answer_in, answer_of_refusal, first_of, has_run, held_up_with, noted_in, seen_for, sights_in, commits_in}
 use Rattle.engine_parts.specs.Runs.{IsAbove}
-use Rattle.engine_rule.specs.Commits.{Commit, commits_of, held_up}
-use Rattle.engine_rule.specs.Entries.{account_of, SeesMore}
+use Rattle.engine_parts.proofs.Views.{some_holds}
+use Rattle.engine_rule.specs.Asked.{place_of}
+use Rattle.engine_rule.specs.Commits.{Commit, accepted, commits_of, held_up}
+use Rattle.engine_rule.specs.Entries.{account_of, SeesMore, ShowsBatch}
+use Rattle.engine_rule.specs.LogSights.{LogSight, WrittenBatch, logged_by, written_if}
 use Rattle.engine_rule.specs.Reading.{ReadAnswer}
-use Rattle.engine_rule.proofs.Own.{refused_failed, refused_full, refused_held_up, refused_stalled, wrote}
-use Rattle.engine_rule.proofs.Synced.{have_synced}
+use Rattle.engine_rule.proofs.Own.{logged_more, refused_failed, refused_full, refused_held_up, refused_stalled, wrote}
+use Rattle.engine_rule.proofs.LogSights.{newest_shown}
 
 one_pair : {A : Type 0} (x y : A) (xs ys : List A) → x ∷ xs ≡ y ∷ ys → (x ≡ y) × (xs ≡ ys)
 one_pair x y xs ys e = (cc, cc)
@@ -66,20 +69,7 @@ newest P k (h ∷ hs) mine q p e all = back_by P k h hs mine q p (h.by == k) e a
 pub last_back : (k : ℕ) (hs : List (Handling Request Answer)) (mine : List (Request × Answer)) (q : Request) (p : Answer) → of k hs ≡ mine ++ (q, p) ∷ [] → AllByRecursion HandsBack hs → ComesBack q.batch p.answer
 last_back k hs mine q p e handed_back = (newest HandsBack k hs mine q p e handed_back).1
 
--- a batch that passed the early checks is logged where it must be synced, and may not wait where its client stops
--- writes
-logged_by : (empty large sync no_log : Bool) (a b c : Refusal) (rest : Option Refusal) → (if empty then Some a else if large then Some b else if sync && no_log then Some c else rest) ≡ None → sync ≡ true → no_log ≡ false
-logged_by true large sync no_log a b c rest e s = absurd (cc)
-logged_by false true sync no_log a b c rest e s = absurd (cc)
-logged_by false false true true a b c rest e s = absurd (cc)
-logged_by false false true false a b c rest e s = refl
-logged_by false false false no_log a b c rest e s = absurd (cc)
-
-pub logged_if : (families bytes : ℕ) (stopping : Bool) (records : List Record) (how : WriteOptions) → early_refusal families bytes stopping records how ≡ None → how.sync ≡ true → how.no_log ≡ false
-logged_if families bytes stopping records how e =
-    logged_by (count_of records == 0) (nat_lt bytes (size_of_batch records)) how.sync how.no_log Empty (TooLarge (size_of_batch records)) SyncWithoutLog
-    (option_map_or (λ family. Some (NoFamily family)) (first_missing families (families_in records)) (if stopping && not how.no_slowdown then Some SelfStop else None)) e
-
+-- a batch that passed the early checks may not wait where its client stops writes
 impatient_by : (empty large unlogged no_slowdown : Bool) (missing : Option ℕ) (a b c d : Refusal)
     → (if empty then Some a else if large then Some b else if unlogged then Some c else option_map_or (λ family. Some (NoFamily family)) missing (if true && not no_slowdown then Some d else None)) ≡ None → no_slowdown ≡ true
 impatient_by true large unlogged no_slowdown missing a b c d e = absurd (cc)
@@ -100,21 +90,22 @@ none_is (Some x) h = absurd (h x refl)
 pub begins_self : {A : Type 0} (xs : List A) → Begins xs xs
 begins_self xs = ([], sym (append-nil xs))
 
-pub keeps_self : (v : Account) → Keeps v v
-keeps_self v = record {
+pub keeps_self : (v : Account) → KnowsOwnTokens v → Keeps v v
+keeps_self v own = record {
   number = refl;
   mine = refl;
   ends = refl;
   asked = refl;
   attempts = refl;
   read_faults = refl;
-  seen = record { start = refl; opening = refl; published = begins_self v.seen.published; controller_calls = prefix_self v.seen.controller_calls; log_reads = prefix_self v.seen.log_reads };
+  seen = record { start = refl; opening = refl; published = begins_self v.seen.published; controller_calls = prefix_self v.seen.controller_calls; log_reads = prefix_self v.seen.log_reads; logged = omega arith; batches = prefix_self v.seen.batches };
+  tokens = own;
 }
 
 -- a refusal by the early checks
-pub refuses_early : (settings : Settings) (v : Account) (records : List Record) (how : WriteOptions) (why : Refusal) → early_refusal settings.families settings.batch_bytes (holds_stop v.asked) records how ≡ Some why → Refuses settings v records how why v
-refuses_early settings v records how why early =
-    subst (λ (o : Option Refusal). MatchOption o (IsRefusedLate v records how why v) (λ (x : Refusal). (why ≡ x) × Keeps v v)) (sym early) (refl, keeps_self v)
+pub refuses_early : (settings : Settings) (v : Account) (records : List Record) (how : WriteOptions) (why : Refusal) → early_refusal settings.families settings.batch_bytes (holds_stop v.asked) records how ≡ Some why → KnowsOwnTokens v → Refuses settings v records how why v
+refuses_early settings v records how why early own =
+    subst (λ (o : Option Refusal). MatchOption o (IsRefusedLate v records how why v) (λ (x : Refusal). (why ≡ x) × Keeps v v)) (sym early) (refl, keeps_self v own)
 
 -- a refusal past the early checks
 pub refuses_late : (settings : Settings) (v : Account) (records : List Record) (how : WriteOptions) (why : Refusal) (w : Account) → early_refusal settings.families settings.batch_bytes (holds_stop v.asked) records how ≡ None → IsRefusedLate v records how why w → Refuses settings v records how why w
@@ -125,7 +116,7 @@ refuses_late settings v records how why w passed late =
 pub record Concludes {D : Type 0} {ghosts : Ghosts D} (opened : OpenLog D ghosts) (settings : Settings) (v : Account) (batch : Contents) (how : WriteOptions) (answer : Result Receipt Refused) (w : Account) : Type 0 where
   pub accepted : IfOk answer (λ (r : Receipt). Wrote settings v batch.records how r.run.first r.group_last w)
   pub back : IfOk answer (λ (r : Receipt). (r.batch ≡ record batch { sequence = r.run.first }) × (r.run.last + 1 ≡ r.run.first + count_of batch.records))
-  pub synced : IfOk answer (λ (r : Receipt). how.sync ≡ true → (calls : List GroupCall) × (log : OpenLog D ghosts) × LogWrote opened calls log × IsSyncedBy r.run.first batch.records calls)
+  pub logged : IfOk answer (λ (r : Receipt). how.no_log ≡ false → (calls : List GroupCall) × (log : OpenLog D ghosts) × LogWrote opened calls log × (w.seen.logged ≤ length calls) × IsLoggedBy calls v.seen.logged w.seen.logged r.run.first batch.records how.sync)
   pub refused : IfErr answer (λ (e : Refused). Refuses settings v batch.records how e.why w)
   pub unchanged : IfErr answer (λ (e : Refused). e.batch ≡ batch)
 
@@ -136,40 +127,59 @@ module _ {C D : Type 0} {ghosts : Ghosts D} (controller : Controller C) (opened 
   is = commits_told k handled ∙ (ap (own_commits k) own ∙ own_more k mine q p writes)
 
   abbrev old : Account
-  old = account_of start opening k (own_commits k mine) (own_answers mine) seen known
+  old = account_of start opening k (own_commits k mine) (own_sights k mine) (own_answers mine) seen known
 
   abbrev new : Account
-  new = account_of start opening k (own_commits k (mine ++ (q, p) ∷ [])) (own_answers (mine ++ (q, p) ∷ [])) now after
+  new = account_of start opening k (own_commits k (mine ++ (q, p) ∷ [])) (own_sights k (mine ++ (q, p) ∷ [])) (own_answers (mine ++ (q, p) ∷ [])) now after
 
-  new_is : account_of start opening k (own_commits k mine ++ commit k q p ∷ []) (own_answers mine) now after ≡ new
-  new_is = λ i. account_of start opening k (sym (own_more k mine q p writes) i) (sym (answers_same mine q p writes) i) now after
+  new_is : account_of start opening k (own_commits k mine ++ commit k q p ∷ []) (own_sights k mine ++ sight k q p ∷ []) (own_answers mine) now after ≡ new
+  new_is = λ i. account_of start opening k (sym (own_more k mine q p writes) i) (sym (sights_more k mine q p writes) i) (sym (answers_same mine q p writes) i) now after
+
+  -- The client has seen the note of its reply, and with it the delay of its group. That delay comes after all that the
+  -- client had seen before the call.
+
+  shows : (by : ℕ) × ShowsDelay controller (record { by = by; asked = q; reply = p })
+  shows = newest (ShowsDelay controller) k handled mine q p own kept.shown
+
+  front : IsPrefix (seen_for p) after
+  front = let n = shows.1.noted writes in prefix_trans (seen_for p) (seen_by_note n.0) after n.3 (some_holds (λ (m : Noted). IsPrefix (seen_by_note m) after) p.note n.0 n.1 sees_note)
+
+  -- what is later than all that the note showed is later than all that the client had seen
+  later_known : (numbers : Look) (d : IsDelayed (noted_in q.note) (seen_for p) numbers) → IsLater after (length known) (length (seen_for p) - 1) (record { client = d.by; action = delay d.now d.bytes; told = Some numbers })
+  later_known numbers d =
+      let later = later_in (seen_for p) after front (length (noted_in q.note)) (length (seen_for p) - 1) (record { client = d.by; action = delay d.now d.bytes; told = Some numbers }) d.is_later in
+      let low = prefix_length known (noted_in q.note) noted_known in let late = later.later in
+      record { later = omega (arith, low, late); there = later.there }
+
+  within : IsWithinCall (length known) (length after) (place_of (commit k q p))
+  within =
+      let d = shows.1.delayed writes in let later = later_known d.0 d.1 in
+      (later.later, slice_get_within after (length (seen_for p) - 1) (record { client = d.1.by; action = delay d.1.now d.1.bytes; told = Some d.0 }) later.there)
+
+  -- the newest of the client's answers shows no less of the log than those before it
+  in_order : (logged_by (own_sights k mine) ≤ (sight k q p).made) × ((sight k q p).made ≤ length kept.written.worked)
+      × IfSome (sight k q p).batch (λ (b : WrittenBatch). IsLoggedBy kept.written.worked (logged_by (own_sights k mine)) (sight k q p).made b.first b.records b.sync)
+  in_order = newest_shown kept.written.worked (sights_in handled) kept.written.shown k (own_sights k mine) (sight k q p) (sights_told k handled ∙ (ap (own_sights k) own ∙ sights_more k mine q p writes))
+
+  batch_shown : (first end : ℕ) → answer_in p.answer ≡ accepted first end → ShowsBatch (commit k q p) first (sight k q p)
+  batch_shown first end is to_log = λ i. written_if (to_log i) (has_run (is i)) (record { first = first_of (is i); records = q.batch.records; sync = q.options.sync })
 
   pub answered_ok : (r : Receipt) → p.answer ≡ Ok r → r.group_last ≤ last_of start now → Wrote settings old q.batch.records q.options r.run.first r.group_last new
   answered_ok r ok reached = subst (Wrote settings old q.batch.records q.options r.run.first r.group_last) new_is
-      (wrote start opening k (own_commits k mine) (own_answers mine) (commit k q p) seen now sees known after more free (commits_in handled) kept.answered is settings r.run.first r.group_last (ap answer_in ok) passed (subst (IsAbove (last_of start seen)) ok above) reached)
-
-  -- the client has seen the note of a reply, and with it the delay that the note shows
-  noted_after : (note : Option Noted) → IfSome note (λ (n : Noted). IsNoteOf controller n × (seen_by_note n ≡ seen_for p)) → IfSome note (λ (n : Noted). IsPrefix (seen_by_note n) after) → (n : Noted) → note ≡ Some n → IsPrefix (seen_for p) after
-  noted_after None a b n e = absurd (cc)
-  noted_after (Some m) a b n e = subst (λ (l : List ControllerCall). IsPrefix l after) a.1 b
+      (wrote start opening k (own_commits k mine) (own_sights k mine) (own_answers mine) (commit k q p) (sight k q p) seen now sees known after more free within in_order.0 (commits_in handled) kept.answered is settings r.run.first r.group_last (ap answer_in ok) passed (subst (IsAbove (last_of start seen)) ok above) reached
+      (batch_shown r.run.first r.group_last (ap answer_in ok)))
 
   refused_by : (why : Refusal) (e : Refused) → e.why ≡ why → p.answer ≡ Err e → IsLate why → IsRefused old q.batch.records q.options why new
   refused_by (LogFault n) e is_why err late = subst (IsRefused old q.batch.records q.options (LogFault n)) new_is
-      (refused_failed start opening k (own_commits k mine) (own_answers mine) (commit k q p) seen now sees known after more free n (ap answer_in err ∙ ap answer_of_refusal is_why))
+      (refused_failed start opening k (own_commits k mine) (own_sights k mine) (own_answers mine) (commit k q p) (sight k q p) seen now sees known after more free within in_order.0 n (ap answer_in err ∙ ap answer_of_refusal is_why))
   refused_by (SequenceFull l) e is_why err late = subst (IsRefused old q.batch.records q.options (SequenceFull l)) new_is
-      (refused_full start opening k (own_commits k mine) (own_answers mine) (commit k q p) seen now sees known after more free (commits_in handled) kept.answered is l (ap answer_in err ∙ ap answer_of_refusal is_why) (subst (IsAbove (last_of start seen)) err above l is_why))
+      (refused_full start opening k (own_commits k mine) (own_sights k mine) (own_answers mine) (commit k q p) (sight k q p) seen now sees known after more free within in_order.0 (commits_in handled) kept.answered is l (ap answer_in err ∙ ap answer_of_refusal is_why) (subst (IsAbove (last_of start seen)) err above l is_why))
   refused_by (Incomplete s d w) e is_why err late =
       let numbers : Look = record { stops = s; delays = d; wait = w } in
       let told : answer_in p.answer ≡ held_up numbers = ap answer_in err ∙ ap answer_of_refusal is_why in
-      let shows = (newest (ShowsDelay controller) k handled mine q p own kept.shown).1 in
-      let h = shows.held_up numbers told in
-      let delayed = h.3 in
-      let front = noted_after p.note shows.note sees_note h.2.0 h.2.1 in
-      let later = later_in (seen_for p) after front (length (noted_in q.note)) (length (seen_for p) - 1) (record { client = delayed.by; action = delay delayed.now delayed.bytes; told = Some numbers }) delayed.is_later in
-      let low = prefix_length known (noted_in q.note) noted_known in let late = later.later in
+      let h = shows.1.held_up numbers told in
       subst (IsRefused old q.batch.records q.options (Incomplete s d w)) new_is
-      (refused_held_up start opening k (own_commits k mine) (own_answers mine) (commit k q p) seen now sees known after more free numbers delayed.by delayed.now delayed.bytes told h.0 h.1
-      (record { later = omega (arith, low, late); there = later.there }))
+      (refused_held_up start opening k (own_commits k mine) (own_sights k mine) (own_answers mine) (commit k q p) (sight k q p) seen now sees known after more free within in_order.0 numbers h.2.by h.2.now h.2.bytes told h.0 h.1 (later_known numbers h.2))
   refused_by Empty e is_why err late = absurd late
   refused_by (TooLarge size) e is_why err late = absurd late
   refused_by SyncWithoutLog e is_why err late = absurd late
@@ -183,36 +193,43 @@ module _ {C D : Type 0} {ghosts : Ghosts D} (controller : Controller C) (opened 
   pub answered_err : (e : Refused) → p.answer ≡ Err e → Refuses settings old q.batch.records q.options e.why new
   answered_err e err = refuses_late settings old q.batch.records q.options e.why new passed (inr (refused_by e.why e refl err (subst (ComesBack q.batch) err back).1))
 
-  -- a batch that had to be synced was synced, by one of the calls that wrote the log
-  pub answered_synced : (r : Receipt) → p.answer ≡ Ok r → q.options.sync ≡ true → (calls : List GroupCall) × (log : OpenLog D ghosts) × LogWrote opened calls log × IsSyncedBy r.run.first q.batch.records calls
-  answered_synced r ok sync =
+  -- a batch that goes into the log was written by one of the calls that the client knows of now
+  answered_logged : (r : Receipt) → p.answer ≡ Ok r → q.options.no_log ≡ false
+      → (calls : List GroupCall) × (log : OpenLog D ghosts) × LogWrote opened calls log × (new.seen.logged ≤ length calls) × IsLoggedBy calls old.seen.logged new.seen.logged r.run.first q.batch.records q.options.sync
+  answered_logged r ok to_log =
       let w = kept.written in
-      let h = have_synced start k (commits_in handled) (own_commits k mine) (commit k q p) w.worked r.run.first r.group_last kept.answered w.parts is (ap answer_in ok) sync (logged_if settings.families settings.batch_bytes (holds_stop (tokens_of k known)) q.batch.records q.options passed sync) in
-      (w.calls, w.log, w.wrote, record { front = h.front; call = h.call; rest = h.rest ++ w.lost; there = w.both ∙ (ap (λ (l : List GroupCall). l ++ w.lost) h.there ∙ append_assoc h.front (h.call ∷ h.rest) w.lost); is = h.is })
+      let made : new.seen.logged ≡ (sight k q p).made = ap logged_by (sights_more k mine q p writes) ∙ logged_more (own_sights k mine) (sight k q p) in
+      let begins : IsPrefix w.worked w.calls = (w.lost, sym w.both) in
+      let long = prefix_length w.worked w.calls begins in let within_all = in_order.1 in
+      let one : IsLoggedBy w.worked old.seen.logged (sight k q p).made r.run.first q.batch.records q.options.sync =
+      some_holds (λ (b : WrittenBatch). IsLoggedBy w.worked old.seen.logged (sight k q p).made b.first b.records b.sync) (sight k q p).batch (record { first = r.run.first; records = q.batch.records; sync = q.options.sync })
+      (batch_shown r.run.first r.group_last (ap answer_in ok) to_log) in_order.2 in (
+        w.calls,
+        w.log,
+        w.wrote,
+        omega (arith, made, long, within_all),
+        subst (λ (knows : ℕ). IsLoggedBy w.calls old.seen.logged knows r.run.first q.batch.records q.options.sync) (sym made)
+            (logged_in w.worked w.calls begins old.seen.logged (sight k q p).made r.run.first q.batch.records q.options.sync one),
+      )
 
   -- all that the client concludes
   pub concludes : (answer : Result Receipt Refused) → p.answer ≡ answer → IfOk answer (λ (r : Receipt). r.group_last ≤ last_of start now) → Concludes opened settings old q.batch q.options answer new
-  concludes (Ok r) ok reached = let b = subst (ComesBack q.batch) ok back in record { accepted = answered_ok r ok reached; back = b; synced = answered_synced r ok; refused = tt; unchanged = tt }
-  concludes (Err e) err reached = let b = subst (ComesBack q.batch) err back in record { accepted = tt; back = tt; synced = tt; refused = answered_err e err; unchanged = b.0 }
+  concludes (Ok r) ok reached = let b = subst (ComesBack q.batch) ok back in record { accepted = answered_ok r ok reached; back = b; logged = answered_logged r ok; refused = tt; unchanged = tt }
+  concludes (Err e) err reached = let b = subst (ComesBack q.batch) err back in record { accepted = tt; back = tt; logged = tt; refused = answered_err e err; unchanged = b.0 }
 
 -- what a client concludes whose commit met a stall, and is in no group
-pub concludes_met : {D : Type 0} {ghosts : Ghosts D} (opened : OpenLog D ghosts) (settings : Settings) (start : ℕ) (opening : Pairs) (k : ℕ) (own : List Commit) (answers : List ReadAnswer) (batch : Contents) (how : WriteOptions) (before now : List (List MemberVersions)) (known after : List ControllerCall) (numbers : Look) (by place : ℕ)
+pub concludes_met : {D : Type 0} {ghosts : Ghosts D} (opened : OpenLog D ghosts) (settings : Settings) (start : ℕ) (opening : Pairs) (k : ℕ) (own : List Commit) (sights : List LogSight) (answers : List ReadAnswer) (batch : Contents) (how : WriteOptions) (before now : List (List MemberVersions)) (known after : List ControllerCall) (numbers : Look) (by place : ℕ)
     → Begins before now → SeesMore k known after → early_refusal settings.families settings.batch_bytes (holds_stop (tokens_of k known)) batch.records how ≡ None → holds_stop (tokens_of k known) ≡ false → how.no_slowdown ≡ true
     → IsLater after (length known) place (record { client = by; action = look; told = Some numbers }) → MetStall after k by place numbers
-    → Concludes opened settings (account_of start opening k own answers before known) batch how (Err (held_up_with numbers batch)) (account_of start opening k own answers now after)
-concludes_met opened settings start opening k own answers batch how before now known after numbers by place sees more passed free impatient later met = record {
+    → Concludes opened settings (account_of start opening k own sights answers before known) batch how (Err (held_up_with numbers batch)) (account_of start opening k own sights answers now after)
+concludes_met opened settings start opening k own sights answers batch how before now known after numbers by place sees more passed free impatient later met = record {
   accepted = tt;
   back = tt;
-  synced = tt;
-  refused = refuses_late settings (account_of start opening k own answers before known) batch.records how (Incomplete numbers.stops numbers.delays numbers.wait) (account_of start opening k own answers now after) passed
-      (inr (refused_stalled start opening k own answers batch.records how before now known after numbers by place sees more free impatient later met));
+  logged = tt;
+  refused = refuses_late settings (account_of start opening k own sights answers before known) batch.records how (Incomplete numbers.stops numbers.delays numbers.wait) (account_of start opening k own sights answers now after) passed
+      (inr (refused_stalled start opening k own sights answers batch.records how before now known after numbers by place sees more free impatient later met));
   unchanged = refl;
 }
-
--- the note of a reply is the controller's
-pub note_of : {C : Type 0} (controller : Controller C) (note : Option Noted) (seen : List ControllerCall) → IfSome note (λ (n : Noted). IsNoteOf controller n × (seen_by_note n ≡ seen)) → IfSome note (IsNoteOf controller)
-note_of controller None seen h = tt
-note_of controller (Some n) seen h = h.0
 
 -- What a client has seen grows
 

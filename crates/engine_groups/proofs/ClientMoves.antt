@@ -1,5 +1,5 @@
 -- A client whose seat or pass has seen more, and its account then.
-use Rattle.std.proofs.Common.{◌≡◌, ℕ, ◌-◌, Bool, true, false, List, [], ◌∷◌, ◌++◌, Option, None, Result, Ok, Err, IfOk, OnOk, OnErr, length, refl, ap, sym, ◌∙◌, subst, append-nil}
+use Rattle.std.proofs.Common.{◌≡◌, ℕ, ◌-◌, Bool, true, false, List, [], ◌∷◌, ◌++◌, Option, None, Result, Ok, Err, IfOk, OnOk, OnErr, length, arith, refl, ap, sym, ◌∙◌, subst, append-nil}
 use Rattle.std.specs.List.{AllByRecursion}
 use mathlib.Core.List.{IsPrefix}
 use Rattle.log_writer.specs.declared.group_log.GroupLog.{Ghosts}
@@ -105,7 +105,8 @@ module _ {D T C G S U P : Type 0} {ghosts : Ghosts D} (meaning : Meaning T S U P
     asked = refl;
     attempts = refl;
     read_faults = refl;
-    seen = record { start = refl; opening = refl; published = seen; controller_calls = prefix_self (seen_by c.pass); log_reads = prefix_self _ };
+    seen = record { start = refl; opening = refl; published = seen; controller_calls = prefix_self (seen_by c.pass); log_reads = prefix_self _; logged = omega arith; batches = prefix_self _ };
+    tokens = refl;
   }
 
   -- what the seat read is true as of the end of what the client has seen
@@ -154,7 +155,8 @@ module _ {D T C G S U P : Type 0} {ghosts : Ghosts D} (meaning : Meaning T S U P
     asked = ap (tokens_of c.number) same;
     attempts = refl;
     read_faults = refl;
-    seen = record { start = refl; opening = refl; published = begins_self (meaning.account c.seat).seen; controller_calls = subst (IsPrefix (seen_by c.pass)) (sym same) (prefix_self (seen_by c.pass)); log_reads = prefix_self _ };
+    seen = record { start = refl; opening = refl; published = begins_self (meaning.account c.seat).seen; controller_calls = subst (IsPrefix (seen_by c.pass)) (sym same) (prefix_self (seen_by c.pass)); log_reads = prefix_self _; logged = omega arith; batches = prefix_self _ };
+    tokens = refl;
   }
 
   -- it made a call that isn't a delay
@@ -177,7 +179,8 @@ module _ {D T C G S U P : Type 0} {ghosts : Ghosts D} (meaning : Meaning T S U P
           asked = ends_tokens c.number (seen_by c.pass) action None (seen_by pass) ends_own ∙ ap (λ (l : List Action). tokens_of c.number (seen_by c.pass) ++ l) is;
           attempts = refl;
           read_faults = refl;
-          seen = record { start = refl; opening = refl; published = begins_self (meaning.account c.seat).seen; controller_calls = ends_begins c.number (seen_by c.pass) action None (seen_by pass) ends_own; log_reads = prefix_self _ };
+          seen = record { start = refl; opening = refl; published = begins_self (meaning.account c.seat).seen; controller_calls = ends_begins c.number (seen_by c.pass) action None (seen_by pass) ends_own; log_reads = prefix_self _; logged = omega arith; batches = prefix_self _ };
+          tokens = refl;
           place = last.place;
           is_later = last.is_later;
         }
@@ -221,7 +224,10 @@ module _ {D T C G S U P : Type 0} {ghosts : Ghosts D} (meaning : Meaning T S U P
         published = begins_self (meaning.account c.seat).seen;
         controller_calls = prefix_trans (seen_by c.pass) middle (seen_by pass) (back_begins a (pass_client c.pass) (seen_by c.pass) unstop middle first) (back_begins b (pass_client c.pass) middle unslow (seen_by pass) second);
         log_reads = prefix_self _;
+        logged = omega arith;
+        batches = prefix_self _;
       };
+      tokens = refl;
     }
 
   -- its pass has seen more of others' calls

@@ -26,18 +26,19 @@ use Rattle.engine_parts.specs.Runs.{IsAbove}
 use Rattle.engine_groups.specs.Meaning.{Meaning}
 use Rattle.engine_groups.specs.declared.engine.GroupEngine.{GroupEngine}
 use Rattle.engine_groups.specs.declared.engine.EngineClient.{EngineClient}
-use Rattle.engine_groups.specs.Clients.{HasLeftQueue, IsAnsweredInGroup, IsLeftOut, account_in, map_at_opening, opened_log, own_answers, own_commits, settings_of}
-use Rattle.engine_groups.proofs.Answered.{Concludes, concludes, concludes_met, newest, note_of, sees_on}
+use Rattle.engine_groups.specs.Clients.{HasLeftQueue, IsAnsweredInGroup, IsLeftOut, account_in, map_at_opening, opened_log, own_answers, own_commits, own_sights, settings_of}
+use Rattle.engine_groups.proofs.Answered.{Concludes, concludes, concludes_met, newest, sees_on}
 use Rattle.engine_groups.proofs.AtEnds.{ends_on}
 use Rattle.engine_groups.proofs.Told.{answers_same}
 use Rattle.engine_groups.proofs.AtStall.{leader_later, met_leader, met_self}
 
 -- the note of an answer is the controller's
 pub note_is : {C D T S U P : Type 0} {ghosts : Ghosts D} (controller : Controller C) (opened : OpenLog D ghosts) (start : ℕ) (q : Request) (p : Answer) (v w : EngineClient D T C S U P ghosts)
-    → IsAnsweredInGroup controller opened start q p v w ⊎ IsLeftOut controller q p v w → IfSome p.note (IsNoteOf controller)
-note_is {C} {D} {T} {S} {U} {P} {ghosts} controller opened start q p v w answered =
+    → IsAnsweredInGroup controller opened start q p v w ⊎ IsLeftOut controller q p v w → q.since ≡ None → IfSome p.note (IsNoteOf controller)
+note_is {C} {D} {T} {S} {U} {P} {ghosts} controller opened start q p v w answered writes =
     let there : IsAnsweredInGroup controller opened start q p v w → IfSome p.note (IsNoteOf controller) = λ h.
-    note_of controller p.note _ (newest (ShowsDelay controller) v.number h.answered.handled (answers_told v.writer) _ p h.answered.own h.answered.are_handled.shown).1.note in
+    let n = (newest (ShowsDelay controller) v.number h.answered.handled (answers_told v.writer) _ p h.answered.own h.answered.are_handled.shown).1.noted writes in
+    subst (λ (o : Option Noted). IfSome o (IsNoteOf controller)) (sym n.1) n.2 in
     let left : IsLeftOut controller q p v w → IfSome p.note (IsNoteOf controller) = λ h.
     let dropped : HasLeftQueue controller q p w → IfSome p.note (IsNoteOf controller) = λ d. subst (λ n. IfSome n (IsNoteOf controller)) (sym d.dropped.noted) d.dropped.own in
     let away : IsTurnedAway v.number (seen_by v.pass) (seen_by w.pass) q p → IfSome p.note (IsNoteOf controller) = λ t. subst (λ n. IfSome n (IsNoteOf controller)) (sym t.no_note) tt in
@@ -80,11 +81,11 @@ module _ {D T C G S U P : Type 0} {ghosts : Ghosts D} (meaning : Meaning T S U P
 
   -- its account, by its numbers before the call
   as_account : w.number ≡ v.number → w.start ≡ v.start → w.table ≡ v.table → (mine : List (Request × Answer)) → answers_told w.writer ≡ mine
-      → Ends (account_of v.start (map_at_opening meaning v.table.value) v.number (own_commits v.number mine) (own_answers mine) (meaning.account x.seat).seen (seen_by x.pass)) → Ends (account_in meaning x)
+      → Ends (account_of v.start (map_at_opening meaning v.table.value) v.number (own_commits v.number mine) (own_sights v.number mine) (own_answers mine) (meaning.account x.seat).seen (seen_by x.pass)) → Ends (account_in meaning x)
   as_account nu st tb mine told h =
       let st2 : v.start ≡ x.start = sym (start ∙ st) in let tb2 : v.table ≡ x.table = sym (table ∙ tb) in let nu2 : v.number ≡ x.number = sym (number ∙ nu) in
       let told2 : mine ≡ answers_told x.writer = sym told ∙ ap answers_told (sym writer) in
-      subst Ends (λ i. account_of (st2 i) (map_at_opening meaning (tb2 i).value) (nu2 i) (own_commits (nu2 i) (told2 i)) (own_answers (told2 i)) (meaning.account x.seat).seen (seen_by x.pass)) h
+      subst Ends (λ i. account_of (st2 i) (map_at_opening meaning (tb2 i).value) (nu2 i) (own_commits (nu2 i) (told2 i)) (own_sights (nu2 i) (told2 i)) (own_answers (told2 i)) (meaning.account x.seat).seen (seen_by x.pass)) h
 
   in_group : IsAnsweredInGroup e.controller (opened_log e) (meaning.opening e.table).start q p joining w → q.since ≡ None → Ends (account_in meaning x)
   in_group h writes =
@@ -96,7 +97,7 @@ module _ {D T C G S U P : Type 0} {ghosts : Ghosts D} (meaning : Meaning T S U P
 
   module _ (A : IsLeftOut e.controller q p joining w) where
     abbrev own : Account
-    own = account_of v.start (map_at_opening meaning v.table.value) v.number (own_commits v.number (answers_told v.writer)) (own_answers (answers_told v.writer)) (meaning.account x.seat).seen (seen_by x.pass)
+    own = account_of v.start (map_at_opening meaning v.table.value) v.number (own_commits v.number (answers_told v.writer)) (own_sights v.number (answers_told v.writer)) (own_answers (answers_told v.writer)) (meaning.account x.seat).seen (seen_by x.pass)
 
     left_queue : HasLeftQueue e.controller q p w → Ends own
     left_queue h =
@@ -105,7 +106,7 @@ module _ {D T C G S U P : Type 0} {ghosts : Ghosts D} (meaning : Meaning T S U P
         let met = met_leader v.number noted_now (seen_by w.pass) (seen_by x.pass) told d.numbers h.shows (goes_own A.number) front d.looked d.shown in
         let later = leader_later (seen_by v.pass) noted_now (seen_by w.pass) (seen_by x.pass) told d.numbers h.shows first.begins front d.looked in
         subst (λ (a : Result Receipt Refused). Concludes (opened_log e) (settings_of meaning e) (account_in meaning v) q.batch q.options a own) (sym d.answer)
-        (concludes_met (opened_log e) (settings_of meaning e) v.start (map_at_opening meaning v.table.value) v.number (own_commits v.number (answers_told v.writer)) (own_answers (answers_told v.writer)) q.batch q.options (meaning.account v.seat).seen (meaning.account x.seat).seen (seen_by v.pass) (seen_by x.pass) d.numbers d.looked.by d.looked.place
+        (concludes_met (opened_log e) (settings_of meaning e) v.start (map_at_opening meaning v.table.value) v.number (own_commits v.number (answers_told v.writer)) (own_sights v.number (answers_told v.writer)) (own_answers (answers_told v.writer)) q.batch q.options (meaning.account v.seat).seen (meaning.account x.seat).seen (seen_by v.pass) (seen_by x.pass) d.numbers d.looked.by d.looked.place
         sees (sees_more A.number) passed free d.may_not_wait later met)
 
     turned_away : IsTurnedAway v.number (seen_by v.pass) (seen_by w.pass) q p → Ends own
@@ -114,7 +115,7 @@ module _ {D T C G S U P : Type 0} {ghosts : Ghosts D} (meaning : Meaning T S U P
         let met = met_self v.number (seen_by w.pass) (seen_by x.pass) t.place t.numbers front t.met in
         let later = later_in (seen_by w.pass) (seen_by x.pass) front (length (seen_by v.pass)) t.place (record { client = v.number; action = look; told = Some t.numbers }) t.is_later in
         subst (λ (a : Result Receipt Refused). Concludes (opened_log e) (settings_of meaning e) (account_in meaning v) q.batch q.options a own) (sym t.answer)
-        (concludes_met (opened_log e) (settings_of meaning e) v.start (map_at_opening meaning v.table.value) v.number (own_commits v.number (answers_told v.writer)) (own_answers (answers_told v.writer)) q.batch q.options (meaning.account v.seat).seen (meaning.account x.seat).seen (seen_by v.pass) (seen_by x.pass) t.numbers v.number t.place
+        (concludes_met (opened_log e) (settings_of meaning e) v.start (map_at_opening meaning v.table.value) v.number (own_commits v.number (answers_told v.writer)) (own_sights v.number (answers_told v.writer)) (own_answers (answers_told v.writer)) q.batch q.options (meaning.account v.seat).seen (meaning.account x.seat).seen (seen_by v.pass) (seen_by x.pass) t.numbers v.number t.place
         sees (sees_more A.number) passed free t.may_not_wait later met)
 
     left_out : Ends (account_in meaning x)

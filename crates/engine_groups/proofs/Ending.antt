@@ -29,13 +29,14 @@ use Rattle.model_runs.specs.Written.{WritesLog}
 use Rattle.engine_controller.specs.declared.pass.Pass.{Pass}
 use Rattle.engine_controller.specs.declared.pass.Passes.{Passes}
 use Rattle.engine_controller.specs.Passes.{seen_by, AreAll, IsHistoryOf, IsOthersOf, IsPassOf, client_of as pass_client}
-use Rattle.engine_groups.specs.Clients.{IsClientOf, IsEngine, map_at_opening, account_in, own_answers, own_commits, pass_in, seat_in, writer_in}
-use Rattle.engine_parts.specs.Handled.{commits_in, reads_handled}
+use Rattle.engine_groups.specs.Clients.{IsClientOf, IsEngine, map_at_opening, account_in, own_answers, own_commits, own_sights, pass_in, seat_in, writer_in}
+use Rattle.engine_parts.specs.Handled.{commits_in, reads_handled, sights_in}
 use Rattle.engine_rule.specs.Asked.{HasAsked}
 use Rattle.engine_rule.specs.Commits.{Commit, commits_of}
 use Rattle.engine_rule.specs.Entries.{account_of, AreCallsOf, HasPart}
+use Rattle.engine_rule.specs.LogSights.{sights_of}
 use Rattle.engine_rule.specs.Reading.{IsAtEnd, IsRight, ReadAnswer, answers_of, reads_in}
-use Rattle.engine_groups.proofs.Told.{commits_told, reads_told}
+use Rattle.engine_groups.proofs.Told.{commits_told, reads_told, sights_told}
 
 each_all : {C : Type 0} (P : C → Type 0) (cs : List C) → ((i : ℕ) (c : C) → slice_get cs i ≡ Some c → P c) → AllByRecursion P cs
 each_all P [] h = tt
@@ -126,12 +127,14 @@ module _ {D T C G S U P : Type 0} {ghosts : Ghosts D} (meaning : Meaning T S U P
 
     module _ (handled : List (Handling Request Answer)) (published : List (List MemberVersions))
         (merged : Merged handled (map writer_in cs)) (seen : IsTableClosing (meaning.opening e.table).start published (map meaning.account (map seat_in cs))) where
-      part : (i : ℕ) (c : EngineClient D T C S U P ghosts) → slice_get cs i ≡ Some c → HasPart (meaning.opening e.table).start (map_at_opening meaning e.table) (commits_in handled) (reads_handled handled) published calls i (account_in meaning c)
+      part : (i : ℕ) (c : EngineClient D T C S U P ghosts) → slice_get cs i ≡ Some c → HasPart (meaning.opening e.table).start (map_at_opening meaning e.table) (commits_in handled) (sights_in handled) (reads_handled handled) published calls i (account_in meaning c)
       part i c at =
           let f = fit i c at in
           let number : c.number ≡ i + 1 = (all.each i c at).1 in
           let own : own_commits c.number (answers_told c.writer) ≡ commits_of (i + 1) (commits_in handled) =
           ap (own_commits c.number) (sym (ap (λ k. of k handled) (sym f.idle.seated.number) ∙ merged_at handled cs merged i c at)) ∙ (sym (commits_told c.number handled) ∙ ap (λ k. commits_of k (commits_in handled)) number) in
+          let sights : own_sights c.number (answers_told c.writer) ≡ sights_of (i + 1) (sights_in handled) =
+          ap (own_sights c.number) (sym (ap (λ k. of k handled) (sym f.idle.seated.number) ∙ merged_at handled cs merged i c at)) ∙ (sym (sights_told c.number handled) ∙ ap (λ k. sights_of k (sights_in handled)) number) in
           let answers : own_answers (answers_told c.writer) ≡ answers_of (i + 1) (reads_handled handled) =
           ap own_answers (sym (ap (λ k. of k handled) (sym f.idle.seated.number) ∙ merged_at handled cs merged i c at)) ∙ (sym (reads_told c.number handled) ∙ ap (λ k. answers_of k (reads_handled handled)) number) in
           record {
@@ -141,15 +144,15 @@ module _ {D T C G S U P : Type 0} {ghosts : Ghosts D} (meaning : Meaning T S U P
             goes_on = whole.each i c.pass (slice_get-map pass_in cs i ∙ ap (option_map pass_in) at);
             has_asked = subst (λ (z : ℕ × List Commit). HasAsked z.0 z.1 (seen_by c.pass)) (λ j. (number j, own j)) f.idle.has_asked;
             at_ends = subst (λ (l : List ReadAnswer). AllByRecursion (IsAtEnd (meaning.opening e.table).start (meaning.account c.seat).seen) (reads_in l)) answers f.at_ends;
-            is = (λ j. account_of (f.idle.seated.start j) (map_at_opening meaning (f.idle.seated.table j)) (number j) (own j) (answers j) (meaning.account c.seat).seen (seen_by c.pass));
+            is = (λ j. account_of (f.idle.seated.start j) (map_at_opening meaning (f.idle.seated.table j)) (number j) (own j) (sights j) (answers j) (meaning.account c.seat).seen (seen_by c.pass));
           }
 
       -- each client's account is its part of the whole
-      pub parts : (i : ℕ) (a : Account) → slice_get (map (account_in meaning) cs) i ≡ Some a → HasPart (meaning.opening e.table).start (map_at_opening meaning e.table) (commits_in handled) (reads_handled handled) published calls i a
+      pub parts : (i : ℕ) (a : Account) → slice_get (map (account_in meaning) cs) i ≡ Some a → HasPart (meaning.opening e.table).start (map_at_opening meaning e.table) (commits_in handled) (sights_in handled) (reads_handled handled) published calls i a
       parts i a at = elim (slice_get_cases cs i).1 [
         | inl there ↦ (
             let is : account_in meaning there.0 ≡ a = cc (sym (slice_get-map (account_in meaning) cs i) ∙ at, ap (option_map (account_in meaning)) there.2) in
-            subst (HasPart (meaning.opening e.table).start (map_at_opening meaning e.table) (commits_in handled) (reads_handled handled) published calls i) is (part i there.0 there.2))
+            subst (HasPart (meaning.opening e.table).start (map_at_opening meaning e.table) (commits_in handled) (sights_in handled) (reads_handled handled) published calls i) is (part i there.0 there.2))
         | inr gone ↦ absurd (cc (sym (slice_get-map (account_in meaning) cs i) ∙ at, ap (option_map (account_in meaning)) gone.1))
       ]
 
@@ -166,6 +169,7 @@ written_by group_bytes wrote calls trace attempts groups fault by w = record {
   logged = w.logged;
   none_else = w.none_else;
   by = subst wrote (sym w.by) by;
+  log = w.log;
   rise = w.rise;
   in_turn = w.in_turn;
   by_leaders = w.by_leaders;

@@ -56,6 +56,8 @@ module _ {D T C S U P : Type 0} {ghosts : Ghosts D} (meaning : Meaning T S U P) 
           calls = path.calls;
           wrote = path.wrote;
           consistent = consistent_served about.start about.clients about.group_bytes (seen_by_note leadership.asked) (commits_in handled) leadership.held.value.path.last (fault_of leadership.held.value.path.log) published (meaning.history s.0) path.calls path.consistent accepted named;
+          made_is = path.made_is;
+          shown = path.shown;
           right = path.right;
           readers = path.readers;
           counted = path.counted;

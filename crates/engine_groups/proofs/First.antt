@@ -11,6 +11,7 @@ use Rattle.engine_parts.specs.Logs.{Wrote}
 use Rattle.table_rule.specs.declared.content.MemberVersions.{MemberVersions}
 use Rattle.engine_controller.specs.declared.controller.Controller.{Controller}
 use Rattle.engine_rule.specs.Consistent.{AreConsistent, EndsAreNamed}
+use Rattle.engine_rule.proofs.LogSights.{shown_first}
 use Rattle.engine_groups.specs.Meaning.{Meaning}
 use Rattle.engine_parts.specs.Handled.{AreHandled}
 use Rattle.engine_stage_laws.specs.Served.{AreServed}
@@ -28,12 +29,14 @@ begin_first opened start log (p ∷ places) firsts = (inl firsts.0, begin_first 
 -- an opened log, a table where nothing is published, its turn, and a controller that nobody has asked
 pub stands_first : {D : Type 0} {ghosts : Ghosts D} {T U : Type 0} (our_turn : T → U → Type 0) (history : U → List (List MemberVersions)) (table : T) (log : OpenLog D ghosts) (places : List LogPlace) (start clients group_bytes : ℕ) (turn : U) (asked : List ControllerCall)
     → AreConsistent start clients group_bytes [] [] start None [] [] → our_turn table turn → history turn ≡ [] → fault_of log ≡ None → asked ≡ [] → Wrote log [] log → AllByRecursion (λ (p : LogPlace). p ≡ first_place) places
-    → Covers our_turn history table log start clients group_bytes asked log places turn start []
+    → Covers our_turn history table log start clients group_bytes asked log places turn start 0 []
 stands_first our_turn history table log places start clients group_bytes turn asked first our none alive unasked begun firsts = record {
   our = our;
   calls = [];
   wrote = begun;
   consistent = subst (λ (z : List ControllerCall × Option ℕ × List (List MemberVersions)). AreConsistent start clients group_bytes z.0 [] start z.1 z.2 []) (λ i. (sym unasked i, sym alive i, sym none i)) first;
+  made_is = refl;
+  shown = shown_first;
   right = tt;
   readers = tt;
   counted = subst (λ (f : Option ℕ). AreCounted (faults_of log) (faults_of log) f []) (sym alive) (none_counted (faults_of log));
@@ -55,6 +58,7 @@ kept_first controller opened start clients group_bytes first begun = record {
     lost = first.written.lost;
     both = first.written.both;
     parts = first.written.parts;
+    shown = record { each = tt; order = tt };
   };
 }
 

@@ -30,7 +30,11 @@ use Rattle.engine_groups.specs.declared.engine.GroupEngine.{GroupEngine}
 use Rattle.engine_groups.specs.declared.leader.EngineAtOpening.{EngineAtOpening}
 use Rattle.engine_groups.specs.declared.leader.Leadership.{Leadership}
 use Rattle.engine_groups.specs.Clients.{opened_log, own_commits}
-use Rattle.engine_parts.specs.Handled.{AreHandled, HandsBack, InOrder, IsNoted, ShowsDelay, handled_with, seen_for}
+use Rattle.engine_parts.specs.Handled.{AreHandled, HandsBack, InOrder, IsNoted, ShowsDelay, commits_in, handled_with, seen_for, sights_in}
+use Rattle.engine_parts.specs.Logs.{fault_of}
+use Rattle.model_base.specs.LogContents.{GroupCall}
+use Rattle.engine_rule.specs.LogSights.{ShowTheLog}
+use Rattle.engine_rule.proofs.LogSights.{worked_are}
 use Rattle.engine_parts.specs.LogLaw.{LogCovers}
 use Rattle.engine_groups.specs.Law.{kept_in}
 use Rattle.engine_controller.specs.Passes.{seen_by_note}
@@ -51,7 +55,7 @@ all_front P (x ∷ xs) ys h = (h.0, all_front P xs ys h.1)
 module _ {D T C S U P : Type 0} {ghosts : Ghosts D} where
   -- what the leadership's log says of what was handled, with its note
   abbrev pub LogIn : EngineAtOpening D T C ghosts → Leadership D T C S U P ghosts → List (List MemberVersions) → List (Handling Request Answer) → Type 0
-  LogIn about leadership published handled = LogCovers about.opened.value about.start about.clients about.group_bytes (seen_by_note leadership.asked) leadership.held.value.path.log leadership.held.value.path.places published leadership.held.value.path.last handled
+  LogIn about leadership published handled = LogCovers about.opened.value about.start about.clients about.group_bytes (seen_by_note leadership.asked) leadership.held.value.path.log leadership.held.value.path.places published leadership.held.value.path.last leadership.held.value.path.made handled
 
   module _ (about : EngineAtOpening D T C ghosts) (leadership : Leadership D T C S U P ghosts) (published : List (List MemberVersions)) where
     -- what holds once a leader has answered its group
@@ -67,7 +71,7 @@ module _ {D T C S U P : Type 0} {ghosts : Ghosts D} where
       answered = path.consistent.answered;
       handed_back = all_append HandsBack seen new old.handed_back handed_back;
       shown = all_append (ShowsDelay about.controller.value) seen new old.shown shown;
-      written = record { calls = path.calls; log = leadership.held.value.path.log; wrote = path.wrote; worked = w.worked; lost = w.lost; both = w.both; parts = w.parts };
+      written = record { calls = path.calls; log = leadership.held.value.path.log; wrote = path.wrote; worked = w.worked; lost = w.lost; both = w.both; parts = w.parts; shown = subst (λ (worked : List GroupCall). ShowTheLog worked (sights_in (seen ++ new))) (worked_are about.group_bytes path.consistent.in_groups.groups (commits_in (seen ++ new)) (fault_of leadership.held.value.path.log) leadership.held.value.path.last path.calls w) path.shown };
     }
 
     pub has_led : (own : QueuedWriter Request) (group : List (QueuedWriter Request)) (seen : List (Handling Request Answer)) (xs : List (ℕ × Request)) (ys : List (ℕ × Answer)) → xs ≡ asks own group → InOrder xs ys

@@ -64,7 +64,7 @@ module _ {D T C G S U P : Type 0} {ghosts : Ghosts D} (meaning : Meaning T S U P
         let E = led.seats.is_engine in
         let seat_number : number ≡ (meaning.account w.seat).number = sym led.number_is ∙ sym led.seats.seat_number in
         let last_is : old.held.value.path.last ≡ last_after_all (meaning.opening e.table).start (commits_in seen) = was.path.consistent.last_is ∙ ap (λ (k : ℕ). last_after_all k (commits_in seen)) E.start in
-        let ends : last_of about.start was.published ≡ old.held.value.path.last = history_end our_log as_is tt about.opened.value about.start about.clients about.group_bytes (seen_by_note old.asked) old.held.value.path.log old.held.value.path.places was.published old.held.value.path.last seen was.path in
+        let ends : last_of about.start was.published ≡ old.held.value.path.last = history_end our_log as_is tt about.opened.value about.start about.clients about.group_bytes (seen_by_note old.asked) old.held.value.path.log old.held.value.path.places was.published old.held.value.path.last old.held.value.path.made seen was.path in
         record {
           led = led;
           published = was.published;

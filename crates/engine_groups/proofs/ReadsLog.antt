@@ -33,8 +33,8 @@ use Rattle.engine_parts.specs.Runs.{run_of}
 use Rattle.engine_parts.proofs.Views.{read_counts}
 use Rattle.engine_groups.specs.Meaning.{Meaning}
 use Rattle.engine_groups.specs.declared.engine.EngineClient.{EngineClient}
-use Rattle.engine_groups.specs.Clients.{IsReadBy, account_in, map_at_opening, own_answers, own_commits, told_of}
-use Rattle.engine_groups.proofs.Told.{answers_more, commits_same}
+use Rattle.engine_groups.specs.Clients.{IsReadBy, account_in, map_at_opening, own_answers, own_commits, own_sights, told_of}
+use Rattle.engine_groups.proofs.Told.{answers_more, commits_same, sights_same}
 use Rattle.engine_groups.proofs.Turning.{given_append}
 
 -- A read gets no run
@@ -90,9 +90,10 @@ concludes_read settings k since on_read on_fault on_lack free (Err (ReadFault co
 
 -- its account, by its numbers before the call
 pub told_account : {D T S U P C : Type 0} {ghosts : Ghosts D} (meaning : Meaning T S U P) (opened : OpenLog D ghosts) (v w : EngineClient D T C S U P ghosts) (q : Request) (p : Answer) (since : ℕ) → q.since ≡ Some since → IsReadBy meaning opened q p v w → w.pass ≡ v.pass
-    → account_of v.start (map_at_opening meaning v.table.value) v.number (own_commits v.number (told_of v)) (own_answers (told_of v) ++ read_answer since p.read ∷ []) (meaning.account w.seat).seen (seen_by w.pass) ≡ account_in meaning w
+    → account_of v.start (map_at_opening meaning v.table.value) v.number (own_commits v.number (told_of v)) (own_sights v.number (told_of v)) (own_answers (told_of v) ++ read_answer since p.read ∷ []) (meaning.account w.seat).seen (seen_by w.pass) ≡ account_in meaning w
 told_account meaning opened v w q p since reads a same =
     let commits : own_commits v.number (told_of v) ≡ own_commits v.number (told_of w) = sym (ap (own_commits v.number) a.told_now ∙ commits_same v.number (told_of v) q p since reads) in
+    let sights : own_sights v.number (told_of v) ≡ own_sights v.number (told_of w) = sym (ap (own_sights v.number) a.told_now ∙ sights_same v.number (told_of v) q p since reads) in
     let answers : own_answers (told_of v) ++ read_answer since p.read ∷ [] ≡ own_answers (told_of w) = sym (ap own_answers a.told_now ∙ answers_more (told_of v) q p since reads) in
-    (λ i. account_of (sym a.start_same i) (map_at_opening meaning (sym a.table_same i).value) v.number (commits i) (answers i) (meaning.account w.seat).seen (seen_by w.pass))
-    ∙ (λ i. account_of w.start (map_at_opening meaning w.table.value) (sym a.number i) (own_commits (sym a.number i) (told_of w)) (own_answers (told_of w)) (meaning.account w.seat).seen (seen_by w.pass))
+    (λ i. account_of (sym a.start_same i) (map_at_opening meaning (sym a.table_same i).value) v.number (commits i) (sights i) (answers i) (meaning.account w.seat).seen (seen_by w.pass))
+    ∙ (λ i. account_of w.start (map_at_opening meaning w.table.value) (sym a.number i) (own_commits (sym a.number i) (told_of w)) (own_sights (sym a.number i) (told_of w)) (own_answers (told_of w)) (meaning.account w.seat).seen (seen_by w.pass))

@@ -1,5 +1,5 @@
 -- An engine and its clients, and a client's account.
-use Rattle.std.specs.Prelude.{◌≡◌, ◌⊎◌, ℕ, ◌<◌, ◌≤◌, List, [], ◌∷◌, ◌++◌, None, Some, vec_capacity}
+use Rattle.std.specs.Prelude.{◌≡◌, ◌⊎◌, ℕ, ◌<◌, ◌≤◌, List, [], ◌∷◌, ◌++◌, None, Some, refl, vec_capacity}
 use mathlib.Core.List.{IsPrefix}
 use Rattle.log_writer.specs.declared.group_log.GroupLog.{Ghosts}
 use Rattle.model_base.specs.declared.limits.TheConstants.{MAX_SIZE}
@@ -20,10 +20,11 @@ use Rattle.engine_controller.specs.Noted.{Noted}
 use Rattle.engine_controller.specs.Passes.{seen_by, seen_by_note, IsPassOf, IsOthersOf, clients_of as controller_clients, client_of as pass_client}
 use Rattle.line_writers.specs.Rooms.{AreReady}
 use Rattle.line_writers.specs.Seats.{bound_of, client_of, clients_of, about_of, start_of, piped_of, Belongs, IsOut, answers_told}
-use Rattle.model_accounts.specs.Accounts.{Account}
+use Rattle.model_accounts.specs.Accounts.{Account, KnowsOwnTokens}
 use Rattle.engine_rule.specs.Commits.{Commit}
 use Rattle.engine_rule.specs.Asked.{HasAsked}
 use Rattle.engine_rule.specs.Entries.{account_of}
+use Rattle.engine_rule.specs.LogSights.{LogSight}
 use Rattle.engine_groups.specs.Meaning.{Meaning}
 use Rattle.engine_parts.specs.declared.requests.Request.{Request}
 use Rattle.engine_parts.specs.declared.requests.Answer.{Answer}
@@ -32,7 +33,7 @@ use Rattle.engine_groups.specs.declared.engine.EngineClient.{EngineClient}
 use Rattle.engine_groups.specs.declared.engine.ClosingRoom.{ClosingRoom}
 use Rattle.engine_groups.specs.declared.leader.Leadership.{Leadership}
 use Rattle.engine_groups.specs.declared.leader.Right.{Right}
-use Rattle.engine_parts.specs.Handled.{answer_if, commit_if, commit_of, AreHandled, IsDropped, IsTurnedAway}
+use Rattle.engine_parts.specs.Handled.{answer_if, commit_if, commit_of, sight_if, sight_of, AreHandled, IsDropped, IsTurnedAway}
 use Rattle.engine_parts.specs.ReadAnswers.{HasReadTo}
 use Rattle.engine_rule.specs.Reading.{IsAtEnd, ReadAnswer, reads_in}
 use Rattle.model_base.specs.Recovery.{Logged}
@@ -44,6 +45,12 @@ abbrev pub own_commits : ℕ → List (Request × Answer) → List Commit
 own_commits client [] = []
 own_commits client (t ∷ ts) =
     commit_if t.0.since (commit_of (record { by = client; asked = t.0; reply = t.1 })) ++ own_commits client ts
+
+-- what the answers to its commits show of the log
+abbrev pub own_sights : ℕ → List (Request × Answer) → List LogSight
+own_sights client [] = []
+own_sights client (t ∷ ts) =
+    sight_if t.0.since (sight_of (record { by = client; asked = t.0; reply = t.1 })) ++ own_sights client ts
 
 abbrev pub own_answers : List (Request × Answer) → List ReadAnswer
 own_answers [] = []
@@ -120,7 +127,11 @@ module _ {Log Versions Time Seat Turn Part : Type 0} {ghosts : Ghosts Log} where
 
     abbrev pub account_in : EngineClient Log Versions Time Seat Turn Part ghosts → Account
     account_in c = account_of c.start (map_at_opening meaning c.table.value) c.number (own_commits c.number (told_of c))
-        (own_answers (told_of c)) (meaning.account c.seat).seen (seen_by c.pass)
+        (own_sights c.number (told_of c)) (own_answers (told_of c)) (meaning.account c.seat).seen (seen_by c.pass)
+
+    -- what it knows of the controller has its own calls that take a token or give one back, and no others of it
+    pub knows_own : (c : EngineClient Log Versions Time Seat Turn Part ghosts) → KnowsOwnTokens (account_in c)
+    knows_own c = refl
 
     -- as the engine was opened, its log had just these batches, and what it holds is known
     abbrev pub had_in : {Watch : Type 0} → GroupEngine Log Versions Time Watch Seat Turn Part ghosts → List Logged
@@ -180,9 +191,10 @@ module _ {Log Versions Time Seat Turn Part : Type 0} {ghosts : Ghosts Log} where
     pub shows : seen_by_note note ≡ seen_by w.pass
     pub dropped : IsDropped controller (record q { note = Some note }) p
 
-  -- A read of the log, with its answer: it led alone, and read up to the end of what the client has then seen published.
-  pub record IsReadBy (meaning : Meaning Versions Seat Turn Part) (opened : OpenLog Log ghosts) (q : Request) (p : Answer)
-      (v w : EngineClient Log Versions Time Seat Turn Part ghosts) : Type 0 where
+  -- A read of the log, with its answer: it led alone, and read up to the end of what the client has then seen
+  -- published.
+  pub record IsReadBy (meaning : Meaning Versions Seat Turn Part) (opened : OpenLog Log ghosts) (q : Request)
+      (p : Answer) (v w : EngineClient Log Versions Time Seat Turn Part ghosts) : Type 0 where
     pub told_now : told_of w ≡ told_of v ++ (q, p) ∷ []
     pub number : w.number ≡ v.number
     pub start_same : w.start ≡ v.start

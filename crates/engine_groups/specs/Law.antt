@@ -49,7 +49,8 @@ pub record LeadershipCovers {Log Versions Time Seat Turn Part : Type 0} {ghosts 
   pub note : IsNoteOf about.controller.value leadership.asked
   pub published : List (List MemberVersions)
   pub path : LogCovers about.opened.value about.start about.clients about.group_bytes (seen_by_note leadership.asked)
-      leadership.held.value.path.log leadership.held.value.path.places published leadership.held.value.path.last handled
+      leadership.held.value.path.log leadership.held.value.path.places published leadership.held.value.path.last
+      leadership.held.value.path.made handled
   pub turn : TurnIs meaning about.table.value about.pipelined published leadership.turn
 
 abbrev pub RightStandsFor : {Log Versions Time Seat Turn Part : Type 0} {ghosts : Ghosts Log}
@@ -67,7 +68,7 @@ pub record LeadershipIsStaged {Log Versions Time Seat Turn Part : Type 0} {ghost
   pub note : IsNoteOf about.controller.value leadership.asked
   pub path : LogCovers about.opened.value about.start about.clients about.group_bytes (seen_by_note leadership.asked)
       leadership.held.value.path.log leadership.held.value.path.places (published_with end parts published)
-      leadership.held.value.path.last handled
+      leadership.held.value.path.last leadership.held.value.path.made handled
   pub turn : TurnIs meaning about.table.value about.pipelined published leadership.turn
 
 -- What every answered group keeps true (`kept_in`), with which answer a request leaves the queue at a stall

@@ -30,7 +30,7 @@ impl<Log: ReadableLog, Versions: Table<Nodes, Parts>, Time: Clock + Drop, Watch:
     ghost use Rattle.engine_parts.specs.Logs.{fault_of, faults_of};
     ghost use Rattle.engine_parts.specs.Logs.{Wrote};
     ghost use Rattle.line_writers.specs.Seats.{clients_of};
-    ghost use Rattle.engine_groups.specs.Clients.{IsClientOf, HasRoomToClose, account_in, had_in, settings_of, opened_log};
+    ghost use Rattle.engine_groups.specs.Clients.{IsClientOf, HasRoomToClose, account_in, had_in, knows_own, settings_of, opened_log};
 
     ghost settings = { λ e. settings_of Versions.Table e };
 
@@ -39,6 +39,8 @@ impl<Log: ReadableLog, Versions: Table<Nodes, Parts>, Time: Clock + Drop, Watch:
     ghost account = { λ c. account_in Versions.Table c };
 
     ghost belongs = { λ e c. IsClientOf Versions.Table e c };
+
+    ghost own_tokens = { λ e c is. knows_own Versions.Table c };
 
     ghost closes = { λ e room. HasRoomToClose e.controller (clients_of e.list) room };
 

@@ -138,6 +138,7 @@ impl<
         let LogPath {
             log,
             last,
+            made: _,
             places: _,
         } = path;
         let Right { turn: apart } = right;

@@ -40,7 +40,8 @@ impl<
         request: SealedRequest,
     ) -> Result<(), SealedAnswer>
         requires client { IsIdle Versions.Table self.now client.old }
-        requires item { (item ≡ item_with request.since request.batch.records request.options) × (item.size ≤ MAX_SIZE) }
+        requires item { (item ≡ item_with request.since request.batch.records request.options)
+            × (item.size ≤ MAX_SIZE) }
         ensures same { client.new ≡ record client.old { writer = client.new.writer; pass = client.new.pass } }
         ensures pass { IsPassOf self.now.controller client.new.pass
             × (pass_client client.new.pass ≡ pass_client client.old.pass)

@@ -10,8 +10,8 @@
 //! in the order of the log (`leaving`, `engine_memtable`). Where the right to launch is shows whether there are two:
 //! with one stage it is with the log, with two it is apart.
 //!
-//! A client that reads the log links like a writer, but has a group of its own: while it leads, it has the log, and reads
-//! it up to what is published (`updating`). Groups that are in the log already go on into the table meanwhile.
+//! A client that reads the log links like a writer, but has a group of its own: while it leads, it has the log, and
+//! reads it up to what is published (`updating`). Groups that are in the log already go on into the table meanwhile.
 //!
 //! What a leader does without knowing the engine is in `engine_parts`. `writing` has a client's write, from the
 //! outside in.

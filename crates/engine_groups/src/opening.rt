@@ -149,6 +149,7 @@ fn given_back<Log: GroupLog, Versions: Table<Nodes, Parts>, Time: Drop, Watch>(
     let LogPath {
         log,
         last: _,
+        made: _,
         places: _,
     } = path;
     let Right { turn: apart } = right;
@@ -228,7 +229,12 @@ impl<
             return Err(OpenRefused::of(log, clock, table, seats, gate));
         };
         let last = options.last;
-        let path = LogPath { log, last, places };
+        let path = LogPath {
+            log,
+            last,
+            made: 0,
+            places,
+        };
         let held = match Box::new(alloc, Held { path, clock }) {
             Ok(held) => held,
             Err(AllocFailed { value: held }) => {
@@ -237,6 +243,7 @@ impl<
                 let LogPath {
                     log,
                     last: _,
+                    made: _,
                     places: _,
                 } = path;
                 return Err(OpenRefused::of(log, clock, table, seats, gate));
@@ -273,7 +280,8 @@ impl<
             × (options.batch_bytes ≤ MAX_SIZE) }
         requires clients { (0 < (Versions.opening table).clients)
             × ((Versions.opening table).clients ≤ MAX_CLIENTS) }
-        requires log { (fault_of held.value.path.log ≡ None) × (held.value.path.last ≡ options.last) }
+        requires log { (fault_of held.value.path.log ≡ None) × (held.value.path.last ≡ options.last)
+            × (held.value.path.made ≡ 0) }
         requires places { AllByRecursion (λ p. p ≡ first_place) held.value.path.places }
         requires turn { Versions.our_turn table seats.turn × (Versions.history seats.turn ≡ []) }
         requires seats { AreSeatsAtStart Versions.Table table (Versions.opening table).clients

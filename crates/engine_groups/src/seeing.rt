@@ -64,8 +64,8 @@ impl<
     Time: Clock + Drop,
     Watch: Gate + Drop,
 > GroupEngine<Log, Versions, Time, Watch> {
-    /// Lets the client see what its answer speaks of: its published group, or the delay or the leader's look because of
-    /// which it was refused.
+    /// Lets the client see what its answer speaks of: its published group, and the delay of that group, or the leader's
+    /// look because of which it was refused.
     pub(crate) fn see<R: Wait + rt::Clock>(
         &self,
         rt: &R,

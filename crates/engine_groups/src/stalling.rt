@@ -6,6 +6,7 @@ ghost use Rattle.line_rule.specs.declared.view.QueuedWriter.{QueuedWriter};
 ghost use Rattle.line_rule.specs.declared.view.Handling.{Handling};
 ghost use Rattle.line_writers.specs.Rooms.{HasRoom};
 ghost use Rattle.line_writers.specs.Seats.{about_of, clients_of, Belongs};
+ghost use Rattle.base_devices.specs.Clocks.{HasPaused};
 ghost use Rattle.model_base.specs.Controller.{HoldUp};
 ghost use Rattle.model_base.specs.Replies.{WasHeldUp};
 ghost use Rattle.engine_controller.specs.Looks.{look_of};
@@ -70,6 +71,9 @@ impl<
             → LetsProceed (client_of pass.old) (look_of look) (seen_by pass.old) (seen_by pass.new) no_slowdown }
         ensures refused { result ≡ false
             → (no_slowdown ≡ true) × HoldUp (look_of look) × (seen_by pass.new ≡ seen_by pass.old) }
+        // It waits at least as long as its delay answered.
+        ensures waited { no_slowdown ≡ false
+            → HasPaused (Time.paused clock.old) (look_of look).wait (Time.paused clock.new) }
         ensures leads { KeepsGroup self.now.list writer.old writer.new × HasRoom (clients_of self.now.list) room.new }
     {
         if no_slowdown || !holds_writes_up(look) {

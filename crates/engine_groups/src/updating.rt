@@ -129,8 +129,9 @@ impl<
 
     /// Waits until the client leads.
     ///
-    /// Its request goes alone, so no other client leads a group that has it. But the list doesn't say that of a request,
-    /// so it isn't proved. If another client answered it, the call wouldn't return, and no client would get that answer.
+    /// Its request goes alone, so no other client leads a group that has it. But the list doesn't say that of a
+    /// request, so it isn't proved. If another client answered it, the call wouldn't return, and no client would get
+    /// that answer.
     fn await_lead<R: Wait + rt::Clock>(
         &self,
         rt: &R,
@@ -196,9 +197,9 @@ impl<
         self.leave(client, leadership)
     }
 
-    /// Takes the client's own request from the list, which goes alone, and reads the log for it. The log's law speaks of
-    /// the log alone, and the table's of the table alone. So what is published is read again until it isn't above what
-    /// the log has given; it never is.
+    /// Takes the client's own request from the list, which goes alone, and reads the log for it. The log's law speaks
+    /// of the log alone, and the table's of the table alone. So what is published is read again until it isn't above
+    /// what the log has given; it never is.
     fn read_alone<R: Wait + rt::Clock>(
         &self,
         rt: &R,
@@ -237,6 +238,7 @@ impl<
         // No delay was asked for it. The answer has a place for one, which says nothing here.
         let delay = Delay {
             pass: Snapshot::of(&client.pass),
+            made: leadership.held.path.made,
         };
         read_phase(
             self.alloc,

@@ -3,7 +3,7 @@
 //! the write controller and has the group logged (`serve`, `log_phase`), has it put into the table, and gives the log
 //! on (`leave`, `hand_on`).
 
-ghost use Rattle.std.specs.Prelude.{◌≡◌, ◌⊎◌, ◌+◌, true, false, ℕ, List, [], ◌∷◌, ◌++◌, Ok, Err, None, IfOk, IfErr, IfSome, is_none};
+ghost use Rattle.std.specs.Prelude.{◌≡◌, ◌⊎◌, ◌+◌, ◌≤◌, true, false, ℕ, length, List, [], ◌∷◌, ◌++◌, Ok, Err, None, IfOk, IfErr, IfSome, is_none};
 ghost use Rattle.table_rule.specs.Histories.{Begins};
 ghost use Rattle.line_rule.specs.declared.view.QueuedWriter.{QueuedWriter};
 ghost use Rattle.line_rule.specs.declared.view.Handling.{Handling};
@@ -31,7 +31,7 @@ use crate::seeing::await_above;
 use base_devices::Clock;
 use engine_calls::{Gate, Receipt, Refused};
 use engine_parts::{
-    Answer, Delay, Request, SealedAnswer, SealedRequest, ask, log_phase, may_be_apart,
+    Answer, Delay, Request, SealedAnswer, SealedRequest, ask, log_phase, may_be_apart, note_all,
     refuse_held_up, refused_by,
 };
 use line_writers::Role;
@@ -52,10 +52,9 @@ impl<
 > GroupEngine<Log, Versions, Time, Watch> {
     ghost use Rattle.model_base.specs.Batch as model;
     ghost use Rattle.model_accounts.specs.Accounts.{Wrote, Refuses};
-    ghost use Rattle.model_runs.specs.Written.{IsSyncedBy};
     ghost use Rattle.engine_parts.specs.declared.log.OpenLog.{OpenLog as Opened};
     ghost use Rattle.engine_parts.specs.Logs.{Wrote as WroteLog};
-    ghost use Rattle.model_base.specs.LogContents.{GroupCall};
+    ghost use Rattle.model_base.specs.LogContents.{GroupCall, IsLoggedBy};
     ghost use Rattle.engine_groups.specs.Clients.{account_in, settings_of};
 
     /// Writes a batch under a run of sequences of its own, and waits until reads see it.
@@ -73,10 +72,14 @@ impl<
             (account_in Versions.Table client.new)) }
         ensures back { IfOk result (λ r. (r.batch ≡ record batch { sequence = r.run.first })
             × (r.run.last + 1 ≡ r.run.first + model.count_of batch.records)) }
-        // a batch that had to be synced was written by a call of the log writer that synced
-        ensures synced { IfOk result (λ r. options.sync ≡ true → (calls : List GroupCall)
+        // a batch that goes into the log was written by a call of the log writer that the client knows of since, and
+        // that synced where the batch had to be synced
+        ensures logged { IfOk result (λ r. options.no_log ≡ false → (calls : List GroupCall)
             × (log : Opened Log ⟦<Log as GroupLog>⟧)
-            × WroteLog (opened_log self.now) calls log × IsSyncedBy r.run.first batch.records calls) }
+            × WroteLog (opened_log self.now) calls log
+            × ((account_in Versions.Table client.new).seen.logged ≤ length calls)
+            × IsLoggedBy calls (account_in Versions.Table client.old).seen.logged
+            (account_in Versions.Table client.new).seen.logged r.run.first batch.records options.sync) }
         ensures err { IfErr result (λ e. Refuses (settings_of Versions.Table self.now)
             (account_in Versions.Table client.old) batch.records options e.why
             (account_in Versions.Table client.new)) }
@@ -286,11 +289,13 @@ impl<
         let controller = &self.controller;
         let pass = &mut client.pass;
         let asked = leadership.asked;
+        let made = leadership.held.path.made;
         let clock = &mut leadership.held.clock;
         // The leader learns what those before it and its members have seen, so that its delay comes after theirs.
         let look = ask(rt, controller, pass, clock, asked, &mut requests.list);
-        let delay = Delay {
+        let mut delay = Delay {
             pass: Snapshot::of(pass),
+            made,
         };
         let no_slowdown = requests.list[0].1.as_request().options.no_slowdown;
         let writer = &mut client.writer;
@@ -310,14 +315,17 @@ impl<
         leadership.asked = controller.note(pass);
         let requests = &mut requests.list;
         if !proceeds {
-            refuse_held_up(controller, pass, look, &delay, requests, replies);
+            refuse_held_up(look, &delay, requests, replies);
+            note_all(controller, pass, replies);
             return (leadership, None);
         }
         let apart = may_be_apart(leadership.turn.is_none(), self.table.locks());
         let leader = client.number;
         let layout = &mut client.layout;
         let path = &mut leadership.held.path;
-        let end = log_phase(path, leader, apart, &delay, requests, layout, replies);
+        let end = log_phase(path, leader, apart, &mut delay, requests, layout, replies);
+        // Each member learns of the group's delay with its answer.
+        note_all(controller, pass, replies);
         (leadership, end)
     }
 }

@@ -1,4 +1,5 @@
--- What was handled, as commits and as reads of the log: a write is a commit, and a read is none.
+-- What was handled, as commits and as reads of the log: a write is a commit, and shows something of the log; a read is
+-- none, and shows nothing.
 use Rattle.std.proofs.Common.{◌≡◌, ℕ, List, [], ◌∷◌, ◌++◌, map, Option, Some, None, refl, ap, ◌∙◌, append-nil}
 use Rattle.std.specs.List.{AllByRecursion}
 use Rattle.std.proofs.lemmas.Grind.{flat_map-append}
@@ -8,7 +9,7 @@ use Rattle.engine_rule.specs.Commits.{Commit}
 use Rattle.engine_rule.specs.Reading.{AnsweredRead, answers_in, reads_with, faults_with, reads_in, faults_in}
 use Rattle.engine_parts.specs.declared.requests.Request.{Request}
 use Rattle.engine_parts.specs.declared.requests.Answer.{Answer}
-use Rattle.engine_parts.specs.Handled.{answer_if, commit_if, commit_of, commits_in, handled_with, read_answer, read_by, reads_handled, reads_of}
+use Rattle.engine_parts.specs.Handled.{answer_if, commit_if, commit_of, commits_in, handled_with, read_answer, read_by, reads_handled, reads_of, sight_if, sight_of, sights_in}
 
 pub commits_append : (hs ks : List (Handling Request Answer)) → commits_in (hs ++ ks) ≡ commits_in hs ++ commits_in ks
 commits_append hs ks = flat_map-append (λ (h : Handling Request Answer). commit_if h.asked.since (commit_of h)) hs ks
@@ -18,6 +19,9 @@ reads_append hs ks = flat_map-append reads_of hs ks
 
 pub answers_append : (rs qs : List AnsweredRead) → answers_in (rs ++ qs) ≡ answers_in rs ++ answers_in qs
 answers_append rs qs = map-append (λ (r : AnsweredRead). r.answer) rs qs
+
+pub sights_append : (hs ks : List (Handling Request Answer)) → sights_in (hs ++ ks) ≡ sights_in hs ++ sights_in ks
+sights_append hs ks = flat_map-append (λ (h : Handling Request Answer). sight_if h.asked.since (sight_of h)) hs ks
 
 -- one more read gave this, and failed with these counts
 pub reads_more : (rs : List AnsweredRead) (r : AnsweredRead) → reads_in (answers_in (rs ++ r ∷ [])) ≡ reads_in (answers_in rs) ++ reads_with r.answer
@@ -33,6 +37,9 @@ Writes x = x.1.since ≡ None
 -- one that was handled
 pub one_commit_in : (h : Handling Request Answer) (hs : List (Handling Request Answer)) → h.asked.since ≡ None → commits_in (h ∷ hs) ≡ commit_of h ∷ commits_in hs
 one_commit_in h hs is = ap (λ (since : Option ℕ). commit_if since (commit_of h) ++ commits_in hs) is
+
+pub one_sight_in : (h : Handling Request Answer) (hs : List (Handling Request Answer)) → h.asked.since ≡ None → sights_in (h ∷ hs) ≡ sight_of h ∷ sights_in hs
+one_sight_in h hs is = ap (λ (since : Option ℕ). sight_if since (sight_of h) ++ sights_in hs) is
 
 -- a group of writes is handled as a commit each, and has no reads
 pub writes_commit : (requests : List (ℕ × Request)) (replies : List (ℕ × Answer)) → AllByRecursion Writes requests → commits_in (handled_with requests replies) ≡ map commit_of (handled_with requests replies)
@@ -57,6 +64,10 @@ same_reads hs requests replies all =
 pub no_commit : (hs : List (Handling Request Answer)) (h : Handling Request Answer) (since : ℕ) → h.asked.since ≡ Some since → commits_in (hs ++ h ∷ []) ≡ commits_in hs
 no_commit hs h since is =
     commits_append hs (h ∷ []) ∙ (ap (λ (o : Option ℕ). commits_in hs ++ (commit_if o (commit_of h) ++ [])) is ∙ append-nil (commits_in hs))
+
+pub no_sight : (hs : List (Handling Request Answer)) (h : Handling Request Answer) (since : ℕ) → h.asked.since ≡ Some since → sights_in (hs ++ h ∷ []) ≡ sights_in hs
+no_sight hs h since is =
+    sights_append hs (h ∷ []) ∙ (ap (λ (o : Option ℕ). sights_in hs ++ (sight_if o (sight_of h) ++ [])) is ∙ append-nil (sights_in hs))
 
 pub one_read : (hs : List (Handling Request Answer)) (h : Handling Request Answer) (since : ℕ) → h.asked.since ≡ Some since
     → reads_handled (hs ++ h ∷ []) ≡ reads_handled hs ++ read_by h.by (read_answer since h.reply.read) ∷ []

@@ -13,6 +13,7 @@ pub mod Standing
 pub mod Logged
 pub mod Whole
 pub mod Paying
+pub mod Noting
 pub mod Serves
 pub mod Beside
 pub mod Roomy

@@ -25,7 +25,8 @@ use Rattle.log_recovery.specs.Updating.{updates_in}
 use Rattle.log_writer.specs.ReadableLogs.{batches_by}
 use Rattle.engine_parts.proofs.Places.{BeginsFirst, BeginsWell, KeepPlaces, MayBeginAt, begin_all_on, begins_well, place_reached, places_read, places_with}
 use Rattle.engine_parts.proofs.LogOrder.{all_in_order}
-use Rattle.engine_parts.proofs.Commits.{no_commit, one_read}
+use Rattle.engine_rule.specs.LogSights.{worked_in, ShowTheLog}
+use Rattle.engine_parts.proofs.Commits.{no_commit, no_sight, one_read}
 use Rattle.engine_parts.proofs.ReadsLaw.{Explains, ReadsStand, with_answer}
 
 -- the answer tells what the client wants to know
@@ -46,16 +47,16 @@ same_since clients requests one x rest first since reads =
     same_Some since one.since (sym reads ∙ (ap (λ (z : ℕ × Request). z.1.since) same ∙ one.reads))
 
 -- the place that is chosen for a read is one from which on it gives all that is asked for
-pub reads_well : {Log : Type 0} {ghosts : Ghosts Log} (clients : ℕ) (past : Past (OpenLog Log ghosts)) (log : OpenLog Log ghosts) (places : List LogPlace) (last : ℕ) → StandsForPast clients past log places last → 0 < ghosts.many log.log
+pub reads_well : {Log : Type 0} {ghosts : Ghosts Log} (clients : ℕ) (past : Past (OpenLog Log ghosts)) (log : OpenLog Log ghosts) (places : List LogPlace) (last made : ℕ) → StandsForPast clients past log places last made → 0 < ghosts.many log.log
     → ((opened now : Log) (kept : List Logged) (calls : List GroupCall) → ghosts.keeps opened kept → ghosts.wrote opened calls now → (files : List (List ℕ)) × ghosts.holds now files) → ((now : Log) (files : List (List ℕ)) → ghosts.holds now files → length files ≡ ghosts.many now)
     → BeginsFirst → (since : ℕ) (place : LogPlace) → (place ≡ first_place) ⊎ (Contains places place × (place.last < since)) → BeginsWell past.opened past.start log since place
-reads_well clients past log places last is some known many first since place from =
+reads_well clients past log places last made is some known many first since place from =
     begins_well past.opened past.start log some
     (λ batches had. let k = known past.opened.log log.log batches is.calls had.keeps is.wrote in (k.0, k.1, (let n = many log.log k.0 k.1 in omega (arith, n, some)))) first since places is.begins place from
 
 -- The places once the log was read: they stay as they were, and the client's is the one that the read came to, if it did
 -- not fail.
-module _ {Log : Type 0} {ghosts : Ghosts Log} (clients : ℕ) (past : Past (OpenLog Log ghosts)) (old new : OpenLog Log ghosts) (places : List LogPlace) (last : ℕ) (is : StandsForPast clients past old places last)
+module _ {Log : Type 0} {ghosts : Ghosts Log} (clients : ℕ) (past : Past (OpenLog Log ghosts)) (old new : OpenLog Log ghosts) (places : List LogPlace) (last made : ℕ) (is : StandsForPast clients past old places last made)
     (many : ghosts.many new.log ≡ ghosts.many old.log) (number : ghosts.number new.log ≡ ghosts.number old.log) (held : (files : List (List ℕ)) → ghosts.holds old.log files → ghosts.holds new.log files) where
   keep : KeepPlaces past.opened past.start old new
   keep = places_read past.opened past.start old new many number held
@@ -75,20 +76,20 @@ module _ {Log : Type 0} {ghosts : Ghosts Log} (clients : ℕ) (past : Past (Open
       (all_in_order past.start clients past.group_bytes past.asked (commits_in past.handled) last (fault_of old) past.published is.calls is.consistent batches had.in_order had.up_to) stands nothing))
       set none
 
-module _ {Log : Type 0} {ghosts : Ghosts Log} (clients : ℕ) (past : Past (OpenLog Log ghosts)) (old new : OpenLog Log ghosts) (places later_places : List LogPlace) (last : ℕ) (is : StandsForPast clients past old places last) where
+module _ {Log : Type 0} {ghosts : Ghosts Log} (clients : ℕ) (past : Past (OpenLog Log ghosts)) (old new : OpenLog Log ghosts) (places later_places : List LogPlace) (last made : ℕ) (is : StandsForPast clients past old places last made) where
   explained : (since at : ℕ) (r : Result Since SinceRefused) → HasCounted (faults_of old) (faults_of new) r → IfOk r (λ s. s.at ≡ at)
       → IfOk r (λ s. IsRight (Had past.opened past.start) last is.calls (record { since = since; at = at; records = s.records }))
       → Explains past.opened past.start clients is.calls old new last (read_answer since (Some r))
   explained since at (Ok s) counted reached right = (subst (λ (n : ℕ). IsRight (Had past.opened past.start) last is.calls (record { since = since; at = n; records = s.records })) (sym reached) right, counted)
   explained since at (Err unread.SelfStop) counted reached right = absurd counted
   explained since at (Err unread.NoMemory) counted reached right = counted
-  explained since at (Err (unread.ReadFault count)) counted reached right = counted
+  explained since at (Err (unread.ReadFault count)) counted reached right = (counted.0, omega (arith, counted.1))
 
   -- the log's law holds with the read, which is the client's
   pub stands_with_read : Wrote past.opened is.calls new → fault_of new ≡ fault_of old → faults_of old ≤ faults_of new → MayBeginAt past.opened past.start new later_places → (requests : List (ℕ × Request)) (replies : List (ℕ × Answer)) (one : IsOneRead clients requests) (y : ℕ × Answer) → replies ≡ y ∷ []
       → (at : ℕ) (r : Result Since SinceRefused) → y.1.read ≡ Some r → HasCounted (faults_of old) (faults_of new) r → IfOk r (λ s. s.at ≡ at)
       → IfOk r (λ s. IsRight (Had past.opened past.start) last is.calls (record { since = one.since; at = at; records = s.records }))
-      → StandsForPast clients (with_read past requests replies) new later_places last
+      → StandsForPast clients (with_read past requests replies) new later_places last made
   stands_with_read wrote alive later begins requests replies one y told at r gave counted reached right =
       let hs = past.handled in
       let h : Handling Request Answer = record { by = one.client; asked = one.request; reply = y.1 } in
@@ -100,14 +101,16 @@ module _ {Log : Type 0} {ghosts : Ghosts Log} (clients : ℕ) (past : Past (Open
       let were : ReadsStand past.opened past.start clients is.calls old last (reads_handled hs) = record { right = is.right; readers = is.readers; counted = is.counted } in
       let more : ReadsStand past.opened past.start clients is.calls new last (reads_handled hs ++ read_by one.client a ∷ []) = with_answer past.opened past.start clients is.calls old new last (reads_handled hs) one.client a alive later one.low one.high why were in
       let reads = subst (ReadsStand past.opened past.start clients is.calls new last) (sym (one_read hs h one.since one.reads)) more in
-      let now : StandsForPast clients (record past { handled = hs ++ h ∷ [] }) new later_places last = record {
+      let now : StandsForPast clients (record past { handled = hs ++ h ∷ [] }) new later_places last made = record {
         our = is.our;
         calls = is.calls;
         wrote = wrote;
         consistent = subst (λ (z : List Commit × Option ℕ). AreConsistent past.start clients past.group_bytes past.asked z.0 last z.1 past.published is.calls) (λ i. (sym commits i, sym alive i)) is.consistent;
+        made_is = is.made_is;
+        shown = subst (ShowTheLog (worked_in is.calls)) (sym (no_sight hs h one.since one.reads)) is.shown;
         right = reads.right;
         readers = reads.readers;
         counted = reads.counted;
         begins = begins;
       } in
-      subst (λ l. StandsForPast clients (record past { handled = l }) new later_places last) all now
+      subst (λ l. StandsForPast clients (record past { handled = l }) new later_places last made) all now

@@ -109,12 +109,15 @@ module _ {D : Type 0} {ghosts : Ghosts D} (group_bytes clients last : ℕ) (xs :
     sync = ap (λ (h : WriteOptions). h.sync) same ∙ ap (λ (l : List (ℕ × Request)). leader_asks_sync (commit_requests_of l)) (sym led.leads);
   }
 
-  logs_by : (b : Bool) → options.no_log ≡ b → (x : Unit {0}) → result ≡ Ok x → LogsOn last (commit_requests_of xs) log log'
-  logs_by true is x ok = inl ((skipped is).1, inl (led.unlogged (ap (λ (h : WriteOptions). h.no_log) (sym same) ∙ is)))
-  logs_by false is x ok = inr (call_of (last + 1) batches options.sync result, adds is, writes is, subst (SyncsFor (commit_requests_of xs)) (ap (λ (h : WriteOptions). h.sync) (sym same)) led.syncs, ap count_of_fault ok)
+  -- the call is counted, if one was made
+  module _ (made made' : ℕ) (not_counted : options.no_log ≡ true → made' ≡ made) (counted : options.no_log ≡ false → made' ≡ made + 1) where
+    logs_by : (b : Bool) → options.no_log ≡ b → (x : Unit {0}) → result ≡ Ok x → LogsOn last (commit_requests_of xs) made made' log log'
+    logs_by true is x ok = inl ((skipped is).1, inl (led.unlogged (ap (λ (h : WriteOptions). h.no_log) (sym same) ∙ is)), not_counted is)
+    logs_by false is x ok =
+        inr (call_of (last + 1) batches options.sync result, adds is, writes is, subst (SyncsFor (commit_requests_of xs)) (ap (λ (h : WriteOptions). h.sync) (sym same)) led.syncs, ap count_of_fault ok, counted is)
 
-  pub logs_on : (x : Unit {0}) → result ≡ Ok x → LogsOn last (commit_requests_of xs) log log'
-  logs_on x ok = logs_by options.no_log refl x ok
+    pub logs_on : (x : Unit {0}) → result ≡ Ok x → LogsOn last (commit_requests_of xs) made made' log log'
+    logs_on x ok = logs_by options.no_log refl x ok
 
   fails_by : (b : Bool) → options.no_log ≡ b → (e : Fault) → result ≡ Err e → options.no_log ≡ false
   fails_by true is e err = absurd (let ok = (skipped is).0 in cc)

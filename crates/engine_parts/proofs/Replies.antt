@@ -1,5 +1,5 @@
 -- What the leader's answers are for the commits.
-use Rattle.std.proofs.Common.{◌≡◌, ℕ, suc, ◌+◌, ◌≤◌, Bool, true, false, cond, nat_le, map, List, [], ◌∷◌, ◌++◌, length, refl, ap, ◌∙◌, arith}
+use Rattle.std.proofs.Common.{◌≡◌, ℕ, suc, ◌+◌, ◌≤◌, Bool, true, false, cond, nat_le, map, None, List, [], ◌∷◌, ◌++◌, length, refl, ap, ◌∙◌, arith}
 use Rattle.std.specs.List.{AllByRecursion}
 use Rattle.model_base.specs.declared.write.Refusal.TheVariants.{LogFault, SequenceFull}
 use Rattle.model_base.specs.Batch.{count_of}
@@ -10,12 +10,13 @@ use Rattle.engine_parts.specs.declared.requests.Request.{Request}
 use Rattle.engine_parts.specs.declared.requests.Delay.{Delay}
 use Rattle.engine_parts.specs.declared.requests.Answer.{Answer}
 use Rattle.line_rule.specs.declared.view.Handling.{Handling}
-use Rattle.engine_parts.proofs.Commits.{Writes, one_commit_in}
+use Rattle.engine_parts.proofs.Commits.{Writes, one_commit_in, one_sight_in}
 use Rattle.engine_parts.specs.declared.numbering.Numbering.TheVariants as numbered
 use Rattle.engine_parts.specs.declared.numbering.GroupFate.TheVariants.{Written, Faulted}
-use Rattle.engine_parts.specs.Handled.{ComesBack, HandsBack, IsReplyOf, accepted_reply, commit_of, commit_request_of, commit_requests_of, failures, handled_with, refused_reply, run_after, snapshot_of, replies_of, seen_at, commits_in, reply_at}
+use Rattle.engine_parts.specs.Handled.{ComesBack, HandsBack, IsReplyOf, accepted_reply, commit_of, commit_request_of, commit_requests_of, failures, handled_with, refused_reply, run_after, snapshot_of, replies_of, seen_at, commits_in, reply_at, sight_of, sights_in}
 use Rattle.engine_parts.specs.Numbering.{AreEnough, answers, batch_at, batches_of, numberings_of}
 use Rattle.engine_rule.specs.Commits.{accepted, failed, no_room}
+use Rattle.engine_rule.specs.LogSights.{WrittenBatch, written_if, sights_with, sights_without}
 use Rattle.engine_rule.specs.Plans.{all_failed, commit_of_request, batches_from, last_with, commits_of_plan}
 
 -- a snapshot is determined by its value
@@ -55,6 +56,11 @@ batches_by last x xs false more = more last
 pub batches_are : (last : ℕ) (xs : List (ℕ × Request)) → map (λ (c : Contents). c.records) (batches_of last xs) ≡ batches_from last (commit_requests_of xs)
 batches_are last [] = refl
 batches_are last (x ∷ xs) = batches_by last x xs (nat_le (last + count_of x.1.batch.records) max_sequence) (λ m. batches_are m xs)
+
+-- what isn't accepted shows no batch
+pub none_if : (no_log : Bool) (b : WrittenBatch) → written_if no_log false b ≡ None
+none_if true b = refl
+none_if false b = refl
 
 module _ (delay : Delay) where
   -- the answers to what was laid out
@@ -96,6 +102,26 @@ module _ (delay : Delay) where
   commits_failed n (x ∷ xs) all =
       one_commit_in (record { by = x.0; asked = x.1; reply = refused_reply delay (LogFault n) x.1 }) (handled_with xs (failures delay n xs)) all.0
       ∙ ap (λ l. commit_of_request (seen_at delay) (commit_request_of x) (failed n) ∷ l) (commits_failed n xs all.1)
+
+  -- what they show of the log
+  sight_by : (last end : ℕ) (x : ℕ × Request) (b : Bool) → sight_of (record { by = x.0; asked = x.1; reply = cond b (accepted_reply delay last end x.1) (refused_reply delay (SequenceFull last) x.1) })
+      ≡ record { client = x.0; made = delay.made; batch = written_if x.1.options.no_log b (record { first = last + 1; records = x.1.batch.records; sync = x.1.options.sync }) }
+  sight_by last end x true = refl
+  sight_by last end x false = refl
+
+  pub sights_planned : (last end : ℕ) (xs : List (ℕ × Request)) → AllByRecursion Writes xs → sights_in (handled_with xs (replies_of delay last end xs)) ≡ sights_with delay.made last (commit_requests_of xs)
+  sights_planned last end [] all = refl
+  sights_planned last end (x ∷ xs) all =
+      let next : ℕ = last_with last x.1.batch.records in
+      let h : Handling Request Answer = record { by = x.0; asked = x.1; reply = reply_at delay last end x.1 } in
+      one_sight_in h (handled_with xs (replies_of delay next end xs)) all.0
+      ∙ (λ i. sight_by last end x (nat_le (last + count_of x.1.batch.records) max_sequence) i ∷ sights_planned next end xs all.1 i)
+
+  pub sights_failed : (n : ℕ) (xs : List (ℕ × Request)) → AllByRecursion Writes xs → sights_in (handled_with xs (failures delay n xs)) ≡ sights_without delay.made (commit_requests_of xs)
+  sights_failed n [] all = refl
+  sights_failed n (x ∷ xs) all =
+      one_sight_in (record { by = x.0; asked = x.1; reply = refused_reply delay (LogFault n) x.1 }) (handled_with xs (failures delay n xs)) all.0
+      ∙ (λ i. record { client = x.0; made = delay.made; batch = none_if x.1.options.no_log (record { first = 0; records = x.1.batch.records; sync = x.1.options.sync }) i } ∷ sights_failed n xs all.1 i)
 
   -- the batches come back
   back_by : (last end : ℕ) (q : Request) (b : Bool) → ComesBack q.batch (cond b (accepted_reply delay last end q) (refused_reply delay (SequenceFull last) q)).answer

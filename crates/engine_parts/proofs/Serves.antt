@@ -1,5 +1,5 @@
 -- What holds once the group of a leader that has asked for its delay is refused or written.
-use Rattle.std.proofs.Common.{◌≡◌, ℕ, ◌+◌, ◌-◌, Bool, true, get_or, take, drop, map, slice_get, Option, Some, IfSome, List, [], ◌∷◌, ◌++◌, length, refl, sym, ap, ◌∙◌, subst, arith, append-nil, length-append}
+use Rattle.std.proofs.Common.{◌≡◌, ℕ, ◌+◌, ◌-◌, Bool, true, get_or, take, drop, map, slice_get, Option, Some, None, List, [], ◌∷◌, ◌++◌, length, refl, sym, ap, ◌∙◌, subst, arith, append-nil, length-append}
 use Rattle.std.specs.List.{AllByRecursion, AllZip}
 use Rattle.std.proofs.lemmas.List.{length-map, drop_all, take_all}
 use mathlib.Core.List.{IsPrefix}
@@ -12,9 +12,8 @@ use Rattle.engine_parts.specs.Logs.{fault_of}
 use Rattle.table_rule.specs.declared.content.MemberVersions.{MemberVersions}
 use Rattle.line_rule.specs.declared.view.Handling.{Handling}
 use Rattle.engine_controller.specs.Delays.{delays_of}
-use Rattle.engine_controller.specs.Passes.{EndsWith, seen_by_note, IsNoteOf}
+use Rattle.engine_controller.specs.Passes.{EndsWith}
 use Rattle.engine_controller.specs.declared.controller.Controller.{Controller}
-use Rattle.engine_controller.specs.Noted.{Noted}
 use Rattle.engine_controller.proofs.Account.{ends_begins, ends_tokens}
 use Rattle.engine_controller.proofs.Places.{ends_delays}
 use Rattle.engine_controller.proofs.Totals.{get_behind}
@@ -29,14 +28,18 @@ use Rattle.engine_parts.specs.declared.requests.Delay.{Delay}
 use Rattle.engine_parts.specs.declared.requests.Request.{Request}
 use Rattle.engine_parts.specs.declared.requests.Answer.{Answer}
 use Rattle.engine_parts.specs.Asking.{HasAskedFor, OnlyLooks, all_seen}
-use Rattle.engine_parts.specs.Handled.{ComesBack, HandsBack, InOrder, IsDelayed, IsHeldUp, IsNotHeldUp, IsReplyOf, ShowsDelay, answer_in, commit_if, commit_of, commit_request_of, commit_requests_of, handled_with, noted_in, reads_handled, reads_of, seen_at, seen_for, commits_in}
+use Rattle.engine_parts.specs.Handled.{ComesBack, HandsBack, InOrder, IsDelayed, IsHeldUp, IsNotHeldUp, IsNotedAs, IsReplyOf, ShowsDelay, answer_in, commit_if, commit_of, commit_request_of, commit_requests_of, handled_with, noted_in, reads_handled, reads_of, seen_at, seen_for, commits_in, first_of, has_run, sight_if, sight_of, sights_in}
 use Rattle.engine_parts.specs.LogLaw.{Covers}
 use Rattle.log_updates.specs.declared.places.LogPlace.{LogPlace}
 use Rattle.engine_parts.specs.Led.{AreAlike, IsLedGroup, LeadsBy}
 use Rattle.engine_parts.specs.Handled.{IsReplyAt}
 use Rattle.engine_parts.proofs.Views.{Saw, unnoted, unseen_commits}
 use Rattle.engine_rule.specs.Reading.{AnsweredRead}
-use Rattle.engine_parts.proofs.Commits.{Writes, commits_append, one_commit_in, reads_append}
+use Rattle.engine_rule.specs.LogSights.{LogSight, worked_in, written_if, sights_without, ShowTheLog}
+use Rattle.engine_rule.proofs.LogSights.{shown_without}
+use Rattle.engine_parts.proofs.Commits.{Writes, commits_append, one_commit_in, one_sight_in, reads_append, sights_append}
+use Rattle.engine_parts.proofs.Noting.{notes_all}
+use Rattle.engine_parts.proofs.Replies.{none_if}
 use Rattle.engine_parts.proofs.ReadsLaw.{ReadsStand, with_writes}
 
 -- The delay that was asked for
@@ -184,52 +187,86 @@ reads_unnoted [] replies = refl
 reads_unnoted (x ∷ requests) [] = refl
 reads_unnoted (x ∷ requests) (y ∷ replies) = ap (λ (l : List AnsweredRead). reads_of (record { by = x.0; asked = x.1; reply = y.1 }) ++ l) (reads_unnoted requests replies)
 
+sights_unnoted : (requests : List (ℕ × Request)) (replies : List (ℕ × Answer)) → sights_in (handled_with (all_seen requests) replies) ≡ sights_in (handled_with requests replies)
+sights_unnoted [] replies = refl
+sights_unnoted (x ∷ requests) [] = refl
+sights_unnoted (x ∷ requests) (y ∷ replies) = ap (λ (l : List LogSight). sight_if x.1.since (sight_of (record { by = x.0; asked = x.1; reply = y.1 })) ++ l) (sights_unnoted requests replies)
+
 -- A written group
 
-module _ {C : Type 0} (controller : Controller C) (d : Delay) where
-  reply_shown : (x : ℕ × Request) (y : ℕ × Answer) → IsReplyOf d y → ShowsDelay controller (record { by = x.0; asked = x.1; reply = y.1 })
-  reply_shown x y r = record {
-    note = subst (λ (o : Option Noted). IfSome o (λ note. IsNoteOf controller note × (seen_by_note note ≡ seen_for y.1))) (sym r.1) tt;
-    held_up = λ numbers e. absurd (subst IsNotHeldUp e r.2);
-  }
+module _ {C : Type 0} (controller : Controller C) (d : Delay) (seen : List ControllerCall) (begins : IsPrefix (seen_at d) seen) where
+  reply_shown : (x : ℕ × Request) (y z : ℕ × Answer) → IsReplyOf d y → IsNotedAs controller seen y z → (x.1.since ≡ None → (numbers : Look) × IsDelayed (noted_in x.1.note) (seen_at d) numbers)
+      → ShowsDelay controller (record { by = x.0; asked = x.1; reply = z.1 })
+  reply_shown x y z r n delayed =
+      let calls : seen_for z.1 ≡ seen_at d = ap seen_for n.2 ∙ ap seen_at r.0 in
+      record {
+        noted = λ writes. notes_all controller seen y z n (subst (λ (l : List ControllerCall). IsPrefix l seen) (sym (ap seen_at r.0)) begins);
+        delayed = λ writes. (let t = delayed writes in (t.0, subst (λ (l : List ControllerCall). IsDelayed (noted_in x.1.note) l t.0) (sym calls) t.1));
+        held_up = λ numbers e. absurd (subst IsNotHeldUp (sym (ap (λ (p : Answer). answer_in p.answer) n.2) ∙ e) r.2);
+      }
 
-  pub replies_shown : (requests : List (ℕ × Request)) (replies : List (ℕ × Answer)) → AllByRecursion (IsReplyOf d) replies → AllByRecursion (ShowsDelay controller) (handled_with requests replies)
-  replies_shown [] replies h = tt
-  replies_shown (x ∷ requests) [] h = tt
-  replies_shown (x ∷ requests) (y ∷ replies) h = (reply_shown x y h.0, replies_shown requests replies h.1)
+  pub replies_shown : (requests : List (ℕ × Request)) (ys zs : List (ℕ × Answer)) → AllByRecursion (IsReplyOf d) ys → AllZip (IsNotedAs controller seen) ys zs
+      → AllByRecursion (λ (x : ℕ × Request). x.1.since ≡ None → (numbers : Look) × IsDelayed (noted_in x.1.note) (seen_at d) numbers) requests → AllByRecursion (ShowsDelay controller) (handled_with requests zs)
+  replies_shown [] ys zs h zip delayed = tt
+  replies_shown (x ∷ requests) ys [] h zip delayed = tt
+  replies_shown (x ∷ requests) [] (z ∷ zs) h zip delayed = absurd zip
+  replies_shown (x ∷ requests) (y ∷ ys) (z ∷ zs) h zip delayed = (reply_shown x y z h.0 zip.0 delayed.0, replies_shown requests ys zs h.1 zip.1 delayed.1)
 
-  pub replies_at : (known : List ControllerCall) → seen_at d ≡ known → (replies : List (ℕ × Answer)) → AllByRecursion (IsReplyOf d) replies → AllByRecursion (IsReplyAt known) replies
-  replies_at known is [] h = tt
-  replies_at known is (y ∷ replies) h = (ap seen_at h.0.0 ∙ is, replies_at known is replies h.1)
+-- the replies to reads of the log need no notes
+pub reads_shown : {C : Type 0} (controller : Controller C) (d : Delay) (requests : List (ℕ × Request)) (replies : List (ℕ × Answer)) → AllByRecursion (IsReplyOf d) replies
+    → AllByRecursion (λ (x : ℕ × Request). (n : ℕ) × (x.1.since ≡ Some n)) requests → AllByRecursion (ShowsDelay controller) (handled_with requests replies)
+reads_shown controller d [] replies h reads = tt
+reads_shown controller d (x ∷ requests) [] h reads = tt
+reads_shown controller d (x ∷ requests) (y ∷ replies) h reads = (
+  record {
+    noted = λ writes. absurd (none_read x.1.since reads.0.0 reads.0.1 writes);
+    delayed = λ writes. absurd (none_read x.1.since reads.0.0 reads.0.1 writes);
+    held_up = λ numbers e. absurd (subst IsNotHeldUp e h.0.2);
+  },
+  reads_shown controller d requests replies h.1 reads.1,
+)
+  where
+    none_read : (since : Option ℕ) (n : ℕ) → since ≡ Some n → since ≡ None → ⊥
+    none_read since n some none = let e : ◌≡◌ {A = Option ℕ} (Some n) None = sym some ∙ none in cc (e)
+
+pub replies_at : (d : Delay) (known : List ControllerCall) → seen_at d ≡ known → (replies : List (ℕ × Answer)) → AllByRecursion (IsReplyOf d) replies → AllByRecursion (IsReplyAt known) replies
+replies_at d known is [] h = tt
+replies_at d known is (y ∷ replies) h = (ap seen_at h.0.0 ∙ is, replies_at d known is replies h.1)
+
+-- what the leader asked for comes after all that its members had seen
+pub delayed_all : (before known : List ControllerCall) (numbers : Look) → ((x : ℕ × Request) → Saw before x → IsDelayed (noted_in x.1.note) known numbers) → (requests : List (ℕ × Request)) → AllByRecursion (Saw before) requests
+    → AllByRecursion (λ (x : ℕ × Request). x.1.since ≡ None → (n : Look) × IsDelayed (noted_in x.1.note) known n) requests
+delayed_all before known numbers f [] saw = tt
+delayed_all before known numbers f (x ∷ requests) saw = ((λ writes. (numbers, f x saw.0)), delayed_all before known numbers f requests saw.1)
 
 -- A refused group
 
-module _ {C : Type 0} (controller : Controller C) (d : Delay) (numbers : Look) where
-  pub held_order : (requests : List (ℕ × Request)) (replies : List (ℕ × Answer)) → AllZip (IsHeldUp controller d numbers) (all_seen requests) replies → InOrder requests replies
+module _ (d : Delay) (numbers : Look) where
+  pub held_order : (requests : List (ℕ × Request)) (replies : List (ℕ × Answer)) → AllZip (IsHeldUp d numbers) (all_seen requests) replies → InOrder requests replies
   held_order [] [] h = tt
   held_order [] (y ∷ replies) h = absurd h
   held_order (x ∷ requests) [] h = absurd h
   held_order (x ∷ requests) (y ∷ replies) h = (h.0.0, held_order requests replies h.1)
 
-  pub held_back : (requests : List (ℕ × Request)) (replies : List (ℕ × Answer)) → AllZip (IsHeldUp controller d numbers) (all_seen requests) replies → AllByRecursion HandsBack (handled_with requests replies)
+  pub held_back : (requests : List (ℕ × Request)) (replies : List (ℕ × Answer)) → AllZip (IsHeldUp d numbers) (all_seen requests) replies → AllByRecursion HandsBack (handled_with requests replies)
   held_back [] replies h = tt
   held_back (x ∷ requests) [] h = tt
   held_back (x ∷ requests) (y ∷ replies) h = (subst (ComesBack x.1.batch) (sym h.0.1) (refl, tt), held_back requests replies h.1)
 
-  pub held_at : (known : List ControllerCall) → seen_at d ≡ known → (requests : List (ℕ × Request)) (replies : List (ℕ × Answer)) → AllZip (IsHeldUp controller d numbers) (all_seen requests) replies → AllByRecursion (IsReplyAt known) replies
+  pub held_at : (known : List ControllerCall) → seen_at d ≡ known → (requests : List (ℕ × Request)) (replies : List (ℕ × Answer)) → AllZip (IsHeldUp d numbers) (all_seen requests) replies → AllByRecursion (IsReplyAt known) replies
   held_at known is [] [] h = tt
   held_at known is [] (y ∷ replies) h = absurd h
   held_at known is (x ∷ requests) [] h = tt
   held_at known is (x ∷ requests) (y ∷ replies) h = (ap seen_at h.0.2 ∙ is, held_at known is requests replies h.1)
 
-  one_commit : (x : ℕ × Request) (y : ℕ × Answer) (known : List ControllerCall) → seen_at d ≡ known → IsHeldUp controller d numbers (unnoted x) y
+  one_commit : (x : ℕ × Request) (y : ℕ × Answer) (known : List ControllerCall) → seen_at d ≡ known → IsHeldUp d numbers (unnoted x) y
       → commit_of (record { by = x.0; asked = x.1; reply = y.1 }) ≡ record { client = x.0; records = x.1.batch.records; options = x.1.options; answer = held_up numbers; controller_calls = known }
   one_commit x y known is h =
       let answer : answer_in y.1.answer ≡ held_up numbers = ap answer_in h.1 in
       let calls : seen_for y.1 ≡ known = ap seen_at h.2 ∙ is in
       (λ i. record { client = x.0; records = x.1.batch.records; options = x.1.options; answer = answer i; controller_calls = calls i })
 
-  pub held_commits : (known : List ControllerCall) → seen_at d ≡ known → (requests : List (ℕ × Request)) (replies : List (ℕ × Answer)) → AllByRecursion Writes requests → AllZip (IsHeldUp controller d numbers) (all_seen requests) replies
+  pub held_commits : (known : List ControllerCall) → seen_at d ≡ known → (requests : List (ℕ × Request)) (replies : List (ℕ × Answer)) → AllByRecursion Writes requests → AllZip (IsHeldUp d numbers) (all_seen requests) replies
       → commits_in (handled_with requests replies) ≡ all_held_up known numbers (commit_requests_of requests)
   held_commits known is [] replies w h = refl
   held_commits known is (x ∷ requests) [] w h = absurd h
@@ -237,48 +274,71 @@ module _ {C : Type 0} (controller : Controller C) (d : Delay) (numbers : Look) w
       one_commit_in (record { by = x.0; asked = x.1; reply = y.1 }) (handled_with requests replies) w.0
       ∙ (λ i. one_commit x y known is h.0 i ∷ held_commits known is requests replies w.1 h.1 i)
 
-  one_shown : (known : List ControllerCall) → seen_at d ≡ known → HoldUp numbers → (x : ℕ × Request) (y : ℕ × Answer) → IsHeldUp controller d numbers (unnoted x) y → x.1.options.no_slowdown ≡ true → IsDelayed (noted_in x.1.note) known numbers
-      → ShowsDelay controller (record { by = x.0; asked = x.1; reply = y.1 })
-  one_shown known is hold x y h may_not delayed =
-      let calls : seen_for y.1 ≡ known = ap seen_at h.2 ∙ is in
-      let note_is : y.1.note ≡ Some h.3.0 = h.3.1 in
-      let told : answer_in y.1.answer ≡ held_up numbers = ap answer_in h.1 in
+  pub held_sights : (requests : List (ℕ × Request)) (replies : List (ℕ × Answer)) → AllByRecursion Writes requests → AllZip (IsHeldUp d numbers) (all_seen requests) replies
+      → sights_in (handled_with requests replies) ≡ sights_without d.made (commit_requests_of requests)
+  held_sights [] replies w h = refl
+  held_sights (x ∷ requests) [] w h = absurd h
+  held_sights (x ∷ requests) (y ∷ replies) w h =
+      let answer : answer_in y.1.answer ≡ held_up numbers = ap answer_in h.0.1 in
+      let one : sight_of (record { by = x.0; asked = x.1; reply = y.1 }) ≡ record { client = x.0; made = d.made; batch = None } =
+      (λ i. record {
+        client = x.0;
+        made = (h.0.2 i).made;
+        batch = written_if x.1.options.no_log (has_run (answer i)) (record { first = first_of (answer i); records = x.1.batch.records; sync = x.1.options.sync });
+      }) ∙ (λ i. record { client = x.0; made = d.made; batch = none_if x.1.options.no_log (record { first = 0; records = x.1.batch.records; sync = x.1.options.sync }) i }) in
+      one_sight_in (record { by = x.0; asked = x.1; reply = y.1 }) (handled_with requests replies) w.0
+      ∙ (λ i. one i ∷ held_sights requests replies w.1 h.1 i)
+
+-- once the replies have their notes
+module _ {C : Type 0} (controller : Controller C) (d : Delay) (numbers : Look) (seen : List ControllerCall) (begins : IsPrefix (seen_at d) seen) (hold : HoldUp numbers) where
+  one_shown : (x : ℕ × Request) (y z : ℕ × Answer) → IsHeldUp d numbers (unnoted x) y → IsNotedAs controller seen y z → x.1.options.no_slowdown ≡ true → IsDelayed (noted_in x.1.note) (seen_at d) numbers
+      → ShowsDelay controller (record { by = x.0; asked = x.1; reply = z.1 })
+  one_shown x y z h n may_not delayed =
+      let was : seen_for y.1 ≡ seen_at d = ap seen_at h.2 in
+      let calls : seen_for z.1 ≡ seen_at d = ap seen_for n.2 ∙ was in
+      let told : answer_in z.1.answer ≡ held_up numbers = ap (λ (p : Answer). answer_in p.answer) n.2 ∙ ap answer_in h.1 in
+      let late : IsDelayed (noted_in x.1.note) (seen_for z.1) numbers = subst (λ (l : List ControllerCall). IsDelayed (noted_in x.1.note) l numbers) (sym calls) delayed in
       record {
-        note = subst (λ (o : Option Noted). IfSome o (λ note. IsNoteOf controller note × (seen_by_note note ≡ seen_for y.1))) (sym note_is) (h.3.2, h.3.3 ∙ sym (ap seen_at h.2));
+        noted = λ writes. notes_all controller seen y z n (subst (λ (l : List ControllerCall). IsPrefix l seen) (sym was) begins);
+        delayed = λ writes. (numbers, late);
         held_up = λ other e.
             let same : numbers ≡ other = told_same numbers other (sym told ∙ e) in
-            (may_not, subst HoldUp same hold, (h.3.0, note_is), subst (λ (z : List ControllerCall × Look). IsDelayed (noted_in x.1.note) z.0 z.1) (λ i. (sym calls i, same i)) delayed);
+            (may_not, subst HoldUp same hold, subst (IsDelayed (noted_in x.1.note) (seen_for z.1)) same late);
       }
     where
       told_same : (a b : Look) → held_up a ≡ held_up b → a ≡ b
       told_same a b e = cc
 
-  pub held_shown : (known before : List ControllerCall) → seen_at d ≡ known → HoldUp numbers → ((x : ℕ × Request) → Saw before x → IsDelayed (noted_in x.1.note) known numbers) → (requests : List (ℕ × Request)) (replies : List (ℕ × Answer))
-      → AllZip (IsHeldUp controller d numbers) (all_seen requests) replies → MayNotWait (commit_requests_of requests) → AllByRecursion (Saw before) requests → AllByRecursion (ShowsDelay controller) (handled_with requests replies)
-  held_shown known before is hold f [] replies h may saw = tt
-  held_shown known before is hold f (x ∷ requests) [] h may saw = tt
-  held_shown known before is hold f (x ∷ requests) (y ∷ replies) h may saw =
-      (one_shown known is hold x y h.0 may.0 (f x saw.0), held_shown known before is hold f requests replies h.1 may.1 saw.1)
+  pub held_shown : (before : List ControllerCall) → ((x : ℕ × Request) → Saw before x → IsDelayed (noted_in x.1.note) (seen_at d) numbers) → (requests : List (ℕ × Request)) (ys zs : List (ℕ × Answer))
+      → AllZip (IsHeldUp d numbers) (all_seen requests) ys → AllZip (IsNotedAs controller seen) ys zs → MayNotWait (commit_requests_of requests) → AllByRecursion (Saw before) requests
+      → AllByRecursion (ShowsDelay controller) (handled_with requests zs)
+  held_shown before f [] ys zs h zip may saw = tt
+  held_shown before f (x ∷ requests) [] zs h zip may saw = absurd h
+  held_shown before f (x ∷ requests) (y ∷ ys) [] h zip may saw = absurd zip
+  held_shown before f (x ∷ requests) (y ∷ ys) (z ∷ zs) h zip may saw =
+      (one_shown x y z h.0 zip.0 may.0 (f x saw.0), held_shown before f requests ys zs h.1 zip.1 may.1 saw.1)
 
 -- The law of log and table
 
-module _ {D : Type 0} {ghosts : Ghosts D} {T U : Type 0} (our_turn : T → U → Type 0) (history : U → List (List MemberVersions)) (opened : OpenLog D ghosts) (log : OpenLog D ghosts) (places : List LogPlace) (turn : U) (last : ℕ) where
+module _ {D : Type 0} {ghosts : Ghosts D} {T U : Type 0} (our_turn : T → U → Type 0) (history : U → List (List MemberVersions)) (opened : OpenLog D ghosts) (log : OpenLog D ghosts) (places : List LogPlace) (turn : U) (last made : ℕ) where
   -- the law holds for equal numbers under other names
   pub stands_by : (table table' : T) (start start' clients clients' group_bytes group_bytes' : ℕ) (asked asked' : List ControllerCall) (hs : List (Handling Request Answer))
       → table ≡ table' → start ≡ start' → clients ≡ clients' → group_bytes ≡ group_bytes' → asked ≡ asked'
-      → Covers our_turn history table opened start clients group_bytes asked log places turn last hs → Covers our_turn history table' opened start' clients' group_bytes' asked' log places turn last hs
+      → Covers our_turn history table opened start clients group_bytes asked log places turn last made hs → Covers our_turn history table' opened start' clients' group_bytes' asked' log places turn last made hs
   stands_by table table' start start' clients clients' group_bytes group_bytes' asked asked' hs a b c d e s =
-      subst (λ (z : T × ℕ × ℕ × ℕ × List ControllerCall). Covers our_turn history z.0 opened z.1 z.2 z.3 z.4 log places turn last hs) (λ i. (a i, b i, c i, d i, e i)) s
+      subst (λ (z : T × ℕ × ℕ × ℕ × List ControllerCall). Covers our_turn history z.0 opened z.1 z.2 z.3 z.4 log places turn last made hs) (λ i. (a i, b i, c i, d i, e i)) s
 
   -- the law holds for the requests as they were, with their notes
   pub stands_noted : (table : T) (start clients group_bytes : ℕ) (asked : List ControllerCall) (hs : List (Handling Request Answer)) (requests : List (ℕ × Request)) (replies : List (ℕ × Answer))
-      → Covers our_turn history table opened start clients group_bytes asked log places turn last (hs ++ handled_with (all_seen requests) replies)
-      → Covers our_turn history table opened start clients group_bytes asked log places turn last (hs ++ handled_with requests replies)
+      → Covers our_turn history table opened start clients group_bytes asked log places turn last made (hs ++ handled_with (all_seen requests) replies)
+      → Covers our_turn history table opened start clients group_bytes asked log places turn last made (hs ++ handled_with requests replies)
   stands_noted table start clients group_bytes asked hs requests replies s =
       let same : commits_in (hs ++ handled_with (all_seen requests) replies) ≡ commits_in (hs ++ handled_with requests replies) =
       commits_append hs (handled_with (all_seen requests) replies) ∙ (ap (λ (l : List Commit). commits_in hs ++ l) (commits_unnoted requests replies) ∙ sym (commits_append hs (handled_with requests replies))) in
       let as_read : reads_handled (hs ++ handled_with (all_seen requests) replies) ≡ reads_handled (hs ++ handled_with requests replies) =
       reads_append hs (handled_with (all_seen requests) replies) ∙ (ap (λ (l : List AnsweredRead). reads_handled hs ++ l) (reads_unnoted requests replies) ∙ sym (reads_append hs (handled_with requests replies))) in
+      let same_sights : sights_in (hs ++ handled_with (all_seen requests) replies) ≡ sights_in (hs ++ handled_with requests replies) =
+      sights_append hs (handled_with (all_seen requests) replies) ∙ (ap (λ (l : List LogSight). sights_in hs ++ l) (sights_unnoted requests replies) ∙ sym (sights_append hs (handled_with requests replies))) in
       let were : ReadsStand opened start clients s.calls log last (reads_handled (hs ++ handled_with (all_seen requests) replies)) = record { right = s.right; readers = s.readers; counted = s.counted } in
       let reads = subst (ReadsStand opened start clients s.calls log last) as_read were in
       record {
@@ -286,6 +346,8 @@ module _ {D : Type 0} {ghosts : Ghosts D} {T U : Type 0} (our_turn : T → U →
         calls = s.calls;
         wrote = s.wrote;
         consistent = subst (λ (cs : List Commit). AreConsistent start clients group_bytes asked cs last (fault_of log) (history turn) s.calls) same s.consistent;
+        made_is = s.made_is;
+        shown = subst (ShowTheLog (worked_in s.calls)) same_sights s.shown;
         right = reads.right;
         readers = reads.readers;
         counted = reads.counted;
@@ -293,13 +355,16 @@ module _ {D : Type 0} {ghosts : Ghosts D} {T U : Type 0} (our_turn : T → U →
       }
 
   -- the law holds after the group is refused
-  pub stands_held_up : {C : Type 0} (controller : Controller C) (d : Delay) (numbers : Look) (table : T) (start clients group_bytes : ℕ) (asked known : List ControllerCall) (hs : List (Handling Request Answer)) (requests : List (ℕ × Request)) (replies : List (ℕ × Answer))
-      → AllZip (IsHeldUp controller d numbers) (all_seen requests) replies → seen_at d ≡ known → IsLedGroup group_bytes clients requests → IsAskedFor (commit_requests_of requests) numbers known → ComesAfter asked known → HoldUp numbers
-      → MayNotWait (commit_requests_of requests) → Covers our_turn history table opened start clients group_bytes asked log places turn last hs
-      → Covers our_turn history table opened start clients group_bytes known log places turn last (hs ++ handled_with requests replies)
-  stands_held_up controller d numbers table start clients group_bytes asked known hs requests replies zip is led is_asked comes hold may s =
+  pub stands_held_up : (d : Delay) (numbers : Look) (table : T) (start clients group_bytes : ℕ) (asked known : List ControllerCall) (hs : List (Handling Request Answer)) (requests : List (ℕ × Request)) (replies : List (ℕ × Answer))
+      → AllZip (IsHeldUp d numbers) (all_seen requests) replies → seen_at d ≡ known → d.made ≡ made → IsLedGroup group_bytes clients requests → IsAskedFor (commit_requests_of requests) numbers known → ComesAfter asked known → HoldUp numbers
+      → MayNotWait (commit_requests_of requests) → Covers our_turn history table opened start clients group_bytes asked log places turn last made hs
+      → Covers our_turn history table opened start clients group_bytes known log places turn last made (hs ++ handled_with requests replies)
+  stands_held_up d numbers table start clients group_bytes asked known hs requests replies zip is counts led is_asked comes hold may s =
       let same : commits_in hs ++ all_held_up known numbers (commit_requests_of requests) ≡ commits_in (hs ++ handled_with requests replies) =
-      ap (λ (l : List Commit). commits_in hs ++ l) (sym (held_commits controller d numbers known is requests replies led.writes zip)) ∙ sym (commits_append hs (handled_with requests replies)) in
+      ap (λ (l : List Commit). commits_in hs ++ l) (sym (held_commits d numbers known is requests replies led.writes zip)) ∙ sym (commits_append hs (handled_with requests replies)) in
+      let none : d.made ≡ length (worked_in s.calls) = counts ∙ s.made_is in
+      let shows : sights_in hs ++ sights_without (length (worked_in s.calls)) (commit_requests_of requests) ≡ sights_in (hs ++ handled_with requests replies) =
+      ap (λ (l : List LogSight). sights_in hs ++ l) (sym (held_sights d numbers requests replies led.writes zip ∙ ap (λ (m : ℕ). sights_without m (commit_requests_of requests)) none)) ∙ sym (sights_append hs (handled_with requests replies)) in
       let reads = with_writes opened start clients s.calls log last hs requests replies led.writes (record { right = s.right; readers = s.readers; counted = s.counted }) in
       record {
         our = s.our;
@@ -307,6 +372,8 @@ module _ {D : Type 0} {ghosts : Ghosts D} {T U : Type 0} (our_turn : T → U →
         wrote = s.wrote;
         consistent = subst (λ (cs : List Commit). AreConsistent start clients group_bytes known cs last (fault_of log) (history turn) s.calls) same
             (consistent_held_up start clients group_bytes (commits_in hs) last (history turn) s.calls (commit_requests_of requests) asked known numbers led.lawful led.whole is_asked comes (fault_of log) s.consistent hold may);
+        made_is = s.made_is;
+        shown = subst (ShowTheLog (worked_in s.calls)) shows (shown_without s.calls (sights_in hs) (commit_requests_of requests) led.whole.of_others s.shown);
         right = reads.right;
         readers = reads.readers;
         counted = reads.counted;

@@ -2,7 +2,6 @@
 use Rattle.std.proofs.Common.{◌≡◌, ℕ, ◌+◌, ◌<◌, Bool, true, false, nat_le, List, [], ◌∷◌, Result, length, refl, ap, sym, ◌∙◌, subst, arith}
 use Rattle.std.specs.List.{AllByRecursion, AllZip}
 use Rattle.model_base.specs.Controller.{Look}
-use Rattle.engine_controller.specs.declared.controller.Controller.{Controller}
 use Rattle.engine_calls.specs.declared.answers.Receipt.{Receipt}
 use Rattle.engine_calls.specs.declared.answers.Refused.{Refused}
 use Rattle.engine_parts.specs.declared.layout.Layout.{Layout}
@@ -49,11 +48,11 @@ may_launch leader clients last end asks beside parts are some is = let r = versi
   ends = is ∙ (sym r.1 ∙ ap (λ vs. last + length vs) (sym are.versions_are));
 }
 
-pub no_runs_held : {C : Type 0} (controller : Controller C) (delay : Delay) (numbers : Look) (xs : List (ℕ × Request)) (ys : List (ℕ × Answer)) → AllZip (IsHeldUp controller delay numbers) xs ys → HaveNoRuns ys
-no_runs_held controller delay numbers [] [] h = tt
-no_runs_held controller delay numbers [] (y ∷ ys) h = absurd h
-no_runs_held controller delay numbers (x ∷ xs) [] h = absurd h
-no_runs_held controller delay numbers (x ∷ xs) (y ∷ ys) h = (subst (λ (r : Result Receipt Refused). HasNoRun (answer_in r)) (sym h.0.1) tt, no_runs_held controller delay numbers xs ys h.1)
+pub no_runs_held : (delay : Delay) (numbers : Look) (xs : List (ℕ × Request)) (ys : List (ℕ × Answer)) → AllZip (IsHeldUp delay numbers) xs ys → HaveNoRuns ys
+no_runs_held delay numbers [] [] h = tt
+no_runs_held delay numbers [] (y ∷ ys) h = absurd h
+no_runs_held delay numbers (x ∷ xs) [] h = absurd h
+no_runs_held delay numbers (x ∷ xs) (y ∷ ys) h = (subst (λ (r : Result Receipt Refused). HasNoRun (answer_in r)) (sym h.0.1) tt, no_runs_held delay numbers xs ys h.1)
 
 pub laid : (n : ℕ) (layout : Layout) → IsRoomy n layout → IsLaid n layout
 laid n layout r = record { no_numberings = r.clear.0; no_batches = r.clear.1; clients_are = r.clear.3; numberings = r.numberings; batches = r.batches; members = r.members }

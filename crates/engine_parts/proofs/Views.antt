@@ -13,7 +13,6 @@ use Rattle.table_rule.specs.Batches.{new_versions}
 use Rattle.table_rule.specs.declared.content.Version.{Version}
 use Rattle.engine_controller.specs.Delays.{delays_of}
 use Rattle.engine_controller.specs.Passes.{GoesOn, EndsWith, seen_by}
-use Rattle.engine_controller.specs.declared.controller.Controller.{Controller}
 use Rattle.engine_controller.specs.Noted.{Noted}
 use Rattle.engine_controller.specs.declared.pass.Pass.{Pass}
 use Rattle.engine_controller.specs.Rule.{seen_in}
@@ -187,18 +186,18 @@ looked_free client known middle after first numbers p e free =
 
 -- Lists
 
-zip_snoc : {A B : Type 0} (R : A → B → Type 0) (xs : List A) (ys : List B) (x : A) (y : B) → AllZip R xs ys → R x y → AllZip R (xs ++ x ∷ []) (ys ++ y ∷ [])
+pub zip_snoc : {A B : Type 0} (R : A → B → Type 0) (xs : List A) (ys : List B) (x : A) (y : B) → AllZip R xs ys → R x y → AllZip R (xs ++ x ∷ []) (ys ++ y ∷ [])
 zip_snoc R [] [] x y h r = (r, tt)
 zip_snoc R [] (z ∷ ys) x y h r = absurd h
 zip_snoc R (w ∷ xs) [] x y h r = absurd h
 zip_snoc R (w ∷ xs) (z ∷ ys) x y h r = (h.0, zip_snoc R xs ys x y h.1 r)
 
 -- one more member is refused
-pub held_more : {C : Type 0} (controller : Controller C) (d : Delay) (n : Look) (all requests left : List (ℕ × Request)) (replies now : List (ℕ × Answer)) (x : ℕ × Request) (y : ℕ × Answer)
-    → (taken : List (ℕ × Request)) × (taken ++ requests ≡ all) × AllZip (IsHeldUp controller d n) taken replies
-    → requests ≡ x ∷ left → now ≡ replies ++ y ∷ [] → IsHeldUp controller d n x y → (taken : List (ℕ × Request)) × (taken ++ left ≡ all) × AllZip (IsHeldUp controller d n) taken now
-held_more controller d n all requests left replies now x y t first put held = (
+pub held_more : (d : Delay) (n : Look) (all requests left : List (ℕ × Request)) (replies now : List (ℕ × Answer)) (x : ℕ × Request) (y : ℕ × Answer)
+    → (taken : List (ℕ × Request)) × (taken ++ requests ≡ all) × AllZip (IsHeldUp d n) taken replies
+    → requests ≡ x ∷ left → now ≡ replies ++ y ∷ [] → IsHeldUp d n x y → (taken : List (ℕ × Request)) × (taken ++ left ≡ all) × AllZip (IsHeldUp d n) taken now
+held_more d n all requests left replies now x y t first put held = (
   t.0 ++ x ∷ [],
   append_assoc t.0 (x ∷ []) left ∙ (ap (λ (l : List (ℕ × Request)). t.0 ++ l) (sym first) ∙ t.1),
-  subst (AllZip (IsHeldUp controller d n) (t.0 ++ x ∷ [])) (sym put) (zip_snoc (IsHeldUp controller d n) t.0 replies x y t.2 held),
+  subst (AllZip (IsHeldUp d n) (t.0 ++ x ∷ [])) (sym put) (zip_snoc (IsHeldUp d n) t.0 replies x y t.2 held),
 )

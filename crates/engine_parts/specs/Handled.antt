@@ -1,6 +1,7 @@
 -- Requests that were handled, as commits, and how a leader answers.
-use Rattle.std.specs.Prelude.{◌≡◌, ℕ, ◌+◌, ◌-◌, true, length, IfSome, List, [], ◌∷◌, ◌++◌, map, flat_map, nat_le, if◌then◌else◌, Option, Some, None, Result, Ok, Err, ⊤}
+use Rattle.std.specs.Prelude.{◌≡◌, ℕ, ◌+◌, ◌-◌, Bool, true, false, length, IfSome, List, [], ◌∷◌, ◌++◌, map, flat_map, nat_le, if◌then◌else◌, Option, Some, None, Result, Ok, Err, ⊤}
 use Rattle.std.specs.List.{AllByRecursion}
+use mathlib.Core.List.{IsPrefix}
 use Rattle.model_base.specs.declared.write.Refusal.{Refusal}
 use Rattle.model_base.specs.declared.write.Refusal.TheVariants.{Empty, TooLarge, SyncWithoutLog, SelfStop, NoFamily, NoMemory, Incomplete, LogFault, SequenceFull}
 use Rattle.model_base.specs.Batch.{Record, count_of}
@@ -22,6 +23,7 @@ use Rattle.engine_controller.specs.declared.controller.Controller.{Controller}
 use Rattle.engine_controller.specs.Noted.{Noted}
 use Rattle.engine_controller.specs.Passes.{seen_by, seen_by_note, IsNoteOf}
 use Rattle.engine_rule.specs.Commits.{Answer as CommitAnswer, accepted, held_up, failed, no_room, Commit, AreAnswered}
+use Rattle.engine_rule.specs.LogSights.{LogSight, ShowTheLog, written_if}
 use Rattle.engine_rule.specs.Plans.{CommitRequest, last_with}
 use Rattle.engine_parts.specs.declared.requests.Request.{Request}
 use Rattle.engine_parts.specs.declared.requests.Delay.{Delay}
@@ -73,6 +75,40 @@ commit_if (Some since) c = []
 -- what was handled, as commits
 abbrev pub commits_in : List (Handling Request Answer) → List Commit
 commits_in handled = flat_map (λ (h : Handling Request Answer). commit_if h.asked.since (commit_of h)) handled
+
+-- What the answer to a commit shows of the log: how many of its calls had worked when the group was answered, and the
+-- commit's batch, where that is accepted and may be logged.
+
+abbrev pub has_run : CommitAnswer → Bool
+has_run (accepted first group_last) = true
+has_run (held_up numbers) = false
+has_run (failed count) = false
+has_run (no_room at) = false
+
+abbrev pub first_of : CommitAnswer → ℕ
+first_of (accepted first group_last) = first
+first_of (held_up numbers) = 0
+first_of (failed count) = 0
+first_of (no_room at) = 0
+
+abbrev pub sight_with : ℕ → Commit → LogSight
+sight_with made c = record {
+  client = c.client;
+  made = made;
+  batch = written_if c.options.no_log (has_run c.answer)
+      (record { first = first_of c.answer; records = c.records; sync = c.options.sync });
+}
+
+abbrev pub sight_of : Handling Request Answer → LogSight
+sight_of h = sight_with h.reply.delay.value.made (commit_of h)
+
+-- a read of the log shows none here
+abbrev pub sight_if : Option ℕ → LogSight → List LogSight
+sight_if None s = s ∷ []
+sight_if (Some since) s = []
+
+abbrev pub sights_in : List (Handling Request Answer) → List LogSight
+sights_in handled = flat_map (λ (h : Handling Request Answer). sight_if h.asked.since (sight_of h)) handled
 
 -- the answer to a read of the log from this sequence on
 abbrev pub read_answer : ℕ → Option (Result Since SinceRefused) → ReadAnswer
@@ -135,18 +171,26 @@ pub record IsDelayed (seen_by_note seen : List ControllerCall) (numbers : Look) 
   pub is_later : IsLater seen (length seen_by_note) (length seen - 1)
       (record { client = by; action = calls.delay now bytes; told = Some numbers })
 
--- The note of a reply, if it has one, is the controller's, and shows what the leader had seen. A client that is refused
--- because writes are held up may not wait, and has such a note. Its answer has the numbers of the group's delay, which
--- say that writes are held up.
+-- the reply has a note of the controller, which shows all of this history
+abbrev pub NotesAll : {Time : Type 0} → Controller Time → List ControllerCall → Answer → Type 0
+NotesAll controller seen p = (note : Noted) × (p.note ≡ Some note) × IsNoteOf controller note
+    × IsPrefix seen (seen_by_note note)
+
+-- The reply to a write has a note of the controller, which shows all that the leader had seen up to the group's delay.
+-- That delay comes after all that the request's own note shows. A client that is refused because writes are held up may
+-- not wait, and its answer has the numbers of that delay, which say that writes are held up.
 pub record ShowsDelay {Time : Type 0} (controller : Controller Time) (h : Handling Request Answer) : Type 0 where
-  pub note : IfSome h.reply.note (λ note. IsNoteOf controller note × (seen_by_note note ≡ seen_for h.reply))
+  pub noted : h.asked.since ≡ None → NotesAll controller (seen_for h.reply) h.reply
+  pub delayed : h.asked.since ≡ None
+      → (numbers : Look) × IsDelayed (noted_in h.asked.note) (seen_for h.reply) numbers
   pub held_up : (numbers : Look) → answer_in h.reply.answer ≡ held_up numbers
-      → (h.asked.options.no_slowdown ≡ true) × HoldUp numbers × ((note : Noted) × (h.reply.note ≡ Some note))
+      → (h.asked.options.no_slowdown ≡ true) × HoldUp numbers
       × IsDelayed (noted_in h.asked.note) (seen_for h.reply) numbers
 
--- Calls have written a log from the opened one, and the first of them (`worked`) wrote the history of these commits.
+-- Calls have written a log from the opened one, and the first of them (`worked`) wrote the history of these commits,
+-- whose answers show these calls.
 pub record HasWritten {Log : Type 0} {ghosts : Ghosts Log} (opened : OpenLog Log ghosts)
-    (commits : List Commit) : Type 0
+    (commits : List Commit) (sights : List LogSight) : Type 0
   where
     pub calls : List GroupCall
     pub log : OpenLog Log ghosts
@@ -155,6 +199,7 @@ pub record HasWritten {Log : Type 0} {ghosts : Ghosts Log} (opened : OpenLog Log
     pub lost : List GroupCall
     pub both : calls ≡ worked ++ lost
     pub parts : WroteParts (entries_of commits) worked
+    pub shown : ShowTheLog worked sights
 
 -- What holds of all that was handled, wherever the log is: the answers are right, hand the batches back, and show the
 -- delay where writes are held up; and the log has what was accepted and should be logged.
@@ -164,7 +209,7 @@ pub record AreHandled {Time Log : Type 0} {ghosts : Ghosts Log} (controller : Co
   pub answered : AreAnswered start None (commits_in handled)
   pub handed_back : AllByRecursion HandsBack handled
   pub shown : AllByRecursion (ShowsDelay controller) handled
-  pub written : HasWritten opened (commits_in handled)
+  pub written : HasWritten opened (commits_in handled) (sights_in handled)
 
 -- A leader's requests and replies, with the clients' numbers
 
@@ -225,12 +270,17 @@ abbrev pub held_up_with : Look → Contents → Refused
 held_up_with numbers batch =
     record { batch = batch; why = Incomplete numbers.stops numbers.delays numbers.wait }
 
--- the request is refused because writes are held up, and its reply has a note of what the leader has seen
-abbrev pub IsHeldUp : {Time : Type 0} → Controller Time → Delay → Look → ℕ × Request → ℕ × Answer → Type 0
-IsHeldUp controller delay numbers x y = (y.0 ≡ x.0)
+-- the request is refused because writes are held up, by a reply without a note
+abbrev pub IsHeldUp : Delay → Look → ℕ × Request → ℕ × Answer → Type 0
+IsHeldUp delay numbers x y = (y.0 ≡ x.0)
     × (y.1.answer ≡ Err (held_up_with numbers x.1.batch))
     × (y.1.delay.value ≡ delay)
-    × ((note : Noted) × (y.1.note ≡ Some note) × IsNoteOf controller note × (seen_by_note note ≡ seen_at delay))
+    × (y.1.note ≡ None)
+
+-- the reply, and a note of this controller's history in it
+abbrev pub IsNotedAs : {Time : Type 0} → Controller Time → List ControllerCall → ℕ × Answer → ℕ × Answer → Type 0
+IsNotedAs controller seen y z = (z.0 ≡ y.0) × (note : Noted) × (z.1 ≡ record y.1 { note = Some note })
+    × IsNoteOf controller note × (seen_by_note note ≡ seen)
 
 -- requests with their replies, which are in the same order
 abbrev pub handled_with : List (ℕ × Request) → List (ℕ × Answer) → List (Handling Request Answer)

@@ -11,8 +11,8 @@ use Rattle.engine_parts.specs.Handled.{commit_requests_of}
 abbrev pub AreAlike : Bool → List CommitRequest → Type 0
 AreAlike no_slowdown requests = AllByRecursion (λ (q : CommitRequest). q.options.no_slowdown ≡ no_slowdown) requests
 
--- The requests of a whole group of writes, its leader's first. Either all are logged, or none is. Where one asks for a sync, its
--- leader does too. Either all may wait, or none may.
+-- The requests of a whole group of writes, its leader's first. Either all are logged, or none is. Where one asks for a
+-- sync, its leader does too. Either all may wait, or none may.
 pub record IsLedGroup (group_bytes clients : ℕ) (requests : List (ℕ × Request)) : Type 0 where
   pub first : ℕ × Request
   pub rest : List (ℕ × Request)

@@ -17,12 +17,12 @@ pub record IsOneRead (clients : ℕ) (requests : List (ℕ × Request)) : Type 0
   pub high : client ≤ clients
 
 -- Why a read of a log was answered so, whose disks had counted `before` faults, and have counted `now` after it: it was
--- read, or there was no memory, and no fault; or the count rose to this one.
+-- read, or there was no memory, and no fault; or the count rose, and this is what it is.
 abbrev pub HasCounted : ℕ → ℕ → Result Since SinceRefused → Type 0
 HasCounted before now (Ok r) = now ≡ before
 HasCounted before now (Err unread.SelfStop) = ⊥
 HasCounted before now (Err unread.NoMemory) = now ≡ before
-HasCounted before now (Err (unread.ReadFault count)) = Rose before count × (count ≤ now)
+HasCounted before now (Err (unread.ReadFault count)) = Rose before count × (count ≡ now)
 
 -- A request has such an answer: the log was read up to `at`; or the disks' count of faults, which was `before`, rose to
 -- this one; or there was no memory.

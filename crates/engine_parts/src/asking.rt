@@ -3,13 +3,14 @@
 ghost use Rattle.std.specs.Prelude.{◌≡◌, ◌⊎◌, ◌≤◌, ◌<◌, ℕ, List, [], false, true, length, map, vec_capacity, IfOk, IfErr};
 ghost use mathlib.Core.List.{IsPrefix};
 ghost use Rattle.std.specs.List.{AllByRecursion, AllZip};
+ghost use Rattle.base_devices.specs.Clocks.{HasPaused};
 ghost use Rattle.model_base.specs.Controller.{HoldUp, ShowTokens};
 ghost use Rattle.model_base.specs.Grouping.{size_of};
 ghost use Rattle.model_base.specs.Replies.{WasHeldUp};
 ghost use Rattle.engine_controller.specs.Looks.{look_of};
 ghost use Rattle.engine_controller.specs.Passes.{client_of, last_held_up, seen_by, seen_by_note, IsPassOf, IsNoteOf, GoesOn};
 ghost use Rattle.engine_rule.specs.Plans.{item_of_request, LetsProceed};
-ghost use Rattle.engine_parts.specs.Handled.{commit_requests_of, seen_at, held_up_with, noted_in, IsNoted, IsHeldUp, IsDropped, SawNoTokens, IsTurnedAway};
+ghost use Rattle.engine_parts.specs.Handled.{commit_requests_of, held_up_with, noted_in, IsNoted, IsHeldUp, IsDropped, IsNotedAs, SawNoTokens, IsTurnedAway};
 ghost use Rattle.engine_parts.specs.Asking.{HasAskedFor, HasLearned, OnlyLooks, all_seen};
 
 use crate::envelope::{SealedAnswer, SealedRequest};
@@ -43,6 +44,7 @@ pub fn ask<Time: Clock, R: Wait>(
     ensures pass { IsPassOf controller.now pass.new × (client_of pass.new ≡ client_of pass.old) }
     ensures asked { HasAskedFor (client_of pass.old) (seen_by pass.old) (seen_by_note before) requests.old
         (look_of result) (seen_by pass.new) }
+    ensures pauses_none { Time.paused clock.new ≡ Time.paused clock.old }
     ensures requests { requests.new ≡ all_seen requests.old }
 {
     controller.learn(rt, pass, before);
@@ -111,6 +113,11 @@ pub fn may_proceed<Time: Clock, R: Wait>(
         → LetsProceed (client_of pass.old) (look_of look) (seen_by pass.old) (seen_by pass.new) no_slowdown }
     ensures refused { result ≡ false
         → (no_slowdown ≡ true) × HoldUp (look_of look) × (seen_by pass.new ≡ seen_by pass.old) }
+    // A group that may wait waits at least as long as its delay answered, by what the clock was asked to let pass.
+    ensures waited { no_slowdown ≡ false
+        → HasPaused (Time.paused clock.old) (look_of look).wait (Time.paused clock.new) }
+    // One that may not wait doesn't.
+    ensures hasty { no_slowdown ≡ true → clock.new ≡ clock.old }
 {
     if no_slowdown {
         return !holds_writes_up(look);
@@ -209,6 +216,7 @@ pub fn turn_away_if_stalled<Time: Clock, R: Wait>(
     // No delay was asked for it. The answer has a place for one, which says nothing here.
     let delay = Delay {
         pass: Snapshot::of(pass),
+        made: 0,
     };
     let answer = Answer {
         answer: Err(refused_by(look, batch)),
@@ -231,12 +239,12 @@ fn wait_while_held_up<Time: Clock, R: Wait>(
     ensures pass { IsPassOf controller.now pass.new × (client_of pass.new ≡ client_of pass.old) }
     ensures looks { OnlyLooks (client_of pass.old) (seen_by pass.old) (seen_by pass.new) }
     ensures proceeds { LetsProceed (client_of pass.old) (look_of look) (seen_by pass.old) (seen_by pass.new) false }
+    ensures waited { HasPaused (Time.paused clock.old) (look_of look).wait (Time.paused clock.new) }
 {
-    if look.wait() > 0 {
-        clock.pause(look.wait());
-    }
+    pause_for(clock, look.wait());
     let mut stops = look.stops();
-    // `stops` is what the delay answered, or the newest look after it.
+    // `stops` is what the delay answered, or the newest look after it, and the clock has paused as long as the delay
+    // answered.
     for _ in rt.forever() {
         if stops == 0 {
             return;
@@ -245,6 +253,15 @@ fn wait_while_held_up<Time: Clock, R: Wait>(
         stops = controller.look(rt, pass).stops();
     }
     unreachable!()
+}
+
+/// Lets the clock pause for this number of microseconds. Where it is 0 the clock isn't asked.
+fn pause_for<Time: Clock>(clock: &mut Time, micros: u64)
+    ensures { HasPaused (Time.paused clock.old) micros (Time.paused clock.new) }
+{
+    if micros > 0 {
+        clock.pause(micros);
+    }
 }
 
 /// The refusal of a batch because writes are held up.
@@ -259,34 +276,47 @@ pub fn refused_by(look: Look, batch: Batch) -> Refused
     Refused { batch, why }
 }
 
-/// Refuses all members because writes are held up. Each gets a note of what the leader has seen.
-pub fn refuse_held_up<Time: Clock>(
-    controller: &Controller<Time>,
-    pass: &mut Pass,
+/// Refuses all members because writes are held up.
+pub fn refuse_held_up(
     look: Look,
     delay: &Delay,
     requests: &mut Vec<(u32, SealedRequest)>,
     replies: &mut Vec<(u32, SealedAnswer)>,
 )
-    requires pass { IsPassOf controller.now pass.old × (seen_by pass.old ≡ seen_at delay.now) }
     requires room { length requests.old.items ≤ vec_capacity replies.old }
     requires empty { replies.old.items ≡ [] }
-    ensures pass { IsPassOf controller.now pass.new × (client_of pass.new ≡ client_of pass.old)
-        × (seen_by pass.new ≡ seen_by pass.old) }
-    ensures replies { AllZip (IsHeldUp controller.now delay.now (look_of look)) requests.old.items replies.new.items }
+    ensures replies { AllZip (IsHeldUp delay.now (look_of look)) requests.old.items replies.new.items }
     ensures taken { requests.new.items ≡ [] }
     ensures room { (vec_capacity requests.new ≡ vec_capacity requests.old)
         × (vec_capacity replies.new ≡ vec_capacity replies.old) }
 {
-    // Each request that was taken has its reply, in the same order, and the pass has seen nothing more.
+    // Each request that was taken has its reply, in the same order.
     while let Some((client, request)) = take_first(requests) {
         let (batch, envelope) = batch_of(request);
         let answer = Answer {
             answer: Err(refused_by(look, batch)),
             delay: Snapshot::of(delay),
-            note: Some(controller.note(pass)),
+            note: None,
             read: None,
         };
         replies.push_reserved((client, envelope.tell(answer)));
+    }
+}
+
+/// Gives each reply a note of what the leader has seen.
+pub fn note_all<Time: Clock>(
+    controller: &Controller<Time>,
+    pass: &mut Pass,
+    replies: &mut [(u32, SealedAnswer)],
+)
+    requires pass { IsPassOf controller.now pass.old }
+    ensures pass { IsPassOf controller.now pass.new × (client_of pass.new ≡ client_of pass.old)
+        × (seen_by pass.new ≡ seen_by pass.old) }
+    ensures replies { AllZip (IsNotedAs controller.now (seen_by pass.old)) replies.old replies.new }
+{
+    // The replies before `i` have their notes, and the pass has seen nothing more.
+    for i in 0..replies.len() {
+        let reply = &mut replies[i];
+        reply.1.put_note(controller.note(pass));
     }
 }

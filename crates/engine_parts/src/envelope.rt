@@ -165,6 +165,16 @@ impl SealedRequest {
 }
 
 impl SealedAnswer {
+    /// Puts a note into the answer, in place of the one that it may have.
+    pub fn put_note(&mut self, note: Note)
+        ensures { self.new ≡ record self.old { note = Some note } }
+    {
+        match &mut *self.letter {
+            Letter::Told(answer) => answer.note = Some(note),
+            _ => unreachable!(),
+        }
+    }
+
     /// Takes the answer out.
     pub fn open(mut self) -> (Answer, Envelope)
         ensures { result.0 ≡ self }

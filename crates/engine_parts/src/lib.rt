@@ -25,7 +25,7 @@ mod numbering;
 mod requests;
 
 pub use asking::{
-    ask, drop_if_stalled, holds_writes_up, may_proceed, refuse_held_up, refused_by,
+    ask, drop_if_stalled, holds_writes_up, may_proceed, note_all, refuse_held_up, refused_by,
     turn_away_if_stalled,
 };
 pub use envelope::{Envelope, SealedAnswer, SealedRequest};

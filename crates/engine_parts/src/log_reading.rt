@@ -34,18 +34,20 @@ fn read_log<Log: ReadableLog>(
     at: u64,
 ) -> Result<Since, SinceRefused>
     requires stands { (clients : ℕ) × (past : Past (Opened Log ⟦<Log as GroupLog>⟧))
-        × StandsForPast clients past path.old.log path.old.places path.old.last }
+        × StandsForPast clients past path.old.log path.old.places path.old.last path.old.made }
     ensures at { IfOk result (λ r. r.at ≡ at) }
-    ensures stays { Log.stays path.old.log.log path.new.log.log × (path.new.last ≡ path.old.last) }
+    ensures stays { Log.stays path.old.log.log path.new.log.log × (path.new.last ≡ path.old.last)
+        × (path.new.made ≡ path.old.made) }
     // a fault has a count of its own, and the next one will have another
     ensures counted { HasCounted (faults_of path.old.log) (faults_of path.new.log) result }
     // The records are those that the calls have written and, before these, those that the log had kept.
     ensures right { (clients : ℕ) (past : Past (Opened Log ⟦<Log as GroupLog>⟧))
-        → (is : StandsForPast clients past path.old.log path.old.places path.old.last) → at ≤ path.old.last
+        → (is : StandsForPast clients past path.old.log path.old.places path.old.last path.old.made)
+        → at ≤ path.old.last
         → IfOk result (λ r. IsRight (Had past.opened past.start) path.old.last is.calls
         (record { since = since; at = at; records = r.records })) }
     ensures begins { (clients : ℕ) (past : Past (Opened Log ⟦<Log as GroupLog>⟧))
-        → StandsForPast clients past path.old.log path.old.places path.old.last
+        → StandsForPast clients past path.old.log path.old.places path.old.last path.old.made
         → AllByRecursion (MayBegin past.opened past.start path.new.log) path.new.places }
 {
     places_stay();
@@ -77,14 +79,14 @@ pub fn read_phase<Log: ReadableLog>(
 )
     requires at { at ≤ path.old.last }
     requires stands { (clients : ℕ) × (past : Past (Opened Log ⟦<Log as GroupLog>⟧))
-        × StandsForPast clients past path.old.log path.old.places path.old.last }
+        × StandsForPast clients past path.old.log path.old.places path.old.last path.old.made }
     requires read { (clients : ℕ) × IsOneRead clients requests.old.items }
     requires replies { (replies.old.items ≡ []) × (1 ≤ vec_capacity replies.old) }
     ensures path { (clients : ℕ) (past : Past (Opened Log ⟦<Log as GroupLog>⟧))
         → IsOneRead clients requests.old.items
-        → StandsForPast clients past path.old.log path.old.places path.old.last
+        → StandsForPast clients past path.old.log path.old.places path.old.last path.old.made
         → StandsForPast clients (with_read past requests.old.items replies.new.items) path.new.log path.new.places
-        path.new.last }
+        path.new.last path.new.made }
     ensures last { path.new.last ≡ path.old.last }
     ensures replies { InOrder requests.old.items replies.new.items
         × AllByRecursion HandsBack (handled_with requests.old.items replies.new.items)

@@ -26,11 +26,15 @@ use log_updates::{ReadPlaces, places_stay};
 use log_writer::{Fault, GroupLog};
 use model_base::WriteOptions;
 
-/// The log, the last sequence given, and where the clients' reads of the log may begin.
+/// The log, the last sequence given, how many calls of the log have worked, and where the clients' reads of the log may
+/// begin. The number of calls is only there for the proofs.
 pub struct LogPath<Log: GroupLog> {
     pub log: OpenLog<Log>,
     pub last: u64,
+    pub made: u64,
     pub places: ReadPlaces,
+    // Each call that worked wrote at least one sequence.
+    ghost few: { made ≤ last },
 }
 
 /// Writes the batches that got runs after `last` to the log, unless they must stay out of it.
@@ -53,14 +57,24 @@ fn log_group<Log: GroupLog>(
     log.log.add_group(last + 1, batches, options.sync)
 }
 
-/// Writes a group to the log, and answers each member. Where members have runs, it returns the group's last sequence.
-/// Then the layout has what must go into the table (one part for all members; or, if the parts may be apart, perhaps
-/// one for each member with a run), and the members that should work in parallel with the leader.
+/// How many calls of the log have worked, once a group with these options is written.
+fn made_with(made: u64, options: WriteOptions) -> u64
+    requires room { made < 2 ^ 64 - 1 }
+    ensures unlogged { options.no_log ≡ true → result ≡ made }
+    ensures logged { options.no_log ≡ false → result ≡ made + 1 }
+{
+    if options.no_log { made } else { made + 1 }
+}
+
+/// Writes a group to the log, and answers each member. The delay gets the number of calls of the log that have worked
+/// then. Where members have runs, it returns the group's last sequence. Then the layout has what must go into the table
+/// (one part for all members; or, if the parts may be apart, perhaps one for each member with a run), and the members
+/// that should work in parallel with the leader.
 pub fn log_phase<Log: GroupLog>(
     path: &mut LogPath<Log>,
     leader: u32,
     apart: bool,
-    delay: &Delay,
+    delay: &mut Delay,
     requests: &mut Vec<(u32, SealedRequest)>,
     layout: &mut Layout,
     replies: &mut Vec<(u32, SealedAnswer)>,
@@ -75,16 +89,17 @@ pub fn log_phase<Log: GroupLog>(
         × (length requests.old.items ≤ vec_capacity layout.old.members) }
     requires replies { (replies.old.items ≡ []) × (length requests.old.items ≤ vec_capacity replies.old) }
     ensures path { (past : Past (Opened Log ⟦<Log as GroupLog>⟧)) (went : List ControllerCall)
-        → GoesOnWith past.group_bytes layout.old.parts.clients past.asked requests.old.items (seen_at delay.now) went
-        → StandsForPast layout.old.parts.clients past path.old.log path.old.places path.old.last
+        → GoesOnWith past.group_bytes layout.old.parts.clients past.asked requests.old.items (seen_at delay.old) went
+        → StandsForPast layout.old.parts.clients past path.old.log path.old.places path.old.last path.old.made
         → StandsForPast layout.old.parts.clients (with_group past went result layout.new.parts.parts
-        requests.old.items replies.new.items) path.new.log path.new.places path.new.last }
+        requests.old.items replies.new.items) path.new.log path.new.places path.new.last path.new.made }
+    ensures delay { delay.new.pass ≡ delay.old.pass }
     ensures staged { IsStaged leader layout.old.parts.clients path.old.last path.new.last result
         layout.new.members.items layout.new.parts.parts replies.new.items }
     ensures beside { IfSome result (λ _. AreHelpers apart (others_in requests.old.items) layout.new.members.items) }
     ensures replies { InOrder requests.old.items replies.new.items
         × AllByRecursion HandsBack (handled_with requests.old.items replies.new.items)
-        × AllByRecursion (IsReplyOf delay.now) replies.new.items }
+        × AllByRecursion (IsReplyOf delay.new) replies.new.items }
     ensures taken { (requests.new.items ≡ []) × (layout.new.numberings.items ≡ []) × (layout.new.batches.items ≡ [])
         × (layout.new.parts.clients ≡ layout.old.parts.clients) }
     ensures room { (vec_capacity requests.new ≡ vec_capacity requests.old)
@@ -95,6 +110,7 @@ pub fn log_phase<Log: GroupLog>(
 {
     places_stay();
     let last = path.last;
+    delay.made = path.made;
     // Nothing is written after a fault: nobody knows what the log holds there, and recovery may end at it.
     if let Some(count) = path.log.log.fault() {
         refuse_all(count, delay, requests, replies);
@@ -133,13 +149,15 @@ pub fn log_phase<Log: GroupLog>(
         answer_layout(GroupFate::Faulted { count }, delay, layout, replies);
         return None;
     }
+    path.last = end;
+    path.made = made_with(path.made, options);
+    delay.made = path.made;
     answer_layout(
         GroupFate::Written { group_last: end },
         delay,
         layout,
         replies,
     );
-    path.last = end;
     Some(end)
 }
 

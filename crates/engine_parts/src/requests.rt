@@ -31,10 +31,11 @@ pub struct Request {
 }
 
 /// A delay that a leader asked for its group: what the leader's pass had seen then, with the delay itself as the last
-/// call. It is only there for the proofs.
+/// call; and how many calls of the log had worked when the group was answered. It is only there for the proofs.
 #[derive(Drop)]
 pub struct Delay {
     pub pass: Snapshot<Pass>,
+    pub made: u64,
 }
 
 /// The answer to a request.
@@ -44,8 +45,8 @@ pub struct Answer {
     /// The delay that was asked for the group. A refusal without a group has no such delay, and what is here says
     /// nothing of it.
     pub delay: Snapshot<Delay>,
-    /// What the leader has seen of the write controller, where it refused the batch because writes are held up. A
-    /// refusal by the client's own look has no note.
+    /// What the leader has seen of the write controller, where the request was to write. A refusal by the client's own
+    /// look has no note.
     pub note: Option<Note>,
     /// What the log was read to be, where it should be read. Its empty batch comes back as a refused one, which says
     /// nothing.

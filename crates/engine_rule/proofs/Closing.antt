@@ -9,12 +9,12 @@ use Rattle.std.proofs.lemmas.Grind.{flat_map-append}
 use Rattle.std.proofs.lemmas.List.Elements.{filter-append}
 use Rattle.model_base.specs.Batch.{count_of}
 use Rattle.model_base.specs.History.{Entry, IsHistory, max_sequence, last_sequence, IsBoundary}
-use Rattle.model_base.specs.Attempts.{Attempt, slowed}
+use Rattle.model_base.specs.Attempts.{Attempt}
 use Rattle.model_base.specs.Controller.{ControllerCall, IsLegal}
 use Rattle.model_base.specs.Tokens.{is_token, tokens_of}
 use Rattle.model_base.specs.Recovery.{Logged}
 use Rattle.model_base.specs.Trace.{Trace, Settings}
-use Rattle.model_base.specs.Groups.{Member, Group, Holds, AreOfOthers, AreStatuses, IsStatus, items_of}
+use Rattle.model_base.specs.Groups.{Member, Group, AreOfOthers, AreStatuses, IsStatus, items_of}
 use Rattle.model_base.specs.Outcomes.{entries_of_client, AreOwnFaults}
 use Rattle.model_base.specs.Grouping.{group_len}
 use Rattle.model_base.specs.LogContents.{GroupCall, AreGroupsOf}
@@ -30,9 +30,15 @@ use Rattle.model_runs.specs.Parts.{AreParts}
 use Rattle.model_runs.specs.Written.{AreLost, IsLostCall, WritesLog}
 use Rattle.engine_rule.specs.Commits.{Answer, AreAnswered, AreOfClients, Commit, IsAnswer, accepted, held_up, commits_of, failed, fault_after, fault_after_all, last_after, last_after_all, no_room}
 use Rattle.engine_rule.specs.Consistent.{AreConsistent}
-use Rattle.engine_rule.specs.Asked.{HasAsked, LedGroup, commits_in, place_of}
+use Rattle.engine_rule.specs.Asked.{HasAsked, LedGroup, commits_in}
 use Rattle.engine_rule.specs.Entries.{AreCallsOf, HasPart, trace_of, attempt_of, ends_of, entries_after, entries_of, entry_after, entry_with, status_of}
 use Rattle.engine_rule.specs.LogCalls.{AreLostWrites, IsLostWrite, led_of, parts_after}
+use Rattle.engine_rule.specs.LogSights.{LogSight, sights_of, logged_by, batches_of, ShowTheLog}
+use Rattle.engine_rule.proofs.LogSights.{batches_logged, logged_within}
+use Rattle.engine_rule.proofs.Own.{all_filter}
+use Rattle.model_base.proofs.Runs.{logged_in}
+use Rattle.model_base.proofs.Prefixes.{prefix_length}
+use Rattle.model_accounts.specs.Sights.{LoggedBatch, WasLogged}
 use Rattle.engine_rule.specs.Reading.{AnsweredRead, AreRight, IsRight, answers_in, answers_of, faults_in, reads_in, reads_with}
 use Rattle.engine_rule.specs.Plans.{AreLogged, CommitRequest, HaveOwnClients, all_failed, commit_of_request, batches_from, item_of_request}
 use Rattle.engine_rule.proofs.Chains.{entries_clients, entries_history, entries_own, images_entries}
@@ -41,7 +47,7 @@ use Rattle.engine_rule.proofs.GroupParts.{ends_are, parts_cut, parts_named}
 use Rattle.engine_rule.proofs.Leaders.{are_led, by_leaders, rising}
 use Rattle.engine_rule.proofs.OwnFaults.{all_of_client, by_client, faults_of_accounts, no_faults, own_by_client}
 use Rattle.engine_rule.proofs.ReadsEnd.{records_written, right_reads}
-use Rattle.model_accounts.proofs.Leading.{groups_from_led, led_in_turn, slowed_holds}
+use Rattle.model_accounts.proofs.Leading.{groups_from_led, led_in_turn}
 use Rattle.model_accounts.proofs.Logs.{parts_are_groups}
 use Rattle.model_accounts.proofs.Parts.{commits_led, parts_made}
 use Rattle.model_accounts.proofs.Seeing.{saw_published}
@@ -51,18 +57,17 @@ use Rattle.engine_controller.proofs.Places.{goes_delays}
 
 -- Statuses
 
--- the commit's status is right for these groups, provided that a commit that is held up is in the group of its delay
-abbrev HasStatus : Trace → List Group → Option ℕ → Commit → Type 0
-HasStatus trace groups fault c =
-    (call : ℕ) → ((place : ℕ) → status_of (place_of c) c.answer ≡ slowed place → Holds groups place c.client call) → IsStatus trace groups fault c.client call (status_of (place_of c) c.answer)
+-- the commit's status is right
+abbrev HasStatus : Trace → Option ℕ → Commit → Type 0
+HasStatus trace fault c = IsStatus trace fault (status_of c.answer)
 
 -- the status that one right answer gives, where these entries come before it
-status_by : (trace : Trace) (groups : List Group) (fault : Option ℕ) (last : ℕ) (dead : Option ℕ) (c : Commit) (p : ℕ) (v : Answer) → IsAnswer last dead (count_of c.records) v → ((n : ℕ) → fault_after dead v ≡ Some n → fault ≡ Some n)
-    → IsBoundary trace.start trace.entries last → (call : ℕ) → ((place : ℕ) → status_of p v ≡ slowed place → Holds groups place c.client call) → IsStatus trace groups fault c.client call (status_of p v)
-status_by trace groups fault last dead c p (accepted first end) h to_fault b call held = tt
-status_by trace groups fault last dead c p (held_up numbers) h to_fault b call held = held p refl
-status_by trace groups fault last dead c p (failed n) h to_fault b call held = to_fault n refl
-status_by trace groups fault last dead c p (no_room l) h to_fault b call held = subst (IsBoundary trace.start trace.entries) (sym h.1) b
+status_by : (trace : Trace) (fault : Option ℕ) (last : ℕ) (dead : Option ℕ) (c : Commit) (v : Answer) → IsAnswer last dead (count_of c.records) v → ((n : ℕ) → fault_after dead v ≡ Some n → fault ≡ Some n)
+    → IsBoundary trace.start trace.entries last → IsStatus trace fault (status_of v)
+status_by trace fault last dead c (accepted first end) h to_fault b = tt
+status_by trace fault last dead c (held_up numbers) h to_fault b = tt
+status_by trace fault last dead c (failed n) h to_fault b = to_fault n refl
+status_by trace fault last dead c (no_room l) h to_fault b = subst (IsBoundary trace.start trace.entries) (sym h.1) b
 
 -- once the log has a fault, it stays the same
 dead_step : (last n : ℕ) (c : Commit) (cs : List Commit) (v : Answer) → ((k : ℕ) → AreAnswered last (Some k) cs → fault_after_all (Some k) cs ≡ Some k) → IsAnswer last (Some n) (count_of c.records) v → AreAnswered (last_after last (count_of c.records) v) (fault_after (Some n) v) cs → fault_after_all (fault_after (Some n) v) cs ≡ Some n
@@ -85,46 +90,21 @@ last_with last dead mine c (held_up numbers) h = refl
 last_with last dead mine c (failed n) h = refl
 last_with last dead mine c (no_room l) h = refl
 
-all_statuses : (trace : Trace) (groups : List Group) (fault : Option ℕ) (last : ℕ) (dead : Option ℕ) (front : List Entry) (cs : List Commit) → AreAnswered last dead cs → fault ≡ fault_after_all dead cs → trace.entries ≡ front ++ entries_after front cs → last ≡ last_sequence trace.start front → AllByRecursion (HasStatus trace groups fault) cs
-all_statuses trace groups fault last dead front [] h is split ends = tt
-all_statuses trace groups fault last dead front (c ∷ cs) h is split ends =
+all_statuses : (trace : Trace) (fault : Option ℕ) (last : ℕ) (dead : Option ℕ) (front : List Entry) (cs : List Commit) → AreAnswered last dead cs → fault ≡ fault_after_all dead cs → trace.entries ≡ front ++ entries_after front cs → last ≡ last_sequence trace.start front → AllByRecursion (HasStatus trace fault) cs
+all_statuses trace fault last dead front [] h is split ends = tt
+all_statuses trace fault last dead front (c ∷ cs) h is split ends =
     let e : List Entry = entry_after front c in (
-      status_by trace groups fault last dead c (place_of c) c.answer h.0
+      status_by trace fault last dead c c.answer h.0
           (λ n now. is ∙ (ap (λ d. fault_after_all d cs) now ∙ dead_stays (last_after last (count_of c.records) c.answer) n cs (subst (λ d. AreAnswered (last_after last (count_of c.records) c.answer) d cs) now h.1)))
           (front, record { rest = e ++ entries_after (front ++ e) cs; split = split; ends = ends }),
-      all_statuses trace groups fault (last_after last (count_of c.records) c.answer) (fault_after dead c.answer) (front ++ e) cs h.1 is (split ∙ sym (append_assoc front e (entries_after (front ++ e) cs)))
+      all_statuses trace fault (last_after last (count_of c.records) c.answer) (fault_after dead c.answer) (front ++ e) cs h.1 is (split ∙ sym (append_assoc front e (entries_after (front ++ e) cs)))
           (sym (last_sequence_append trace.start front e ∙ (ap (λ n. last_sequence n e) (sym ends) ∙ last_with last dead (entries_of_client c.client front) c c.answer h.0))),
     )
 
-nat_same : (a b : ℕ) → (a == b) ≡ true → a ≡ b
-nat_same a b h = grind arith
-
 -- the statuses of one client's commits are right
-own_statuses : (trace : Trace) (groups : List Group) (fault : Option ℕ) (k call : ℕ) (cs : List Commit) → AllByRecursion (HasStatus trace groups fault) cs
-    → ((j : ℕ) (attempt : Attempt) (place : ℕ) → slice_get (map attempt_of (commits_of k cs)) j ≡ Some attempt → attempt.status ≡ slowed place → Holds groups place k (call + j))
-    → AreStatuses trace groups fault k call (map attempt_of (commits_of k cs))
-own_statuses trace groups fault k call [] h held = tt
-own_statuses trace groups fault k call (c ∷ cs) h held = by (c.client == k) refl held (λ n more. own_statuses trace groups fault k n cs h.1 more)
-  where
-    Held : ℕ → List Attempt → Type 0
-    Held n attempts = (j : ℕ) (attempt : Attempt) (place : ℕ) → slice_get attempts j ≡ Some attempt → attempt.status ≡ slowed place → Holds groups place k (n + j)
-
-    by : (b : Bool) → (c.client == k) ≡ b → Held call (map attempt_of (cond b (c ∷ commits_of k cs) (commits_of k cs)))
-        → ((n : ℕ) → Held n (map attempt_of (commits_of k cs)) → AreStatuses trace groups fault k n (map attempt_of (commits_of k cs))) → AreStatuses trace groups fault k call (map attempt_of (cond b (c ∷ commits_of k cs) (commits_of k cs)))
-    by true e own more =
-        let client : c.client ≡ k = nat_same c.client k e in
-        let first : (place : ℕ) → status_of (place_of c) c.answer ≡ slowed place → Holds groups place c.client call = λ place is.
-        subst (λ (z : ℕ × ℕ). Holds groups place z.0 z.1) (λ i. (sym client i, call_is i)) (own 0 (attempt_of c) place refl is) in (
-          subst (λ (j : ℕ). IsStatus trace groups fault j call (status_of (place_of c) c.answer)) client (h.0 call first),
-          more (call + 1) (λ j attempt place there is. subst (Holds groups place k) (next j) (own (suc j) attempt place there is)),
-        )
-      where
-        call_is : call + 0 ≡ call
-        call_is = omega arith
-
-        next : (j : ℕ) → call + suc j ≡ call + 1 + j
-        next j = omega arith
-    by false e own more = more call own
+own_statuses : (trace : Trace) (fault : Option ℕ) (cs : List Commit) → AllByRecursion (HasStatus trace fault) cs → AreStatuses trace fault (map attempt_of cs)
+own_statuses trace fault [] h = tt
+own_statuses trace fault (c ∷ cs) h = (h.0, own_statuses trace fault cs h.1)
 
 -- The members of the group whose write failed
 
@@ -221,9 +201,10 @@ some_length f (x ∷ xs) n e = ap suc (some_length f xs (length xs) refl) ∙ e
 
 module _ (settings : Settings) (cs : List Commit) (last : ℕ) (fault : Option ℕ) (published : List (List MemberVersions)) (calls : List GroupCall) (asked history : List ControllerCall)
     (k : AreConsistent settings.start settings.clients settings.group_bytes asked cs last fault published calls)
-    (accounts : List Account) (all : length accounts ≡ settings.clients) (reads : List AnsweredRead) (are : (i : ℕ) (a : Account) → slice_get accounts i ≡ Some a → HasPart settings.start settings.opening cs reads published history i a) (kept : Option (List Logged)) where
+    (sights : List LogSight) (show : ShowTheLog k.written.worked sights)
+    (accounts : List Account) (all : length accounts ≡ settings.clients) (reads : List AnsweredRead) (are : (i : ℕ) (a : Account) → slice_get accounts i ≡ Some a → HasPart settings.start settings.opening cs sights reads published history i a) (kept : Option (List Logged)) where
   abbrev trace : Trace
-  trace = trace_of settings.start settings.opening kept cs k.written.parts.parts history
+  trace = trace_of settings.start settings.opening kept cs k.written.parts.parts history calls
 
   is_history : IsHistory settings.start (entries_of cs) × (last_sequence settings.start (entries_of cs) ≡ last_after_all settings.start cs)
   is_history = entries_history settings.start None [] cs k.answered
@@ -294,8 +275,8 @@ module _ (settings : Settings) (cs : List Commit) (last : ℕ) (fault : Option �
     is_led : AreLed settings.group_bytes history led (all_attempts accounts)
     is_led = are_led settings.start settings.group_bytes asked history cs k.in_groups within settings.clients (all_attempts accounts) (some_length (λ (x : Account). x.attempts) accounts settings.clients all) k.of_clients calls_of have_asked own_is
 
-    statuses : AllByRecursion (HasStatus trace (groups_of led) fault) cs
-    statuses = all_statuses trace (groups_of led) fault settings.start None [] cs k.answered k.fault_is refl refl
+    statuses : AllByRecursion (HasStatus trace fault) cs
+    statuses = all_statuses trace fault settings.start None [] cs k.answered k.fault_is refl refl
 
     abbrev parts : List (List Entry)
     parts = parts_after [] k.in_groups.groups
@@ -310,24 +291,29 @@ module _ (settings : Settings) (cs : List Commit) (last : ℕ) (fault : Option �
     ends_told client =
         ends_are client settings.start None [] k.in_groups.groups (subst (AreAnswered settings.start None) (sym k.in_groups.cut) k.answered) k.in_groups.name_ends ∙ ap (λ ds. ends_of (commits_of client ds)) k.in_groups.cut
 
-    part_of : (i : ℕ) (a : Account) → slice_get accounts i ≡ Some a → IsAccountOf trace (groups_of led) parts fault a
+    -- the calls that worked are the first ones of all
+    calls_of_worked : IsPrefix k.written.worked calls
+    calls_of_worked = (k.written.lost, sym k.written.both)
+
+    part_of : (i : ℕ) (a : Account) → slice_get accounts i ≡ Some a → IsAccountOf trace parts fault a
     part_of i a there =
         let h = are i a there in
         let number : a.number ≡ i + 1 = ap (λ b. b.number) h.is in
-        let held : (j : ℕ) (attempt : Attempt) (place : ℕ) → slice_get (map attempt_of (commits_of (i + 1) cs)) j ≡ Some attempt → attempt.status ≡ slowed place → Holds (groups_of led) place (i + 1) (0 + j) =
-        λ j attempt place at is. subst (Holds (groups_of led) place (i + 1)) (from_none j) (slowed_holds settings.group_bytes history led (all_attempts accounts) is_led i (map attempt_of (commits_of (i + 1) cs)) j attempt place (attempts_at i a there) at is) in
         record {
           accepted = ap (λ n. entries_of_client n (entries_of cs)) number ∙ (entries_own (i + 1) [] [] cs refl ∙ sym (ap (λ b. b.mine) h.is));
           ends = ap (λ b. b.ends) h.is ∙ (sym (ends_told (i + 1)) ∙ ap (λ n. ends_in n parts) (sym number));
           tokens = ap (λ n. tokens_of n history) number ∙ (goes_tokens (i + 1) h.known history h.goes_on ∙ sym (ap (λ b. b.asked) h.is));
-          statuses = subst (λ (z : ℕ × List Attempt). AreStatuses trace (groups_of led) fault z.0 0 z.1) (λ j. (sym number j, sym (attempts_are i a there) j)) (own_statuses trace (groups_of led) fault (i + 1) 0 cs statuses held);
+          statuses = subst (AreStatuses trace fault) (sym (attempts_are i a there)) (own_statuses trace fault (commits_of (i + 1) cs) (all_filter (HasStatus trace fault) (λ (c : Commit). c.client == i + 1) cs statuses));
           seen = subst (λ (b : Account). Saw b.seen trace) (sym h.is)
-              (saw_published trace published (images_entries [] cs published k.images) (record { start = settings.start; opening = settings.opening; published = h.seen; controller_calls = h.known; log_reads = reads_in (answers_of (i + 1) reads) }) refl refl h.begins (goes_begins (i + 1) h.known history h.goes_on)
-              (right_reads trace is_history.0 cs published k.named k.cuts are_groups last calls (records_written settings.start settings.group_bytes k.in_groups.groups cs fault last calls k.written is_history.0) h.seen h.begins (reads_in (answers_of (i + 1) reads)) h.at_ends (all_of_client (IsRight (λ (batches : List Logged). kept ≡ Some batches) last calls) reads_with (i + 1) reads right)));
+              (saw_published trace published (images_entries [] cs published k.images) (record { start = settings.start; opening = settings.opening; published = h.seen; controller_calls = h.known; log_reads = reads_in (answers_of (i + 1) reads); logged = logged_by (sights_of (i + 1) sights); batches = batches_of 0 (sights_of (i + 1) sights) }) refl refl h.begins (goes_begins (i + 1) h.known history h.goes_on)
+              (right_reads trace is_history.0 cs published k.named k.cuts are_groups last calls (records_written settings.start settings.group_bytes k.in_groups.groups cs fault last calls k.written is_history.0) h.seen h.begins (reads_in (answers_of (i + 1) reads)) h.at_ends (all_of_client (IsRight (λ (batches : List Logged). kept ≡ Some batches) last calls) reads_with (i + 1) reads right))
+              (let low = logged_within k.written.worked sights show (i + 1) in let long = prefix_length k.written.worked calls calls_of_worked in omega (arith, low, long))
+              (all_calls (batches_of 0 (sights_of (i + 1) sights)) (batches_logged k.written.worked sights show (i + 1))));
         }
       where
-        from_none : (j : ℕ) → j ≡ 0 + j
-        from_none j = omega arith
+        all_calls : (batches : List LoggedBatch) → AllByRecursion (WasLogged k.written.worked) batches → AllByRecursion (WasLogged calls) batches
+        all_calls [] each = tt
+        all_calls (b ∷ batches) each = (logged_in k.written.worked calls calls_of_worked b.knew b.knows b.first b.records b.sync each.0, all_calls batches each.1)
 
     of_tokens : (n : ℕ) (ts : List ControllerCall) → AreCallsOf n ts → AllByRecursion (λ (t : ControllerCall). IsTrue (is_token t.action) → (1 ≤ t.client) × (t.client ≤ n)) ts
     of_tokens n [] h = tt
@@ -369,6 +355,7 @@ module _ (settings : Settings) (cs : List Commit) (last : ℕ) (fault : Option �
           logged = refl;
           none_else = are_lost w.lost fault w.are_lost;
           by = sym w.both;
+          log = sym w.both;
           rise = rising settings.start settings.group_bytes asked history cs k.in_groups within;
           in_turn = led_in_turn led;
           by_leaders = by_leaders settings.start settings.group_bytes asked history cs k.in_groups within;

@@ -57,7 +57,7 @@ tails x y xs ys e = cc e
 
 -- The log has a fault once a commit was answered it
 
-fault_step : (fault : Option ℕ) (place : ℕ) (v : Answer) → has_fault (fault_after fault v) ≡ has_fault fault || is_faulted (status_of place v)
+fault_step : (fault : Option ℕ) (place : ℕ) (v : Answer) → has_fault (fault_after fault v) ≡ has_fault fault || is_faulted (status_of v)
 fault_step None place (accepted first end) = refl
 fault_step None place (held_up numbers) = refl
 fault_step None place (failed n) = refl
@@ -71,7 +71,7 @@ faults : (fault : Option ℕ) (cs : List Commit) → has_fault (fault_after_all 
 faults fault [] = or_false (has_fault fault)
 faults fault (c ∷ cs) =
     faults (fault_after fault c.answer) cs
-    ∙ (ap (λ b. b || list_any is_faulted (ended cs)) (fault_step fault (place_of c) c.answer) ∙ or_assoc (has_fault fault) (is_faulted (status_of (place_of c) c.answer)) (list_any is_faulted (ended cs)))
+    ∙ (ap (λ b. b || list_any is_faulted (ended cs)) (fault_step fault (place_of c) c.answer) ∙ or_assoc (has_fault fault) (is_faulted (status_of c.answer)) (list_any is_faulted (ended cs)))
 
 -- Then nobody succeeds
 
@@ -81,7 +81,7 @@ still fault (held_up numbers) is = is
 still fault (failed n) is = refl
 still fault (no_room l) is = is
 
-meets_one : (fault : Option ℕ) (last count place : ℕ) (v : Answer) → has_fault fault ≡ true → IsAnswer last fault count v → MeetsDeadLog (status_of place v)
+meets_one : (fault : Option ℕ) (last count place : ℕ) (v : Answer) → has_fault fault ≡ true → IsAnswer last fault count v → MeetsDeadLog (status_of v)
 meets_one fault last count place (accepted first end) is h = let none : has_fault fault ≡ false = ap has_fault h.0 in absurd (cc (is, none))
 meets_one fault last count place (held_up numbers) is h = tt
 meets_one fault last count place (failed n) is h = tt
@@ -94,7 +94,7 @@ meets last fault (c ∷ cs) is h = (
   meets (last_after last (count_of c.records) c.answer) (fault_after fault c.answer) cs (still fault c.answer is) h.1,
 )
 
-failed_meets : (place : ℕ) (v : Answer) → is_failed v ≡ true → MeetsDeadLog (status_of place v)
+failed_meets : (place : ℕ) (v : Answer) → is_failed v ≡ true → MeetsDeadLog (status_of v)
 failed_meets place (accepted first end) is = absurd (cc is)
 failed_meets place (held_up numbers) is = tt
 failed_meets place (failed n) is = tt
@@ -104,7 +104,7 @@ all_meet : (cs : List Commit) → AllByRecursion (λ (c : Commit). is_failed c.a
 all_meet [] h = tt
 all_meet (c ∷ cs) h = (failed_meets (place_of c) c.answer h.0, all_meet cs h.1)
 
-faulted_as : (place : ℕ) (v : Answer) → is_faulted (status_of place v) ≡ is_failed v
+faulted_as : (place : ℕ) (v : Answer) → is_faulted (status_of v) ≡ is_failed v
 faulted_as place (accepted first end) = refl
 faulted_as place (held_up numbers) = refl
 faulted_as place (failed n) = refl

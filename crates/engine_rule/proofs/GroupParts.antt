@@ -27,7 +27,7 @@ parts_cut before (g ∷ groups) =
 -- The names of the entries
 
 ordinal_by : (k place : ℕ) (mine : List Entry) (c : Commit) (rest : List Entry) (bs : List Bool) (v : Answer) → length rest ≡ length (filter (λ (b : Bool). b) bs)
-    → length (entry_with k mine c v ++ rest) ≡ length (filter (λ (b : Bool). b) (is_success (status_of place v) ∷ bs))
+    → length (entry_with k mine c v ++ rest) ≡ length (filter (λ (b : Bool). b) (is_success (status_of v) ∷ bs))
 ordinal_by k place mine c rest bs (accepted first end) h = ap suc h
 ordinal_by k place mine c rest bs (held_up numbers) h = h
 ordinal_by k place mine c rest bs (failed n) h = h
@@ -41,7 +41,7 @@ as_many : (k : ℕ) (cs : List Commit) → length (entries_of_client k (entries_
 as_many k cs = ap length (entries_own k [] [] cs refl) ∙ (ordinals k [] (commits_of k cs) ∙ ap (λ own. length (filter (λ (b : Bool). b) (successes own))) (sym (attempts_taken k cs)))
 
 name_by : (k place : ℕ) (mine : List Entry) (c : Commit) (before : List Bool) (v : Answer) → length mine ≡ length (filter (λ (b : Bool). b) before)
-    → map name_of (entry_with k mine c v) ≡ name_behind k before (is_success (status_of place v))
+    → map name_of (entry_with k mine c v) ≡ name_behind k before (is_success (status_of v))
 name_by k place mine c before (accepted first end) h = ap (λ n. (k, 1 + n) ∷ []) h
 name_by k place mine c before (held_up numbers) h = refl
 name_by k place mine c before (failed n) h = refl

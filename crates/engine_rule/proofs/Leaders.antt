@@ -52,41 +52,35 @@ of_others : (cs : List Commit) → HaveOwnClients (map request_of cs) → leds.H
 of_others [] h = tt
 of_others (c ∷ cs) h = (unlike c.client cs h.0, of_others cs h.1)
 
-slowed_by : (place p : ℕ) (v : Answer) → status_of place v ≡ slowed p → p ≡ place
-slowed_by place p (accepted first group_last) e = absurd (cc)
-slowed_by place p (held_up numbers) e = cc (e)
-slowed_by place p (failed n) e = absurd (cc)
-slowed_by place p (no_room l) e = absurd (cc)
-
-slowed_here : (known : List ControllerCall) (cs : List Commit) → AllByRecursion (λ (c : Commit). c.controller_calls ≡ known) cs
-    → AllByRecursion (λ (t : Taken). (p : ℕ) → t.attempt.status ≡ slowed p → p ≡ length known - 1) (map taken_of cs)
-slowed_here known [] h = tt
-slowed_here known (c ∷ cs) h = ((λ p e. slowed_by (place_of c) p c.answer e ∙ ap (λ ts. length ts - 1) h.0), slowed_here known cs h.1)
+-- the group's delay is that of each of its commits
+places_here : (known : List ControllerCall) (cs : List Commit) → AllByRecursion (λ (c : Commit). c.controller_calls ≡ known) cs → AllByRecursion (λ (t : Taken). t.attempt.place ≡ length known - 1) (map taken_of cs)
+places_here known [] h = tt
+places_here known (c ∷ cs) h = (ap (λ ts. length ts - 1) h.0, places_here known cs h.1)
 
 -- the statuses in a group: all of it is held up, by the answer of its delay, or none of it is
 abbrev status_in : Taken → WriteStatus
 status_in t = t.attempt.status
 
-slowed_as : (place : ℕ) (v : Answer) → is_held_up v ≡ true → status_of place v ≡ slowed place
-slowed_as place (accepted first group_last) e = absurd (cc)
-slowed_as place (held_up numbers) e = refl
-slowed_as place (failed n) e = absurd (cc)
-slowed_as place (no_room l) e = absurd (cc)
+slowed_as : (v : Answer) → is_held_up v ≡ true → status_of v ≡ slowed
+slowed_as (accepted first group_last) e = absurd (cc)
+slowed_as (held_up numbers) e = refl
+slowed_as (failed n) e = absurd (cc)
+slowed_as (no_room l) e = absurd (cc)
 
-is_slowed_as : (place : ℕ) (v : Answer) → is_slowed (status_of place v) ≡ is_held_up v
-is_slowed_as place (accepted first group_last) = refl
-is_slowed_as place (held_up numbers) = refl
-is_slowed_as place (failed n) = refl
-is_slowed_as place (no_room l) = refl
+is_slowed_as : (v : Answer) → is_slowed (status_of v) ≡ is_held_up v
+is_slowed_as (accepted first group_last) = refl
+is_slowed_as (held_up numbers) = refl
+is_slowed_as (failed n) = refl
+is_slowed_as (no_room l) = refl
 
-all_slowed : (known : List ControllerCall) (cs : List Commit) → AllByRecursion (λ (c : Commit). c.controller_calls ≡ known) cs → AllByRecursion (λ (c : Commit). is_held_up c.answer ≡ true) cs
-    → AllByRecursion (λ (status : WriteStatus). status ≡ slowed (length known - 1)) (map status_in (map taken_of cs))
-all_slowed known [] same h = tt
-all_slowed known (c ∷ cs) same h = (slowed_as (place_of c) c.answer h.0 ∙ ap (λ ts. slowed (length ts - 1)) same.0, all_slowed known cs same.1 h.1)
+all_slowed : (cs : List Commit) → AllByRecursion (λ (c : Commit). is_held_up c.answer ≡ true) cs
+    → AllByRecursion (λ (status : WriteStatus). status ≡ slowed) (map status_in (map taken_of cs))
+all_slowed [] h = tt
+all_slowed (c ∷ cs) h = (slowed_as c.answer h.0, all_slowed cs h.1)
 
 none_slowed : (cs : List Commit) → AllByRecursion (λ (c : Commit). is_held_up c.answer ≡ false) cs → AllByRecursion (λ (status : WriteStatus). is_slowed status ≡ false) (map status_in (map taken_of cs))
 none_slowed [] h = tt
-none_slowed (c ∷ cs) h = (is_slowed_as (place_of c) c.answer ∙ h.0, none_slowed cs h.1)
+none_slowed (c ∷ cs) h = (is_slowed_as c.answer ∙ h.0, none_slowed cs h.1)
 
 -- Each group's delay comes after all that the leaders before it had seen, and before the delays of the later groups
 
@@ -146,7 +140,7 @@ module _ (start group_bytes : ℕ) (asked history : List ControllerCall) (cs : L
         some = (let s = h.is_group.some in omega (arith, n, s));
         whole = ap (group_len group_bytes) (items_are g.commits) ∙ (h.is_group.whole ∙ sym n);
         of_others = of_others g.commits h.is_group.of_others;
-        slowed_here = slowed_here g.known g.commits h.same;
+        places = places_here g.known g.commits h.same;
       }
 
   all_led : (groups : List LedGroup) → AllByRecursion (IsLedGroup group_bytes) groups → AllByRecursion (λ (g : LedGroup). IsPrefix g.went asked) groups → AllByRecursion (IsLed group_bytes history) (map led_of groups)
@@ -235,7 +229,7 @@ module _ (start group_bytes : ℕ) (asked history : List ControllerCall) (cs : L
   stands g h p clear = by h.together
     where
       by : AreTogether g h.numbers → IsTogether g
-      by (inl held) = inl (all_slowed g.known g.commits h.same held)
+      by (inl held) = inl (all_slowed g.commits held)
       by (inr t) =
           let leader_is : t.1.leader ≡ h.asked.leader = cc (sym t.1.leads ∙ h.asked.leads) in
           inr (

@@ -3,7 +3,7 @@ pub mod Plans
 pub mod OneGroup
 pub mod Reaching
 pub mod Own
-pub mod Synced
+pub mod LogSights
 pub mod LoggedGroups
 pub mod Steps
 pub mod Leaders

@@ -1,30 +1,32 @@
 -- What a client may conclude from its newest answer.
-use Rattle.std.proofs.Common.{◌≡◌, ℕ, ◌+◌, ◌<◌, ◌≤◌, Bool, true, false, cond, ◌==◌, filter, map, List, [], ◌∷◌, ◌++◌, Option, Some, None, length, refl, ap, sym, ◌∙◌, subst, arith, append_assoc, append-nil}
+use Rattle.std.proofs.Common.{◌≡◌, ℕ, ◌+◌, ◌<◌, ◌≤◌, Bool, true, false, cond, ◌==◌, filter, fold, map, List, [], ◌∷◌, ◌++◌, Option, Some, None, length, refl, ap, sym, ◌∙◌, subst, arith, append_assoc, append-nil}
 use Rattle.std.specs.List.{AllByRecursion}
 use Rattle.std.proofs.lemmas.Grind.{flat_map-append}
 use Rattle.std.proofs.lemmas.Option.{slice_get_within}
+use Rattle.std.proofs.lemmas.List.Sums.{fold-append}
 use Rattle.model_base.specs.declared.write.Refusal.TheVariants as no
 use Rattle.model_base.specs.Batch.{Record, count_of}
 use Rattle.model_base.specs.Map.{Pairs}
 use Rattle.model_base.specs.declared.write.WriteOptions.{WriteOptions}
 use Rattle.model_base.specs.History.{Entry, IsHistory, last_of, last_sequence, max_sequence}
-use Rattle.model_base.specs.Attempts.{is_faulted, knows_log_failed, slowed, faulted, full}
+use Rattle.model_base.specs.Attempts.{is_faulted, knows_log_failed, slowed, faulted, full, fate_at}
 use Rattle.model_base.specs.Controller.{ControllerCall, HoldUp, Look, delay, look}
 use Rattle.model_base.specs.Tokens.{holds_stop, tokens_of}
 use Rattle.model_base.specs.Trace.{Settings}
 use Rattle.model_base.specs.Outcomes.{entries_of_client}
 use Rattle.model_base.specs.Progress.{early_refusal}
-use Rattle.model_base.specs.Replies.{AreFullBelow, AreUpTo, IsFullBelow, IsLater, LooksAway, MetStall}
+use Rattle.model_base.specs.Replies.{AreFullBelow, AreUpTo, IsFullBelow, IsLater, IsWithinCall, LooksAway, MetStall}
 use Rattle.model_base.proofs.Prefixes.{prefix_self}
 use Rattle.model_base.proofs.Runs.{not_kept_out}
 use Rattle.table_rule.specs.declared.content.MemberVersions.{MemberVersions}
 use Rattle.table_rule.specs.Histories.{Begins, last_of as last_of_groups}
-use Rattle.model_accounts.specs.Accounts.{Account, IsRefused, Wrote}
+use Rattle.model_accounts.specs.Accounts.{Account, IsLogged, IsRefused, Wrote}
 use Rattle.model_accounts.specs.Sights.{Sees}
 use Rattle.engine_rule.specs.Commits.{Answer, AreAnswered, Commit, IsAnswer, accepted, held_up, commits_of, failed, fault_after, fault_after_all, last_after, last_after_all, no_room}
 use Rattle.engine_rule.specs.Asked.{place_of}
+use Rattle.engine_rule.specs.LogSights.{LogSight, logged_by, batch_with, batches_of}
 use Rattle.engine_rule.specs.Reading.{ReadAnswer}
-use Rattle.engine_rule.specs.Entries.{SeesMore, account_of, attempt_of, end_with, ends_of, entries_of, entry_with, mine_after, status_of}
+use Rattle.engine_rule.specs.Entries.{SeesMore, ShowsBatch, account_of, attempt_of, end_with, ends_of, entries_of, entry_with, mine_after, status_of}
 use Rattle.engine_controller.specs.Passes.{EndsWith}
 use Rattle.engine_controller.proofs.Account.{ends_begins, ends_last, ends_tokens}
 use Rattle.engine_rule.proofs.Chains.{entries_history, entries_own}
@@ -79,13 +81,13 @@ some_dead : (n : ℕ) (cs : List Commit) → fault_after_all (Some n) cs ≡ Non
 some_dead n [] e = absurd (cc)
 some_dead n (c ∷ cs) e = dead_by n cs c.answer (λ m. some_dead m cs) e
 
-live_by : (place : ℕ) (cs : List Commit) (v : Answer) → fault_after_all (fault_after None v) cs ≡ None → (is_faulted (status_of place v) ≡ false) × (fault_after_all None cs ≡ None)
+live_by : (place : ℕ) (cs : List Commit) (v : Answer) → fault_after_all (fault_after None v) cs ≡ None → (is_faulted (status_of v) ≡ false) × (fault_after_all None cs ≡ None)
 live_by place cs (accepted first end) e = (refl, e)
 live_by place cs (held_up numbers) e = (refl, e)
 live_by place cs (failed m) e = absurd (some_dead m cs e)
 live_by place cs (no_room l) e = (refl, e)
 
-all_live : (cs : List Commit) → fault_after_all None cs ≡ None → AllByRecursion (λ (c : Commit). is_faulted (status_of (place_of c) c.answer) ≡ false) cs
+all_live : (cs : List Commit) → fault_after_all None cs ≡ None → AllByRecursion (λ (c : Commit). is_faulted (status_of c.answer) ≡ false) cs
 all_live [] e = tt
 all_live (c ∷ cs) e = let t = live_by (place_of c) cs c.answer e in (t.0, all_live cs t.1)
 
@@ -97,7 +99,7 @@ all_filter P p (x ∷ xs) h = by (p x) (all_filter P p xs h.1)
     by true more = (h.0, more)
     by false more = more
 
-knows_none : (cs : List Commit) → AllByRecursion (λ (c : Commit). is_faulted (status_of (place_of c) c.answer) ≡ false) cs → knows_log_failed (map attempt_of cs) ≡ false
+knows_none : (cs : List Commit) → AllByRecursion (λ (c : Commit). is_faulted (status_of c.answer) ≡ false) cs → knows_log_failed (map attempt_of cs) ≡ false
 knows_none [] h = refl
 knows_none (c ∷ cs) h = rw (h.0) (knows_none cs h.1)
 
@@ -121,14 +123,14 @@ all_rise : (last : ℕ) (cs : List Commit) → last ≤ last_after_all last cs
 all_rise last [] = omega arith
 all_rise last (c ∷ cs) = let a = rises_with last (count_of c.records) c.answer in let b = all_rise (last_after last (count_of c.records) c.answer) cs in omega (arith, a, b)
 
-full_below : (last end : ℕ) (dead : Option ℕ) (count place : ℕ) (v : Answer) → IsAnswer last dead count v → last ≤ end → IsFullBelow (end + 1) (status_of place v)
+full_below : (last end : ℕ) (dead : Option ℕ) (count place : ℕ) (v : Answer) → IsAnswer last dead count v → last ≤ end → IsFullBelow (end + 1) (status_of v)
 full_below last end dead count place (accepted first group_last) h low = tt
 full_below last end dead count place (held_up numbers) h low = tt
 full_below last end dead count place (failed n) h low = tt
 full_below last end dead count place (no_room l) h low = let a = h.1 in omega (arith, a, low)
 
 abbrev IsFullBefore : ℕ → Commit → Type 0
-IsFullBefore end c = IsFullBelow (end + 1) (status_of (place_of c) c.answer)
+IsFullBefore end c = IsFullBelow (end + 1) (status_of c.answer)
 
 all_full_below : (last : ℕ) (dead : Option ℕ) (cs : List Commit) → AreAnswered last dead cs → AllByRecursion (IsFullBefore (last_after_all last cs)) cs
 all_full_below last dead [] h = tt
@@ -149,7 +151,7 @@ module _ (start k : ℕ) (cs old : List Commit) (c : Commit) (right : AreAnswere
   answer = answered_at start None at.front c at.rest (subst (AreAnswered start None) at.split right)
 
   is_alive : fault_after_all None at.front ≡ None → knows_log_failed (map attempt_of old) ≡ false
-  is_alive live = knows_none old (subst (AllByRecursion (λ (c : Commit). is_faulted (status_of (place_of c) c.answer) ≡ false)) at.own_front (all_filter (λ (c : Commit). is_faulted (status_of (place_of c) c.answer) ≡ false) (λ (c : Commit). c.client == k) at.front (all_live at.front live)))
+  is_alive live = knows_none old (subst (AllByRecursion (λ (c : Commit). is_faulted (status_of c.answer) ≡ false)) at.own_front (all_filter (λ (c : Commit). is_faulted (status_of c.answer) ≡ false) (λ (c : Commit). c.client == k) at.front (all_live at.front live)))
 
   are_up_to : AreUpTo (mine_after k [] old) (last_after_all start at.front)
   are_up_to =
@@ -176,8 +178,8 @@ handled_more [] c = refl
 handled_more (o ∷ old) c = ap (λ l. attempt_of o ∷ l) (handled_more old c)
 
 -- a client's attempts, with one more commit, which has this answer
-handled_as : (old : List Commit) (c : Commit) (v : Answer) → c.answer ≡ v → map attempt_of (old ++ c ∷ []) ≡ map attempt_of old ++ record { records = c.records; options = c.options; status = status_of (place_of c) v } ∷ []
-handled_as old c v is = handled_more old c ∙ ap (λ w. map attempt_of old ++ record { records = c.records; options = c.options; status = status_of (place_of c) w } ∷ []) is
+handled_as : (old : List Commit) (c : Commit) (v : Answer) → c.answer ≡ v → map attempt_of (old ++ c ∷ []) ≡ map attempt_of old ++ record { records = c.records; options = c.options; status = status_of v; place = place_of c } ∷ []
+handled_as old c v is = handled_more old c ∙ ap (λ w. map attempt_of old ++ record { records = c.records; options = c.options; status = status_of w; place = place_of c } ∷ []) is
 
 -- the ends of a client's groups, with one more commit, which has this answer
 ends_as : (old : List Commit) (c : Commit) (v : Answer) → c.answer ≡ v → ends_of (old ++ c ∷ []) ≡ ends_of old ++ end_with v
@@ -190,24 +192,43 @@ ends_same old c v is none = ends_as old c v is ∙ (ap (λ l. ends_of old ++ l) 
 mine_same : (k : ℕ) (old : List Commit) (c : Commit) (v : Answer) → c.answer ≡ v → entry_with k (mine_after k [] old) c v ≡ [] → mine_after k [] (old ++ c ∷ []) ≡ mine_after k [] old
 mine_same k old c v is none = mine_more k [] old c ∙ (ap (λ w. mine_after k [] old ++ entry_with k (mine_after k [] old) c w) is ∙ (ap (λ es. mine_after k [] old ++ es) none ∙ append-nil (mine_after k [] old)))
 
-module _ (start : ℕ) (opening : Pairs) (k : ℕ) (old : List Commit) (answers : List ReadAnswer) (c : Commit) (before after : List (List MemberVersions)) (sees : Begins before after) (known now : List ControllerCall) (more : SeesMore k known now)
-    (free : holds_stop (tokens_of k known) ≡ false) where
+-- what a client knows of the log after one more answer
+pub logged_more : (sights : List LogSight) (s : LogSight) → logged_by (sights ++ s ∷ []) ≡ s.made
+logged_more sights s = fold-append (λ knew (t : LogSight). t.made) 0 sights (s ∷ [])
+
+batches_more : (knew : ℕ) (sights : List LogSight) (s : LogSight) → batches_of knew (sights ++ s ∷ []) ≡ batches_of knew sights ++ batch_with (fold (λ n (t : LogSight). t.made) knew sights) s.made s.batch
+batches_more knew [] s = append-nil (batch_with knew s.made s.batch)
+batches_more knew (t ∷ sights) s =
+    ap (λ l. batch_with knew t.made t.batch ++ l) (batches_more t.made sights s) ∙ sym (append_assoc (batch_with knew t.made t.batch) (batches_of t.made sights) (batch_with (fold (λ n (u : LogSight). u.made) t.made sights) s.made s.batch))
+
+module _ (start : ℕ) (opening : Pairs) (k : ℕ) (old : List Commit) (sights : List LogSight) (answers : List ReadAnswer) (c : Commit) (s : LogSight) (before after : List (List MemberVersions)) (sees : Begins before after) (known now : List ControllerCall) (more : SeesMore k known now)
+    (free : holds_stop (tokens_of k known) ≡ false) (within : IsWithinCall (length known) (length now) (place_of c)) (logged : logged_by sights ≤ s.made) where
   abbrev was : Account
-  was = account_of start opening k old answers before known
+  was = account_of start opening k old sights answers before known
 
   abbrev becomes : Account
-  becomes = account_of start opening k (old ++ c ∷ []) answers after now
+  becomes = account_of start opening k (old ++ c ∷ []) (sights ++ s ∷ []) answers after now
 
   saw : Sees was.seen becomes.seen
-  saw = record { start = refl; opening = refl; published = sees; controller_calls = more.begins; log_reads = prefix_self _ }
+  saw = record {
+    start = refl;
+    opening = refl;
+    published = sees;
+    controller_calls = more.begins;
+    log_reads = prefix_self _;
+    logged = (let is = logged_more sights s in omega (arith, is, logged));
+    batches = (batch_with (logged_by sights) s.made s.batch, sym (batches_more 0 sights s));
+  }
 
   pub refused_held_up : (numbers : Look) (by moment bytes : ℕ) → c.answer ≡ held_up numbers → c.options.no_slowdown ≡ true → HoldUp numbers
       → IsLater now (length known) (place_of c) (record { client = by; action = delay moment bytes; told = Some numbers })
       → IsRefused was c.records c.options (no.Incomplete numbers.stops numbers.delays numbers.wait) becomes
   refused_held_up numbers by moment bytes held_is impatient hold later = record {
-    status = Some (slowed (place_of c));
-    may = (impatient, (by, moment, bytes, later, slice_get_within now (place_of c) (record { client = by; action = delay moment bytes; told = Some numbers }) later.there, hold));
-    kept_out = not_kept_out (tokens_of k known) (slowed (place_of c)) free;
+    fate = fate_at (place_of c) slowed;
+    may = (impatient, (by, moment, bytes, later, slice_get_within now (place_of c) (record { client = by; action = delay moment bytes; told = Some numbers }) later.there, hold, refl));
+    kept_out = not_kept_out (tokens_of k known) _ free;
+    within_call = within;
+    tokens = refl;
     number = refl;
     mine = mine_same k old c (held_up numbers) held_is refl;
     ends = ends_same old c (held_up numbers) held_is refl;
@@ -217,11 +238,18 @@ module _ (start : ℕ) (opening : Pairs) (k : ℕ) (old : List Commit) (answers 
     seen = saw;
   }
 
+  -- the batch is one more of those that went into the log
+  in_log : (first : ℕ) → s.batch ≡ Some (record { first = first; records = c.records; sync = c.options.sync }) → IsLogged was becomes c.records c.options.sync first
+  in_log first is =
+      batches_more 0 sights s ∙ ap (λ l. batches_of 0 sights ++ l) (ap (batch_with (logged_by sights) s.made) is ∙ ap (λ n. record { knew = logged_by sights; knows = n; first = first; records = c.records; sync = c.options.sync } ∷ []) (sym (logged_more sights s)))
+
   pub refused_failed : (n : ℕ) → c.answer ≡ failed n → IsRefused was c.records c.options (no.LogFault n) becomes
   refused_failed n failed_is = record {
-    status = Some (faulted n);
+    fate = fate_at (place_of c) (faulted n);
     may = refl;
-    kept_out = not_kept_out (tokens_of k known) (faulted n) free;
+    kept_out = not_kept_out (tokens_of k known) _ free;
+    within_call = within;
+    tokens = refl;
     number = refl;
     mine = mine_same k old c (failed n) failed_is refl;
     ends = ends_same old c (failed n) failed_is refl;
@@ -233,17 +261,21 @@ module _ (start : ℕ) (opening : Pairs) (k : ℕ) (old : List Commit) (answers 
 
   module _ (cs : List Commit) (right : AreAnswered start None cs) (is : commits_of k cs ≡ old ++ c ∷ []) where
     pub wrote : (settings : Settings) (first end : ℕ) → c.answer ≡ accepted first end → early_refusal settings.families settings.batch_bytes (holds_stop (tokens_of k known)) c.records c.options ≡ None → last_of_groups start before < first → end ≤ last_of_groups start after
-        → Wrote settings was c.records c.options first end becomes
-    wrote settings first end given_is passed above reached =
+        → ShowsBatch c first s → Wrote settings was c.records c.options first end becomes
+    wrote settings first end given_is passed above reached shows =
         let v = subst (IsAnswer (last_after_all start (at start k cs old c right is).front) (fault_after_all None (at start k cs old c right is).front) (count_of c.records)) given_is (answer start k cs old c right is).1 in
         record {
           number = refl;
           mine = mine_more k [] old c ∙ ap (λ w. mine_after k [] old ++ entry_with k (mine_after k [] old) c w) given_is;
           ends = ends_as old c (accepted first end) given_is;
           asked = more.tokens;
+          place = place_of c;
           attempts = handled_as old c (accepted first end) given_is;
+          within_call = within;
+          logged = λ to_log. in_log first (shows to_log);
           read_faults = refl;
           seen = saw;
+          tokens = refl;
           some = v.1;
           passed = passed;
           free = free;
@@ -258,7 +290,7 @@ module _ (start : ℕ) (opening : Pairs) (k : ℕ) (old : List Commit) (answers 
     refused_full l full_is low =
         let v = subst (IsAnswer (last_after_all start (at start k cs old c right is).front) (fault_after_all None (at start k cs old c right is).front) (count_of c.records)) full_is (answer start k cs old c right is).1 in
         record {
-          status = Some (full l);
+          fate = fate_at (place_of c) (full l);
           may = (
             refl,
             is_alive start k cs old c right is v.0,
@@ -267,7 +299,9 @@ module _ (start : ℕ) (opening : Pairs) (k : ℕ) (old : List Commit) (answers 
             subst (λ m. AreFullBelow (m + 1) (map attempt_of old)) (sym v.1) (are_full_below start k cs old c right is),
             subst (λ m. max_sequence < m + count_of c.records) (sym v.1) v.2,
           );
-          kept_out = not_kept_out (tokens_of k known) (full l) free;
+          kept_out = not_kept_out (tokens_of k known) _ free;
+          within_call = within;
+          tokens = refl;
           number = refl;
           mine = mine_same k old c (no_room l) full_is refl;
           ends = ends_same old c (no_room l) full_is refl;
@@ -278,12 +312,14 @@ module _ (start : ℕ) (opening : Pairs) (k : ℕ) (old : List Commit) (answers 
         }
 
 -- a client that looked itself made no commit of the batch, and has its refusal from the look
-pub refused_looked : (start : ℕ) (opening : Pairs) (k : ℕ) (own : List Commit) (answers : List ReadAnswer) (records : List Record) (how : WriteOptions) (before after : List (List MemberVersions)) (known now : List ControllerCall) (numbers : Look) → Begins before after
+pub refused_looked : (start : ℕ) (opening : Pairs) (k : ℕ) (own : List Commit) (sights : List LogSight) (answers : List ReadAnswer) (records : List Record) (how : WriteOptions) (before after : List (List MemberVersions)) (known now : List ControllerCall) (numbers : Look) → Begins before after
     → holds_stop (tokens_of k known) ≡ true → EndsWith k known look (Some numbers) now → how.no_slowdown ≡ true → HoldUp numbers
-    → IsRefused (account_of start opening k own answers before known) records how (no.Incomplete numbers.stops numbers.delays numbers.wait) (account_of start opening k own answers after now)
-refused_looked start opening k own answers records how before after known now numbers sees stopping ends impatient hold =
+    → IsRefused (account_of start opening k own sights answers before known) records how (no.Incomplete numbers.stops numbers.delays numbers.wait) (account_of start opening k own sights answers after now)
+refused_looked start opening k own sights answers records how before after known now numbers sees stopping ends impatient hold =
     let last = ends_last k known look (Some numbers) now ends in record {
-      status = None;
+      fate = None;
+      within_call = tt;
+      tokens = refl;
       may = (
         impatient,
         (
@@ -301,15 +337,17 @@ refused_looked start opening k own answers records how before after known now nu
       asked = ends_tokens k known look (Some numbers) now ends ∙ append-nil (tokens_of k known);
       attempts = refl;
       read_faults = refl;
-      seen = record { start = refl; opening = refl; published = sees; controller_calls = ends_begins k known look (Some numbers) now ends; log_reads = prefix_self _ };
+      seen = record { start = refl; opening = refl; published = sees; controller_calls = ends_begins k known look (Some numbers) now ends; log_reads = prefix_self _; logged = omega arith; batches = prefix_self _ };
     }
 
 -- a client whose commit met a stall made no commit of the batch, and has its refusal from a look, its own or the leader's
-pub refused_stalled : (start : ℕ) (opening : Pairs) (k : ℕ) (own : List Commit) (answers : List ReadAnswer) (records : List Record) (how : WriteOptions) (before after : List (List MemberVersions)) (known now : List ControllerCall) (numbers : Look) (by place : ℕ)
+pub refused_stalled : (start : ℕ) (opening : Pairs) (k : ℕ) (own : List Commit) (sights : List LogSight) (answers : List ReadAnswer) (records : List Record) (how : WriteOptions) (before after : List (List MemberVersions)) (known now : List ControllerCall) (numbers : Look) (by place : ℕ)
     → Begins before after → SeesMore k known now → holds_stop (tokens_of k known) ≡ false → how.no_slowdown ≡ true → IsLater now (length known) place (record { client = by; action = look; told = Some numbers }) → MetStall now k by place numbers
-    → IsRefused (account_of start opening k own answers before known) records how (no.Incomplete numbers.stops numbers.delays numbers.wait) (account_of start opening k own answers after now)
-refused_stalled start opening k own answers records how before after known now numbers by place sees more free impatient later met = record {
-  status = None;
+    → IsRefused (account_of start opening k own sights answers before known) records how (no.Incomplete numbers.stops numbers.delays numbers.wait) (account_of start opening k own sights answers after now)
+refused_stalled start opening k own sights answers records how before after known now numbers by place sees more free impatient later met = record {
+  fate = None;
+  within_call = tt;
+  tokens = refl;
   may = (
     impatient,
     (
@@ -327,5 +365,5 @@ refused_stalled start opening k own answers records how before after known now n
   asked = more.tokens;
   attempts = refl;
   read_faults = refl;
-  seen = record { start = refl; opening = refl; published = sees; controller_calls = more.begins; log_reads = prefix_self _ };
+  seen = record { start = refl; opening = refl; published = sees; controller_calls = more.begins; log_reads = prefix_self _; logged = omega arith; batches = prefix_self _ };
 }

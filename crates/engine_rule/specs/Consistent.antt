@@ -16,6 +16,7 @@ use Rattle.engine_rule.specs.Asked.{AreInGroups}
 use Rattle.engine_rule.specs.Entries.{entries_of, versions_made, HasPart}
 use Rattle.engine_rule.specs.Reading.{AnsweredRead, AreRight, IsCutAt, answers_in, faults_in, reads_in}
 use Rattle.engine_rule.specs.LogCalls.{WroteCommits}
+use Rattle.engine_rule.specs.LogSights.{LogSight}
 use Rattle.engine_rule.specs.Plans.{LeadersGroup, all_failed, commits_of_plan, last_with_all}
 
 -- some accepted answer names this sequence as the last one of its group
@@ -88,12 +89,13 @@ with_fault s g count calls = record (answered s g.went (all_failed g.known count
   calls = calls;
 }
 
--- the accounts of all clients: each is its client's part of the state, with this history of the controller
-pub record AreAccountsOf (settings : Settings) (s : Standing) (history : List ControllerCall)
+-- the accounts of all clients: each is its client's part of the state, of what the answers to their commits show of the
+-- log, and of this history of the controller
+pub record AreAccountsOf (settings : Settings) (s : Standing) (sights : List LogSight) (history : List ControllerCall)
     (accounts : List Account) : Type 0 where
   pub all : length accounts ≡ settings.clients
   pub each : (i : ℕ) (a : Account) → slice_get accounts i ≡ Some a
-      → HasPart settings.start settings.opening s.commits s.reads s.published history i a
+      → HasPart settings.start settings.opening s.commits sights s.reads s.published history i a
 
 -- What the reads of the log gave is right, where the log had kept these batches, or it isn't known which. Each fault of
 -- the log or of a read of it is a count of its own that the disk reached in the run. Where there was none, the disk has

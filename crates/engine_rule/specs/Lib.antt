@@ -2,6 +2,7 @@ pub mod Commits
 pub mod Plans
 pub mod Asked
 pub mod Reading
+pub mod LogSights
 pub mod Entries
 pub mod LogCalls
 pub mod Consistent

@@ -73,8 +73,8 @@ pub record IsAtEnd (start : ℕ) (seen : List (List MemberVersions)) (r : LogRea
   pub begins : Begins shown seen
   pub at : r.at ≡ last_of start shown
 
--- The entries are cut at this sequence, an end of a batch or `start`, and so are the log's parts: the first of them have
--- the logged entries up to there, and no others.
+-- The entries are cut at this sequence, an end of a batch or `start`, and so are the log's parts: the first of them
+-- have the logged entries up to there, and no others.
 pub record IsCutAt (start : ℕ) (entries : List Entry) (parts : List (List Entry)) (at : ℕ) : Type 0 where
   pub front : List Entry
   pub is_front : IsUpTo start entries at front

@@ -1,13 +1,13 @@
 //! What follows from the commits: for each client from its newest answer, and for all clients at the closing.
 
 ghost use mathlib.Core.List.{IsPrefix};
-ghost use Rattle.std.specs.Prelude.{◌≡◌, ◌+◌, ◌<◌, ◌≤◌, ℕ, List, [], ◌∷◌, ◌++◌, length, Option, None, Some, true, false};
+ghost use Rattle.std.specs.Prelude.{◌≡◌, ◌+◌, ◌<◌, ◌≤◌, ℕ, List, [], ◌∷◌, ◌++◌, length, Option, None, Some, IfSome, true, false};
 ghost use Rattle.model_base.specs.declared.write.Refusal.TheVariants.{Incomplete, LogFault, SequenceFull};
 ghost use Rattle.model_base.specs.declared.write.WriteOptions.{WriteOptions};
 ghost use Rattle.model_base.specs.History.{max_sequence};
 ghost use Rattle.model_base.specs.Batch.{Record};
 ghost use Rattle.model_base.specs.Controller.{ControllerCall, Look, HoldUp, IsLegal, delay, look};
-ghost use Rattle.model_base.specs.LogContents.{GroupCall};
+ghost use Rattle.model_base.specs.LogContents.{GroupCall, IsLoggedBy};
 ghost use Rattle.model_base.specs.Progress.{early_refusal};
 ghost use Rattle.model_base.specs.Replies.{IsLater, MetStall};
 ghost use Rattle.model_base.specs.Tokens.{tokens_of, holds_stop};
@@ -18,13 +18,12 @@ ghost use Rattle.model_base.specs.Trace.{Settings};
 ghost use Rattle.table_rule.specs.Histories.{Begins, made_by, last_of};
 ghost use Rattle.model_accounts.specs.Accounts.{Account, FailsToRead, Keeps, ReadsLog, Wrote};
 ghost use Rattle.model_accounts.specs.Closing.{HasOneTrace};
-ghost use Rattle.model_runs.specs.Written.{IsSyncedBy};
 ghost use Rattle.engine_controller.specs.Passes.{EndsWith};
 ghost use Rattle.engine_rule.specs.Commits.{Commit, accepted, held_up, failed, no_room, last_after_all, AreAnswered, commits_of};
 ghost use Rattle.engine_rule.specs.Asked.{place_of};
-ghost use Rattle.engine_rule.specs.Entries.{entries_of, versions_made, ClientCall, account_before, account_with, account_told, HasSeenMore, IsFree, IsNewest, EndsRefused, StaysOutside, AreCallsOf};
+ghost use Rattle.engine_rule.specs.Entries.{versions_made, ClientCall, account_before, account_with, account_told, HasSeenMore, IsFree, IsNewest, IsWithin, ShowsBatch, EndsRefused, StaysOutside, AreCallsOf};
 ghost use Rattle.engine_rule.specs.Reading.{gave, broke, lacked};
-ghost use Rattle.engine_rule.specs.LogCalls.{WroteParts};
+ghost use Rattle.engine_rule.specs.LogSights.{WrittenBatch, LogSight, sights_of, logged_by, worked_in, ShowTheLog};
 ghost use Rattle.engine_rule.specs.Consistent.{Standing, IsConsistent, AreAccountsOf, AreReadsRight};
 
 /// From `last` on, as many sequences are given as the commits make versions. Where `last` isn't above the greatest
@@ -46,18 +45,21 @@ pub fn accounts_of_the_commits()
         → early_refusal settings.families settings.batch_bytes (holds_stop (tokens_of k.client k.known)) c.records
         c.options ≡ None
         → last_of k.start k.before < first → group_last ≤ last_of k.start k.after
-        → Wrote settings (account_before k) c.records c.options first group_last (account_with k c) }
+        → (s : LogSight) → IsWithin k c s → ShowsBatch c first s
+        → Wrote settings (account_before k) c.records c.options first group_last (account_with k c s) }
     // where writes are held up, or the log failed, nothing needs to be known of the other answers
     ensures held_up { (k : ClientCall) (c : Commit) (numbers : Look) (by moment bytes : ℕ)
         → HasSeenMore k → IsFree k → c.answer ≡ held_up numbers → c.options.no_slowdown ≡ true → HoldUp numbers
         → IsLater k.now (length k.known) (place_of c)
         (record { client = by; action = delay moment bytes; told = Some numbers })
-        → EndsRefused k c (Incomplete numbers.stops numbers.delays numbers.wait) }
+        → (s : LogSight) → IsWithin k c s
+        → EndsRefused k c s (Incomplete numbers.stops numbers.delays numbers.wait) }
     ensures failed { (k : ClientCall) (c : Commit) (count : ℕ) → HasSeenMore k → IsFree k
-        → c.answer ≡ failed count → EndsRefused k c (LogFault count) }
+        → c.answer ≡ failed count → (s : LogSight) → IsWithin k c s
+        → EndsRefused k c s (LogFault count) }
     ensures full { (k : ClientCall) (commits : List Commit) (c : Commit) (last : ℕ) → IsNewest k commits c
         → HasSeenMore k → IsFree k → c.answer ≡ no_room last → last_of k.start k.before ≤ last
-        → EndsRefused k c (SequenceFull last) }
+        → (s : LogSight) → IsWithin k c s → EndsRefused k c s (SequenceFull last) }
     // a client that holds a stop token looked itself, and its commit is in no group
     ensures looked { (k : ClientCall) (records : List Record) (how : WriteOptions) (numbers : Look)
         → Begins k.before k.after → holds_stop (tokens_of k.client k.known) ≡ true
@@ -81,22 +83,24 @@ pub fn accounts_of_the_reads()
     ensures lacked { (k : ClientCall) → HasSeenMore k → Keeps (account_before k) (account_told k lacked) }
 {}
 
-/// A commit that has a run, isn't kept out of the log, and asked for a sync, was written by a call that synced.
-pub fn synced_commits()
-    ensures synced { (start client : ℕ) (commits own : List Commit) (c : Commit) (calls : List GroupCall)
-        (first group_last : ℕ) → AreAnswered start None commits → WroteParts (entries_of commits) calls
-        → commits_of client commits ≡ own ++ c ∷ [] → c.answer ≡ accepted first group_last
-        → c.options.sync ≡ true → c.options.no_log ≡ false → IsSyncedBy first c.records calls }
+/// Where the answers to all commits show calls of the log writer that worked, a client's newest answer shows no fewer
+/// than those before it. If its batch went into the log, one of the calls wrote it that the client knows of since.
+pub fn sights_of_a_client()
+    ensures newest { (worked : List GroupCall) (sights : List LogSight) → ShowTheLog worked sights → (client : ℕ)
+        (old : List LogSight) (s : LogSight) → sights_of client sights ≡ old ++ s ∷ []
+        → (logged_by old ≤ s.made) × (s.made ≤ length worked)
+        × IfSome s.batch (λ (b : WrittenBatch). IsLoggedBy worked (logged_by old) s.made b.first b.records b.sync) }
 {}
 
 /// Once all clients are at rest, their accounts are parts of one trace: of the commits and of the controller's one
-/// history. And the log was written by exactly the calls that wrote its history, one for each group that is in it: so
-/// no batch is written twice, or apart from its group. What reads of the log gave is right in that trace, where the log
-/// had kept these batches.
+/// history. What the answers to commits show of the log are calls that worked. And the log was written by exactly the
+/// calls that wrote its history, one for each group that is in it: so no batch is written twice, or apart from its
+/// group. What reads of the log gave is right in that trace, where the log had kept these batches.
 pub fn closings()
     ensures closing { (settings : Settings) (kept : Option (List Logged)) (ended : ℕ) (s : Standing)
-        (history : List ControllerCall) (accounts : List Account) → IsConsistent settings s
-        → AreAccountsOf settings s history accounts → IsLegal history → AreCallsOf settings.clients history
+        (sights : List LogSight) (history : List ControllerCall) (accounts : List Account)
+        → IsConsistent settings s → ShowTheLog (worked_in s.calls) sights
+        → AreAccountsOf settings s sights history accounts → IsLegal history → AreCallsOf settings.clients history
         → IsPrefix s.asked history → AreReadsRight settings kept ended s
         → HasOneTrace settings kept ended accounts s.last s.fault (λ made. made ≡ s.calls) }
 {}

@@ -8,8 +8,9 @@ ghost use Rattle.model_base.specs.Since.{LogRead};
 ghost use Rattle.model_base.specs.Trace.{Settings};
 ghost use Rattle.table_rule.specs.declared.content.MemberVersions.{MemberVersions};
 ghost use Rattle.table_rule.specs.Histories.{Runs};
-ghost use Rattle.engine_rule.specs.Plans.{CommitRequest, LeadersGroup, IsBuilt, GoesAhead, last_with_all, versions_from, all_held_up, MayNotWait};
+ghost use Rattle.engine_rule.specs.Plans.{CommitRequest, HaveOwnClients, LeadersGroup, IsBuilt, GoesAhead, last_with_all, versions_from, all_held_up, MayNotWait};
 ghost use Rattle.engine_rule.specs.LogCalls.{WritesBatches, LogsGroup};
+ghost use Rattle.engine_rule.specs.LogSights.{LogSight, sights_with, sights_without, worked_in, ShowTheLog};
 ghost use Rattle.engine_rule.specs.Reading.{AreRight, IsRight};
 ghost use Rattle.engine_rule.specs.Consistent.{AreConsistent, Standing, IsConsistent, answered, with_runs, with_fault, Publishes};
 
@@ -43,8 +44,35 @@ pub fn groups_stay_consistent()
         → s.fault ≡ Some count → GoesAhead settings s.asked g → IsConsistent settings (with_fault s g count s.calls) }
 {}
 
-/// What reads of the log gave stays right while groups are logged, for whatever the log had kept: a later record has later
-/// sequences.
+/// What the answers to commits show of the log, while groups are answered.
+pub fn sights_go_on()
+    ensures first { ShowTheLog [] [] }
+    // the members whose runs fit have them, and the log has their batches, unless it must stay without them
+    ensures written { (last : ℕ) (requests : List CommitRequest) (old new : List GroupCall) (sights : List LogSight)
+        → HaveOwnClients requests → LogsGroup last requests old new → ShowTheLog (worked_in old) sights
+        → ShowTheLog (worked_in new) (sights ++ sights_with (length (worked_in new)) last requests) }
+    // no member got a run
+    ensures refused { (calls : List GroupCall) (sights : List LogSight) (requests : List CommitRequest)
+        → HaveOwnClients requests → ShowTheLog (worked_in calls) sights
+        → ShowTheLog (worked_in calls) (sights ++ sights_without (length (worked_in calls)) requests) }
+    // nor where the call of the log failed
+    ensures failed { (calls : List GroupCall) (c : GroupCall) (count : ℕ) (sights : List LogSight)
+        (requests : List CommitRequest) → c.failed ≡ Some count → HaveOwnClients requests
+        → ShowTheLog (worked_in calls) sights
+        → ShowTheLog (worked_in (calls ++ c ∷ []))
+        (sights ++ sights_without (length (worked_in (calls ++ c ∷ []))) requests) }
+    // one more call
+    ensures one_more { (calls : List GroupCall) (c : GroupCall) → c.failed ≡ None
+        → worked_in (calls ++ c ∷ []) ≡ worked_in calls ++ c ∷ [] }
+    ensures no_more { (calls : List GroupCall) (c : GroupCall) (count : ℕ) → c.failed ≡ Some count
+        → worked_in (calls ++ c ∷ []) ≡ worked_in calls }
+    // the calls that wrote the commits are those that worked
+    ensures same { (settings : Settings) (s : Standing) → (is : IsConsistent settings s)
+        → worked_in s.calls ≡ is.written.worked }
+{}
+
+/// What reads of the log gave stays right while groups are logged, for whatever the log had kept: a later record has
+/// later sequences.
 pub fn reads_stay_right()
     ensures first { (kept : Option (List Logged)) (start : ℕ) → AreRight (λ batches. kept ≡ Some batches) start [] [] }
     ensures written { (kept : Option (List Logged)) (last : ℕ) (requests : List CommitRequest)

@@ -9,6 +9,7 @@
 //! - `specs/Asked`: for which groups the write controller was asked for a delay. Each group is held up as a whole, or
 //!   goes on as a whole.
 //! - `specs/LogCalls`: the calls of the log writer that wrote commits.
+//! - `specs/LogSights`: what the answers to commits show of the log.
 //! - `specs/Reading`: reads of the log, and what makes their answers right.
 //! - `specs/Consistent`: how the log, the table and the answers belong together.
 //!
@@ -19,6 +20,7 @@ mod ends;
 mod groups;
 
 pub use ends::{
-    accounts_of_the_commits, accounts_of_the_reads, closings, numbers_of_commits, synced_commits,
+    accounts_of_the_commits, accounts_of_the_reads, closings, numbers_of_commits,
+    sights_of_a_client,
 };
-pub use groups::{groups_stay_consistent, reads_stay_right, runs_of_a_group};
+pub use groups::{groups_stay_consistent, reads_stay_right, runs_of_a_group, sights_go_on};

@@ -25,7 +25,7 @@ use Rattle.line_rule.proofs.Chains.{stand_absent}
 use Rattle.line_rule.proofs.Holding.{few_served}
 use Rattle.line_rule.proofs.Groups.{absent_append, absent_front, absent_back, taken_absent}
 use Rattle.line_rule.proofs.Leads.{one_leads, coded_in}
-use Rattle.line_rule.proofs.Squads.{in_one, behind_in, flat_snoc, with_absent, absent_groups, member_absent}
+use Rattle.line_rule.proofs.Squads.{in_one, behind_in, flat_snoc, with_absent, absent_groups, member_absent, out_of_groups}
 use Rattle.line_rule.proofs.Settles.{handled_out, one_taker}
 use Rattle.line_rule.proofs.Pauses.{not_with}
 
@@ -132,6 +132,21 @@ module _ {Request Reply Log Right : Type 0} (stands : Laws Request Reply Log Rig
   in_hand_out c own by none members held =
       subst (IsNotWith k) (sym held) ((λ is. not_led c none (sym by ∙ is)), taken_absent r.phase r.due c k r.hand (λ e _ nil. let bad : Path (List (Request × Reply)) (y ∷ []) [] = sym owed ∙ nil in absurd (cc)) members)
 
+  out_of_line : ((e : QueuedWriter Request) → r.phase k ≡ linked e → ⊥) → ((e : QueuedWriter Request) → r.phase k ≡ chosen e → ⊥) → (mode : Mode Request) → InMode stands n s.homes r.line r.hand r.handled r.phase r.due mode → Absent k r.line
+  out_of_line no_l no_c mode ok = handled_out stands n s.homes r.line r.hand r.handled r.phase r.due k y owed no_l no_c mode ok
+
+  -- nor is it in the queue
+  pub not_queued : ((e : QueuedWriter Request) → r.phase k ≡ linked e → ⊥) → ((e : QueuedWriter Request) → r.phase k ≡ chosen e → ⊥) → Absent k r.account.queue
+  not_queued no_l no_c = by_mode r.mode r.account.shows (out_of_line no_l no_c r.mode r.log_is)
+    where
+      by_mode : (mode : Mode Request) → Shows r.line r.account.queue r.account.log mode → Absent k r.line → Absent k r.account.queue
+      by_mode open_ shows out = subst (Absent k) shows.0 out
+      by_mode (waits c) shows out = subst (Absent k) shows.0 out
+      by_mode (led c) shows out = subst (Absent k) shows.0 out
+      by_mode (built c g t) shows out = absent_front k r.account.queue (g ++ shows.0.0 ∷ []) (subst (Absent k) shows.0.1 out)
+      by_mode (cut c w) shows out = subst (Absent k) shows.0 out
+      by_mode (marked c) shows out = subst (Absent k) shows.0 out
+
   pub not_held : ((e : QueuedWriter Request) → r.phase k ≡ linked e → ⊥) → ((e : QueuedWriter Request) → r.phase k ≡ chosen e → ⊥) → IsNotWith k r.account.log
   not_held no_l no_c = by_mode r.mode r.log_is r.account.shows r.has_cut
     where
@@ -140,7 +155,7 @@ module _ {Request Reply Log Right : Type 0} (stands : Laws Request Reply Log Rig
       by_mode (waits c) ok shows has = subst (IsNotWith k) (sym shows.1) tt
       by_mode (led c) ok shows has = subst (IsNotWith k) (sym shows.1) (not_led c ok.2)
       by_mode (built c g t) ok shows has =
-          let out : Absent k (r.account.queue ++ (g ++ shows.0.0 ∷ [])) = subst (Absent k) shows.0.1 (handled_out stands n s.homes r.line r.hand r.handled r.phase r.due k y owed no_l no_c (built c g t) ok) in
+          let out : Absent k (r.account.queue ++ (g ++ shows.0.0 ∷ [])) = subst (Absent k) shows.0.1 (out_of_line no_l no_c (built c g t) ok) in
           let group : Absent k (g ++ shows.0.0 ∷ []) = absent_back k r.account.queue (g ++ shows.0.0 ∷ []) out in
           subst (IsNotWith k) (sym shows.1) (not_with k shows.0.0 g t ((absent_back k g (shows.0.0 ∷ []) group).0, absent_front k g (shows.0.0 ∷ []) group))
       by_mode (cut c w) ok shows has = in_hand_out c has.0 has.1 ok.2 ok.1 has.3
@@ -196,12 +211,14 @@ module _ {Request Reply Log Right : Type 0} (stands : Laws Request Reply Log Rig
       absent_both [] gone = of_turn r.two.turn
       absent_both (g ∷ gs) gone = absent_append m (line_of g) (flat (gs ++ last_served r.two.place r.two.turn)) (absent_front m (line_of g) (flat gs) gone) (absent_both gs (absent_back m (line_of g) (flat gs) gone))
 
-  -- a client that gets its reply from a leader that is in no list is neither of the group in hand nor in the second
-  -- list
-  pub told_apart : (g : QueuedWriter Request × Reply) (gs : List (QueuedWriter Request × Reply)) (own : QueuedWriter Request) (p : Reply) → Sees s id (hold_at c (Settling (debt (g ∷ gs) own p)) mine Away) → IsNotWith g.0.by (now_of stands n s r).0.1 × Absent g.0.by (flat (now_of stands n s r).1.0)
+  -- a client that gets its reply from a leader that is in no list is neither in the queue, nor of the group in hand, nor
+  -- in the second list
+  pub told_apart : (g : QueuedWriter Request × Reply) (gs : List (QueuedWriter Request × Reply)) (own : QueuedWriter Request) (p : Reply) → Sees s id (hold_at c (Settling (debt (g ∷ gs) own p)) mine Away)
+      → Absent g.0.by (now_of stands n s r).0.0 × IsNotWith g.0.by (now_of stands n s r).0.1 × Absent g.0.by (flat (now_of stands n s r).1.0)
   told_apart g gs own p sees =
       let fit = (r.seats id (hold_at c (Settling (debt (g ∷ gs) own p)) mine Away ∷ []) sees).0 in
       let now : r.phase g.0.by ≡ taken c g.0 = fit.4.0.0 in (
+        not_queued stands n s r g.0.by (g.0.asked, g.1) fit.4.0.1 (λ e bad. let no : Path (Phase Request Reply) (taken c g.0) (linked e) = sym now ∙ bad in absurd (cc)) (λ e bad. let no : Path (Phase Request Reply) (taken c g.0) (chosen e) = sym now ∙ bad in absurd (cc)),
         not_held stands n s r g.0.by (g.0.asked, g.1) fit.4.0.1 (λ e bad. let no : Path (Phase Request Reply) (taken c g.0) (linked e) = sym now ∙ bad in absurd (cc)) (λ e bad. let no : Path (Phase Request Reply) (taken c g.0) (chosen e) = sym now ∙ bad in absurd (cc)),
         in_neither g.0.by (member_absent r.phase r.two.place g.0.by c g.0 r.two.groups now (no_place fit.5.0) r.second.members)
             (λ d f is.
@@ -212,11 +229,13 @@ module _ {Request Reply Log Right : Type 0} (stands : Laws Request Reply Log Rig
       )
 
   -- nor is such a leader
-  pub told_last : (own : QueuedWriter Request) (p : Reply) → Sees s id (hold_at c (Settling (debt [] own p)) mine Away) → IsNotWith own.by (now_of stands n s r).0.1 × Absent own.by (flat (now_of stands n s r).1.0)
+  pub told_last : (own : QueuedWriter Request) (p : Reply) → Sees s id (hold_at c (Settling (debt [] own p)) mine Away) → Absent own.by (now_of stands n s r).0.0 × IsNotWith own.by (now_of stands n s r).0.1 × Absent own.by (flat (now_of stands n s r).1.0)
   told_last own p sees =
       let fit = (r.seats id (hold_at c (Settling (debt [] own p)) mine Away ∷ []) sees).0 in
       let now : r.phase c ≡ leads own = fit.4.1 in
       let by : own.by ≡ c = subst (InPhase stands s.words s.homes c (r.due c)) now (r.rows c fit.1 fit.2) in (
+        subst (λ k. Absent k r.account.queue) (sym by)
+            (not_queued stands n s r c (own.asked, p) fit.4.2 (λ e bad. let no : Path (Phase Request Reply) (leads own) (linked e) = sym now ∙ bad in absurd (cc)) (λ e bad. let no : Path (Phase Request Reply) (leads own) (chosen e) = sym now ∙ bad in absurd (cc))),
         subst (λ k. IsNotWith k r.account.log) (sym by)
             (not_held stands n s r c (own.asked, p) fit.4.2 (λ e bad. let no : Path (Phase Request Reply) (leads own) (linked e) = sym now ∙ bad in absurd (cc)) (λ e bad. let no : Path (Phase Request Reply) (leads own) (chosen e) = sym now ∙ bad in absurd (cc))),
         subst (λ k. Absent k (flat (now_of stands n s r).1.0)) (sym by)
@@ -229,7 +248,8 @@ module _ {Request Reply Log Right : Type 0} (stands : Laws Request Reply Log Rig
       )
 
   -- nor is a writer that left the queue while writes are stalled
-  pub told_dropped : (w : ℕ) (lead : Lead Request Reply) (x : QueuedWriter Request) (p : Reply) (b : Back Request Reply) → Sees s id (hold_at c (Stalling lead (Owes w x p)) mine b) → IsNotWith x.by (now_of stands n s r).0.1 × Absent x.by (flat (now_of stands n s r).1.0)
+  pub told_dropped : (w : ℕ) (lead : Lead Request Reply) (x : QueuedWriter Request) (p : Reply) (b : Back Request Reply) → Sees s id (hold_at c (Stalling lead (Owes w x p)) mine b)
+      → Absent x.by (now_of stands n s r).0.0 × IsNotWith x.by (now_of stands n s r).0.1 × Absent x.by (flat (now_of stands n s r).1.0)
   told_dropped w lead x p b sees =
       let fit = (r.seats id (hold_at c (Stalling lead (Owes w x p)) mine b ∷ []) sees).0 in
       let now : r.phase x.by ≡ dropped c x p = fit.4.5 in
@@ -238,12 +258,9 @@ module _ {Request Reply Log Right : Type 0} (stands : Laws Request Reply Log Rig
       let group : Absent x.by (lead.group ++ shows.0.0 ∷ []) = absent_back x.by r.account.queue (lead.group ++ shows.0.0 ∷ []) out in
       let no_leads : (e : QueuedWriter Request) → r.phase x.by ≡ leads e → ⊥ = λ e bad. let no : Path (Phase Request Reply) (dropped c x p) (leads e) = sym now ∙ bad in absurd (cc) in
       let no_taken : (d : ℕ) (e : QueuedWriter Request) → r.phase x.by ≡ taken d e → ⊥ = λ d e bad. let no : Path (Phase Request Reply) (dropped c x p) (taken d e) = sym now ∙ bad in absurd (cc) in (
+        absent_front x.by r.account.queue (lead.group ++ shows.0.0 ∷ []) out,
         subst (IsNotWith x.by) (sym shows.1) ((absent_back x.by lead.group (shows.0.0 ∷ []) group).0, absent_front x.by lead.group (shows.0.0 ∷ []) group),
-        in_neither x.by (out_of_groups x.by no_leads no_taken r.two.groups r.second.members)
+        in_neither x.by (out_of_groups r.phase r.two.place x.by no_leads no_taken r.two.groups r.second.members)
             (λ d f is. let led_d = r.second.outgoing d f is in
             absent_append x.by f.rest (f.own ∷ []) (with_absent r.phase x.by d f.rest (no_taken d) led_d.2) ((λ own_is. no_leads f.own (ap r.phase (sym own_is ∙ led_d.0) ∙ led_d.1)), tt)),
       )
-    where
-      out_of_groups : (m : ℕ) → ((e : QueuedWriter Request) → r.phase m ≡ leads e → ⊥) → ((d : ℕ) (e : QueuedWriter Request) → r.phase m ≡ taken d e → ⊥) → (gs : List (Squad Request Reply)) → AllGroups r.phase r.two.place gs → Absent m (flat gs)
-      out_of_groups m no_l no_t [] ok = tt
-      out_of_groups m no_l no_t (g ∷ gs) ok = absent_append m (line_of g) (flat gs) (absent_append m g.rest (g.own ∷ []) (with_absent r.phase m g.own.by g.rest (no_t g.own.by) ok.2) ((λ is. no_l g.own (ap r.phase (sym is) ∙ ok.0)), tt)) (out_of_groups m no_l no_t gs ok.3)

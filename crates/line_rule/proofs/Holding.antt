@@ -12,6 +12,7 @@ use Rattle.line_rule.specs.Rule.{Listed, InMode, InTurn, Level, AllFit}
 use Rattle.line_rule.specs.SecondList.{last_served, served_in}
 use Rattle.line_rule.specs.Steps.{now_of}
 use Rattle.line_rule.specs.Between.{LogAtHome, RightAt, AllRecall, Between, AreLists}
+use Rattle.line_rule.proofs.Apart.{owner_in, turn_in, walk_apart}
 use Rattle.line_rule.proofs.Groups.{walk_bound}
 
 module _ {Request Reply Log Right : Type 0} (stands : Laws Request Reply Log Right) (n : ℕ) where
@@ -71,6 +72,8 @@ module _ {Request Reply Log Right : Type 0} (stands : Laws Request Reply Log Rig
     recalled = λ id v at. all_recall id v (r.seats id v at);
     ran = r.account.ran;
     shows = r.account.shows;
+    owner = λ c holds. owner_in stands n s.homes r.line r.hand r.handled r.phase r.due r.account.queue r.account.log c r.mode r.log_is r.account.shows r.has_cut holds;
+    in_turn = turn_in stands n s.homes r.line r.hand r.handled r.phase r.due r.account.queue r.account.log r.mode r.log_is r.account.shows;
     home = home_in s.homes r.line r.hand r.handled r.phase r.due r.mode r.log_is;
     groups = r.two.groups;
     turn = r.two.turn;
@@ -81,10 +84,12 @@ module _ {Request Reply Log Right : Type 0} (stands : Laws Request Reply Log Rig
     second_short = walk_bound n (flat r.two.groups) r.second.within r.second.distinct;
     second_distinct = r.second.distinct;
     second_within = r.second.within;
+    apart_lists = walk_apart stands n s.homes r.line r.hand r.handled r.phase r.due r.two r.second.members r.mode r.second.in_front r.log_is;
     right = right_in s.words s.homes r.phase r.two r.two.turn r.second.turn_is;
     handed = r.second.ahead_holds;
     none_second = λ is. none_in r.two (stands.given r.handled) stands.piped is r.second.in_level;
     in_order = λ is. level_in r.two (stands.given r.handled) stands.piped is r.second.in_level;
+    made = r.second.made;
   }
     where
       all_recall : (id : ℕ) (v : List (LineHold Request Reply)) → AllFit n r.line r.hand r.handled r.mode r.phase r.due r.told r.two r.account.events r.seat id v → AllRecall r.account.events v

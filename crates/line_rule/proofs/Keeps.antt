@@ -120,6 +120,7 @@ module _ {Request Reply Log Right : Type 0} (stands : Laws Request Reply Log Rig
     called_turn = r.called_turn;
     ahead_holds = λ c is. leads_on c is (r.ahead_holds c is);
     in_level = in_step r.in_level;
+    made = r.made;
   }
 
   -- a client moves that isn't in the second list

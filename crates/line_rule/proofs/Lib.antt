@@ -14,6 +14,7 @@ pub mod Stalls
 pub mod Drops
 pub mod Departs
 pub mod Squads
+pub mod Made
 pub mod Seconds
 pub mod Onward
 pub mod Passes
@@ -21,6 +22,7 @@ pub mod Serves
 pub mod Settles
 pub mod Marks
 pub mod Opens
+pub mod Apart
 pub mod Holding
 pub mod CoreLaws
 pub mod CoreExits

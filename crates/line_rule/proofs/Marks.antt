@@ -27,10 +27,10 @@ use Rattle.line_rule.specs.Chain.{state_at, older_at, pack, newest, newest_from,
 use Rattle.line_rule.specs.Standing.{calm, dropped, Phase, linked, chosen, leads, taken, Mode, open_, waits, built, cut, marked, base_of, Holds, parted, ahead}
 use Rattle.line_rule.specs.Laws.{Laws}
 use Rattle.line_rule.specs.Rule.{InChain, AllLinked, AllTaken, hold, InPhase, InMode, Listed, InSecond, hold_at, HasCut, due_untold}
-use Rattle.line_rule.specs.Events.{exits, Core, grouped}
+use Rattle.line_rule.specs.Events.{exits, Core, IsOfGroup, grouped}
 use Rattle.line_rule.specs.SecondList.{second_list_of}
 use Rattle.line_rule.specs.Steps.{Lists, Stays, HappensWhere, IsBoundary, IsNext, now_of, IsNow, StepIs}
-use Rattle.line_rule.specs.Plays.{Sat, At, lead_with_walk, in_hand, debt, slots_of, Walks, AtWith, squad_at_cut, back_after_log, after_mark, after_free, WalksMarked, after_cut_behind_mark}
+use Rattle.line_rule.specs.Plays.{Sat, At, lead_with_walk, in_hand, debt, slots_of, Walks, AtWith, IsOwnGroup, squad_at_cut, back_after_log, after_mark, after_free, WalksMarked, after_cut_behind_mark}
 use Rattle.line_rule.proofs.Chains.{put, put_at, put_here, put_else, links_same, stand_change, linked_change, taken_change, owed_change}
 use Rattle.line_rule.proofs.Exits.{group_handled, owing_stays, owing_grows}
 use Rattle.line_rule.proofs.Accounts.{marks_now, frees_now, recuts_now}
@@ -142,9 +142,9 @@ module _ {Request Reply Log Right : Type 0} (stands : Laws Request Reply Log Rig
   none_behind m b (e ∷ es) few ok is = let h = ok.1 in absurd (omega arith)
 
   pub frees_is : (slots id : ℕ) (me : Sat Request Reply Log Right) (c : ℕ) (lead : Lead Request Reply) (mine : List (Request × Reply)) (b : Back Request Reply) (gs : List (QueuedWriter Request × Reply)) (p : Reply) (l : Log) (tail : List (ℕ × LineSlot Request Reply Log Right)) (said : Option (LineSlot Request Reply Log Right)) → AtWith c (Marking lead) mine b me → heads gs ≡ lead.taken
-      → me.1 ≡ (0, TheLog l) ∷ slots_of gs ((c, Told p) ∷ tail) → stands.logs l (lead.seen ++ all_answers lead.own p gs) → Hands stands n b lead.seen (lead.seen ++ all_answers lead.own p gs)
+      → me.1 ≡ (0, TheLog l) ∷ slots_of gs ((c, Told p) ∷ tail) → stands.logs l (lead.seen ++ all_answers lead.own p gs) → Hands stands n b lead.seen (lead.seen ++ all_answers lead.own p gs) → IsOwnGroup lead.own lead.taken b
       → StepIs stands n (HappensWhere MARK (IsNext b lead.own p gs)) slots id me 0 (λ y. either (eqb y MARK) 0 y) (after_free (step slots 0 MARK 0 said) me)
-  frees_is slots id me c lead mine b gs p l tail said mid group slot stood unnumbered s r long at fits = exchanged (get_or s.words 0 0) MARK 0 (Goes stands n (HappensWhere MARK (IsNext b lead.own p gs)) s r 0 id me (after_free (step slots 0 MARK 0 said) me))
+  frees_is slots id me c lead mine b gs p l tail said mid group slot stood unnumbered own_group s r long at fits = exchanged (get_or s.words 0 0) MARK 0 (Goes stands n (HappensWhere MARK (IsNext b lead.own p gs)) s r 0 id me (after_free (step slots 0 MARK 0 said) me))
       (λ hit.
       let h : LineHold Request Reply = hold_at c (Marking lead) mine b in
       let at' : get_elem? s.views id ≡ some (h ∷ []) = at ∙ ap some mid in
@@ -168,6 +168,7 @@ module _ {Request Reply Log Right : Type 0} (stands : Laws Request Reply Log Rig
       let here : phase' c ≡ ph = put_here r.phase c ph in
       let more : List (Handling Request Reply) = all_answers lead.own p gs in
       let owe : ℕ → List (Request × Reply) = λ k. r.due k ++ of k more in
+      let theirs : IsOfGroup lead.own lead.taken more = subst (λ (z : List (QueuedWriter Request)). IsOfGroup lead.own z more) group (group_handled lead.own p gs) in
       let hands : Hands stands n b r.handled (r.handled ++ more) = subst (λ (z : List (Handling Request Reply)). Hands stands n b z (z ++ more)) fit.4.3 unnumbered in
       let two' = onward_two stands n b r.two in
       let was_cut = subst (HasCut r.account.log r.hand r.phase) is_marked r.has_cut in
@@ -199,7 +200,7 @@ module _ {Request Reply Log Right : Type 0} (stands : Laws Request Reply Log Rig
         recalls = tt;
         has_cut = tt;
         owing_is = owing_grows r.phase r.due r.account.owing r.owing_is acc.0.owing more c ph (ap (λ (y : Core Request Reply). y.3) acc.1.1) (λ d. ap (λ f. due_untold f d) (sym now)) (done_none stands n s r c lead.own gs p by_c now members m.3 apart);
-        second = second_same stands n s.words ws s.homes hs r.phase c ph r.mode open_ (stands.given (r.handled ++ more)) (stands.given (r.handled ++ more)) two' (inl now) same (set_else s.homes 0 (n + 1) (some (TheLog l)) (λ e. omega arith)) (λ k h. absurd h) (λ k h. absurd h) (λ k is h. absurd (onward_free stands n b r.two c r.handled (r.handled ++ more) fit.5 hands (is ∙ ap ahead (sym (subst (Holds k) is_marked h))))) (λ v. v) (second_onward stands n b s.words s.homes r.phase r.mode r.two c r.handled (r.handled ++ more) fit.5 hands r.second);
+        second = second_same stands n s.words ws s.homes hs r.phase c ph r.mode open_ (stands.given (r.handled ++ more)) (stands.given (r.handled ++ more)) two' (inl now) same (set_else s.homes 0 (n + 1) (some (TheLog l)) (λ e. omega arith)) (λ k h. absurd h) (λ k h. absurd h) (λ k is h. absurd (onward_free stands n b r.two c r.handled (r.handled ++ more) fit.5 hands (is ∙ ap ahead (sym (subst (Holds k) is_marked h))))) (λ v. v) (second_onward stands n b s.words s.homes r.phase r.mode r.two c lead.own lead.taken r.handled more fit.5 hands own_group theirs r.second);
         back = onward_back stands n b r.two c r.handled (r.handled ++ more) fit.5 hands;
         else_back = onward_else stands n b r.two c fit.5;
         told_else = λ _ _. refl;
@@ -258,9 +259,9 @@ module _ {Request Reply Log Right : Type 0} (stands : Laws Request Reply Log Rig
       ))
 
   pub frees : (slots id : ℕ) (me : Sat Request Reply Log Right) (c : ℕ) (lead : Lead Request Reply) (mine : List (Request × Reply)) (b : Back Request Reply) (gs : List (QueuedWriter Request × Reply)) (p : Reply) (l : Log) (tail : List (ℕ × LineSlot Request Reply Log Right)) (said : Option (LineSlot Request Reply Log Right)) → AtWith c (Marking lead) mine b me → heads gs ≡ lead.taken
-      → me.1 ≡ (0, TheLog l) ∷ slots_of gs ((c, Told p) ∷ tail) → stands.logs l (lead.seen ++ all_answers lead.own p gs) → Hands stands n b lead.seen (lead.seen ++ all_answers lead.own p gs)
+      → me.1 ≡ (0, TheLog l) ∷ slots_of gs ((c, Told p) ∷ tail) → stands.logs l (lead.seen ++ all_answers lead.own p gs) → Hands stands n b lead.seen (lead.seen ++ all_answers lead.own p gs) → IsOwnGroup lead.own lead.taken b
       → Allows (Listed stands n) slots id me 0 (λ y. either (eqb y MARK) 0 y) (after_free (step slots 0 MARK 0 said) me)
-  frees slots id me c lead mine b gs p l tail said mid group slot stood unnumbered = allows stands n (HappensWhere MARK (IsNext b lead.own p gs)) slots id me 0 (λ y. either (eqb y MARK) 0 y) (after_free (step slots 0 MARK 0 said) me) (frees_is slots id me c lead mine b gs p l tail said mid group slot stood unnumbered)
+  frees slots id me c lead mine b gs p l tail said mid group slot stood unnumbered own_group = allows stands n (HappensWhere MARK (IsNext b lead.own p gs)) slots id me 0 (λ y. either (eqb y MARK) 0 y) (after_free (step slots 0 MARK 0 said) me) (frees_is slots id me c lead mine b gs p l tail said mid group slot stood unnumbered own_group)
 
   newest_snoc : (b d : ℕ) (q : List (QueuedWriter Request)) (x : QueuedWriter Request) → newest_from b (q ++ x ∷ []) ≡ newest_from d (q ++ x ∷ [])
   newest_snoc b d [] x = refl

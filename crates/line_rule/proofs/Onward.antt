@@ -14,8 +14,9 @@ use Rattle.line_rule.specs.Chain.{Links, Distinct, Within, EndsWith}
 use Rattle.line_rule.specs.Standing.{Phase, leads, Mode, InFront, Place, away, parted, queued, called, serves, served, Turn, still, calls, held_by, passes, level, ahead, Two, flat, In, Behind, KnowsBack}
 use Rattle.line_rule.specs.Laws.{Laws}
 use Rattle.line_rule.specs.Rule.{AllTaken, AllWith, Second, hold_at}
-use Rattle.line_rule.specs.Plays.{in_hand, squad_at_cut, back_after_cut, back_after_log, HandsOn}
-use Rattle.line_rule.specs.Events.{Core, grouped}
+use Rattle.line_rule.specs.Made.{IsMade}
+use Rattle.line_rule.specs.Plays.{in_hand, squad_at_cut, back_after_cut, back_after_log, HandsOn, IsOwnGroup}
+use Rattle.line_rule.specs.Events.{Core, IsOfGroup, grouped}
 use Rattle.line_rule.specs.SecondList.{SecondList, apart_in, served_in, last_served, second_list_of, IsPut, IsAhead, after_handing_on}
 use Rattle.line_rule.specs.Steps.{IsBoundary, IsCutAs}
 use Rattle.line_rule.proofs.Chains.{put, put_at, put_here, put_else, ends_trans}
@@ -162,16 +163,28 @@ module _ {Request Reply Log Right : Type 0} (stands : Laws Request Reply Log Rig
   onward_second (Serving g walk) two = refl
   onward_second (Passing g x) two = refl
 
-  pub second_onward : (b : Back Request Reply) (words : List ℕ) (homes : List (Option (LineSlot Request Reply Log Right))) (phase : ℕ → Phase Request Reply) (mode : Mode Request) (two : Two Request Reply) (c : ℕ) (seen now : List (Handling Request Reply)) → KnowsBack two c b → Hands b seen now → Second stands n words homes phase mode (stands.given seen) two
-      → Second stands n words homes phase mode (stands.given now) (onward_two b two)
-  second_onward Away words homes phase mode two c seen now ok hands r = second_stays stands n words words homes homes phase phase mode mode (stands.given seen) (stands.given now) two refl (λ k _. (refl, (λ _ _. refl), refl)) (λ k e. e) refl (λ k h. inl h) (λ k h. inl h) (λ k _ h. h)
-      (level_same stands n stands.piped two (stands.given seen) (stands.given now) hands) r
-  second_onward (Parting g d) words homes phase mode two c seen now ok hands r = absurd hands
-  second_onward (Joining g) words homes phase mode two c seen now ok hands r = second_hands stands n words homes phase mode (stands.given seen) two r c (stands.given now) g hands.0 ok.1 (behind_in g (two.place c) ok.0) hands.1
-  second_onward (Holding g) words homes phase mode two c seen now ok hands r = second_hands stands n words homes phase mode (stands.given seen) two r c (stands.given now) g hands.0 ok.2 (subst (In g) (sym ok.1) refl) hands.1
-  second_onward (Queued g) words homes phase mode two c seen now ok hands r = absurd hands
-  second_onward (Serving g walk) words homes phase mode two c seen now ok hands r = absurd hands
-  second_onward (Passing g x) words homes phase mode two c seen now ok hands r = absurd hands
+  -- a group that its leader has handled
+  made_by : (g : Squad Request Reply) (own : QueuedWriter Request) (rest : List (QueuedWriter Request)) (seen more : List (Handling Request Reply)) → (g.own ≡ own) × (g.rest ≡ rest) → IsOfGroup own rest more → g.to ≡ stands.given (seen ++ more) → g.from ≡ stands.given seen → IsMade stands.given g
+  made_by g own rest seen more group theirs to_is from_is = record {
+    seen = seen;
+    made = more;
+    theirs = subst (λ (z : QueuedWriter Request × List (QueuedWriter Request)). IsOfGroup z.0 z.1 more) (λ i. (sym group.0 i, sym group.1 i)) theirs;
+    from = from_is;
+    to = to_is;
+  }
+
+  pub second_onward : (b : Back Request Reply) (words : List ℕ) (homes : List (Option (LineSlot Request Reply Log Right))) (phase : ℕ → Phase Request Reply) (mode : Mode Request) (two : Two Request Reply) (c : ℕ) (own : QueuedWriter Request) (rest : List (QueuedWriter Request)) (seen more : List (Handling Request Reply)) → KnowsBack two c b → Hands b seen (seen ++ more) → IsOwnGroup own rest b → IsOfGroup own rest more
+      → Second stands n words homes phase mode (stands.given seen) two → Second stands n words homes phase mode (stands.given (seen ++ more)) (onward_two b two)
+  second_onward Away words homes phase mode two c own rest seen more ok hands group theirs r = second_stays stands n words words homes homes phase phase mode mode (stands.given seen) (stands.given (seen ++ more)) two refl (λ k _. (refl, (λ _ _. refl), refl)) (λ k e. e) refl (λ k h. inl h) (λ k h. inl h) (λ k _ h. h)
+      (level_same stands n stands.piped two (stands.given seen) (stands.given (seen ++ more)) hands) r
+  second_onward (Parting g d) words homes phase mode two c own rest seen more ok hands group theirs r = absurd hands
+  second_onward (Joining g) words homes phase mode two c own rest seen more ok hands group theirs r =
+      second_hands stands n words homes phase mode (stands.given seen) two r c (stands.given (seen ++ more)) g hands.0 ok.1 (behind_in g (two.place c) ok.0) hands.1 (made_by g own rest seen more group theirs hands.1)
+  second_onward (Holding g) words homes phase mode two c own rest seen more ok hands group theirs r =
+      second_hands stands n words homes phase mode (stands.given seen) two r c (stands.given (seen ++ more)) g hands.0 ok.2 (subst (In g) (sym ok.1) refl) hands.1 (made_by g own rest seen more group theirs hands.1)
+  second_onward (Queued g) words homes phase mode two c own rest seen more ok hands group theirs r = absurd hands
+  second_onward (Serving g walk) words homes phase mode two c own rest seen more ok hands group theirs r = absurd hands
+  second_onward (Passing g x) words homes phase mode two c own rest seen more ok hands group theirs r = absurd hands
 
   pub onward_free : (b : Back Request Reply) (two : Two Request Reply) (c : ℕ) (seen now : List (Handling Request Reply)) → KnowsBack two c b → Hands b seen now → (onward_two b two).lead ≡ ahead c → ⊥
   onward_free Away two c seen now ok hands e = ok.1 e

@@ -107,6 +107,7 @@ module _ {Request Reply Log Right : Type 0} (stands : Laws Request Reply Log Rig
           called_turn = λ c g bad. absurd (cc);
           ahead_holds = λ c bad. absurd (cc);
           in_level = even_level stands.piped even;
+          made = tt;
         };
         kept = stands.keeps l [] stood;
         coded = λ i e is. absurd is;

@@ -10,13 +10,15 @@ use Rattle.line_rule.specs.declared.view.Squad.{Squad}
 use Rattle.line_rule.specs.declared.content.LineSlot.{LineSlot}
 use Rattle.line_rule.specs.declared.content.LineSlot.TheVariants.{TheRight}
 use Rattle.line_rule.specs.Chain.{state_at, older_at, pack, newest, Links, LinksFrom, Absent, Distinct, Within}
-use Rattle.line_rule.specs.Standing.{Phase, leads, taken, Mode, Holds, InFront, Place, away, parted, queued, called, serves, served, Turn, still, calls, held_by, passes, Lead2, level, ahead, Two, line_of, flat, In, Apart, Chained, InStep}
+use Rattle.line_rule.specs.Standing.{Phase, leads, taken, Mode, Holds, InFront, Place, away, parted, queued, called, serves, served, Turn, still, calls, held_by, passes, Lead2, level, ahead, Two, line_of, flat, handed_on, In, Apart, Chained, InStep}
+use Rattle.line_rule.specs.Made.{IsMade, AreMade}
 use Rattle.line_rule.specs.Laws.{Laws}
 use Rattle.line_rule.specs.Rule.{AllWith, AllGroups, IsLed, RightHome, Level, InTurn, Parts, Second}
 use Rattle.line_rule.proofs.Chains.{put, put_at, put_here, put_else, links_stay, links_same, nobody}
 use Rattle.line_rule.proofs.Groups.{distinct_apart, distinct_front, absent_front, absent_append, within_front, within_at, links_cut, newest_cut, none_before_group}
 use Rattle.line_rule.proofs.Keeps.{in_not_away, groups_at}
 use Rattle.line_rule.proofs.Leads.{same_last}
+use Rattle.line_rule.proofs.Made.{made_newer, none_made}
 use Rattle.line_rule.proofs.Squads.{absent_groups, aim_links, distinct_group, ends_or, flat_nil, flat_snoc, groups_newer, groups_put, groups_turn, in_one, is_level, links_join, newest_front, not_snoc, one_ahead, one_called, one_calls, one_holder, one_parted, one_served, one_serves, snoc_some, step_first, with_absent, within_append}
 
 module _ {Request Reply Log Right : Type 0} (stands : Laws Request Reply Log Right) (n : ℕ) where
@@ -91,6 +93,7 @@ module _ {Request Reply Log Right : Type 0} (stands : Laws Request Reply Log Rig
           called_turn = λ k f. put_at two.place c p (λ j q. q ≡ called f → two.turn ≡ calls j) k (λ _ e. absurd (cc)) (λ _ e. r.called_turn k f e);
           ahead_holds = r.ahead_holds;
           in_level = level_put two.groups two.place (put two.place c p) two.turn two.turn two.lead two.done last stands.piped r.in_level;
+          made = r.made;
         }
 
     -- its leader names the newest writer of the second list
@@ -124,6 +127,7 @@ module _ {Request Reply Log Right : Type 0} (stands : Laws Request Reply Log Rig
           called_turn = λ k f. put_at two.place c p (λ j q. q ≡ called f → two.turn ≡ calls j) k (λ _ e. absurd (cc)) (λ _ e. r.called_turn k f e);
           ahead_holds = r.ahead_holds;
           in_level = level_put two.groups two.place (put two.place c p) two.turn two.turn two.lead two.done last stands.piped r.in_level;
+          made = r.made;
         }
 
     module _ (piped : stands.piped ≡ true) where
@@ -176,6 +180,7 @@ module _ {Request Reply Log Right : Type 0} (stands : Laws Request Reply Log Rig
               called_turn = λ k h. put_at two.place c p (λ j q. q ≡ called h → turn' ≡ calls j) k (λ _ e. absurd (un_c h e)) (λ _ e. called_ok k h e);
               ahead_holds = λ k e. subst (λ (j : ℕ). Holds j mode) (one_ahead c k e) holds;
               in_level = subst (λ (z : Bool). Level stands z (record { groups = g ∷ two.groups; place = put two.place c p; turn = turn'; lead = ahead c; done = two.done }) last) (sym piped) (g, two.groups, refl, from_is, by_c, chained1);
+              made = subst (λ (l : Lead2). AreMade stands.given (handed_on two.groups l)) level1 r.made;
             }
 
         abbrev pub two_joins : Two Request Reply
@@ -230,6 +235,7 @@ module _ {Request Reply Log Right : Type 0} (stands : Laws Request Reply Log Rig
               called_turn = λ k f. put_at two.place c p (λ j q. q ≡ called f → held_by c ≡ calls j) k (λ _ e. absurd (cc)) (λ ne e. absurd (ne (one_calls k c (sym (r.called_turn k f e) ∙ turn_c))));
               ahead_holds = r.ahead_holds;
               in_level = level_put two.groups two.place (put two.place c p) two.turn (held_by c) two.lead two.done last stands.piped r.in_level;
+              made = r.made;
             },
           )
 
@@ -272,6 +278,7 @@ module _ {Request Reply Log Right : Type 0} (stands : Laws Request Reply Log Rig
             called_turn = λ k f. put_at two.place c p (λ j q. q ≡ called f → still ≡ calls j) k (λ _ e. absurd (cc)) (λ _ e. let bad : held_by c ≡ calls k = sym turn_c ∙ r.called_turn k f e in absurd (cc));
             ahead_holds = r.ahead_holds;
             in_level = subst (λ (z : Bool). Level stands z (two_stops c g) last) (sym piped) (subst (λ (z : List (Handling Request Reply) × List (Squad Request Reply)). InStep z.0 z.1 last two.lead) (λ i. ((same i).to, nil i)) first.1);
+            made = none_made stands.given two.lead;
           }
 
       -- a group came after this one: the link of the next group's leader is cleared
@@ -334,6 +341,7 @@ module _ {Request Reply Log Right : Type 0} (stands : Laws Request Reply Log Rig
               called_turn = λ k f. put_at two.place c p (λ j z. z ≡ called f → passes c x.by ≡ calls j) k (λ _ e. absurd (cc)) (λ _ e. let bad : held_by c ≡ calls k = sym turn_c ∙ r.called_turn k f e in absurd (cc));
               ahead_holds = r.ahead_holds;
               in_level = subst (λ (z : Bool). Level stands z (two_clears c g x.by newer) last) (sym piped) (subst (λ (z : List (Handling Request Reply)). InStep z newer last two.lead) (ap (λ (f : Squad Request Reply). f.to) same) first.1);
+              made = made_newer stands.given two.lead newer (t.1 ∷ []) (subst (λ (l : List (Squad Request Reply)). AreMade stands.given (handed_on l two.lead)) t.2 r.made);
             },
             t.2 ∙ ap (λ (f : Squad Request Reply). newer ++ f ∷ []) same,
           )
@@ -363,6 +371,7 @@ module _ {Request Reply Log Right : Type 0} (stands : Laws Request Reply Log Rig
           called_turn = λ k f. put_at two.place c p (λ j q. q ≡ called f → two.turn ≡ calls j) k (λ _ e. absurd (cc)) (λ _ e. r.called_turn k f e);
           ahead_holds = r.ahead_holds;
           in_level = level_put two.groups two.place (put two.place c p) two.turn two.turn two.lead two.done last stands.piped r.in_level;
+          made = r.made;
         }
 
     -- the next leader is called, and the right goes home for it
@@ -405,6 +414,7 @@ module _ {Request Reply Log Right : Type 0} (stands : Laws Request Reply Log Rig
             called_turn = λ k f. put_at two.place w p (λ j q. q ≡ called f → calls w ≡ calls j) k (λ is _. ap calls (sym is)) (λ _ e. let bad : passes c w ≡ calls k = sym turn_c ∙ r.called_turn k f e in absurd (cc));
             ahead_holds = r.ahead_holds;
             in_level = level_put two.groups two.place (put two.place w p) two.turn (calls w) two.lead two.done last stands.piped r.in_level;
+            made = r.made;
           },
         )
 
@@ -412,8 +422,8 @@ module _ {Request Reply Log Right : Type 0} (stands : Laws Request Reply Log Rig
     abbrev pub two_level : Two Request Reply
     two_level = record { groups = two.groups; place = two.place; turn = two.turn; lead = level; done = two.done }
 
-    pub second_hands : (c : ℕ) (last' : List (Handling Request Reply)) (g : Squad Request Reply) → stands.piped ≡ true → two.lead ≡ ahead c → In g (two.place c) → g.to ≡ last' → Second stands n words homes phase mode last' two_level
-    second_hands c last' g piped is_ahead is_in to_is =
+    pub second_hands : (c : ℕ) (last' : List (Handling Request Reply)) (g : Squad Request Reply) → stands.piped ≡ true → two.lead ≡ ahead c → In g (two.place c) → g.to ≡ last' → (g.from ≡ last → IsMade stands.given g) → Second stands n words homes phase mode last' two_level
+    second_hands c last' g piped is_ahead is_in to_is is_made =
         let s : InStep two.done two.groups last (ahead c) = subst (InStep two.done two.groups last) is_ahead (subst (λ (b : Bool). Level stands b two last) piped r.in_level) in
         let head : AllGroups phase two.place (s.0 ∷ s.1) = subst (AllGroups phase two.place) s.2 r.members in
         let same : s.0 ≡ g = in_one s.0 g (two.place c) (subst (λ (j : ℕ). In s.0 (two.place j)) s.4 head.1) is_in in
@@ -433,4 +443,8 @@ module _ {Request Reply Log Right : Type 0} (stands : Laws Request Reply Log Rig
           called_turn = r.called_turn;
           ahead_holds = λ k e. absurd (cc);
           in_level = subst (λ (z : Bool). Level stands z two_level last') (sym piped) (subst (λ (l : List (Squad Request Reply)). Chained two.done l last') (sym s.2) chain);
+          made = subst (AreMade stands.given) (sym s.2) (
+            subst (IsMade stands.given) (sym same) (is_made (sym (ap (λ (f : Squad Request Reply). f.from) same) ∙ s.3)),
+            subst (λ (z : List (Squad Request Reply) × Lead2). AreMade stands.given (handed_on z.0 z.1)) (λ i. (s.2 i, is_ahead i)) r.made,
+          );
         }

@@ -23,10 +23,10 @@ use Rattle.line_rule.specs.Chain.{state_at, older_at, pack, newest_from, Links, 
 use Rattle.line_rule.specs.Standing.{pause_of, calm, dropped, Phase, idle, linked, chosen, leads, taken, completed, Mode, open_, waits, led, built, cut, marked, base_of, Holds, ahead}
 use Rattle.line_rule.specs.Laws.{Laws}
 use Rattle.line_rule.specs.Rule.{InChain, Stand, Waits, AllLinked, AllTaken, AllOwed, Knows, hold, InPhase, InMode, Listed, InSecond, hold_at, HasCut, due_untold}
-use Rattle.line_rule.specs.Events.{exits, completes, Core, grouped, without}
+use Rattle.line_rule.specs.Events.{exits, completes, Core, IsOfGroup, grouped, without}
 use Rattle.line_rule.specs.SecondList.{second_list_of}
 use Rattle.line_rule.specs.Steps.{Lists, Stays, IsExit, IsNext, IsCutAs, IsNow, StepIs, IsComplete}
-use Rattle.line_rule.specs.Plays.{Sat, At, in_hand, debt, slots_of, after_complete, after_retire, after_cut_as, after_cut_off, after_wake, AtWith, back_after_cut, back_after_log}
+use Rattle.line_rule.specs.Plays.{Sat, At, in_hand, debt, slots_of, after_complete, after_retire, after_cut_as, after_cut_off, after_wake, AtWith, IsOwnGroup, back_after_cut, back_after_log}
 use Rattle.line_rule.proofs.Chains.{put, put_at, put_here, put_else, links_stay, links_same, ends_same, stand_change, linked_change, taken_change, taken_apart, owed_change}
 use Rattle.line_rule.proofs.Exits.{group_handled, owing_stays, owing_grows, owing_told, cut_stays}
 use Rattle.line_rule.proofs.Accounts.{cuts_now, wakes_now, completes_now}
@@ -356,9 +356,9 @@ module _ {Request Reply Log Right : Type 0} (stands : Laws Request Reply Log Rig
   cuts slots id me c k new lead mine pre x mid is_walk is_word cleared all = allows stands n (λ _. Stays) slots id me k (λ _. new) (λ _. after_cut_off (step slots k new 0 none) me new) (cuts_is slots id me c k new lead mine pre x mid is_walk is_word cleared all)
 
   pub wakes_on_is : (slots id : ℕ) (me : Sat Request Reply Log Right) (c k : ℕ) (lead : Lead Request Reply) (x : QueuedWriter Request) (mine : List (Request × Reply)) (b : Back Request Reply) (gs : List (QueuedWriter Request × Reply)) (p : Reply) (l : Log) (tail : List (ℕ × LineSlot Request Reply Log Right)) → AtWith c (Cutting lead x) mine b me → heads gs ≡ lead.taken
-      → me.1 ≡ (0, TheLog l) ∷ slots_of gs ((c, Told p) ∷ tail) → k ≡ state_at x.by → (0 < x.by) × (x.by ≤ n) → stands.logs l (lead.seen ++ all_answers lead.own p gs) → Hands stands n b lead.seen (lead.seen ++ all_answers lead.own p gs)
+      → me.1 ≡ (0, TheLog l) ∷ slots_of gs ((c, Told p) ∷ tail) → k ≡ state_at x.by → (0 < x.by) × (x.by ≤ n) → stands.logs l (lead.seen ++ all_answers lead.own p gs) → Hands stands n b lead.seen (lead.seen ++ all_answers lead.own p gs) → IsOwnGroup lead.own lead.taken b
       → StepIs stands n (λ _. IsNext b lead.own p gs) slots id me k (λ _. 2) (λ _. after_wake (step slots k 2 0 none) me 2)
-  wakes_on_is slots id me c k lead x mine b gs p l tail mid group slot is_word range stood unnumbered s r long at fits =
+  wakes_on_is slots id me c k lead x mine b gs p l tail mid group slot is_word range stood unnumbered own_group s r long at fits =
       let h : LineHold Request Reply = hold_at c (Cutting lead x) mine b in
       let at' : get_elem? s.views id ≡ some (h ∷ []) = at ∙ ap some mid in
       let fit = (r.seats id (h ∷ []) at').0 in
@@ -387,6 +387,7 @@ module _ {Request Reply Log Right : Type 0} (stands : Laws Request Reply Log Rig
       let owe : ℕ → List (Request × Reply) = λ j. r.due j ++ of j more in
       let d : Debt Request Reply = debt gs lead.own p in
       let h' : LineHold Request Reply = hold_at c (Settling d) mine (back_after_log b) in
+      let theirs : IsOfGroup lead.own lead.taken more = subst (λ (z : List (QueuedWriter Request)). IsOfGroup lead.own z more) group (group_handled lead.own p gs) in
       let hands : Hands stands n b r.handled (r.handled ++ more) = subst (λ (z : List (Handling Request Reply)). Hands stands n b z (z ++ more)) fit.4.3 unnumbered in
       let two' = onward_two stands n b r.two in
       let no_x : (j : ℕ) (e : QueuedWriter Request) → e.by ≡ x.by → r.phase e.by ≡ taken j e → ⊥ = λ j e is t. let bad : r.phase e.by ≡ linked x = ap r.phase is ∙ now_x in absurd (cc) in
@@ -426,7 +427,7 @@ module _ {Request Reply Log Right : Type 0} (stands : Laws Request Reply Log Rig
         recalls = tt;
         has_cut = tt;
         owing_is = owing_grows r.phase r.due r.account.owing r.owing_is acc.0.owing more x.by ph (ap (λ (y : Core Request Reply). y.3) acc.1.1) (λ d. ap (λ f. due_untold f d) (sym now_x)) (done_none stands n s r c lead.own gs p by_c now members m.2 apart);
-        second = second_stays stands n s.words ws s.homes hs r.phase phase' r.mode (waits x.by) (stands.given (r.handled ++ more)) (stands.given (r.handled ++ more)) two' (same 1 (λ e. omega arith)) (kept_else r.phase two'.place x.by ph s.words ws (λ there. subst (InSecond two'.place x.by) now_x there) (λ j _. same (older_at j) (λ e. omega arith)) (λ j ne. same (state_at j) (λ e. ne (omega arith)))) (λ j four. dite (ℕ_discrete j x.by) (λ e. let two2 : get_or ws (state_at x.by) 0 ≡ 2 = ap (λ (i : ℕ). get_or ws i 0) (sym is_word) ∙ get_or-set_same s.words k 2 0 (omega arith) in let two3 : get_or ws (state_at j) 0 ≡ 2 = ap (λ (i : ℕ). get_or ws (state_at i) 0) e ∙ two2 in absurd (omega arith)) (λ ne. sym (same (state_at j) (λ e. ne (omega arith))) ∙ four)) (set_else s.homes 0 (n + 1) (some (TheLog l)) (λ e. omega arith)) (λ j h. absurd h) (λ j h. absurd h) (λ j is h. absurd (onward_free stands n b r.two c r.handled (r.handled ++ more) fit.5 hands (is ∙ ap ahead (sym (subst (Holds j) cut_c h))))) (λ v. v) (second_onward stands n b s.words s.homes r.phase r.mode r.two c r.handled (r.handled ++ more) fit.5 hands r.second);
+        second = second_stays stands n s.words ws s.homes hs r.phase phase' r.mode (waits x.by) (stands.given (r.handled ++ more)) (stands.given (r.handled ++ more)) two' (same 1 (λ e. omega arith)) (kept_else r.phase two'.place x.by ph s.words ws (λ there. subst (InSecond two'.place x.by) now_x there) (λ j _. same (older_at j) (λ e. omega arith)) (λ j ne. same (state_at j) (λ e. ne (omega arith)))) (λ j four. dite (ℕ_discrete j x.by) (λ e. let two2 : get_or ws (state_at x.by) 0 ≡ 2 = ap (λ (i : ℕ). get_or ws i 0) (sym is_word) ∙ get_or-set_same s.words k 2 0 (omega arith) in let two3 : get_or ws (state_at j) 0 ≡ 2 = ap (λ (i : ℕ). get_or ws (state_at i) 0) e ∙ two2 in absurd (omega arith)) (λ ne. sym (same (state_at j) (λ e. ne (omega arith))) ∙ four)) (set_else s.homes 0 (n + 1) (some (TheLog l)) (λ e. omega arith)) (λ j h. absurd h) (λ j h. absurd h) (λ j is h. absurd (onward_free stands n b r.two c r.handled (r.handled ++ more) fit.5 hands (is ∙ ap ahead (sym (subst (Holds j) cut_c h))))) (λ v. v) (second_onward stands n b s.words s.homes r.phase r.mode r.two c lead.own lead.taken r.handled more fit.5 hands own_group theirs r.second);
         back = onward_back stands n b r.two c r.handled (r.handled ++ more) fit.5 hands;
         else_back = onward_else stands n b r.two c fit.5;
         shared_out = shared_more stands n s r c lead.own gs p by_c now members m.2 apart;
@@ -463,7 +464,7 @@ module _ {Request Reply Log Right : Type 0} (stands : Laws Request Reply Log Rig
       → me.1 ≡ (0, TheLog l) ∷ slots_of gs ((c, Told p) ∷ []) → k ≡ state_at x.by → (0 < x.by) × (x.by ≤ n) → stands.logs l (lead.seen ++ all_answers lead.own p gs) → (stands.piped ≡ true → stands.given (lead.seen ++ all_answers lead.own p gs) ≡ stands.given lead.seen)
       → StepIs stands n (λ _. IsExit lead.own p gs) slots id me k (λ _. 2) (λ _. after_wake (step slots k 2 0 none) me 2)
   wakes_is slots id me c k lead x mine gs p l mid group slot is_word range stood unnumbered s r long at fits =
-      let t = wakes_on_is slots id me c k lead x mine Away gs p l [] mid group slot is_word range stood unnumbered s r long at fits in
+      let t = wakes_on_is slots id me c k lead x mine Away gs p l [] mid group slot is_word range stood unnumbered tt s r long at fits in
       (t.0, t.1, t.2, (t.3.0, (t.3.1.0, t.3.1.1), t.3.2), t.4)
 
   pub wakes : (slots id : ℕ) (me : Sat Request Reply Log Right) (c k : ℕ) (lead : Lead Request Reply) (x : QueuedWriter Request) (mine : List (Request × Reply)) (gs : List (QueuedWriter Request × Reply)) (p : Reply) (l : Log) → At c (Cutting lead x) mine me → heads gs ≡ lead.taken

@@ -166,6 +166,14 @@ module _ {Request Reply : Type 0} where
   with_absent phase m c [] un ok = tt
   with_absent phase m c (e ∷ es) un ok = ((λ is. un e (ap phase (sym is) ∙ ok.0)), with_absent phase m c es un ok.1)
 
+  -- a client that doesn't lead, and is no member of a group, is in none of the groups
+  pub out_of_groups : (phase : ℕ → Phase Request Reply) (place : ℕ → Place Request Reply) (m : ℕ) → ((e : QueuedWriter Request) → phase m ≡ leads e → ⊥) → ((d : ℕ) (e : QueuedWriter Request) → phase m ≡ taken d e → ⊥) → (gs : List (Squad Request Reply)) → AllGroups phase place gs → Absent m (flat gs)
+  out_of_groups phase place m no_l no_t [] ok = tt
+  out_of_groups phase place m no_l no_t (g ∷ gs) ok =
+      absent_append m (line_of g) (flat gs)
+      (absent_append m g.rest (g.own ∷ []) (with_absent phase m g.own.by g.rest (no_t g.own.by) ok.2) ((λ is. no_l g.own (ap phase (sym is) ∙ ok.0)), tt))
+      (out_of_groups phase place m no_l no_t gs ok.3)
+
   -- a client that has no group in the second list, and is no member of a group, is in none of its groups
   pub absent_groups : (phase : ℕ → Phase Request Reply) (place : ℕ → Place Request Reply) (m : ℕ) (gs : List (Squad Request Reply)) → ((g : Squad Request Reply) → In g (place m) → ⊥) → ((k : ℕ) (e : QueuedWriter Request) → phase m ≡ taken k e → ⊥) → AllGroups phase place gs → Absent m (flat gs)
   absent_groups phase place m [] un_l un_t ok = tt

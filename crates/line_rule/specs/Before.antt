@@ -19,7 +19,7 @@ use Rattle.line_rule.specs.Events.{free}
 use Rattle.line_rule.specs.Laws.{Laws}
 use Rattle.line_rule.specs.Standing.{level, line_of}
 use Rattle.line_rule.specs.Rule.{hold_at}
-use Rattle.line_rule.specs.Plays.{Sat, At, AtWith, HandsOn, IsCut, slots_of}
+use Rattle.line_rule.specs.Plays.{Sat, At, AtWith, HandsOn, IsOwnGroup, IsCut, slots_of}
 use Rattle.line_rule.specs.Steps.{Lists}
 use Rattle.line_rule.specs.Handing.{Sees}
 
@@ -102,13 +102,15 @@ module _ {Request Reply Log Right : Type 0} where
 
 module _ {Request Reply Log Right : Type 0} (law : Laws Request Reply Log Right) where
   -- The leader has handled its group and may give the log on: it has the log, which covers the group's answers too;
-  -- then the slot of each member and its own, with the replies in them; and then `more`.
+  -- then the slot of each member and its own, with the replies in them; and then `more`. Where its group is in the
+  -- second list, it is this one.
   abbrev pub HasHandledAnd : Carried Request Reply Log Right → ℕ → Lead Request Reply → Back Request Reply
       → List (QueuedWriter Request × Reply) → Reply → Sat Request Reply Log Right → Type 0
   HasHandledAnd more c lead back gs p me = (l : Log) × (heads gs ≡ lead.taken)
       × (me.1 ≡ (0, TheLog l) ∷ slots_of gs ((c, Told p) ∷ more))
       × law.logs l (lead.seen ++ all_answers lead.own p gs)
       × HandsOn law.piped law.given back lead.seen (lead.seen ++ all_answers lead.own p gs)
+      × IsOwnGroup lead.own lead.taken back
 
   -- the same, whatever other slots it has
   abbrev pub HasHandled : ℕ → Lead Request Reply → Back Request Reply → List (QueuedWriter Request × Reply) → Reply

@@ -8,9 +8,10 @@ use Rattle.line_rule.specs.declared.view.Handling.{Handling}
 use Rattle.line_rule.specs.declared.view.LineHold.{LineHold}
 use Rattle.line_rule.specs.declared.content.LineSlot.{LineSlot}
 use Rattle.line_rule.specs.declared.view.Squad.{Squad}
-use Rattle.line_rule.specs.Chain.{newest_from, Links, LinksFrom, Distinct, Within}
-use Rattle.line_rule.specs.Events.{LineEvent, LogHolder, Legal, core_of}
-use Rattle.line_rule.specs.Standing.{Mode, open_, waits, led, built, cut, marked, base_of, pause_of, Names, Holds, Turn, still, calls, held_by, passes, Lead2, ahead, flat, InStep}
+use Rattle.line_rule.specs.Chain.{newest_from, Links, LinksFrom, AllAbsent, Distinct, Within}
+use Rattle.line_rule.specs.Events.{LineEvent, LogHolder, IsHolder, Legal, core_of}
+use Rattle.line_rule.specs.Standing.{Mode, open_, waits, led, built, cut, marked, base_of, pause_of, Names, Holds, Turn, still, calls, held_by, passes, Lead2, ahead, flat, handed_on, InStep}
+use Rattle.line_rule.specs.Made.{AreMade}
 use Rattle.line_rule.specs.Laws.{Laws}
 use Rattle.line_rule.specs.Rule.{LogHome, RightHome, Shows, Recalls}
 use Rattle.line_rule.specs.Steps.{Lists}
@@ -25,6 +26,22 @@ AllRecall events (h ∷ hs) = Recalls events h.stage × AllRecall events hs
 abbrev pub IsOldest : {Request Reply : Type 0} → ℕ → List (Squad Request Reply) → Type 0
 IsOldest {Request} {Reply} c groups = (newer : List (Squad Request Reply)) × (g : Squad Request Reply)
     × (groups ≡ newer ++ g ∷ []) × (g.own.by ≡ c)
+
+-- the oldest writer of the queue is this client's
+abbrev pub HasOldest : {Request : Type 0} → ℕ → List (QueuedWriter Request) → Type 0
+HasOldest {Request} c queue = (newer : List (QueuedWriter Request)) × (e : QueuedWriter Request)
+    × (queue ≡ newer ++ e ∷ []) × (e.by ≡ c)
+
+-- Nobody is in the queue where the log is free and nobody is woken. The client that is woken to lead, or has just
+-- begun to, or is the next to be woken, is the oldest there.
+module _ {Request : Type 0} (queue : List (QueuedWriter Request)) where
+  abbrev pub IsInTurn : Mode Request → Type 0
+  IsInTurn open_ = queue ≡ []
+  IsInTurn (waits c) = HasOldest c queue
+  IsInTurn (led c) = HasOldest c queue
+  IsInTurn (built c group t) = Unit {0}
+  IsInTurn (cut c next) = HasOldest next queue
+  IsInTurn (marked c) = Unit {0}
 
 -- the log is in its slot where nobody leads, and else the leader has it
 module _ {Request Reply Log Right : Type 0} (stands : Laws Request Reply Log Right)
@@ -75,6 +92,9 @@ module _ {Request Reply Log Right : Type 0} (stands : Laws Request Reply Log Rig
       pub recalled : (id : ℕ) (v : List (LineHold Request Reply)) → get_elem? s.views id ≡ some v → AllRecall events v
       -- the walk is the queue and then the group in hand; once the leader has cut its group off, it is the queue alone
       pub shows : Shows walk queue log mode
+      -- the client that has the log in its hands is the one that leads by the events
+      pub owner : (c : ℕ) → Holds c mode → IsHolder c log
+      pub in_turn : IsInTurn queue mode
       pub home : LogAtHome stands s.homes handled mode
       -- the second list: its groups, newest first, and what the right covers
       pub groups : List (Squad Request Reply)
@@ -86,12 +106,16 @@ module _ {Request Reply Log Right : Type 0} (stands : Laws Request Reply Log Rig
       pub second_short : length (flat groups) ≤ n
       pub second_distinct : Distinct (flat groups)
       pub second_within : Within n (flat groups)
+      -- no client is in both lists
+      pub apart_lists : AllAbsent walk (flat groups)
       pub right : RightAt stands n s.homes groups done turn
       -- a group, the newest one, is ahead of the log only while its leader has yet to give the log on
       pub handed : (c : ℕ) → lead ≡ ahead c → Holds c mode
       pub none_second : stands.piped ≡ false → groups ≡ []
       -- each group begins with what the one before it ends with, from what the right covers to all that was given runs
       pub in_order : stands.piped ≡ true → InStep done groups (stands.given handled) lead
+      -- and what it adds is what of its own members' handlings was given runs
+      pub made : AreMade stands.given (handed_on groups lead)
 
   -- the lists are these; the second may have one group more, the oldest, which its leader has cut off while it still
   -- has the right

@@ -39,6 +39,11 @@ module _ {Request : Type 0} where
   Absent k [] = Unit {0}
   Absent k (e ∷ es) = (e.by ≢ k) × Absent k es
 
+  -- no writer of the one list is in the other
+  abbrev pub AllAbsent : List (QueuedWriter Request) → List (QueuedWriter Request) → Type 0
+  AllAbsent [] others = Unit {0}
+  AllAbsent (e ∷ es) others = Absent e.by others × AllAbsent es others
+
   abbrev pub Distinct : List (QueuedWriter Request) → Type 0
   Distinct [] = Unit {0}
   Distinct (e ∷ es) = Absent e.by es × Distinct es

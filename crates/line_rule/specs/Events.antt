@@ -29,6 +29,13 @@ IsNotWith c (elected leader) = leader ≢ c
 IsNotWith c (grouped own group) = Absent c (own ∷ group)
 IsNotWith c (halted own group) = Absent c (own ∷ group)
 
+-- this client has the log
+abbrev pub IsHolder : {Request : Type 0} → ℕ → LogHolder Request → Type 0
+IsHolder c free = ⊥
+IsHolder c (elected leader) = leader ≡ c
+IsHolder c (grouped own group) = own.by ≡ c
+IsHolder c (halted own group) = own.by ≡ c
+
 -- nobody stalls writes
 abbrev pub IsRunning : {Request : Type 0} → LogHolder Request → Type 0
 IsRunning free = Unit {0}

@@ -76,3 +76,7 @@ module _ {Request Reply : Type 0} where
   -- the client is neither of the group in hand nor in the second list
   abbrev pub IsInNone : ℕ → Lists Request Reply → Type 0
   IsInNone c l = IsNotWith c l.0.1 × Absent c (flat l.1.0)
+
+  -- nor in the queue
+  abbrev pub IsNowhere : ℕ → Lists Request Reply → Type 0
+  IsNowhere c l = Absent c l.0.0 × IsInNone c l

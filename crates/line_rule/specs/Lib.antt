@@ -2,6 +2,7 @@ pub mod Chain
 pub mod Grouping
 pub mod Events
 pub mod Standing
+pub mod Made
 pub mod Laws
 pub mod Rule
 pub mod Plays

@@ -100,6 +100,17 @@ HandsOn piped last (Queued g) seen now = ⊥
 HandsOn piped last (Serving g walk) seen now = ⊥
 HandsOn piped last (Passing g x) seen now = ⊥
 
+-- the group that the leader has in the second list has this leader, and these other members
+abbrev pub IsOwnGroup : {Request Reply : Type 0} → QueuedWriter Request → List (QueuedWriter Request)
+    → Back Request Reply → Type 0
+IsOwnGroup own rest Away = Unit {0}
+IsOwnGroup own rest (Parting g d) = Unit {0}
+IsOwnGroup own rest (Joining g) = (g.own ≡ own) × (g.rest ≡ rest)
+IsOwnGroup own rest (Holding g) = (g.own ≡ own) × (g.rest ≡ rest)
+IsOwnGroup own rest (Queued g) = Unit {0}
+IsOwnGroup own rest (Serving g walk) = Unit {0}
+IsOwnGroup own rest (Passing g x) = Unit {0}
+
 -- the leader has cut its group off, and has the log
 abbrev pub IsCut : {Request Reply : Type 0} → Lead Request Reply → LineStage Request Reply → Type 0
 IsCut lead Idle = ⊥

@@ -20,7 +20,8 @@ use Rattle.line_rule.specs.declared.view.LineStage.{LineStage}
 use Rattle.line_rule.specs.declared.view.LineStage.TheVariants.{Idle, Preparing, Waiting, Helping, Fresh, Leading, Stalling, Cutting, Marking, Settling, Collecting}
 use Rattle.line_rule.specs.Events.{LineEvent, LogHolder, free, elected, grouped, halted, core_of, Legal, GoesOn}
 use Rattle.line_rule.specs.Chain.{state_at, older_at, newest, newest_from, Links, LinksFrom, Distinct, Within, EndsWith, of, heads}
-use Rattle.line_rule.specs.Standing.{Phase, idle, preparing, linked, chosen, leads, taken, completed, held, dropped, dismissed, collecting, Pause, calm, aimed, stopped, holding, owing, Names, pause_in, Mode, open_, waits, led, built, cut, marked, base_of, pause_of, Holds, InFront, Place, away, parted, queued, called, serves, served, Turn, still, calls, held_by, passes, ahead, Two, line_of, flat, In, Apart, InStep, KnowsBack}
+use Rattle.line_rule.specs.Standing.{Phase, idle, preparing, linked, chosen, leads, taken, completed, held, dropped, dismissed, collecting, Pause, calm, aimed, stopped, holding, owing, Names, pause_in, Mode, open_, waits, led, built, cut, marked, base_of, pause_of, Holds, InFront, Place, away, parted, queued, called, serves, served, Turn, still, calls, held_by, passes, ahead, Two, line_of, flat, handed_on, In, Apart, InStep, KnowsBack}
+use Rattle.line_rule.specs.Made.{AreMade}
 use Rattle.line_rule.specs.Laws.{Laws}
 -- named here too, since those who make the steps cite them together with the definitions of the rule
 pub use Rattle.line_rule.specs.Laws.{Unnumbered, given_runs, last_run, logs_from, logs_picked, serves_picked, kept_picked, drops_picked, asks_for, asks_picked}
@@ -320,6 +321,7 @@ module _ {Request Reply Log Right : Type 0} (stands : Laws Request Reply Log Rig
         pub called_turn : (c : ℕ) (g : Squad Request Reply) → two.place c ≡ called g → two.turn ≡ calls c
         pub ahead_holds : (c : ℕ) → two.lead ≡ ahead c → Holds c mode
         pub in_level : Level stands.piped two last
+        pub made : AreMade stands.given (handed_on two.groups two.lead)
 
   module _ (n : ℕ) (homes : List (Option (LineSlot Request Reply Log Right))) (line hand : List (QueuedWriter Request))
       (handled : List (Handling Request Reply)) (phase : ℕ → Phase Request Reply) (due : ℕ

@@ -137,6 +137,12 @@ module _ {Request Reply : Type 0} where
   flat [] = []
   flat (g ∷ gs) = line_of g ++ flat gs
 
+  -- the groups of the second list, except the newest one where its leader has yet to give the log on
+  abbrev pub handed_on : List (Squad Request Reply) → Lead2 → List (Squad Request Reply)
+  handed_on groups level = groups
+  handed_on [] (ahead c) = []
+  handed_on (g ∷ gs) (ahead c) = gs
+
   -- the group is the one in the second list that the place names
   abbrev pub In : Squad Request Reply → Place Request Reply → Type 0
   In g away = ⊥

@@ -26,14 +26,16 @@ use crate::words::{STALL, STATE_DONE, STATE_IN_LIST, STATE_LEADS_LOG};
 /// Between any two steps the walk from the newest writer is the queue and then, until it is cut off, the group in
 /// hand; it has no more writers than there are clients. The log is at home, or with the leader. The queue, the log's
 /// place, what was handled, and for what of it the clients haven't got their replies yet: that is the state after a
-/// list of legal events. The events are: a writer links, the oldest writer is elected, a leader builds its group under
-/// the list's bound, a group leaves, and a client gets its reply. Events are only added: a client that waits knows
+/// list of legal events. The client that has the log is the one that leads by these events, and the one that is woken
+/// is the oldest of the queue. The events are: a writer links, the oldest writer is elected, a leader builds its group
+/// under the list's bound, a group leaves, and a client gets its reply. Events are only added: a client that waits knows
 /// those up to its coming, and a leader those up to the building of its group.
 ///
 /// The walk from the second list's newest writer is its groups, and the leader of the oldest one has the right, or
-/// will have it. From group to group, what was given runs goes on from what the right covers to all that was given
-/// runs; only the group of a leader that has yet to give the log on comes after that. So groups are served in the
-/// order in which the log was written.
+/// will have it. No client is in both lists. From group to group, what was given runs goes on from what the right
+/// covers to all that was given runs; only the group of a leader that has yet to give the log on comes after that. What
+/// a group adds is what of its own members' requests was given runs. So groups are served in the order in which the log
+/// was written.
 pub fn between_steps<
     Request: HasGroupingItem,
     Reply: GivesRun,

@@ -17,7 +17,7 @@ ghost use Rattle.line_rule.specs.Standing.{line_of};
 ghost use Rattle.line_rule.specs.Laws.{laws_for};
 ghost use Rattle.line_rule.specs.Plays.{Sat, HandsOn, IsCut, squad_at_cut, in_hand, debt, after_read_newest, after_cut_as, after_mark, after_wake, after_free, after_cut_behind_mark, after_aim_second, after_join_second, after_summon, after_make_parallel, after_leave_second, after_clear_second, after_call_next};
 ghost use Rattle.line_rule.specs.Steps.{now_of, Stays, HappensWhere, IsBoundary, IsSecond, IsNext, IsServedOut, LoadIs, StoreIs, ExchangeIs};
-ghost use Rattle.line_rule.specs.Handing.{IsWalked, IsOwn, IsInNone, IsJoined, IsServed, IsNewestGroup, IsOldestGroup};
+ghost use Rattle.line_rule.specs.Handing.{IsWalked, IsOwn, IsNowhere, IsJoined, IsServed, IsNewestGroup, IsOldestGroup};
 ghost use Rattle.line_rule.specs.Events.{grouped};
 ghost use Rattle.line_rule.specs.Rule.{Listed};
 ghost use Rattle.line_rule.specs.Before.{ListState, IsClient, IsNextAfter, IsNextOwed, IsOwed, IsAtWith, HasWholeGroup, HasCut, IsServing, HasReadTo, SeesAt, HasHandled, HasRightFor};
@@ -103,7 +103,7 @@ pub fn second_steps_and_events<
 /// list with a second one, its group is there, as the newest one and with all that was given runs, or nothing more was
 /// given a run. The group of the leader that has the right is the oldest one. A client that gets its reply from a
 /// leader that is in neither list, such a leader itself, and a writer that left the queue while writes are stalled is
-/// neither in the second list nor of the group in hand.
+/// neither in the queue, nor of the group in hand, nor in the second list.
 /// The leader that a stage names is the client itself. The walk from the second list's newest writer is its groups,
 /// except for an oldest one whose leader has cut it off and still has the right. The codes of the queue are those of
 /// its requests.
@@ -134,16 +134,16 @@ pub fn handing_on<
     ensures told { (z : Start Log.About) (s : ListState Request Reply Log Right) (id c : ℕ) (d : Debt Request Reply)
         (member : QueuedWriter Request × Reply) → let law = laws_for Request.item_of Reply.run_of Log.LogOfGroups z in
         (r : Listed law z.clients s) → SeesAt s id c (Settling d) Away → IsNextOwed member d
-        → IsInNone member.0.by (now_of law z.clients s r) }
+        → IsNowhere member.0.by (now_of law z.clients s r) }
     ensures told_last { (z : Start Log.About) (s : ListState Request Reply Log Right) (id c : ℕ)
         (own : QueuedWriter Request) (p : Reply) → let law = laws_for Request.item_of Reply.run_of Log.LogOfGroups z in
         (r : Listed law z.clients s) → SeesAt s id c (Settling (debt [] own p)) Away
-        → IsInNone own.by (now_of law z.clients s r) }
+        → IsNowhere own.by (now_of law z.clients s r) }
     ensures dropped { (z : Start Log.About) (s : ListState Request Reply Log Right) (id c w : ℕ)
         (lead : Lead Request Reply) (x : QueuedWriter Request) (p : Reply) (back : Back Request Reply)
         → let law = laws_for Request.item_of Reply.run_of Log.LogOfGroups z in
         (r : Listed law z.clients s) → SeesAt s id c (Stalling lead (Owes w x p)) back
-        → IsInNone x.by (now_of law z.clients s r) }
+        → IsNowhere x.by (now_of law z.clients s r) }
     ensures walked { (z : Start Log.About) (s : ListState Request Reply Log Right)
         (r : Listed (laws_for Request.item_of Reply.run_of Log.LogOfGroups z) z.clients s)
         → IsWalked (now_of (laws_for Request.item_of Reply.run_of Log.LogOfGroups z) z.clients s r) s.words }

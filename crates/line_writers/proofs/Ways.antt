@@ -17,7 +17,7 @@ use Rattle.line_rule.specs.declared.content.LineSlot.TheVariants.{Told, TheLog}
 use Rattle.line_rule.specs.Chain.{state_at, older_at, pack, newest, heads, all_answers}
 use Rattle.line_rule.specs.Laws.{Laws}
 use Rattle.line_rule.specs.Rule.{Listed}
-use Rattle.line_rule.specs.Plays.{Sat, At, AtWith, HandsOn, IsCut, in_hand, slots_of, after_cut_as, after_wake, after_join_second, after_summon}
+use Rattle.line_rule.specs.Plays.{Sat, At, AtWith, HandsOn, IsOwnGroup, IsCut, in_hand, slots_of, after_cut_as, after_wake, after_join_second, after_summon}
 use Rattle.line_rule.specs.Steps.{IsCutAs, IsNext}
 use Rattle.line_rule.proofs.Moves.{allows}
 use Rattle.line_rule.proofs.Passes.{joins_second, summons}
@@ -30,9 +30,9 @@ module _ {Request Reply Log Right : Type 0} (stands : Laws Request Reply Log Rig
   cuts_as said slots id me c k new lead mine newer x mid is_walk is_word cleared all = allows stands n (λ _. IsCutAs said c lead) slots id me k (λ _. new) (λ _. after_cut_as said (step slots k new 0 none) me new) (cuts_as_is stands n said slots id me c k new lead mine newer x mid is_walk is_word cleared all)
 
   pub wakes_on : (slots id : ℕ) (me : Sat Request Reply Log Right) (c k : ℕ) (lead : Lead Request Reply) (x : QueuedWriter Request) (mine : List (Request × Reply)) (back : Back Request Reply) (gs : List (QueuedWriter Request × Reply)) (p : Reply) (l : Log) (tail : List (ℕ × LineSlot Request Reply Log Right)) → AtWith c (Cutting lead x) mine back me → heads gs ≡ lead.taken
-      → me.1 ≡ (0, TheLog l) ∷ slots_of gs ((c, Told p) ∷ tail) → k ≡ state_at x.by → (0 < x.by) × (x.by ≤ n) → stands.logs l (lead.seen ++ all_answers lead.own p gs) → HandsOn stands.piped stands.given back lead.seen (lead.seen ++ all_answers lead.own p gs)
+      → me.1 ≡ (0, TheLog l) ∷ slots_of gs ((c, Told p) ∷ tail) → k ≡ state_at x.by → (0 < x.by) × (x.by ≤ n) → stands.logs l (lead.seen ++ all_answers lead.own p gs) → HandsOn stands.piped stands.given back lead.seen (lead.seen ++ all_answers lead.own p gs) → IsOwnGroup lead.own lead.taken back
       → Allows (Listed stands n) slots id me k (λ _. 2) (λ _. after_wake (step slots k 2 0 none) me 2)
-  wakes_on slots id me c k lead x mine back gs p l tail mid group slot is_word range stood unnumbered = allows stands n (λ _. IsNext back lead.own p gs) slots id me k (λ _. 2) (λ _. after_wake (step slots k 2 0 none) me 2) (wakes_on_is stands n slots id me c k lead x mine back gs p l tail mid group slot is_word range stood unnumbered)
+  wakes_on slots id me c k lead x mine back gs p l tail mid group slot is_word range stood unnumbered own_group = allows stands n (λ _. IsNext back lead.own p gs) slots id me k (λ _. 2) (λ _. after_wake (step slots k 2 0 none) me 2) (wakes_on_is stands n slots id me c k lead x mine back gs p l tail mid group slot is_word range stood unnumbered own_group)
 
   -- this step of the right's law is also allowed where that law is given in another form, which is equal
   pub joins_as : (rights : Right → List (Handling Request Reply) → Type 0) → stands.rights ≡ rights → (to : List (Handling Request Reply)) (slots id : ℕ) (me : Sat Request Reply Log Right) (c b new : ℕ) (st : LineStage Request Reply) (lead : Lead Request Reply) (mine : List (Request × Reply)) (g : Squad Request Reply) (said : Option (LineSlot Request Reply Log Right)) → stands.piped ≡ true → AtWith c st mine (Parting g b) me → IsCut lead st → g.from ≡ stands.given lead.seen

@@ -13,7 +13,7 @@ use Rattle.line_rule.specs.declared.content.LineSlot.{LineSlot}
 use Rattle.line_rule.specs.declared.content.LineSlot.TheVariants.{Told, TheLog, TheRight}
 use Rattle.line_rule.specs.Chain.{newest, heads, all_answers}
 use Rattle.line_rule.specs.Laws.{given_runs}
-use Rattle.line_rule.specs.Plays.{Sat, At, AtWith, in_hand, debt, slots_of, squad_at_cut, squad_with_end, back_after_log}
+use Rattle.line_rule.specs.Plays.{Sat, At, AtWith, IsOwnGroup, in_hand, debt, slots_of, squad_at_cut, squad_with_end, back_after_log}
 use Rattle.line_rule.specs.Before.{Carried}
 use Rattle.line_writers.specs.declared.writer.Writer.{Writer}
 use Rattle.line_rule.specs.Members.{pays}
@@ -135,7 +135,8 @@ module _ {Request Reply Log Right : Type 0}
   GivesLogOn m m' = ForCutOff m (λ lead mine b d t. OwesWith c d mine (back_after_log b) t m')
 
   -- the log's slot is on top, and after it the slots with the reply to each member; the log covers all that was
-  -- handled, with the group, and the second list allows the leader to give the log on
+  -- handled, with the group, and the second list allows the leader to give the log on; the group that it has there is
+  -- this one
   abbrev pub MayGiveLogOn : (Log → Handled Request Reply → Type 0)
       → (Back Request Reply → Handled Request Reply → Handled Request Reply → Type 0) → Sat Request Reply Log Right
       → Type 0
@@ -143,6 +144,7 @@ module _ {Request Reply Log Right : Type 0}
       × (gs : Members Request Reply) × (p : Reply) × (l : Log) × (t : Carried Request Reply Log Right)
       × stage lead mine b × (heads gs ≡ lead.taken) × (m.1 ≡ (0, TheLog l) ∷ slots_of gs ((c, Told p) ∷ t))
       × stood l (lead.seen ++ all_answers lead.own p gs) × hands b lead.seen (lead.seen ++ all_answers lead.own p gs)
+      × IsOwnGroup lead.own lead.taken b
 
 -- for a writer that leads a group of a list of n clients, where `law` holds of each request
 module _ {Request Reply Log Right : Type 0} (law : Request → ℕ → Type 0) (n : ℕ) where

@@ -17,7 +17,7 @@ pub fn read_block<R: ReadAt>(disk: &mut R, start: u64, block: &mut [u8]) -> Resu
     ensures in_block { IfOk result (λ len. len ≤ BLOCK_LEN) }
     ensures in_file { IfOk result (λ len. start + len < 2 ^ 63) }
     ensures worked { OnOk result (R.failures disk.new ≡ R.failures disk.old) }
-    ensures fault { IfErr result (λ count. Rose (R.failures disk.old) count × (count ≤ R.failures disk.new)) }
+    ensures fault { IfErr result (λ count. Rose (R.failures disk.old) count × (count ≡ R.failures disk.new)) }
     ensures disk { R.only_reads disk.old disk.new }
 {
     let mut len = 0;

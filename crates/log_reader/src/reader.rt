@@ -98,9 +98,10 @@ impl LogReader {
         ensures number { IfOk result (λ r. r.number ≡ number) }
         ensures going { IfOk result (λ r. r.stopped ≡ None) }
         ensures empty { IfOk result (λ r. r.in_hand ≡ []) }
-        // If the file ends before the place, the reader's place is before it too.
         ensures there { IfSome (R.held disk.old) (λ file. place ≤ length file
             → IfOk result (λ r. (r.place ≡ place) × Follows file r)) }
+        // If the file ends before the place, the reader's place may be before it too.
+        ensures within { IfOk result (λ r. r.place ≤ place) }
         ensures worked { OnOk result (R.failures disk.new ≡ R.failures disk.old) }
         ensures error { IfErr result (IsOpenError (R.failures disk.old) (R.failures disk.new)) }
         ensures disk { R.only_reads disk.old disk.new }
@@ -130,8 +131,8 @@ impl LogReader {
         ensures forward { self.old.stopped ≡ None → GoesForward self.old.place result }
         // So the clause `reads` is good for the next call as well.
         ensures follows { IfSome (R.held disk.old) (λ file. Follows file self.old → Follows file self.new) }
-        // A fault is answered only where the count rose in this call, and any other answer only where it stayed as it
-        // was.
+        // A fault is answered only where the count rose in this call, with the count that the disk then has, and any
+        // other answer only where it stayed as it was.
         ensures fault { self.old.stopped ≡ None → HasFault (R.failures disk.old) (R.failures disk.new) result }
         ensures stopped { self.old.stopped ≡ None → self.new.stopped ≡ stopped_by result }
         ensures again { IfSome self.old.stopped (λ answer. (result ≡ answer) × (self.new ≡ self.old)) }

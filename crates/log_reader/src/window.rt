@@ -64,6 +64,7 @@ impl Window {
         ensures sound { IfOk result IsSound }
         ensures there { IfSome (R.held disk.old) (λ file. place ≤ length file
             → IfOk result (λ w. (offset_of w ≡ place) × IsOn file w)) }
+        ensures within { IfOk result (λ w. offset_of w ≤ place) }
         ensures worked { OnOk result (R.failures disk.new ≡ R.failures disk.old) }
         ensures error { IfErr result (IsOpenError (R.failures disk.old) (R.failures disk.new)) }
         ensures disk { R.only_reads disk.old disk.new }
@@ -90,7 +91,7 @@ impl Window {
         ensures part { IfOk result (PartLies self.new) }
         ensures forward { offset_of self.old ≤ offset_of self.new }
         ensures worked { OnOk result (R.failures disk.new ≡ R.failures disk.old) }
-        ensures fault { IfErr result (λ count. Rose (R.failures disk.old) count × (count ≤ R.failures disk.new)) }
+        ensures fault { IfErr result (λ count. Rose (R.failures disk.old) count × (count ≡ R.failures disk.new)) }
         ensures disk { R.only_reads disk.old disk.new }
     {
         // From the place where the window was at the call, the blocks before this one have nothing more.
@@ -117,7 +118,7 @@ impl Window {
         ensures start { self.new.start ≡ self.old.start }
         ensures at { self.new.at ≡ self.old.at }
         ensures worked { OnOk result (R.failures disk.new ≡ R.failures disk.old) }
-        ensures fault { IfErr result (λ count. Rose (R.failures disk.old) count × (count ≤ R.failures disk.new)) }
+        ensures fault { IfErr result (λ count. Rose (R.failures disk.old) count × (count ≡ R.failures disk.new)) }
         ensures disk { R.only_reads disk.old disk.new }
     {
         if !self.is_read {

@@ -1,5 +1,5 @@
 -- The counts of several disks of which the first was read, and why logs weren't recovered.
-use Rattle.std.proofs.Common.{◌≡◌, ℕ, ◌+◌, ◌≤◌, List, ◌∷◌, sum_by, Result, Ok, Err, IfErr, IsErrAnd, OnOk, refl, sym, ◌∙◌, ap, subst, arith}
+use Rattle.std.proofs.Common.{◌≡◌, ℕ, ◌+◌, List, ◌∷◌, sum_by, Result, Ok, Err, IfErr, IsErrAnd, OnOk, refl, sym, ◌∙◌, ap, subst, arith}
 use Rattle.std.proofs.lemmas.List.Sums.{sum_by-cons}
 use Rattle.base_devices.specs.Faults.{Rose, count_in_all}
 use Rattle.log_recovery.specs.declared.modes.Mode.{Mode}
@@ -34,8 +34,8 @@ module _ {D : Type 0} (faults : D → ℕ) (disks : List D) (disk new : D) (rest
   count_before = ap (λ (l : List D). sum_by faults l) parts ∙ sum_by-cons faults disk rest
 
   -- the count of all rises with that of the first
-  pub first_rose : (count : ℕ) → Rose (faults disk) count → count ≤ faults new → Rose (count_in_all faults disks) (count_in_all faults (new ∷ rest))
-  first_rose count rose within = let before = count_before in let now = sum_by-cons faults new rest in omega (arith, before, now, rose, within)
+  pub first_rose : (count : ℕ) → Rose (faults disk) count → count ≡ faults new → Rose (count_in_all faults disks) (count_in_all faults (new ∷ rest))
+  first_rose count rose is = let before = count_before in let now = sum_by-cons faults new rest in omega (arith, before, now, rose, is)
 
   -- and with that of the others
   later_rose : (news : List D) → faults new ≡ faults disk → Rose (count_in_all faults rest) (count_in_all faults news) → Rose (count_in_all faults disks) (count_in_all faults (new ∷ news))

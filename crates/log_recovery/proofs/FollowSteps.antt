@@ -1,11 +1,13 @@
 -- The steps of following a log from a place on: one more record, or the end, or one that goes past `upto`.
-use Rattle.std.proofs.Common.{Option, ◌≡◌, ℕ, ◌≤◌, List, [], ◌∷◌, ◌++◌, length, sym, ◌∙◌, ap, subst, append_assoc, append-nil, MatchOption, IfSome, Some, None}
+use Rattle.std.proofs.Common.{Option, ◌≡◌, ◌≢◌, ℕ, ◌≤◌, ◌==◌, Bool, true, false, cond, List, [], ◌∷◌, ◌++◌, length, refl, sym, ◌∙◌, ap, subst, append_assoc, append-nil, arith, MatchOption, IfSome, Some, None}
 use Rattle.std.specs.List.{AllByRecursion}
+use Rattle.std.proofs.lemmas.Bool.{false≢true}
 use Rattle.std.proofs.lemmas.List.Sums.{fold-append}
+use Rattle.model_base.specs.Batch.{count_of}
 use Rattle.model_base.specs.declared.log.EndReason.{EndReason}
 use Rattle.model_base.specs.Log.{record_of, next_place}
 use Rattle.model_base.specs.Reading.{end_of, HasFragments, ReadingEnds, IsRecord}
-use Rattle.model_base.specs.Recovery.{Logged, last_after, last_sequence, MayFollow, AreInOrder}
+use Rattle.model_base.specs.Recovery.{Logged, last_of, last_after, last_sequence, MayFollow, AreInOrder}
 use Rattle.model_base.specs.RecoveredLogs.{KeepsAfter, IsRecoveredAfter}
 use Rattle.log_reader.specs.declared.reader.Next.TheVariants as next
 use Rattle.log_reader.specs.Reader.{Reader, Follows}
@@ -18,7 +20,7 @@ use Rattle.log_recovery.specs.declared.picked.Stop.TheVariants.{Past, Refused}
 use Rattle.log_recovery.specs.declared.recovery.End.{End}
 use Rattle.log_recovery.specs.Keeping.{Refuses}
 use Rattle.log_recovery.specs.Updating.{updates_in}
-use Rattle.log_recovery.specs.Following.{StandsAt, IsWithin, PicksWithin, Stops, end_of_stop, OneIsPast, HasMore, PicksFrom}
+use Rattle.log_recovery.specs.Following.{StandsAt, IsWithin, RisesTo, PicksWithin, Stops, end_of_stop, OneIsPast, HasMore, PicksFrom}
 use Rattle.log_recovery.proofs.MoreKept.{keeps_more}
 use Rattle.log_recovery.proofs.Ending.{recovered_unread, recovered_unkept}
 use Rattle.log_recovery.proofs.Picking.{updates_more}
@@ -140,6 +142,21 @@ picked_on s upto old new bytes end (Some stop) m e = absurd (cc)
 pub stopped_at : (s upto : ℕ) (old new : Picked) (bytes : List ℕ) (end : ℕ) (r : Option Stop) (stop : Stop) → PickedOrStops s upto old new bytes end r → r ≡ Some stop → (new ≡ old) × Stops upto old.last bytes stop
 stopped_at s upto old new bytes end None stop m e = absurd (cc)
 stopped_at s upto old new bytes end (Some w) stop m e = let same : w ≡ stop = cc in (m.0, subst (Stops upto old.last bytes) same m.1)
+
+-- a record that is picked doesn't lower the last sequence, and doesn't raise it above `upto`
+pub rises_on : (s upto from : ℕ) (old new : Picked) (bytes : List ℕ) (end : ℕ) → PicksWithin s upto old new bytes end → RisesTo upto from old.last → RisesTo upto from new.last
+rises_on s upto from old new bytes end adds so_far = by_count (count_of b.records == 0) refl (adds.picks).last
+  where
+    b : Logged
+    b = ((adds.picks).kept).batch
+
+    by_count : (z : Bool) → (count_of b.records == 0) ≡ z → new.last ≡ cond z old.last (last_of b) → RisesTo upto from new.last
+    by_count true e is = (omega (arith, is, so_far.0), λ above. is ∙ so_far.1 (omega (arith, is, above)))
+    by_count false e is =
+        let some : count_of b.records ≢ 0 = λ none. false≢true (sym e ∙ ap (λ (n : ℕ). n == 0) none) in
+        let may = ((adds.picks).kept).may some in
+        let within = adds.within some in
+        (omega (arith, is, may.0, so_far.0), λ above. omega (arith, is, within, above))
 
 pub follows_more : (told before : Option (List ℕ)) (number : Option ℕ) (s upto : ℕ) (from : Place) (old new : Picked) (log after : Reader) (starts end : ℕ) (in_hand bytes : List ℕ) → before ≡ told → log.number ≡ number → log.stopped ≡ None → after.place ≡ end → bytes ≡ in_hand
     → PicksWithin s upto old new bytes end → IfSome told (IsSoFar number s upto from old log) → IfSome before (λ file. Follows file log → log.stopped ≡ None → Reads log.number file log.place in_hand (next.Record starts end))

@@ -1,7 +1,7 @@
 -- Looking for zeros, piece by piece.
-use Rattle.std.proofs.Common.{◌≡◌, ℕ, ◌+◌, ◌-◌, ◌≤◌, ◌==◌, ◌&&◌, Bool, true, false, List, take, drop, sym, ◌∙◌, ap, arith}
+use Rattle.std.proofs.Common.{◌≡◌, ℕ, ◌+◌, ◌-◌, ◌<◌, ◌≤◌, ◌==◌, ◌&&◌, min, Bool, true, false, List, length, take, drop, sym, ◌∙◌, ap, arith, length-drop}
 use Rattle.std.proofs.Math.Seq.{take-add}
-use Rattle.std.proofs.lemmas.List.{drop-drop, take-append-drop}
+use Rattle.std.proofs.lemmas.List.{drop-drop, take-append-drop, take_all}
 use Rattle.std.proofs.lemmas.List.Folds.{list_all-append}
 use Rattle.model_base.specs.Reading.{are_zeros}
 
@@ -33,3 +33,9 @@ pub other_byte : (content piece : List ℕ) (from at len : ℕ) → from ≤ at 
 other_byte content piece from at len after before same other =
     let these : are_zeros (take len (drop at content)) ≡ false = ap are_zeros (sym same) ∙ other in
     sym (front_has (at - from + len) (drop from content) (piece_behind content from at len after ∙ (ap (λ (b : Bool). b && are_zeros (take len (drop at content))) before ∙ these)))
+
+-- where a piece that has room gets no byte, all bytes were looked at
+pub all_zeros : (content piece : List ℕ) (from at len : ℕ) → from ≤ at → are_zeros (take (at - from) (drop from content)) ≡ true → len ≡ min (length piece) (length content - at) → len ≡ 0 → 0 < length piece → true ≡ are_zeros (drop from content)
+all_zeros content piece from at len after before many none room =
+    let past : length (drop from content) ≤ at - from = omega (arith, length-drop from content, many, none, room, after) in
+    sym (ap are_zeros (sym (take_all (at - from) (drop from content) past)) ∙ before)

@@ -28,6 +28,10 @@ IsWithin upto b = count_of b.records ≢ 0 → last_of b ≤ upto
 abbrev pub GoesPast : ℕ → Logged → Type 0
 GoesPast upto b = (count_of b.records ≢ 0) × (upto < last_of b)
 
+-- the last sequence hasn't fallen, and is above `upto` only where it was
+abbrev pub RisesTo : ℕ → ℕ → ℕ → Type 0
+RisesTo upto before now = (before ≤ now) × (upto < now → now ≡ before)
+
 -- the record of a batch, which would be kept after the others and doesn't go past `upto`, is picked if it is asked for
 pub record PicksWithin (s upto : ℕ) (old new : Picked) (bytes : List ℕ) (end : ℕ) : Type 0 where
   pub picks : Picks s upto old new bytes end

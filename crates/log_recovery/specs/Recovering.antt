@@ -46,10 +46,11 @@ pub record IsNumbered (map : Pairs) (last : ℕ) : Type 0 where
   pub within : last ≤ max_sequence
   pub none : last ≡ 0 → map ≡ []
 
--- why a log was not recovered: the disk's count of faults rose in the call; or there was no memory, and no fault; or
--- the end is damage, there was no fault, and the mode isn't the one that accepts any end (`TellsDamage` says more)
+-- why a log was not recovered: the disk's count of faults rose in the call, and this is what it is; or there was no
+-- memory, and no fault; or the end is damage, there was no fault, and the mode isn't the one that accepts any end
+-- (`TellsDamage` says more)
 abbrev pub IsRecoverError : Mode → ℕ → ℕ → RecoverError → Type 0
-IsRecoverError mode before now (Fault count) = Rose before count × (count ≤ now)
+IsRecoverError mode before now (Fault count) = Rose before count × (count ≡ now)
 IsRecoverError mode before now NoMemory = now ≡ before
 IsRecoverError mode before now (Damage log at why) = (now ≡ before) × (mode ≢ Point)
 

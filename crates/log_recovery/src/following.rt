@@ -5,7 +5,7 @@ ghost use Rattle.model_base.specs.Recovery.{Logged};
 ghost use Rattle.log_reader.specs.Reader.{Follows};
 ghost use Rattle.log_recovery.specs.declared.modes.Mode.TheVariants.{Point};
 ghost use Rattle.log_recovery.specs.declared.following.Place.{Place as At};
-ghost use Rattle.log_recovery.specs.Following.{StandsAt, HasMore, end_of_stop};
+ghost use Rattle.log_recovery.specs.Following.{StandsAt, HasMore, RisesTo, end_of_stop};
 ghost use Rattle.log_recovery.specs.Recovering.{IsRecoverError};
 
 use crate::picked::{Picked, Stop};
@@ -53,6 +53,8 @@ pub fn updates_from<R: ReadAt>(
     ensures more { IfSome (R.held disk.old) (λ file. (start : ℕ) (before : List Logged)
         → StandsAt start number file from before → IfOk result (HasMore start number file since upto before)) }
     ensures small { IfOk result (λ more. more.place.at < 2 ^ 63) }
+    // Whatever is read, the place's last sequence doesn't fall, and no record above `upto` raises it.
+    ensures last { IfOk result (λ more. RisesTo upto from.last more.place.last) }
     ensures worked { OnOk result (R.failures disk.new ≡ R.failures disk.old) }
     ensures error { IfErr result (IsRecoverError Point (R.failures disk.old) (R.failures disk.new)) }
     ensures disk { R.only_reads disk.old disk.new }

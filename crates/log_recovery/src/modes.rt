@@ -1,6 +1,6 @@
 //! Which ends of recovery a mode accepts.
 
-ghost use Rattle.std.specs.Prelude.{◌≡◌, ◌≤◌, ◌↔◌, IsTrue, IfOk, IfErr, IfSome, OnOk, drop, true};
+ghost use Rattle.std.specs.Prelude.{◌≡◌, ◌↔◌, IsTrue, IfOk, IfErr, IfSome, OnOk, drop, true};
 ghost use Rattle.base_devices.specs.Faults.{Rose};
 ghost use Rattle.model_base.specs.Reading.{are_zeros};
 ghost use Rattle.log_recovery.specs.declared.modes.Mode.TheVariants.{Point};
@@ -35,7 +35,7 @@ pub fn accepts<R: ReadAt>(
         (λ is. IsTrue is ↔ Accepts number mode file end.at end.why)) }
     ensures any { IfOk result (λ is. mode ≡ Point → is ≡ true) }
     ensures worked { OnOk result (R.failures disk.new ≡ R.failures disk.old) }
-    ensures fault { IfErr result (λ count. Rose (R.failures disk.old) count × (count ≤ R.failures disk.new)) }
+    ensures fault { IfErr result (λ count. Rose (R.failures disk.old) count × (count ≡ R.failures disk.new)) }
     ensures disk { R.only_reads disk.old disk.new }
 {
     match mode {
@@ -67,7 +67,7 @@ fn is_cut_off<R: ReadAt>(disk: &mut R, number: Option<u32>, end: End) -> Result<
     ensures decided { IfSome (R.held disk.old) (λ file. IfOk result
         (λ is. IsTrue is ↔ IsCutOff number file end.at end.why)) }
     ensures worked { OnOk result (R.failures disk.new ≡ R.failures disk.old) }
-    ensures fault { IfErr result (λ count. Rose (R.failures disk.old) count × (count ≤ R.failures disk.new)) }
+    ensures fault { IfErr result (λ count. Rose (R.failures disk.old) count × (count ≡ R.failures disk.new)) }
     ensures disk { R.only_reads disk.old disk.new }
 {
     match end.why {
@@ -86,7 +86,7 @@ const HEADER_ROOM: usize = 11;
 fn passes_file<R: ReadAt>(disk: &mut R, number: Option<u32>, at: u64) -> Result<bool, u64>
     ensures decided { IfSome (R.held disk.old) (λ file. IfOk result (λ is. IsTrue is ↔ PassesFile number file at)) }
     ensures worked { OnOk result (R.failures disk.new ≡ R.failures disk.old) }
-    ensures fault { IfErr result (λ count. Rose (R.failures disk.old) count × (count ≤ R.failures disk.new)) }
+    ensures fault { IfErr result (λ count. Rose (R.failures disk.old) count × (count ≡ R.failures disk.new)) }
     ensures disk { R.only_reads disk.old disk.new }
 {
     let mut header = [0; HEADER_ROOM];
@@ -114,7 +114,7 @@ const PIECE: usize = 4096;
 fn are_zeros_from<R: ReadAt>(disk: &mut R, from: u64) -> Result<bool, u64>
     ensures decided { IfSome (R.held disk.old) (λ file. IfOk result (λ is. is ≡ are_zeros (drop from file))) }
     ensures worked { OnOk result (R.failures disk.new ≡ R.failures disk.old) }
-    ensures fault { IfErr result (λ count. Rose (R.failures disk.old) count × (count ≤ R.failures disk.new)) }
+    ensures fault { IfErr result (λ count. Rose (R.failures disk.old) count × (count ≡ R.failures disk.new)) }
     ensures disk { R.only_reads disk.old disk.new }
 {
     let mut piece = [0; PIECE];

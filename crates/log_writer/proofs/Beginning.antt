@@ -88,7 +88,7 @@ cut_fails ghosts a b kept e (Ok t) only failed told time cause = absurd (cc)
 cut_fails {T = T} ghosts a b kept e (Err f) only failed told time cause = record {
   told = told_so (ghosts.told a) (ghosts.told b) told (λ x y p. p);
   counted = tt;
-  cause = record { later = cause.later; failed = cause.failed; worked = tt };
+  cause = record { later = cause.later; once = cause.once; failed = cause.failed; worked = tt };
   crash = cut_leaves {T = T} ghosts a b kept (Err e) only told time;
 }
 

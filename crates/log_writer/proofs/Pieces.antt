@@ -96,7 +96,7 @@ module _ {D : Type 0} (ghosts : Ghosts D) (number : Option ℕ) (bytes : List �
   puts_next then t is more = puts_same (puts_more ghosts start now then so_far.done (put_of number rest p) false tt (Ok t) is so_far.put more)
     where
       puts_same : {T : Type 0} {t : T} → Puts {E = Failed} ghosts start then (so_far.done ++ put_of number rest p) false (Ok t) → Puts {T = Unit {0}} {E = Failed} ghosts start then (so_far.done ++ put_of number rest p) false (Ok tt)
-      puts_same q = record { are_put = q.are_put; counted = q.counted; cause = record { later = (q.cause).later; failed = tt; worked = (q.cause).worked }; reached = q.reached; crash = q.crash }
+      puts_same q = record { are_put = q.are_put; counted = q.counted; cause = record { later = (q.cause).later; once = (q.cause).once; failed = tt; worked = (q.cause).worked }; reached = q.reached; crash = q.crash }
 
   -- one more piece is put
   pub goes_on : {T : Type 0} (then : D) (rest' : List ℕ) (end' : ℕ) (t : T) → IfSome (ghosts.told start) IsDisk → Puts {E = Failed} ghosts now then (put_of number rest p) false (Ok t)
@@ -131,7 +131,7 @@ pub puts_whole : {D U : Type 0} (ghosts : Ghosts D) (number : Option ℕ) (bytes
 puts_whole ghosts number bytes offset start now rest end u so_far =
     let whole : so_far.done ≡ log.record_text number offset bytes = sym (append-nil so_far.done) ∙ so_far.text in
     let q = so_far.put in
-    subst (λ (l : List ℕ). Puts {E = Failed} ghosts start now l false (Ok u)) whole (record { are_put = q.are_put; counted = q.counted; cause = record { later = (q.cause).later; failed = tt; worked = (q.cause).worked }; reached = q.reached; crash = q.crash })
+    subst (λ (l : List ℕ). Puts {E = Failed} ghosts start now l false (Ok u)) whole (record { are_put = q.are_put; counted = q.counted; cause = record { later = (q.cause).later; once = (q.cause).once; failed = tt; worked = (q.cause).worked }; reached = q.reached; crash = q.crash })
 
 pub ends_at : {D : Type 0} (ghosts : Ghosts D) (number : Option ℕ) (bytes : List ℕ) (offset : ℕ) (start now : D) (rest : List ℕ) (end : ℕ) → IsSoFar ghosts number bytes offset start now rest [] end → end ≡ offset + length (log.record_text number offset bytes)
 ends_at ghosts number bytes offset start now rest end so_far =

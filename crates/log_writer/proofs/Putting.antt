@@ -234,8 +234,8 @@ more_counted added_a added_b added_c xs ys (Ok t) first second = omega (arith, f
 more_counted added_a added_b added_c xs ys (Err e) first second = omega (arith, first, second)
 
 pub more_cause : {S T E : Type 0} (a b c : ℕ) (s : S) (r : Result T E) → HasCause {T = S} {E = E} a b (Ok s) → HasCause b c r → HasCause a c r
-more_cause a b c s (Ok t) first second = record { later = omega (arith, first.later, second.later); failed = tt; worked = second.worked ∙ first.worked }
-more_cause a b c s (Err e) first second = record { later = omega (arith, first.later, second.later); failed = omega (arith, first.later, second.failed); worked = tt }
+more_cause a b c s (Ok t) first second = record { later = omega (arith, first.later, second.later); once = omega (arith, first.worked, second.worked); failed = tt; worked = second.worked ∙ first.worked }
+more_cause a b c s (Err e) first second = record { later = omega (arith, first.later, second.later); once = omega (arith, first.worked, second.once); failed = omega (arith, first.later, second.failed); worked = tt }
 
 pub puts_more : {D S T E : Type 0} (ghosts : Ghosts D) (a b c : D) (xs ys : List ℕ) (sync : Bool) (s : S) (r : Result T E) → IfSome (ghosts.told a) IsDisk
     → Puts {T = S} {E = E} ghosts a b xs false (Ok s) → Puts ghosts b c ys sync r → Puts ghosts a c (xs ++ ys) sync r
@@ -260,7 +260,7 @@ puts_cut ghosts a b xs ys sync e (Ok t) failed first = absurd (cc)
 puts_cut ghosts a b xs ys sync e (Err f) failed first = record {
   are_put = told_so (ghosts.told a) (ghosts.told b) first.are_put (λ x y p. more_part x y xs ys p);
   counted = first.counted;
-  cause = record { later = (first.cause).later; failed = (first.cause).failed; worked = tt };
+  cause = record { later = (first.cause).later; once = (first.cause).once; failed = (first.cause).failed; worked = tt };
   reached = told_so (ghosts.told a) (ghosts.told b) first.reached (λ x y r. omega (arith, r, length-append xs ys));
   crash = leaves_so ghosts.moment ghosts.from ghosts.since (MayBeLeft (ghosts.told a) (length xs)) (MayBeLeft (ghosts.told a) (length (xs ++ ys))) a b first.crash
       (λ image left. left_of_more (ghosts.told a) (length xs) (length (xs ++ ys)) image (omega (arith, length-append xs ys)) left);
@@ -280,18 +280,18 @@ pub puts_none : {D E : Type 0} (ghosts : Ghosts D) (a : D) → ((image : List �
 puts_none {E = E} ghosts a only = record {
   are_put = told_self (ghosts.told a) (λ x y. ArePut {T = Unit {0}} {E = E} x y [] false (Ok tt)) (λ x. record { content = sym (put_nothing x.place x.content); place = sym (add-zero x.place); synced = omega arith });
   counted = omega arith;
-  cause = record { later = omega arith; failed = tt; worked = refl };
+  cause = record { later = omega arith; once = omega arith; failed = tt; worked = refl };
   reached = told_self (ghosts.told a) (λ x y. y.reach ≤ reach_with x 0) (λ x. omega arith);
   crash = leaves_so ghosts.moment ghosts.from ghosts.since (λ image. IfSome (ghosts.told a) (λ d. IsImage d image)) (MayBeLeft (ghosts.told a) 0) a a (leaves_now ghosts a only) (left_now (ghosts.told a));
 }
 
 -- another answer of the same kind says the same
 pub puts_ok : {D T U E F : Type 0} (ghosts : Ghosts D) (a b : D) (xs : List ℕ) (sync : Bool) (t : T) (u : U) → Puts {E = E} ghosts a b xs sync (Ok t) → Puts {E = F} ghosts a b xs sync (Ok u)
-puts_ok ghosts a b xs sync t u first = record { are_put = first.are_put; counted = first.counted; cause = record { later = (first.cause).later; failed = tt; worked = (first.cause).worked }; reached = first.reached; crash = first.crash }
+puts_ok ghosts a b xs sync t u first = record { are_put = first.are_put; counted = first.counted; cause = record { later = (first.cause).later; once = (first.cause).once; failed = tt; worked = (first.cause).worked }; reached = first.reached; crash = first.crash }
 
 pub puts_err : {D T U E F : Type 0} (ghosts : Ghosts D) (a b : D) (xs : List ℕ) (some all : Bool) (e : E) (r : Result U F) → IsErr r → Puts {T = T} ghosts a b xs some (Err e) → Puts ghosts a b xs all r
 puts_err ghosts a b xs some all e (Ok t) failed first = absurd (cc)
-puts_err ghosts a b xs some all e (Err f) failed first = record { are_put = first.are_put; counted = first.counted; cause = record { later = (first.cause).later; failed = (first.cause).failed; worked = tt }; reached = first.reached; crash = first.crash }
+puts_err ghosts a b xs some all e (Err f) failed first = record { are_put = first.are_put; counted = first.counted; cause = record { later = (first.cause).later; once = (first.cause).once; failed = (first.cause).failed; worked = tt }; reached = first.reached; crash = first.crash }
 
 -- a sync after the bytes
 pub puts_synced : {D S T E : Type 0} (ghosts : Ghosts D) (a b c : D) (xs : List ℕ) (sync : Bool) (s : S) (r : Result T E) → IfSome (ghosts.told a) IsDisk

@@ -1,7 +1,7 @@
 -- A read of a log, which ends where the log does.
 use Rattle.std.proofs.Common.{◌≡◌, ℕ, ◌+◌, ◌-◌, ◌<◌, ◌≤◌, min, List, ◌++◌, length, take, drop, Option, Some, None, Result, Ok, Err, IfSome, IfOk, refl, sym, ◌∙◌, ap, arith, length-append, length-take, length-drop}
 use Rattle.std.proofs.Math.Seq.{take-take}
-use Rattle.std.proofs.lemmas.List.{take-append-le, drop-take}
+use Rattle.std.proofs.lemmas.List.{take-append-le, take-append-drop, drop-append-le, drop-take}
 use Rattle.base_devices.specs.Disk.{Disk, BytesAt, ReadsAt}
 use Rattle.log_writer.specs.Reads.{front_of}
 
@@ -29,3 +29,13 @@ read_nothing (Some d) len at buf past = (omega (arith, past, length-take len d.c
 pub within_buffer : {E : Type 0} (part others : List ℕ) (r : Result ℕ E) → IfOk r (λ n. n ≤ length part) → IfOk r (λ n. n ≤ length (part ++ others))
 within_buffer part others (Ok n) few = omega (arith, few, length-append part others)
 within_buffer part others (Err e) few = tt
+
+-- what the buffer has after what was read into its front is as it was
+pub rest_of_buffer : {E : Type 0} (some : ℕ) (buf part : List ℕ) (r : Result ℕ E) → some ≤ length buf → length part ≡ some → IfOk r (λ n. n ≤ length part) → IfOk r (λ n. drop n part ≡ drop n (take some buf))
+    → IfOk r (λ n. drop n (part ++ drop some buf) ≡ drop n buf)
+rest_of_buffer some buf part (Err e) within long few rest = tt
+rest_of_buffer some buf part (Ok n) within long few rest =
+    let in_front : n ≤ length (take some buf) = omega (arith, few, long, within, length-take some buf) in
+    drop-append-le n part (drop some buf) few
+    ∙ (ap (λ (l : List ℕ). l ++ drop some buf) rest
+    ∙ (sym (drop-append-le n (take some buf) (drop some buf) in_front) ∙ ap (λ (l : List ℕ). drop n l) (take-append-drop some buf)))

@@ -14,10 +14,10 @@ use Rattle.log_writer.specs.Sets.{count_in}
 
 -- a count of faults of which another one is a part
 cause_in_sum : {T E : Type 0} (before now rest : ℕ) (r : Result T E) → HasCause before now r → HasCause (before + rest) (now + rest) r
-cause_in_sum before now rest (Ok x) cause = record { later = omega (arith, cause.later); failed = tt; worked = ap (λ (n : ℕ). n + rest) cause.worked }
+cause_in_sum before now rest (Ok x) cause = record { later = omega (arith, cause.later); once = omega (arith, cause.once); failed = tt; worked = ap (λ (n : ℕ). n + rest) cause.worked }
 cause_in_sum before now rest (Err e) cause =
     let rose : Rose before now = cause.failed in
-    record { later = omega (arith, cause.later); failed = omega (arith, cause.later, rose); worked = tt }
+    record { later = omega (arith, cause.later); once = omega (arith, cause.once); failed = omega (arith, cause.later, rose); worked = tt }
 
 cause_at : {T E : Type 0} (a b before now : ℕ) (r : Result T E) → a ≡ before → b ≡ now → HasCause a b r → HasCause before now r
 cause_at a b before now r same_before same_now cause = subst (λ (z : ℕ × ℕ). HasCause z.0 z.1 r) (λ i. (same_before i, same_now i)) cause
@@ -121,9 +121,9 @@ module _ {D : Type 0} {ghosts : Ghosts D} where
   count_cause olds news old new later (Ok x) cause =
       let before = in_two olds old later in
       let now = in_two news new later in
-      record { later = omega (arith, cause.later, before, now); failed = tt; worked = omega (arith, cause.worked, before, now) }
+      record { later = omega (arith, cause.later, before, now); once = omega (arith, cause.once, before, now); failed = tt; worked = omega (arith, cause.worked, before, now) }
   count_cause olds news old new later (Err e) cause =
       let before = in_two olds old later in
       let now = in_two news new later in
       let rose : Rose (faults_in (olds ++ old ∷ [])) (faults_in (news ++ new ∷ [])) = cause.failed in
-      record { later = omega (arith, cause.later, before, now); failed = omega (arith, cause.later, rose, before, now); worked = tt }
+      record { later = omega (arith, cause.later, before, now); once = omega (arith, cause.once, before, now); failed = omega (arith, cause.later, rose, before, now); worked = tt }

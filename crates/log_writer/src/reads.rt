@@ -1,6 +1,6 @@
 //! Reads of one of several logs.
 
-ghost use Rattle.std.specs.Prelude.{◌≡◌, ◌+◌, ◌^◌, ◌<◌, ◌≤◌, [], ◌∷◌, ◌++◌, length, map, IfOk, IfSome};
+ghost use Rattle.std.specs.Prelude.{◌≡◌, ◌+◌, ◌^◌, ◌<◌, ◌≤◌, [], ◌∷◌, ◌++◌, length, drop, map, IfOk, IfSome};
 ghost use Rattle.std.specs.List.{AllZip};
 ghost use Rattle.base_devices.specs.Disk.{BytesAt};
 ghost use Rattle.base_devices.specs.Faults.{HasCause};
@@ -21,6 +21,7 @@ pub(crate) fn read_in<D: Disk>(
 ) -> Result<usize, Failed>
     ensures bytes { IfSome (held_at (full.old ++ current.old ∷ []) which) (λ file. BytesAt file at buf.new result) }
     ensures at_most { IfOk result (λ n. n ≤ length buf.new) }
+    ensures rest { IfOk result (λ n. drop n buf.new ≡ drop n buf.old) }
     ensures small { IfOk result (λ n. 0 < n → at + n < 2 ^ 63) }
     ensures full { AllZip WasRead full.old full.new }
     ensures current { WasRead current.old current.new }
@@ -45,6 +46,7 @@ fn read_current<D: Disk>(
 ) -> Result<usize, Failed>
     ensures bytes { IfSome (held_at (current.old ∷ []) which) (λ file. BytesAt file at buf.new result) }
     ensures at_most { IfOk result (λ n. n ≤ length buf.new) }
+    ensures rest { IfOk result (λ n. drop n buf.new ≡ drop n buf.old) }
     ensures small { IfOk result (λ n. 0 < n → at + n < 2 ^ 63) }
     ensures current { WasRead current.old current.new }
     ensures cause { HasCause (D.faults (disk_of current.old)) (D.faults (disk_of current.new)) result }

@@ -9,7 +9,7 @@ use Rattle.model_base.specs.Recovery.{Logged}
 use Rattle.model_base.specs.Settings.{with_kept}
 use Rattle.model_base.specs.Trace.{Trace, Settings}
 use Rattle.model_base.proofs.Kept.{transcript_with}
-use Rattle.model_base.specs.Groups.{Group, AreStatuses}
+use Rattle.model_base.specs.Groups.{Group}
 use Rattle.model_base.specs.Calls.{Command, Call}
 use Rattle.model_base.specs.Outcomes.{entries_of_client, outcome_of, IsLegalTranscript, IsLegalIn, AreOwnFaults, read_faults_of, read_faults_in}
 use Rattle.model_accounts.specs.Accounts.{Account}
@@ -17,16 +17,16 @@ use Rattle.model_accounts.specs.Closing.{all_attempts, all_read_faults, IsAccoun
 use Rattle.model_accounts.specs.ClientRuns.{HasRun, HaveRun}
 
 -- one client's run is legal in the trace of which its account is a part
-transcript_closes : (settings : Settings) (kept : Option (List Logged)) (trace : Trace) (groups : List Group) (parts : List (List Entry)) (fault : Option ℕ) (client : ℕ) (commands : List Command) (calls : List Call) (a : Account)
-    → IsHistory trace.start trace.entries → IsAccountOf trace groups parts fault a → HasRun settings client commands calls a
-    → IsLegalTranscript (with_kept kept settings) trace groups fault client commands calls a.attempts
-transcript_closes settings kept trace groups parts fault client commands calls a is_history part run = record {
+transcript_closes : (settings : Settings) (kept : Option (List Logged)) (trace : Trace) (parts : List (List Entry)) (fault : Option ℕ) (client : ℕ) (commands : List Command) (calls : List Call) (a : Account)
+    → IsHistory trace.start trace.entries → IsAccountOf trace parts fault a → HasRun settings client commands calls a
+    → IsLegalTranscript (with_kept kept settings) trace fault client commands calls a.attempts
+transcript_closes settings kept trace parts fault client commands calls a is_history part run = record {
   end = run.end;
   is_transcript = transcript_with kept settings trace client commands calls run.end (run.is_transcript trace is_history part.seen);
   accepted = ap (λ n. entries_of_client n trace.entries) (sym run.number) ∙ (part.accepted ∙ run.mine);
   tokens = ap (λ n. tokens_of n trace.controller_calls) (sym run.number) ∙ (part.tokens ∙ run.asked);
   commits = run.attempts;
-  statuses = subst (λ n. AreStatuses trace groups fault n 0 a.attempts) run.number part.statuses;
+  statuses = part.statuses;
 }
 
 -- the faults of all clients' reads are those of their transcripts
@@ -57,7 +57,7 @@ closing settings kept ended script transcripts accounts trace groups last log_le
           let a = at.0 in (
             a.attempts,
             slice_get-map (λ (x : Account). x.attempts) accounts i ∙ ap (option_map (λ (x : Account). x.attempts)) at.2,
-            transcript_closes settings kept trace groups close.parts fault (i + 1) commands calls a close.is_trace.entries (close.each i a at.2) (runs.each i commands calls a in_script in_transcripts at.2),
+            transcript_closes settings kept trace close.parts fault (i + 1) commands calls a close.is_trace.entries (close.each i a at.2) (runs.each i commands calls a in_script in_transcripts at.2),
           ))
       | inr none ↦ absurd (none_left i commands in_script none)
     ];

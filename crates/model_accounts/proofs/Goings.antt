@@ -1,7 +1,8 @@
 -- Each call, by what it says of its client, is a step of the client, in each trace of which the client may have seen
 -- what it has seen.
-use Rattle.std.proofs.Common.{◌≡◌, ◌⊎◌, inl, inr, ℕ, ◌+◌, ◌≤◌, Bool, true, false, if◌then◌else◌, Option, Some, None, List, [], ◌∷◌, ◌++◌, length, map, max, MatchOption, refl, ap, sym, ◌∙◌, subst, arith, append-nil}
+use Rattle.std.proofs.Common.{◌≡◌, ◌⊎◌, inl, inr, ℕ, ◌+◌, ◌≤◌, Bool, true, false, if◌then◌else◌, Option, Some, None, List, [], ◌∷◌, ◌++◌, length, map, max, take, MatchOption, refl, ap, sym, ◌∙◌, subst, arith, append-nil}
 use Rattle.std.proofs.lemmas.Option.{slice_get_cases}
+use Rattle.std.proofs.Math.Seq.{take-length}
 use Rattle.model_base.specs.declared.write.WriteOptions.{WriteOptions}
 use Rattle.model_base.specs.declared.write.Refusal.{Refusal}
 use Rattle.model_base.specs.declared.write.Refusal.TheVariants.{Empty, TooLarge, SyncWithoutLog, SelfStop, NoMemory, NoFamily}
@@ -11,7 +12,7 @@ use Rattle.model_base.specs.Map.{Pairs, Rows, value_at, rows_within}
 use Rattle.model_base.specs.History.{Entry}
 use Rattle.model_base.specs.Controller as controller
 use Rattle.model_base.specs.Controller.{ControllerCall, Action}
-use Rattle.model_base.specs.Tokens.{holds_stop, holds_slow}
+use Rattle.model_base.specs.Tokens.{tokens_of, holds_stop, holds_slow}
 use Rattle.model_base.specs.Trace.{Trace, Settings}
 use Rattle.model_base.specs.Attempts.{Attempt}
 use Rattle.std.specs.List.{AllByRecursion}
@@ -20,16 +21,17 @@ use Rattle.model_base.specs.Outcomes.{read_fault_of}
 use Rattle.model_base.specs.Progress.{Progress, families_in, first_missing, early_refusal}
 use Rattle.model_base.specs.Replies.{IsAttempted, IsLogRead, ReadsAt, Gets, GetsMany, Scans, IfThere, Replies, Stays, IsDone}
 use Rattle.model_base.specs.Calls.{Command, add, clear, commit, get, many, scan, updates, stop, unstop, slow, unslow, Reply, quiet, accepted, refused, found, found_each, rows, updates_found, read_failed, done, held, not_held}
-use Rattle.model_base.proofs.Prefixes.{prefix_length}
+use Rattle.model_base.specs.LogContents.{IsLoggedBy}
+use Rattle.model_base.proofs.Prefixes.{prefix_length, prefix_take}
 use Rattle.model_base.proofs.Runs.{later_in, refuse_in}
-use Rattle.model_accounts.specs.Sights.{last_seen, Sees, InEachTrace}
-use Rattle.model_accounts.specs.Accounts.{Account, progress_at, Keeps, Wrote, IsRefused, Refuses, Reads, ReadsLog, FailsToRead, Asks}
+use Rattle.model_accounts.specs.Sights.{WasLogged, last_seen, Sees, Saw, InEachTrace}
+use Rattle.model_accounts.specs.Accounts.{Account, progress_at, KnowsOwnTokens, Keeps, IsLogged, Wrote, IsRefused, Refuses, Reads, ReadsLog, FailsToRead, Asks}
 use Rattle.model_accounts.specs.ClientRuns.{Goes, Lacks}
 use Rattle.model_accounts.proofs.Seeing.{sees_self, last_rises, seen_ends, seen_map}
 
 -- a progress, given by its parts
 stands_by : (w : Account) (pending : List Record) (seen_up_to : ℕ) (mine : List Entry) (asked : List Action) (attempts : List Attempt) → w.mine ≡ mine → w.asked ≡ asked → w.attempts ≡ attempts
-    → progress_at w pending seen_up_to ≡ record { pending = pending; mine = mine; asked = asked; attempts = attempts; seen_up_to = seen_up_to; known = length w.seen.controller_calls }
+    → progress_at w pending seen_up_to ≡ record { pending = pending; mine = mine; asked = asked; attempts = attempts; seen_up_to = seen_up_to; known = length w.seen.controller_calls; logged = w.seen.logged }
 stands_by w pending seen_up_to mine asked attempts m a h = rw (m, a, h) refl
 
 stays : (v w : Account) → Keeps v w → (pending : List Record) (seen_up_to : ℕ) → Stays (progress_at v pending seen_up_to) (progress_at w pending seen_up_to)
@@ -43,14 +45,15 @@ no_more : (v w : Account) → w.read_faults ≡ v.read_faults → w.read_faults 
 no_more v w same = none_more v w [] refl same
 
 -- a step, from the replies that may come
-goes_by : (settings : Settings) (v : Account) (before : List Record) (command : Command) (reply : Reply) (w : Account) (after : List Record) → w.number ≡ v.number → w.read_faults ≡ v.read_faults ++ read_fault_of reply → Sees v.seen w.seen
+goes_by : (settings : Settings) (v : Account) (before : List Record) (command : Command) (reply : Reply) (w : Account) (after : List Record) → w.number ≡ v.number → w.read_faults ≡ v.read_faults ++ read_fault_of reply → Sees v.seen w.seen → KnowsOwnTokens w
     → ((shown : ℕ) → shown ≤ last_seen v.seen → (seen_up_to : ℕ) × (seen_up_to ≤ last_seen w.seen)
     × InEachTrace w.seen (λ trace. Replies settings trace v.number (progress_at v before shown) command reply (progress_at w after seen_up_to)))
     → Goes settings v before command reply w after
-goes_by settings v before command reply w after number faults seen right = record {
+goes_by settings v before command reply w after number faults seen tokens right = record {
   number = number;
   read_faults = faults;
   seen = seen;
+  tokens = tokens;
   step = λ shown low. (
       let r = right shown low in (
         r.0,
@@ -59,16 +62,32 @@ goes_by settings v before command reply w after number faults seen right = recor
           replies = r.2 trace is_history saw;
           rises = prefix_length v.seen.controller_calls w.seen.controller_calls seen.controller_calls;
           within = prefix_length w.seen.controller_calls trace.controller_calls saw.controller_calls;
+          tokens = known_tokens trace saw ∙ ap (λ n. tokens_of n w.seen.controller_calls) (sym number) ∙ tokens;
+          logs_rise = seen.logged;
+          logs_within = saw.logged;
         },
       ));
 }
+  where
+    -- what the client knows of the controller is what it has seen of it
+    known_tokens : (trace : Trace) → Saw w.seen trace → tokens_of v.number (take (length w.seen.controller_calls) trace.controller_calls) ≡ tokens_of v.number w.seen.controller_calls
+    known_tokens trace saw = ap (tokens_of v.number) (prefix_take w.seen.controller_calls trace.controller_calls saw.controller_calls (length w.seen.controller_calls) (omega arith) ∙ take-length w.seen.controller_calls)
+
+-- what holds of all elements holds of the last one
+at_end : {A : Type 0} (P : A → Type 0) (xs : List A) (x : A) → AllByRecursion P (xs ++ x ∷ []) → P x
+at_end P [] x all = all.0
+at_end P (y ∷ xs) x all = at_end P xs x all.1
+
+-- one of the trace's calls wrote the batch
+logged_by : (v w : Account) (records : List Record) (sync : Bool) (first : ℕ) → IsLogged v w records sync first → (trace : Trace) → Saw w.seen trace → IsLoggedBy trace.log_calls v.seen.logged w.seen.logged first records sync
+logged_by v w records sync first is trace saw = at_end (WasLogged trace.log_calls) v.seen.batches _ (subst (AllByRecursion (WasLogged trace.log_calls)) is saw.batches)
 
 module _ (settings : Settings) (v : Account) (pending : List Record) where
-  pub goes_add : (r : Record) → Goes settings v pending (add r) quiet v (pending ++ r ∷ [])
-  goes_add r = goes_by settings v pending (add r) quiet v (pending ++ r ∷ []) refl (sym (append-nil v.read_faults)) (sees_self v.seen) (λ shown low. (shown, low, λ trace is_history saw. refl))
+  pub goes_add : (r : Record) → KnowsOwnTokens v → Goes settings v pending (add r) quiet v (pending ++ r ∷ [])
+  goes_add r tokens = goes_by settings v pending (add r) quiet v (pending ++ r ∷ []) refl (sym (append-nil v.read_faults)) (sees_self v.seen) tokens (λ shown low. (shown, low, λ trace is_history saw. refl))
 
-  pub goes_clear : Goes settings v pending clear quiet v []
-  goes_clear = goes_by settings v pending clear quiet v [] refl (sym (append-nil v.read_faults)) (sees_self v.seen) (λ shown low. (shown, low, λ trace is_history saw. refl))
+  pub goes_clear : KnowsOwnTokens v → Goes settings v pending clear quiet v []
+  goes_clear tokens = goes_by settings v pending clear quiet v [] refl (sym (append-nil v.read_faults)) (sees_self v.seen) tokens (λ shown low. (shown, low, λ trace is_history saw. refl))
 
   -- a commit that may be refused at once: `early` is that refusal, if there is one
   abbrev Committed : Trace → WriteOptions → Reply → Progress → Progress → Option Refusal → Type 0
@@ -78,7 +97,7 @@ module _ (settings : Settings) (v : Account) (pending : List Record) where
       → Goes settings v pending (commit how) (accepted first last pending) w []
   goes_accepted how first last group_last w run wrote =
       let rises = last_rises v.seen w.seen wrote.seen in
-      goes_by settings v pending (commit how) (accepted first last pending) w [] wrote.number (no_more v w wrote.read_faults) wrote.seen (λ shown low. (
+      goes_by settings v pending (commit how) (accepted first last pending) w [] wrote.number (no_more v w wrote.read_faults) wrote.seen wrote.tokens (λ shown low. (
         max shown last,
         (let b = wrote.within in let c = wrote.reached in omega (arith, rises, low, b, c, run)),
         λ trace is_history saw. subst (Committed trace how (accepted first last pending) (progress_at v pending shown) (progress_at w [] (max shown last))) (sym wrote.passed) (record {
@@ -88,6 +107,9 @@ module _ (settings : Settings) (v : Account) (pending : List Record) where
           behind = wrote.behind;
           alive = wrote.alive;
           free = wrote.free;
+          place = wrote.place;
+          asked = wrote.within_call;
+          logged = λ to_log. logged_by v w pending how.sync first (wrote.logged to_log) trace saw;
           after = stands_by w [] (max shown last) _ _ _ wrote.mine wrote.asked wrote.attempts;
         }),
       ))
@@ -100,19 +122,20 @@ module _ (settings : Settings) (v : Account) (pending : List Record) where
       by_check None e (inl short) = absurd (other short.0)
       by_check None e (inr r) =
           let rises = last_rises v.seen w.seen r.seen in
-          goes_by settings v pending (commit how) (refused why) w pending r.number (no_more v w r.read_faults) r.seen (λ shown low. (
+          goes_by settings v pending (commit how) (refused why) w pending r.number (no_more v w r.read_faults) r.seen r.tokens (λ shown low. (
             shown,
             omega (arith, rises, low),
             λ trace is_history saw. subst (Committed trace how (refused why) (progress_at v pending shown) (progress_at w pending shown)) (sym e) (
-              r.status,
-              refuse_in w.seen.controller_calls trace.controller_calls saw.controller_calls v.number (progress_at v pending (last_seen v.seen)) shown (length w.seen.controller_calls) low how why r.status r.may,
+              r.fate,
+              refuse_in w.seen.controller_calls trace.controller_calls saw.controller_calls v.number (progress_at v pending (last_seen v.seen)) shown (length w.seen.controller_calls) low how why r.fate r.may,
               stands_by w pending shown _ _ _ r.mine r.asked r.attempts,
               r.kept_out,
+              r.within_call,
             ),
           ))
       by_check (Some early) e s =
           let rises = last_rises v.seen w.seen s.1.seen in
-          goes_by settings v pending (commit how) (refused why) w pending s.1.number (no_more v w s.1.read_faults) s.1.seen (λ shown low. (
+          goes_by settings v pending (commit how) (refused why) w pending s.1.number (no_more v w s.1.read_faults) s.1.seen s.1.tokens (λ shown low. (
             shown,
             omega (arith, rises, low),
             λ trace is_history saw. subst (Committed trace how (refused why) (progress_at v pending shown) (progress_at w pending shown)) (sym e) (ap refused s.0, stays v w s.1 pending shown),
@@ -133,7 +156,7 @@ module _ (settings : Settings) (v : Account) (pending : List Record) where
   read_on : (c : Command) (reply : Reply) (w : Account) (at : ℕ) (answers : Pairs → Type 0) → read_fault_of reply ≡ [] → Keeps v w → Reads at answers w
       → ((trace : Trace) (shown : ℕ) → ReadsAt trace (progress_at v pending shown) at answers (progress_at w pending at) → Replies settings trace v.number (progress_at v pending shown) c reply (progress_at w pending at))
       → Goes settings v pending c reply w pending
-  read_on c reply w at answers none k r right = goes_by settings v pending c reply w pending k.number (none_more v w (read_fault_of reply) none k.read_faults) k.seen (λ shown low. (
+  read_on c reply w at answers none k r right = goes_by settings v pending c reply w pending k.number (none_more v w (read_fault_of reply) none k.read_faults) k.seen k.tokens (λ shown low. (
     at,
     (let is = r.at_is in omega (arith, is)),
     λ trace is_history saw. right trace shown (reads_end w at answers k r shown low trace is_history saw),
@@ -162,7 +185,7 @@ module _ (settings : Settings) (v : Account) (pending : List Record) where
   read_refused : (c : Command) (named : List ℕ) (family : ℕ) (w : Account) (answered : Trace → Progress → Progress → Type 0) → first_missing settings.families named ≡ Some family → Keeps v w
       → ((trace : Trace) (p q : Progress) → IfThere settings named p (refused (NoFamily family)) q (answered trace p q) → Replies settings trace v.number p c (refused (NoFamily family)) q)
       → Goes settings v pending c (refused (NoFamily family)) w pending
-  read_refused c named family w answered missing k right = goes_by settings v pending c (refused (NoFamily family)) w pending k.number (no_more v w k.read_faults) k.seen (λ shown low. (
+  read_refused c named family w answered missing k right = goes_by settings v pending c (refused (NoFamily family)) w pending k.number (no_more v w k.read_faults) k.seen k.tokens (λ shown low. (
     shown,
     (let rises = last_rises v.seen w.seen k.seen in omega (arith, rises, low)),
     λ trace is_history saw. right trace (progress_at v pending shown) (progress_at w pending shown)
@@ -191,43 +214,38 @@ module _ (settings : Settings) (v : Account) (pending : List Record) where
   }
 
   -- the client called the controller, or changed nothing, and was shown no more
-  asked_on : (c : Command) (r : Reply) (w : Account) → w.number ≡ v.number → w.read_faults ≡ v.read_faults ++ read_fault_of r → Sees v.seen w.seen
+  asked_on : (c : Command) (r : Reply) (w : Account) → w.number ≡ v.number → w.read_faults ≡ v.read_faults ++ read_fault_of r → Sees v.seen w.seen → KnowsOwnTokens w
       → ((shown : ℕ) → InEachTrace w.seen (λ trace. Replies settings trace v.number (progress_at v pending shown) c r (progress_at w pending shown))) → Goes settings v pending c r w pending
-  asked_on c r w number faults seen right = goes_by settings v pending c r w pending number faults seen (λ shown low. (shown, (let rises = last_rises v.seen w.seen seen in omega (arith, rises, low)), right shown))
+  asked_on c r w number faults seen tokens right = goes_by settings v pending c r w pending number faults seen tokens (λ shown low. (shown, (let rises = last_rises v.seen w.seen seen in omega (arith, rises, low)), right shown))
 
   pub goes_stop : (w : Account) → holds_stop v.asked ≡ false → Asks v controller.stop w → Goes settings v pending stop done w pending
-  goes_stop w h k = asked_on stop done w k.number (no_more v w k.read_faults) k.seen (λ shown trace is_history saw. (h, asks_done controller.stop w k shown trace is_history saw))
+  goes_stop w h k = asked_on stop done w k.number (no_more v w k.read_faults) k.seen k.tokens (λ shown trace is_history saw. (h, asks_done controller.stop w k shown trace is_history saw))
 
   pub goes_stop_held : (w : Account) → holds_stop v.asked ≡ true → Keeps v w → Goes settings v pending stop held w pending
-  goes_stop_held w h k = asked_on stop held w k.number (no_more v w k.read_faults) k.seen (λ shown trace is_history saw. (h, stays v w k pending shown))
+  goes_stop_held w h k = asked_on stop held w k.number (no_more v w k.read_faults) k.seen k.tokens (λ shown trace is_history saw. (h, stays v w k pending shown))
 
   pub goes_unstop : (w : Account) → holds_stop v.asked ≡ true → Asks v controller.unstop w → Goes settings v pending unstop done w pending
-  goes_unstop w h k = asked_on unstop done w k.number (no_more v w k.read_faults) k.seen (λ shown trace is_history saw. (h, asks_done controller.unstop w k shown trace is_history saw))
+  goes_unstop w h k = asked_on unstop done w k.number (no_more v w k.read_faults) k.seen k.tokens (λ shown trace is_history saw. (h, asks_done controller.unstop w k shown trace is_history saw))
 
   pub goes_unstop_not_held : (w : Account) → holds_stop v.asked ≡ false → Keeps v w → Goes settings v pending unstop not_held w pending
-  goes_unstop_not_held w h k = asked_on unstop not_held w k.number (no_more v w k.read_faults) k.seen (λ shown trace is_history saw. (h, stays v w k pending shown))
+  goes_unstop_not_held w h k = asked_on unstop not_held w k.number (no_more v w k.read_faults) k.seen k.tokens (λ shown trace is_history saw. (h, stays v w k pending shown))
 
   pub goes_slow : (rate : ℕ) (w : Account) → holds_slow v.asked ≡ false → Asks v (controller.slow rate) w → Goes settings v pending (slow rate) done w pending
-  goes_slow rate w h k = asked_on (slow rate) done w k.number (no_more v w k.read_faults) k.seen (λ shown trace is_history saw. (h, asks_done (controller.slow rate) w k shown trace is_history saw))
+  goes_slow rate w h k = asked_on (slow rate) done w k.number (no_more v w k.read_faults) k.seen k.tokens (λ shown trace is_history saw. (h, asks_done (controller.slow rate) w k shown trace is_history saw))
 
   pub goes_slow_held : (rate : ℕ) (w : Account) → holds_slow v.asked ≡ true → Keeps v w → Goes settings v pending (slow rate) held w pending
-  goes_slow_held rate w h k = asked_on (slow rate) held w k.number (no_more v w k.read_faults) k.seen (λ shown trace is_history saw. (h, stays v w k pending shown))
+  goes_slow_held rate w h k = asked_on (slow rate) held w k.number (no_more v w k.read_faults) k.seen k.tokens (λ shown trace is_history saw. (h, stays v w k pending shown))
 
   pub goes_unslow : (w : Account) → holds_slow v.asked ≡ true → Asks v controller.unslow w → Goes settings v pending unslow done w pending
-  goes_unslow w h k = asked_on unslow done w k.number (no_more v w k.read_faults) k.seen (λ shown trace is_history saw. (h, asks_done controller.unslow w k shown trace is_history saw))
+  goes_unslow w h k = asked_on unslow done w k.number (no_more v w k.read_faults) k.seen k.tokens (λ shown trace is_history saw. (h, asks_done controller.unslow w k shown trace is_history saw))
 
   pub goes_unslow_not_held : (w : Account) → holds_slow v.asked ≡ false → Keeps v w → Goes settings v pending unslow not_held w pending
-  goes_unslow_not_held w h k = asked_on unslow not_held w k.number (no_more v w k.read_faults) k.seen (λ shown trace is_history saw. (h, stays v w k pending shown))
+  goes_unslow_not_held w h k = asked_on unslow not_held w k.number (no_more v w k.read_faults) k.seen k.tokens (λ shown trace is_history saw. (h, stays v w k pending shown))
 
   -- A read of the log
 
-  -- what holds of all elements holds of the last one
-  at_end : {A : Type 0} (P : A → Type 0) (xs : List A) (x : A) → AllByRecursion P (xs ++ x ∷ []) → P x
-  at_end P [] x all = all.0
-  at_end P (y ∷ xs) x all = at_end P xs x all.1
-
   pub goes_updates : (s at : ℕ) (records : List (List ℕ)) (w : Account) → holds_stop v.asked ≡ false → ReadsLog v s at records w → Goes settings v pending (updates s) (updates_found at records) w pending
-  goes_updates s at records w free k = goes_by settings v pending (updates s) (updates_found at records) w pending k.number (no_more v w k.read_faults) k.seen (λ shown low. (
+  goes_updates s at records w free k = goes_by settings v pending (updates s) (updates_found at records) w pending k.number (no_more v w k.read_faults) k.seen k.tokens (λ shown low. (
     at,
     (let is = k.at_is in omega (arith, is)),
     λ trace is_history saw. (
@@ -247,10 +265,10 @@ module _ (settings : Settings) (v : Account) (pending : List Record) where
 
   pub goes_read_failed : (s count : ℕ) (w : Account) → holds_stop v.asked ≡ false → FailsToRead settings v count w → Goes settings v pending (updates s) (read_failed count) w pending
   goes_read_failed s count w free k =
-      asked_on (updates s) (read_failed count) w k.number k.read_faults k.seen (λ shown trace is_history saw. (free, k.rose, stands_by w pending shown _ _ _ k.mine k.asked k.attempts))
+      asked_on (updates s) (read_failed count) w k.number k.read_faults k.seen k.tokens (λ shown trace is_history saw. (free, k.rose, stands_by w pending shown _ _ _ k.mine k.asked k.attempts))
 
   pub goes_updates_refused : (s : ℕ) (w : Account) → holds_stop v.asked ≡ true → Keeps v w → Goes settings v pending (updates s) (refused SelfStop) w pending
-  goes_updates_refused s w h k = asked_on (updates s) (refused SelfStop) w k.number (no_more v w k.read_faults) k.seen (λ shown trace is_history saw. (refl, h, stays v w k pending shown))
+  goes_updates_refused s w h k = asked_on (updates s) (refused SelfStop) w k.number (no_more v w k.read_faults) k.seen k.tokens (λ shown trace is_history saw. (refl, h, stays v w k pending shown))
 
   pub lacks_updates : (s : ℕ) (w : Account) → holds_stop v.asked ≡ false → Keeps v w → Lacks settings v pending (updates s) w
   lacks_updates s w free k = record { keeps = k; may = λ shown. free }

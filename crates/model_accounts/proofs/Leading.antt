@@ -4,7 +4,7 @@ use Rattle.std.specs.List.{AllByRecursion, AllZip}
 use Rattle.std.proofs.lemmas.Option.{slice_get_cases}
 use Rattle.std.proofs.lemmas.List.{append-nil, length-map}
 use Rattle.model_base.specs.Controller.{ControllerCall}
-use Rattle.model_base.specs.Attempts.{Attempt, WriteStatus, slowed, item_of}
+use Rattle.model_base.specs.Attempts.{Attempt, WriteStatus, item_of}
 use Rattle.model_base.specs.Groups.{Member, Group, IsAskedFor, IsCommit, AreOfOthers, AreApart, AreAllApart, AreGroups, HaveOneFate, HasOneFate, Holds, items_of, members_of}
 use Rattle.model_runs.specs.Groups.{CallsRise}
 use Rattle.model_accounts.specs.Led.{Taken, Led, HaveOwnClients, items_in, all_taken, is_of, count_of_client, attempts_of, members_after, groups_after, groups_of, IsLed, AreLed}
@@ -128,13 +128,13 @@ module _ (attempts : List (List Attempt)) (all : List Taken) (of_client : (i : �
   abbrev AreOfClients : List Taken → Type 0
   AreOfClients ts = AllByRecursion (λ (t : Taken). (1 ≤ t.client) × (t.client ≤ length attempts)) ts
 
-  abbrev HasStatus : (m : Member) → IsCommit attempts m → WriteStatus → Type 0
-  HasStatus m c status = c.attempt.status ≡ status
+  abbrev IsTaken : (m : Member) → IsCommit attempts m → Taken → Type 0
+  IsTaken m c t = c.attempt ≡ t.attempt
 
-  statuses_after : (before ts after : List Taken) → before ++ (ts ++ after) ≡ all → AreOfClients ts
-      → AllZip (λ (m : Member) status. (c : IsCommit attempts m) × HasStatus m c status) (members_after before ts) (map (λ (t : Taken). t.attempt.status) ts)
-  statuses_after before [] after split h = tt
-  statuses_after before (t ∷ ts) after split h = (
+  commits_after : (before ts after : List Taken) → before ++ (ts ++ after) ≡ all → AreOfClients ts
+      → AllZip (λ (m : Member) (t : Taken). (c : IsCommit attempts m) × IsTaken m c t) (members_after before ts) ts
+  commits_after before [] after split h = tt
+  commits_after before (t ∷ ts) after split h = (
     elim (slice_get_cases attempts (t.client - 1)).1 [
       | inl there ↦ (
           let number : t.client ≡ (t.client - 1) + 1 = (let a = h.0.0 in omega arith) in
@@ -153,24 +153,34 @@ module _ (attempts : List (List Attempt)) (all : List Taken) (of_client : (i : �
           ))
       | inr gone ↦ (let a = h.0.0 in let b = h.0.1 in let c = gone.0 in absurd (omega arith))
     ],
-    statuses_after (before ++ t ∷ []) ts after (append_assoc before (t ∷ []) (ts ++ after) ∙ split) h.1,
+    commits_after (before ++ t ∷ []) ts after (append_assoc before (t ∷ []) (ts ++ after) ∙ split) h.1,
   )
+
+  -- the members of a group whose delay is at this place
+  fates_of : (place : ℕ) (ms : List Member) (ts : List Taken) → AllZip (λ (m : Member) (t : Taken). (c : IsCommit attempts m) × IsTaken m c t) ms ts → AllByRecursion (λ (t : Taken). t.attempt.place ≡ place) ts
+      → AllZip (λ (m : Member) status. (c : IsCommit attempts m) × (c.attempt.status ≡ status) × (c.attempt.place ≡ place)) ms (map (λ (t : Taken). t.attempt.status) ts)
+  fates_of place [] [] zip same = tt
+  fates_of place [] (t ∷ ts) zip same = absurd zip
+  fates_of place (m ∷ ms) [] zip same = absurd zip
+  fates_of place (m ∷ ms) (t ∷ ts) zip same =
+      ((zip.0.0, ap (λ (h : Attempt). h.status) zip.0.1, ap (λ (h : Attempt). h.place) zip.0.1 ∙ same.0), fates_of place ms ts zip.1 same.1)
 
   -- each group goes on or is refused as a whole, by the statuses of its commits
   together_after : (controller_calls : List ControllerCall) (groups : List Group) (before : List Taken) (led : List Led) → before ++ all_taken led ≡ all → AreOfClients (all_taken led)
+      → AllByRecursion (λ (g : Led). AllByRecursion (λ (t : Taken). t.attempt.place ≡ g.place) g.commits) led
       → AllByRecursion (λ (g : Led). HaveOneFate controller_calls (map (λ (h : Group). h.place) groups) g.place (items_in g.commits) (map (λ (t : Taken). t.attempt.status) g.commits)) led
       → AllByRecursion (HasOneFate controller_calls groups attempts) (groups_after before led)
-  together_after controller_calls groups before [] split clients h = tt
-  together_after controller_calls groups before (g ∷ led) split clients h = (
+  together_after controller_calls groups before [] split clients places h = tt
+  together_after controller_calls groups before (g ∷ led) split clients places h = (
     record {
       statuses = map (λ (t : Taken). t.attempt.status) g.commits;
-      are = statuses_after before g.commits (all_taken led) split (all_left _ g.commits (all_taken led) clients);
+      are = fates_of g.place (members_after before g.commits) g.commits (commits_after before g.commits (all_taken led) split (all_left _ g.commits (all_taken led) clients)) places.0;
       together = rw (items_after before g.commits) h.0;
     },
-    together_after controller_calls groups (before ++ g.commits) led (append_assoc before g.commits (all_taken led) ∙ split) (all_right _ g.commits (all_taken led) clients) h.1,
+    together_after controller_calls groups (before ++ g.commits) led (append_assoc before g.commits (all_taken led) ∙ split) (all_right _ g.commits (all_taken led) clients) places.1 h.1,
   )
 
--- A client's commits are in the groups, and a slowed one is in the group whose delay slowed it
+-- A client's commits are in the groups, each in that of its own delay
 
 same_client : (a b : ℕ) → (a == b) ≡ true → a ≡ b
 same_client a b h = grind arith
@@ -253,26 +263,22 @@ stands client before (t ∷ ts) k h e = by_test (is_of client t) refl k e (λ j.
         let one : count_of_client client (t ∷ []) ≡ 0 = rw own refl in
         stands_later client before t ts k k h (omega (arith, more, one)) (later k rest)
 
--- One of these groups has a client's commit, and if the commit was slowed, that was by this group's delay
+-- the group of the commit's own delay has the commit
 abbrev HoldsIn : List Group → ℕ → ℕ → Attempt → Type 0
-HoldsIn groups client call h = (place : ℕ) × Holds groups place client call × ((told : ℕ) → h.status ≡ slowed told → told ≡ place)
+HoldsIn groups client call h = Holds groups h.place client call
 
 holds_later : (g : Group) (groups : List Group) (client k j : ℕ) (h : Attempt) → j ≡ k → HoldsIn groups client j h → HoldsIn (g ∷ groups) client k h
-holds_later g groups client k j h e (place, s, told) = (
-  place,
-  record {
-    at = suc s.at;
-    group = s.group;
-    of_place = s.of_place;
-    place_is = s.place_is;
-    among = s.among;
-    member = s.member;
-    there = s.there;
-    client_is = s.client_is;
-    call_is = s.call_is ∙ e;
-  },
-  told,
-)
+holds_later g groups client k j h e s = record {
+  at = suc s.at;
+  group = s.group;
+  of_place = s.of_place;
+  place_is = s.place_is;
+  among = s.among;
+  member = s.member;
+  there = s.there;
+  client_is = s.client_is;
+  call_is = s.call_is ∙ e;
+}
 
 holds_after : (group_bytes : ℕ) (controller_calls : List ControllerCall) (client : ℕ) (h : Attempt) (before : List Taken) (led : List Led) (k : ℕ) → AllByRecursion (IsLed group_bytes controller_calls) led
     → slice_get (attempts_of client (all_taken led)) k ≡ Some h → HoldsIn (groups_after before led) client (count_of_client client before + k) h
@@ -281,21 +287,18 @@ holds_after group_bytes controller_calls client h before (g ∷ led) k all e = e
   | inl here ↦ (
       let at : slice_get (attempts_of client g.commits) k ≡ Some h = sym (get_left (attempts_of client g.commits) (attempts_of client (all_taken led)) k here.1) ∙ joined in
       let s = stands client before g.commits k h at in
-      let slowed_at = all_at _ g.commits s.at s.taken all.0.slowed_here s.there in (
-        g.place,
-        record {
-          at = 0;
-          group = record { place = g.place; members = members_after before g.commits };
-          of_place = refl;
-          place_is = refl;
-          among = s.at;
-          member = s.member;
-          there = s.member_there;
-          client_is = s.client_is;
-          call_is = s.call_is;
-        },
-        λ told status. slowed_at told (ap (λ (x : Attempt). x.status) s.is ∙ status),
-      ))
+      let placed = all_at _ g.commits s.at s.taken all.0.places s.there in
+      record {
+        at = 0;
+        group = record { place = g.place; members = members_after before g.commits };
+        of_place = refl;
+        place_is = sym placed ∙ ap (λ (x : Attempt). x.place) s.is;
+        among = s.at;
+        member = s.member;
+        there = s.member_there;
+        client_is = s.client_is;
+        call_is = s.call_is;
+      })
   | inr gone ↦ (
       let n = length (attempts_of client g.commits) in
       let past = gone.0 in
@@ -317,21 +320,20 @@ module _ (group_bytes : ℕ) (controller_calls : List ControllerCall) (led : Lis
       let zero_more : 0 + k ≡ k = omega arith in
       subst (λ n. HoldsIn (groups_of led) (i + 1) n h) zero_more (holds_after group_bytes controller_calls (i + 1) h [] led k a.each e)
 
-  pub slowed_holds : (i : ℕ) (own : List Attempt) (k : ℕ) (h : Attempt) (place : ℕ) → slice_get attempts i ≡ Some own → slice_get own k ≡ Some h → h.status ≡ slowed place → Holds (groups_of led) place (i + 1) k
-  slowed_holds i own k h place of there status =
-      let s = holds i own k h of there in
-      subst (λ n. Holds (groups_of led) n (i + 1) k) (sym (s.2 place status)) s.1
-
   pub groups_from_led : AreGroups group_bytes controller_calls (groups_of led) attempts
   groups_from_led = record {
     each = asked_after group_bytes controller_calls [] led a.each;
     all = a.all;
     places = a.places;
-    commits = rw (members_of_groups [] led) (left_of_zip (IsCommit attempts) (HasStatus attempts all a.of_client) _ _ (statuses_after attempts all a.of_client [] all [] (append-nil all) a.clients));
+    commits = rw (members_of_groups [] led) (left_of_zip (IsCommit attempts) (IsTaken attempts all a.of_client) _ _ (commits_after attempts all a.of_client [] all [] (append-nil all) a.clients));
     apart = all_apart (members_of (groups_of led)) (led_in_turn led);
-    none_else = λ i own k h of there. (let s = holds i own k h of there in (s.0, s.1));
-    together = together_after attempts all a.of_client controller_calls (groups_of led) [] led refl a.clients (rw (same_places [] led) a.together);
+    none_else = holds;
+    together = together_after attempts all a.of_client controller_calls (groups_of led) [] led refl a.clients (all_places led a.each) (rw (same_places [] led) a.together);
   }
     where
       all : List Taken
       all = all_taken led
+
+      all_places : (led : List Led) → AllByRecursion (IsLed group_bytes controller_calls) led → AllByRecursion (λ (g : Led). AllByRecursion (λ (t : Taken). t.attempt.place ≡ g.place) g.commits) led
+      all_places [] each = tt
+      all_places (g ∷ led) each = (each.0.places, all_places led each.1)

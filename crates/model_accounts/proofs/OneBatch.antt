@@ -9,19 +9,22 @@ use Rattle.model_base.specs.Groups.{IsCommit, Holds, AreGroups}
 use Rattle.model_base.specs.Calls.{Command, add, commit, Call, quiet, accepted}
 use Rattle.table_rule.specs.Histories.{made_by}
 use Rattle.model_accounts.specs.Versions.{versions_of_entry}
-use Rattle.model_accounts.specs.Sights.{Saw}
+use Rattle.model_accounts.specs.Sights.{WasLogged, Saw}
 use Rattle.model_accounts.specs.Accounts.{Account, Wrote, GivesBack}
 use Rattle.model_accounts.specs.Closing.{IsAccountOf, IsClosing}
 use Rattle.model_accounts.specs.ClientRuns.{HasRun, HaveRun}
-use Rattle.model_accounts.specs.Examples.{settings, two_records, plain, one_entry, one_delay, one_batch, one_attempt, one_group, first_version, second_version, sight_of, before, after, commands, calls}
+use Rattle.model_accounts.specs.Examples.{settings, two_records, plain, one_entry, one_delay, one_batch, one_write, one_logged, one_attempt, one_group, first_version, second_version, sight_of, before, after, commands, calls}
 use Rattle.model_accounts.proofs.Seeing.{sees_self}
 use Rattle.model_accounts.proofs.Goings.{goes_add, goes_accepted}
 use Rattle.model_accounts.proofs.Passing.{went_none, went_more, has_run}
 
 -- What can be seen
 
+in_log : WasLogged (one_write ∷ []) one_logged
+in_log = record { place = 0; call = one_write; there = refl; later = lit≤ tt; known = lit≤ tt; wrote = record { before = []; after = []; among = refl; run = refl; synced = λ sync. cc; ok = refl } }
+
 pub whole : Saw (sight_of (first_version ∷ second_version ∷ [])) one_batch
-whole = record { start = refl; opening = refl; entries = one_entry ∷ []; begins = ([], refl); groups = (one_entry ∷ [], [], refl, refl, refl); controller_calls = ([], refl); log_reads = tt }
+whole = record { start = refl; opening = refl; entries = one_entry ∷ []; begins = ([], refl); groups = (one_entry ∷ [], [], refl, refl, refl); controller_calls = ([], refl); log_reads = tt; logged = lit≤ tt; batches = (in_log, tt) }
 
 -- the first entries of a history of one entry make all of its versions, or none
 not_half : (first rest : List Entry) → first ++ rest ≡ one_entry ∷ [] → made_by versions_of_entry first ≡ first_version ∷ [] → ⊥
@@ -50,7 +53,11 @@ wrote = record {
   asked = refl;
   attempts = refl;
   read_faults = refl;
-  seen = record { start = refl; opening = refl; published = (after.seen.published, refl); controller_calls = (after.seen.controller_calls, refl); log_reads = ([], refl) };
+  seen = record { start = refl; opening = refl; published = (after.seen.published, refl); controller_calls = (after.seen.controller_calls, refl); log_reads = ([], refl); logged = lit≤ tt; batches = (after.seen.batches, refl) };
+  place = 0;
+  within_call = (lit≤ tt, lit≤ tt);
+  logged = λ to_log. refl;
+  tokens = refl;
   some = lit≤ tt;
   passed = refl;
   free = refl;
@@ -62,12 +69,12 @@ wrote = record {
 }
 
 gives_back : GivesBack after after
-gives_back = record { number = refl; mine = refl; ends = refl; asked = refl; attempts = refl; read_faults = refl; seen = sees_self after.seen }
+gives_back = record { number = refl; mine = refl; ends = refl; asked = refl; attempts = refl; read_faults = refl; seen = sees_self after.seen; tokens = refl }
 
 has_run_once : HasRun settings 1 commands calls after
 has_run_once =
-    let first = went_more settings [] before [] (add (value None (codes "a") (codes "1"))) quiet before _ (went_none settings 0 [] 1) (goes_add settings before [] (value None (codes "a") (codes "1"))) in
-    let second = went_more settings _ before _ (add (value None (codes "b") (codes "2"))) quiet before two_records first (goes_add settings before _ (value None (codes "b") (codes "2"))) in
+    let first = went_more settings [] before [] (add (value None (codes "a") (codes "1"))) quiet before _ (went_none settings 0 [] 1) (goes_add settings before [] (value None (codes "a") (codes "1")) refl) in
+    let second = went_more settings _ before _ (add (value None (codes "b") (codes "2"))) quiet before two_records first (goes_add settings before _ (value None (codes "b") (codes "2")) refl) in
     let third = went_more settings _ before two_records (commit plain) (accepted 1 2 two_records) after [] second (goes_accepted settings before two_records plain 1 2 2 after refl wrote) in
     has_run settings calls after [] after third gives_back
 
@@ -100,7 +107,7 @@ are_groups = record {
   together = (
     record {
       statuses = succeeded ∷ [];
-      are = ((one_commit, refl), tt);
+      are = ((one_commit, refl, refl), tt);
       together = inr ((refl, tt), record { by = 1; now = 0; bytes = size_of_batch two_records; numbers = record { stops = 0; delays = 0; wait = 0 }; there = refl; each = (inl refl, tt) });
     },
     tt,
@@ -108,9 +115,12 @@ are_groups = record {
 }
   where
     none_else : (number : ℕ) (commits : List Attempt) (call : ℕ) (attempt : Attempt) → slice_get ((one_attempt ∷ []) ∷ []) number ≡ Some commits → slice_get commits call ≡ Some attempt
-        → (place : ℕ) × Holds (one_group ∷ []) place (number + 1) call
+        → Holds (one_group ∷ []) attempt.place (number + 1) call
     none_else zero commits zero attempt of_client there =
-        (0, record { at = 0; group = one_group; of_place = refl; place_is = refl; among = 0; member = record { client = 1; call = 0; item = item_of one_attempt }; there = refl; client_is = refl; call_is = refl })
+        let is : one_attempt ∷ [] ≡ commits = cc of_client in
+        let same : Some one_attempt ≡ Some attempt = subst (λ xs. slice_get xs 0 ≡ Some attempt) (sym is) there in
+        let own : one_attempt ≡ attempt = cc same in
+        record { at = 0; group = one_group; of_place = refl; place_is = ap (λ (h : Attempt). h.place) own; among = 0; member = record { client = 1; call = 0; item = item_of one_attempt }; there = refl; client_is = refl; call_is = refl }
     none_else zero commits (suc call) attempt of_client there =
         let is : one_attempt ∷ [] ≡ commits = cc of_client in
         let none : slice_get (one_attempt ∷ []) (suc call) ≡ Some attempt = subst (λ xs. slice_get xs (suc call) ≡ Some attempt) (sym is) there in
@@ -141,9 +151,9 @@ closing = record {
   counted = λ no_fault none. refl;
 }
   where
-    of_client : IsAccountOf one_batch (one_group ∷ []) ((one_entry ∷ []) ∷ []) None after
+    of_client : IsAccountOf one_batch ((one_entry ∷ []) ∷ []) None after
     of_client = record { accepted = refl; ends = refl; tokens = refl; statuses = (tt, tt); seen = whole }
 
-    each : (i : ℕ) (a : Account) → slice_get (after ∷ []) i ≡ Some a → IsAccountOf one_batch (one_group ∷ []) ((one_entry ∷ []) ∷ []) None a
-    each zero a there = let is : after ≡ a = cc there in subst (λ (x : Account). IsAccountOf one_batch (one_group ∷ []) ((one_entry ∷ []) ∷ []) None x) is of_client
+    each : (i : ℕ) (a : Account) → slice_get (after ∷ []) i ≡ Some a → IsAccountOf one_batch ((one_entry ∷ []) ∷ []) None a
+    each zero a there = let is : after ≡ a = cc there in subst (λ (x : Account). IsAccountOf one_batch ((one_entry ∷ []) ∷ []) None x) is of_client
     each (suc i) a there = absurd (cc there)

@@ -1,5 +1,5 @@
 -- Two clients in one group, and what each of them learns of its end.
-use Rattle.std.proofs.Common.{◌≡◌, inl, inr, ℕ, zero, suc, ◌+◌, ◌<◌, List, [], ◌∷◌, length, flat_map, map, Some, None, slice_get, refl, sym, ◌∙◌, subst, arith, append-nil}
+use Rattle.std.proofs.Common.{◌≡◌, inl, inr, ℕ, zero, suc, ◌+◌, ◌<◌, List, [], ◌∷◌, length, flat_map, map, Some, None, slice_get, refl, ap, sym, ◌∙◌, subst, arith, append-nil}
 use Rattle.std.specs.List.{AllByRecursion, AllZip}
 use Rattle.std.proofs.Math.Dec.{lit≤}
 use Rattle.std.proofs.lemmas.Option.{slice_get_within}
@@ -13,7 +13,7 @@ use Rattle.model_accounts.specs.Accounts.{Account}
 use Rattle.model_runs.specs.Parts.{name_of, names_made}
 use Rattle.model_accounts.specs.Parts.{ends_in}
 use Rattle.model_accounts.specs.Closing.{IsAccountOf, IsClosing}
-use Rattle.model_accounts.specs.Examples.{pair_settings, first_records, second_records, entry_with, attempt_with, pair_delay, pair_trace, pair_group, pair_sight, account_with, pair_accounts}
+use Rattle.model_accounts.specs.Examples.{pair_settings, first_records, second_records, entry_with, attempt_with, pair_delay, pair_write, pair_trace, pair_group, pair_sight, account_with, pair_accounts}
 
 abbrev attempts : List (List Attempt)
 attempts = (attempt_with first_records ∷ []) ∷ (attempt_with second_records ∷ []) ∷ []
@@ -38,7 +38,7 @@ are_groups = record {
   together = (
     record {
       statuses = succeeded ∷ succeeded ∷ [];
-      are = ((first_commit, refl), ((second_commit, refl), tt));
+      are = ((first_commit, refl, refl), ((second_commit, refl, refl), tt));
       together = inr (
         (refl, (refl, tt)),
         record {
@@ -56,15 +56,21 @@ are_groups = record {
 }
   where
     none_else : (number : ℕ) (commits : List Attempt) (call : ℕ) (attempt : Attempt) → slice_get attempts number ≡ Some commits → slice_get commits call ≡ Some attempt
-        → (place : ℕ) × Holds (pair_group ∷ []) place (number + 1) call
+        → Holds (pair_group ∷ []) attempt.place (number + 1) call
     none_else zero commits zero attempt of_client there =
-        (0, record { at = 0; group = pair_group; of_place = refl; place_is = refl; among = 0; member = record { client = 1; call = 0; item = item_of (attempt_with first_records) }; there = refl; client_is = refl; call_is = refl })
+        let is : attempt_with first_records ∷ [] ≡ commits = cc of_client in
+        let same : Some (attempt_with first_records) ≡ Some attempt = subst (λ xs. slice_get xs 0 ≡ Some attempt) (sym is) there in
+        let own : attempt_with first_records ≡ attempt = cc same in
+        record { at = 0; group = pair_group; of_place = refl; place_is = ap (λ (h : Attempt). h.place) own; among = 0; member = record { client = 1; call = 0; item = item_of (attempt_with first_records) }; there = refl; client_is = refl; call_is = refl }
     none_else zero commits (suc call) attempt of_client there =
         let is : attempt_with first_records ∷ [] ≡ commits = cc of_client in
         let none : slice_get (attempt_with first_records ∷ []) (suc call) ≡ Some attempt = subst (λ xs. slice_get xs (suc call) ≡ Some attempt) (sym is) there in
         absurd (cc none)
     none_else (suc zero) commits zero attempt of_client there =
-        (0, record { at = 0; group = pair_group; of_place = refl; place_is = refl; among = 1; member = record { client = 2; call = 0; item = item_of (attempt_with second_records) }; there = refl; client_is = refl; call_is = refl })
+        let is : attempt_with second_records ∷ [] ≡ commits = cc of_client in
+        let same : Some (attempt_with second_records) ≡ Some attempt = subst (λ xs. slice_get xs 0 ≡ Some attempt) (sym is) there in
+        let own : attempt_with second_records ≡ attempt = cc same in
+        record { at = 0; group = pair_group; of_place = refl; place_is = ap (λ (h : Attempt). h.place) own; among = 1; member = record { client = 2; call = 0; item = item_of (attempt_with second_records) }; there = refl; client_is = refl; call_is = refl }
     none_else (suc zero) commits (suc call) attempt of_client there =
         let is : attempt_with second_records ∷ [] ≡ commits = cc of_client in
         let none : slice_get (attempt_with second_records ∷ []) (suc call) ≡ Some attempt = subst (λ xs. slice_get xs (suc call) ≡ Some attempt) (sym is) there in
@@ -73,11 +79,37 @@ are_groups = record {
 
 -- The closing
 
-seen : Saw pair_sight pair_trace
-seen = record { start = refl; opening = refl; entries = pair_trace.entries; begins = ([], refl); groups = (pair_trace.entries, [], refl, refl, refl); controller_calls = ([], refl); log_reads = tt }
+-- the call wrote the first batch, and the second one after it
+first_seen : Saw (pair_sight first_records 1) pair_trace
+unfolding varint_within
+first_seen = record {
+  start = refl;
+  opening = refl;
+  entries = pair_trace.entries;
+  begins = ([], refl);
+  groups = (pair_trace.entries, [], refl, refl, refl);
+  controller_calls = ([], refl);
+  log_reads = tt;
+  logged = lit≤ tt;
+  batches = (record { place = 0; call = pair_write; there = refl; later = lit≤ tt; known = lit≤ tt; wrote = record { before = []; after = second_records ∷ []; among = refl; run = refl; synced = λ sync. cc; ok = refl } }, tt);
+}
+
+second_seen : Saw (pair_sight second_records 2) pair_trace
+unfolding varint_within
+second_seen = record {
+  start = refl;
+  opening = refl;
+  entries = pair_trace.entries;
+  begins = ([], refl);
+  groups = (pair_trace.entries, [], refl, refl, refl);
+  controller_calls = ([], refl);
+  log_reads = tt;
+  logged = lit≤ tt;
+  batches = (record { place = 0; call = pair_write; there = refl; later = lit≤ tt; known = lit≤ tt; wrote = record { before = first_records ∷ []; after = []; among = refl; run = refl; synced = λ sync. cc; ok = refl } }, tt);
+}
 
 abbrev OfTrace : Account → Type 0
-OfTrace a = IsAccountOf pair_trace (pair_group ∷ []) (pair_trace.entries ∷ []) None a
+OfTrace a = IsAccountOf pair_trace (pair_trace.entries ∷ []) None a
 
 pub closing : IsClosing pair_settings 0 pair_trace (pair_group ∷ []) (pair_accounts 2) 2 None
 closing = record {
@@ -102,10 +134,10 @@ closing = record {
 }
   where
     first : OfTrace (account_with first_records (entry_with 1 1 first_records) 2)
-    first = record { accepted = refl; ends = refl; tokens = refl; statuses = (tt, tt); seen = seen }
+    first = record { accepted = refl; ends = refl; tokens = refl; statuses = (tt, tt); seen = first_seen }
 
     second : OfTrace (account_with second_records (entry_with 2 2 second_records) 2)
-    second = record { accepted = refl; ends = refl; tokens = refl; statuses = (tt, tt); seen = seen }
+    second = record { accepted = refl; ends = refl; tokens = refl; statuses = (tt, tt); seen = second_seen }
 
     each : (i : ℕ) (a : Account) → slice_get (pair_accounts 2) i ≡ Some a → OfTrace a
     each zero a there = let is : account_with first_records (entry_with 1 1 first_records) 2 ≡ a = cc there in subst OfTrace is first

@@ -13,7 +13,7 @@ use Rattle.model_accounts.specs.ClientRuns.{Goes, Lacks, Went, HasRun}
 use Rattle.model_accounts.proofs.Seeing.{saw_earlier, sees_on}
 
 pub went_none : (settings : Settings) (start : ℕ) (opening : Pairs) (number : ℕ) → Went settings [] (newcomer start opening number) []
-went_none settings start opening number = record { seen_up_to = 0; shown = omega arith; read_faults = refl; run = λ trace is_history saw. refl }
+went_none settings start opening number = record { seen_up_to = 0; shown = omega arith; read_faults = refl; tokens = refl; run = λ trace is_history saw. refl }
 
 -- the counts of faults of these calls and of one more
 one_more : (calls : List Call) (c : Call) → read_faults_of (calls ++ c ∷ []) ≡ read_faults_of calls ++ read_fault_of c.reply
@@ -28,6 +28,7 @@ went_more settings calls v before c r w after so_far goes =
     record {
       seen_up_to = next.0;
       shown = next.1;
+      tokens = goes.tokens;
       read_faults = goes.read_faults ∙ (ap (λ ns. ns ++ read_fault_of r) so_far.read_faults ∙ sym (one_more calls last));
       run = λ trace is_history saw. subst (λ (n : ℕ). Run settings trace n fresh (calls ++ last ∷ []) (progress_at w after next.0)) (sym goes.number) (
           run_more settings trace v.number fresh calls (progress_at v before so_far.seen_up_to) last (progress_at w after next.0)

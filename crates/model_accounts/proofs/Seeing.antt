@@ -13,13 +13,13 @@ use Rattle.table_rule.specs.Histories.{Begins, Images, versions_of, record_of, m
 use Rattle.table_rule.proofs.Histories.{begins_same, begins_trans, longer}
 use Rattle.table_rule.proofs.Images.{images_versions}
 use Rattle.model_accounts.specs.Versions.{versions_of_entry, versions_of_entries}
-use Rattle.model_accounts.specs.Sights.{Sight, last_seen, map_seen, Sees, Saw}
+use Rattle.model_accounts.specs.Sights.{Sight, WasLogged, last_seen, map_seen, Sees, Saw}
 use Rattle.model_accounts.proofs.Versions.{versions_reach, after_append, after_entries}
 
 -- Earlier and later
 
 pub sees_self : (v : Sight) → Sees v v
-sees_self v = record { start = refl; opening = refl; published = begins_same v.published; controller_calls = prefix_self v.controller_calls; log_reads = prefix_self v.log_reads }
+sees_self v = record { start = refl; opening = refl; published = begins_same v.published; controller_calls = prefix_self v.controller_calls; log_reads = prefix_self v.log_reads; logged = omega arith; batches = prefix_self v.batches }
 
 pub sees_on : (u v w : Sight) → Sees u v → Sees v w → Sees u w
 sees_on u v w a b = record {
@@ -28,6 +28,8 @@ sees_on u v w a b = record {
   published = begins_trans u.published v.published w.published a.published b.published;
   controller_calls = prefix_trans u.controller_calls v.controller_calls w.controller_calls a.controller_calls b.controller_calls;
   log_reads = prefix_trans u.log_reads v.log_reads w.log_reads a.log_reads b.log_reads;
+  logged = (let low = a.logged in let high = b.logged in omega (arith, low, high));
+  batches = prefix_trans u.batches v.batches w.batches a.batches b.batches;
 }
 
 -- the last sequence that was seen published doesn't fall
@@ -49,10 +51,10 @@ cut entries (g ∷ some) groups are begins =
 -- if the groups that were seen published are the first ones of all published groups, they may have been seen of the
 -- trace whose entries made all those
 pub saw_published : (trace : Trace) (history : List (List MemberVersions)) → Images versions_of_entry trace.entries history → (sight : Sight) → sight.start ≡ trace.start → sight.opening ≡ trace.opening
-    → Begins sight.published history → IsPrefix sight.controller_calls trace.controller_calls → AllByRecursion (IsLogRead trace) sight.log_reads → Saw sight trace
-saw_published trace history are sight start opening begins calls reads =
+    → Begins sight.published history → IsPrefix sight.controller_calls trace.controller_calls → AllByRecursion (IsLogRead trace) sight.log_reads → sight.logged ≤ length trace.log_calls → AllByRecursion (WasLogged trace.log_calls) sight.batches → Saw sight trace
+saw_published trace history are sight start opening begins calls reads logged own =
     let first = cut trace.entries sight.published history are begins in
-    record { start = start; opening = opening; entries = first.0; begins = first.1; groups = first.2; controller_calls = calls; log_reads = reads }
+    record { start = start; opening = opening; entries = first.0; begins = first.1; groups = first.2; controller_calls = calls; log_reads = reads; logged = logged; batches = own }
 
 -- if some versions made the map before these groups, then these versions and the groups' ones make the map that was
 -- seen
@@ -79,6 +81,8 @@ saw_earlier v w sees trace saw =
       groups = first.2;
       controller_calls = prefix_trans v.controller_calls w.controller_calls trace.controller_calls sees.controller_calls saw.controller_calls;
       log_reads = all_of_prefix (IsLogRead trace) v.log_reads w.log_reads sees.log_reads saw.log_reads;
+      logged = (let low = sees.logged in let high = saw.logged in omega (arith, low, high));
+      batches = all_of_prefix (WasLogged trace.log_calls) v.batches w.batches sees.batches saw.batches;
     }
 
 -- What was seen published was made by the trace's first entries

@@ -11,7 +11,7 @@ use Rattle.model_base.specs.Batch.{Record}
 use Rattle.model_base.specs.Controller.{ControllerCall}
 use Rattle.model_base.specs.Tokens.{holds_stop}
 use Rattle.model_base.specs.Trace.{Trace, Settings}
-use Rattle.model_base.specs.Attempts.{Attempt, WriteStatus, succeeded, slowed, faulted, full, with_attempt}
+use Rattle.model_base.specs.Attempts.{Attempt, WriteStatus, succeeded, slowed, faulted, full, Fate, fate_at, with_attempt}
 use Rattle.model_base.specs.declared.key.Key.{Key}
 use Rattle.model_base.specs.Progress.{Progress, fresh, first_missing, early_refusal, added_by}
 use Rattle.model_base.specs.Replies.{MayRefuse, IsAttempted, Stays, Replies, Stops, Unstops, Slows, Unslows, Gets, GetsMany, Scans, IfThere, Updates, Adds, Clears}
@@ -19,13 +19,13 @@ use Rattle.model_base.specs.Runs.{Run}
 use Rattle.model_accounts.specs.Answered.{Tells, IsAmong}
 use Rattle.model_base.specs.Calls.{Command, add, clear, commit, get, many, scan, updates, stop, unstop, slow, unslow, Reply, quiet, accepted, refused, found, found_each, rows, updates_found, read_failed, done, held, not_held, Call}
 
-abbrev attempt : Progress → WriteOptions → WriteStatus → Attempt
-attempt p how status = record { records = p.pending; options = how; status = status }
+abbrev attempt : Progress → WriteOptions → Fate → Attempt
+attempt p how fate = record { records = p.pending; options = how; status = fate.status; place = fate.place }
 
 -- a step adds no attempt, or adds the step's own commit, with a reply that fits its status
 abbrev Hands : Progress → Command → Reply → Progress → Type 0
 Hands p c r q = (q.attempts ≡ p.attempts)
-    ⊎ ((how : WriteOptions) × (status : WriteStatus) × (c ≡ commit how) × (q.attempts ≡ p.attempts ++ attempt p how status ∷ []) × Tells status p.pending r)
+    ⊎ ((how : WriteOptions) × (fate : Fate) × (c ≡ commit how) × (q.attempts ≡ p.attempts ++ attempt p how fate ∷ []) × Tells fate.status p.pending r)
 
 record Moves (p : Progress) (c : Command) (r : Reply) (q : Progress) : Type 0 where
   pending : q.pending ≡ added_by p.pending c r
@@ -35,35 +35,32 @@ record Moves (p : Progress) (c : Command) (r : Reply) (q : Progress) : Type 0 wh
 same_both : (p : Progress) (c : Command) (r : Reply) (q : Progress) → added_by p.pending c r ≡ p.pending → q.pending ≡ p.pending → q.attempts ≡ p.attempts → Moves p c r q
 same_both p c r q none a b = record { pending = a ∙ sym none; hands = inl b }
 
-refusal_tells : (controller_calls : List ControllerCall) (client : ℕ) (p : Progress) (knows : ℕ) (how : WriteOptions) (why : Refusal) (status : WriteStatus)
-    → MayRefuse controller_calls client p knows how why (Some status) → Tells status p.pending (refused why)
-refusal_tells controller_calls client p knows how (no.Incomplete a b c) (slowed place) s = (a, b, c, refl)
-refusal_tells controller_calls client p knows how (no.Incomplete a b c) succeeded s = absurd s.1
-refusal_tells controller_calls client p knows how (no.Incomplete a b c) (faulted n) s = absurd s.1
-refusal_tells controller_calls client p knows how (no.Incomplete a b c) (full n) s = absurd s.1
-refusal_tells controller_calls client p knows how (no.LogFault n) status s = let is : status ≡ faulted n = cc s in subst (λ f. Tells f p.pending (refused (no.LogFault n))) (sym is) refl
-refusal_tells controller_calls client p knows how (no.SequenceFull n) status s = let is : status ≡ full n = cc (s.0) in subst (λ f. Tells f p.pending (refused (no.SequenceFull n))) (sym is) refl
-refusal_tells controller_calls client p knows how no.Empty status s = absurd s
-refusal_tells controller_calls client p knows how (no.TooLarge n) status s = absurd s
-refusal_tells controller_calls client p knows how no.SyncWithoutLog status s = absurd s
-refusal_tells controller_calls client p knows how no.SelfStop status s = absurd s
-refusal_tells controller_calls client p knows how (no.NoFamily f) status s = absurd s
-refusal_tells controller_calls client p knows how no.NoMemory status s = absurd s
+refusal_tells : (controller_calls : List ControllerCall) (client : ℕ) (p : Progress) (knows : ℕ) (how : WriteOptions) (why : Refusal) (fate : Fate)
+    → MayRefuse controller_calls client p knows how why (Some fate) → Tells fate.status p.pending (refused why)
+refusal_tells controller_calls client p knows how (no.Incomplete a b c) fate s = subst (λ f. Tells f p.pending (refused (no.Incomplete a b c))) (sym s.1.6) (a, b, c, refl)
+refusal_tells controller_calls client p knows how (no.LogFault n) fate s = let is : fate.status ≡ faulted n = cc s in subst (λ f. Tells f p.pending (refused (no.LogFault n))) (sym is) refl
+refusal_tells controller_calls client p knows how (no.SequenceFull n) fate s = let is : fate.status ≡ full n = cc (s.0) in subst (λ f. Tells f p.pending (refused (no.SequenceFull n))) (sym is) refl
+refusal_tells controller_calls client p knows how no.Empty fate s = absurd s
+refusal_tells controller_calls client p knows how (no.TooLarge n) fate s = absurd s
+refusal_tells controller_calls client p knows how no.SyncWithoutLog fate s = absurd s
+refusal_tells controller_calls client p knows how no.SelfStop fate s = absurd s
+refusal_tells controller_calls client p knows how (no.NoFamily f) fate s = absurd s
+refusal_tells controller_calls client p knows how no.NoMemory fate s = absurd s
 
 commit_moves : (trace : Trace) (client : ℕ) (p : Progress) (how : WriteOptions) (r : Reply) (q : Progress) (o : Option Refusal)
     → MatchOption o (IsAttempted trace client p how r q) (λ why. (r ≡ refused why) × Stays p q) → Moves p (commit how) r q
 commit_moves trace client p how (accepted a b records) q None s = record {
   pending = ap (λ (x : Progress). x.pending) s.after;
-  hands = inr (how, succeeded, refl, ap (λ (x : Progress). x.attempts) s.after, (a, b, ap (accepted a b) s.batch));
+  hands = inr (how, record { status = succeeded; place = s.place }, refl, ap (λ (x : Progress). x.attempts) s.after, (a, b, ap (accepted a b) s.batch));
 }
 commit_moves trace client p how (refused why) q None s = by_status s.0 s.1 s.2
   where
-    by_status : (status : Option WriteStatus) → MayRefuse trace.controller_calls client p q.known how why status
-        → q ≡ record p { attempts = with_attempt p.attempts p.pending how status; known = q.known } → Moves p (commit how) (refused why) q
+    by_status : (fate : Option Fate) → MayRefuse trace.controller_calls client p q.known how why fate
+        → q ≡ record p { attempts = with_attempt p.attempts p.pending how fate; known = q.known; logged = q.logged } → Moves p (commit how) (refused why) q
     by_status None may e = same_both p (commit how) (refused why) q refl (ap (λ (x : Progress). x.pending) e) (ap (λ (x : Progress). x.attempts) e)
-    by_status (Some status) may e = record {
+    by_status (Some fate) may e = record {
       pending = ap (λ (x : Progress). x.pending) e;
-      hands = inr (how, status, refl, ap (λ (x : Progress). x.attempts) e, refusal_tells trace.controller_calls client p q.known how why status may);
+      hands = inr (how, fate, refl, ap (λ (x : Progress). x.attempts) e, refusal_tells trace.controller_calls client p q.known how why fate may);
     }
 commit_moves trace client p how _ q None s = absurd s
 commit_moves trace client p how r q (Some why) s =
@@ -165,8 +162,8 @@ among settings trace client p [] q run k h past e =
 among settings trace client p (c ∷ calls) q run k h past e =
     by_move (moves settings trace client p c.command c.reply run.0 run.1.replies) (λ low. among settings trace client run.0 calls q run.2 k h low e) (kept settings trace client run.0 calls q run.2)
   where
-    this_one : (how : WriteOptions) (status : WriteStatus) → c.command ≡ commit how → Tells status p.pending c.reply → IsAmong p.pending (c ∷ calls) (attempt p how status)
-    this_one how status command tells = record {
+    this_one : (how : WriteOptions) (fate : Fate) → c.command ≡ commit how → Tells fate.status p.pending c.reply → IsAmong p.pending (c ∷ calls) (attempt p how fate)
+    this_one how fate command tells = record {
       before = [];
       reply = c.reply;
       after = calls;

@@ -1,5 +1,5 @@
 -- What the calls of a write path say about one client.
-use Rattle.std.specs.Prelude.{◌≡◌, ◌⊎◌, ℕ, ◌+◌, ◌<◌, ◌≤◌, false, List, [], ◌∷◌, ◌++◌, length, Option, Some, None, MatchOption}
+use Rattle.std.specs.Prelude.{◌≡◌, ◌⊎◌, ℕ, ◌+◌, ◌<◌, ◌≤◌, Bool, false, List, [], ◌∷◌, ◌++◌, length, Option, Some, None, IfSome, MatchOption}
 use Rattle.model_base.specs.declared.write.WriteOptions.{WriteOptions}
 use Rattle.model_base.specs.declared.write.Refusal.{Refusal}
 use Rattle.model_base.specs.declared.write.Refusal.TheVariants.{NoMemory}
@@ -7,12 +7,12 @@ use Rattle.model_base.specs.Batch.{Record, count_of}
 use Rattle.model_base.specs.History.{Entry}
 use Rattle.model_base.specs.Map.{Pairs}
 use Rattle.model_base.specs.Controller.{Action}
-use Rattle.model_base.specs.Tokens.{holds_stop, given_back}
+use Rattle.model_base.specs.Tokens.{tokens_of, holds_stop, given_back}
 use Rattle.model_base.specs.Counts.{Rose}
 use Rattle.model_base.specs.Trace.{Settings}
-use Rattle.model_base.specs.Attempts.{Attempt, WriteStatus, succeeded, with_attempt, knows_log_failed}
+use Rattle.model_base.specs.Attempts.{Attempt, succeeded, Fate, fate_at, with_attempt, knows_log_failed}
 use Rattle.model_base.specs.Progress.{Progress, next_entry, early_refusal}
-use Rattle.model_base.specs.Replies.{IsLater, AreFullBelow, MayRefuse, IsKeptOut}
+use Rattle.model_base.specs.Replies.{IsLater, IsWithinCall, AreFullBelow, MayRefuse, IsKeptOut}
 use Rattle.model_accounts.specs.Sights.{Sight, unseen, last_seen, map_seen, Sees}
 
 -- One client: its accepted batches, for each of them the last sequence of its group, its calls of the controller that
@@ -48,7 +48,12 @@ progress_at a pending seen_up_to = record {
   attempts = a.attempts;
   seen_up_to = seen_up_to;
   known = length a.seen.controller_calls;
+  logged = a.seen.logged;
 }
+
+-- of the controller's calls that the client knows of, its own token calls are just those that were answered `done`
+abbrev pub KnowsOwnTokens : Account → Type 0
+KnowsOwnTokens a = tokens_of a.number a.seen.controller_calls ≡ a.asked
 
 -- from v to w the client has done nothing more, and has seen no less
 pub record Keeps (v w : Account) : Type 0 where
@@ -59,20 +64,38 @@ pub record Keeps (v w : Account) : Type 0 where
   pub attempts : w.attempts ≡ v.attempts
   pub read_faults : w.read_faults ≡ v.read_faults
   pub seen : Sees v.seen w.seen
+  pub tokens : KnowsOwnTokens w
+
+-- One more of the client's batches went into the log. Which call of the log writer wrote it shows at the closing, as with
+-- all that a client has seen.
+abbrev pub IsLogged : Account → Account → List Record → Bool → ℕ → Type 0
+IsLogged v w records sync first = w.seen.batches ≡ v.seen.batches
+    ++ record {
+      knew = v.seen.logged;
+      knows = w.seen.logged;
+      first = first;
+      records = records;
+      sync = sync;
+    } ∷ []
 
 -- A batch was accepted: one entry more. It had passed the early checks, and the client held no stop token and didn't
 -- know of a fault of the log. Its run is above all that the client had seen published, and above each sequence after
--- which there was no room for an earlier batch of this client. The client has now seen the batch's group published, up
--- to the group's end.
+-- which there was no room for an earlier batch of this client. The delay of its group is within the call. A batch that
+-- goes into the log was written by a call of the log writer that has returned. The client has now seen the batch's group
+-- published, up to the group's end.
 pub record Wrote (settings : Settings) (v : Account) (records : List Record) (how : WriteOptions) (first group_last : ℕ)
     (w : Account) : Type 0 where
   pub number : w.number ≡ v.number
   pub mine : w.mine ≡ v.mine ++ next_entry v.number v.mine how first records ∷ []
   pub ends : w.ends ≡ v.ends ++ group_last ∷ []
   pub asked : w.asked ≡ v.asked
-  pub attempts : w.attempts ≡ with_attempt v.attempts records how (Some succeeded)
+  pub place : ℕ
+  pub attempts : w.attempts ≡ with_attempt v.attempts records how (fate_at place succeeded)
+  pub within_call : IsWithinCall (length v.seen.controller_calls) (length w.seen.controller_calls) place
+  pub logged : how.no_log ≡ false → IsLogged v w records how.sync first
   pub read_faults : w.read_faults ≡ v.read_faults
   pub seen : Sees v.seen w.seen
+  pub tokens : KnowsOwnTokens w
   pub some : 1 ≤ count_of records
   pub passed : early_refusal settings.families settings.batch_bytes (holds_stop v.asked) records how ≡ None
   pub free : holds_stop v.asked ≡ false
@@ -83,21 +106,25 @@ pub record Wrote (settings : Settings) (v : Account) (records : List Record) (ho
   pub reached : group_last ≤ last_seen w.seen
 
 -- A commit that passed the early checks was refused, and its batch has no run. Where the client held a stop token it
--- was in no group. Any other commit was in no group only if it met a stall.
+-- was in no group. Any other commit was in no group only if it met a stall. If it was in one, the delay of that group is
+-- within the call.
 pub record IsRefused (v : Account) (records : List Record) (how : WriteOptions) (why : Refusal)
     (w : Account) : Type 0 where
-  pub status : Option WriteStatus
+  pub fate : Option Fate
   pub may : MayRefuse w.seen.controller_calls v.number (progress_at v records (last_seen v.seen))
       (length w.seen.controller_calls)
-      how why status
-  pub kept_out : IsKeptOut v.asked status
+      how why fate
+  pub kept_out : IsKeptOut v.asked fate
+  pub within_call : IfSome fate (λ fate. IsWithinCall (length v.seen.controller_calls)
+      (length w.seen.controller_calls) fate.place)
   pub number : w.number ≡ v.number
   pub mine : w.mine ≡ v.mine
   pub ends : w.ends ≡ v.ends
   pub asked : w.asked ≡ v.asked
-  pub attempts : w.attempts ≡ with_attempt v.attempts records how status
+  pub attempts : w.attempts ≡ with_attempt v.attempts records how fate
   pub read_faults : w.read_faults ≡ v.read_faults
   pub seen : Sees v.seen w.seen
+  pub tokens : KnowsOwnTokens w
 
 -- after the early checks a commit may also find no memory, and then the client has done nothing more
 abbrev pub IsRefusedLate : Account → List Record → WriteOptions → Refusal → Account → Type 0
@@ -123,6 +150,7 @@ pub record ReadsLog (v : Account) (s at : ℕ) (records : List (List ℕ)) (w : 
   pub attempts : w.attempts ≡ v.attempts
   pub read_faults : w.read_faults ≡ v.read_faults
   pub seen : Sees v.seen w.seen
+  pub tokens : KnowsOwnTokens w
   pub at_is : at ≡ last_seen w.seen
   pub read : w.seen.log_reads ≡ v.seen.log_reads ++ record { since = s; at = at; records = records } ∷ []
 
@@ -135,6 +163,7 @@ pub record FailsToRead (settings : Settings) (v : Account) (count : ℕ) (w : Ac
   pub attempts : w.attempts ≡ v.attempts
   pub read_faults : w.read_faults ≡ v.read_faults ++ count ∷ []
   pub seen : Sees v.seen w.seen
+  pub tokens : KnowsOwnTokens w
   pub rose : Rose settings.opened count
 
 -- the client made this call of the controller, after all that it had seen
@@ -146,6 +175,7 @@ pub record Asks (v : Account) (action : Action) (w : Account) : Type 0 where
   pub attempts : w.attempts ≡ v.attempts
   pub read_faults : w.read_faults ≡ v.read_faults
   pub seen : Sees v.seen w.seen
+  pub tokens : KnowsOwnTokens w
   pub place : ℕ
   pub is_later : IsLater w.seen.controller_calls (length v.seen.controller_calls) place
       (record { client = v.number; action = action; told = None })
@@ -159,3 +189,4 @@ pub record GivesBack (v w : Account) : Type 0 where
   pub attempts : w.attempts ≡ v.attempts
   pub read_faults : w.read_faults ≡ v.read_faults
   pub seen : Sees v.seen w.seen
+  pub tokens : KnowsOwnTokens w

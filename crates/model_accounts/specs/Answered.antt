@@ -9,7 +9,7 @@ use Rattle.model_base.specs.Calls.{commit, Reply, accepted, refused, Call}
 -- the reply to a commit with this status
 abbrev pub Tells : WriteStatus → List Record → Reply → Type 0
 Tells succeeded records reply = (first : ℕ) × (last : ℕ) × (reply ≡ accepted first last records)
-Tells (slowed place) records reply = (stops : ℕ) × (delays : ℕ) × (wait : ℕ)
+Tells slowed records reply = (stops : ℕ) × (delays : ℕ) × (wait : ℕ)
     × (reply ≡ refused (no.Incomplete stops delays wait))
 Tells (faulted count) records reply = reply ≡ refused (no.LogFault count)
 Tells (full last) records reply = reply ≡ refused (no.SequenceFull last)

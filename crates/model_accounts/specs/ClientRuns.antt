@@ -9,7 +9,7 @@ use Rattle.model_base.specs.Runs.{Step, Run, IsTranscript}
 use Rattle.model_base.specs.Calls.{Command, Reply, Call}
 use Rattle.model_base.specs.Outcomes.{read_fault_of, read_faults_of}
 use Rattle.model_accounts.specs.Sights.{last_seen, Sees, InEachTrace}
-use Rattle.model_accounts.specs.Accounts.{Account, Keeps, progress_at}
+use Rattle.model_accounts.specs.Accounts.{Account, KnowsOwnTokens, Keeps, progress_at}
 
 -- The client gets this reply to this command, and goes from v to w. This is a step in each trace of which it may have
 -- seen what it has now seen, whatever it was shown before.
@@ -18,6 +18,7 @@ pub record Goes (settings : Settings) (v : Account) (before : List Record) (comm
   pub number : w.number ≡ v.number
   pub read_faults : w.read_faults ≡ v.read_faults ++ read_fault_of reply
   pub seen : Sees v.seen w.seen
+  pub tokens : KnowsOwnTokens w
   pub step : (shown : ℕ) → shown ≤ last_seen v.seen → (seen_up_to : ℕ) × (seen_up_to ≤ last_seen w.seen)
       × InEachTrace w.seen (λ trace. Step settings trace v.number (progress_at v before shown) command reply
       (progress_at w after seen_up_to))
@@ -37,6 +38,7 @@ pub record Went (settings : Settings) (calls : List Call) (a : Account) (pending
   pub seen_up_to : ℕ
   pub shown : seen_up_to ≤ last_seen a.seen
   pub read_faults : a.read_faults ≡ read_faults_of calls
+  pub tokens : KnowsOwnTokens a
   pub run : InEachTrace a.seen (λ trace. Run settings trace a.number fresh calls (progress_at a pending seen_up_to))
 
 -- All calls of a client, as far as it alone can tell: they are a transcript in each trace of which it may have seen

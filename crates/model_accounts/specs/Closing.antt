@@ -24,12 +24,12 @@ pub record AreOurs {C : Type 0} (belongs : C → Type 0) (account : C → Accoun
 
 -- What a client has done is just its part of the trace. What it has seen may have been seen of the trace. It has
 -- learned, for each of its batches, the last sequence of the batch's group; `parts` are the entries of the groups.
-pub record IsAccountOf (trace : Trace) (groups : List Group) (parts : List (List Entry)) (fault : Option ℕ)
+pub record IsAccountOf (trace : Trace) (parts : List (List Entry)) (fault : Option ℕ)
     (a : Account) : Type 0 where
   pub accepted : entries_of_client a.number trace.entries ≡ a.mine
   pub ends : a.ends ≡ ends_in a.number parts
   pub tokens : tokens_of a.number trace.controller_calls ≡ a.asked
-  pub statuses : AreStatuses trace groups fault a.number 0 a.attempts
+  pub statuses : AreStatuses trace fault a.attempts
   pub seen : Saw a.seen trace
 
 -- for each client its commits that leaders took into their groups
@@ -53,7 +53,7 @@ pub record IsClosing (settings : Settings) (ended : ℕ) (trace : Trace) (groups
   pub are_groups : AreGroups settings.group_bytes trace.controller_calls groups (all_attempts accounts)
   pub parts : List (List Entry)
   pub are_parts : AreParts (all_attempts accounts) groups trace.entries parts
-  pub each : (i : ℕ) (a : Account) → slice_get accounts i ≡ Some a → IsAccountOf trace groups parts fault a
+  pub each : (i : ℕ) (a : Account) → slice_get accounts i ≡ Some a → IsAccountOf trace parts fault a
   pub last_is : last ≡ last_sequence trace.start trace.entries
   pub fault_is : RoseInRun settings ended fault
   pub read_faults : AreOwnFaults ended fault (all_read_faults accounts)

@@ -10,10 +10,11 @@ use Rattle.model_base.specs.Controller.{ControllerCall, delay}
 use Rattle.model_base.specs.Trace.{Trace, Settings}
 use Rattle.model_base.specs.Attempts.{Attempt, succeeded, slowed, item_of}
 use Rattle.model_base.specs.Groups.{Group}
+use Rattle.model_base.specs.LogContents.{GroupCall}
 use Rattle.model_base.specs.Calls.{Command, add, commit, Call, quiet, accepted}
 use Rattle.table_rule.specs.declared.content.MemberVersions.{MemberVersions}
 use Rattle.table_rule.specs.declared.content.Version.{Version}
-use Rattle.model_accounts.specs.Sights.{Sight}
+use Rattle.model_accounts.specs.Sights.{LoggedBatch, Sight}
 use Rattle.model_accounts.specs.Accounts.{Account, newcomer}
 
 abbrev pub settings : Settings
@@ -46,6 +47,10 @@ one_delay = record {
   told = Some (record { stops = 0; delays = 0; wait = 0 });
 }
 
+-- the call of the log writer that wrote it
+abbrev pub one_write : GroupCall
+one_write = record { first = 1; batches = two_records ∷ []; sync = false; failed = None }
+
 abbrev pub one_batch : Trace
 one_batch = record {
   start = 0;
@@ -54,11 +59,12 @@ one_batch = record {
   kept = None;
   logged = (one_entry ∷ []) ∷ [];
   controller_calls = one_delay ∷ [];
+  log_calls = one_write ∷ [];
 }
 
 -- the commit, and its group
 abbrev pub one_attempt : Attempt
-one_attempt = record { records = two_records; options = plain; status = succeeded }
+one_attempt = record { records = two_records; options = plain; status = succeeded; place = 0 }
 
 abbrev pub one_group : Group
 one_group = record { place = 0; members = record { client = 1; call = 0; item = item_of one_attempt } ∷ [] }
@@ -70,7 +76,11 @@ first_version = record { key = key_in None (codes "a"); value = Some (codes "1")
 abbrev pub second_version : Version
 second_version = record { key = key_in None (codes "b"); value = Some (codes "2"); sequence = 2 }
 
--- what is seen where these versions were published as one group, once the controller was asked
+-- what the client knows of its batch in the log: before its commit it knew of no call
+abbrev pub one_logged : LoggedBatch
+one_logged = record { knew = 0; knows = 1; first = 1; records = two_records; sync = false }
+
+-- what is seen where these versions were published as one group, once the controller was asked and the batch was logged
 abbrev pub sight_of : List Version → Sight
 sight_of versions = record {
   start = 0;
@@ -78,6 +88,8 @@ sight_of versions = record {
   published = (record { member = 1; versions = versions } ∷ []) ∷ [];
   controller_calls = one_delay ∷ [];
   log_reads = [];
+  logged = 1;
+  batches = one_logged ∷ [];
 }
 
 -- the client's account before its commit, and after it
@@ -119,7 +131,7 @@ entry_with client first records =
     record { client = client; ordinal = 1; first = first; count = 1; flag = Log; records = records }
 
 abbrev pub attempt_with : List Record → Attempt
-attempt_with records = record { records = records; options = plain; status = succeeded }
+attempt_with records = record { records = records; options = plain; status = succeeded; place = 0 }
 
 abbrev pub pair_delay : ControllerCall
 pair_delay = record {
@@ -127,6 +139,9 @@ pair_delay = record {
   action = delay 0 (size_of_batch first_records + size_of_batch second_records);
   told = Some (record { stops = 0; delays = 0; wait = 0 });
 }
+
+abbrev pub pair_write : GroupCall
+pair_write = record { first = 1; batches = first_records ∷ second_records ∷ []; sync = false; failed = None }
 
 abbrev pub pair_trace : Trace
 pair_trace = record {
@@ -136,6 +151,7 @@ pair_trace = record {
   kept = None;
   logged = (entry_with 1 1 first_records ∷ entry_with 2 2 second_records ∷ []) ∷ [];
   controller_calls = pair_delay ∷ [];
+  log_calls = pair_write ∷ [];
 }
 
 abbrev pub pair_group : Group
@@ -150,8 +166,17 @@ abbrev pub pair_published : List MemberVersions
 pair_published =
     record { member = 1; versions = first_version ∷ [] } ∷ record { member = 2; versions = second_version ∷ [] } ∷ []
 
-abbrev pub pair_sight : Sight
-pair_sight = record { start = 0; opening = []; published = pair_published ∷ []; controller_calls = pair_delay ∷ []; log_reads = [] }
+-- what a client has seen whose batch, of these records, has this sequence
+abbrev pub pair_sight : List Record → ℕ → Sight
+pair_sight records first = record {
+  start = 0;
+  opening = [];
+  published = pair_published ∷ [];
+  controller_calls = pair_delay ∷ [];
+  log_reads = [];
+  logged = 1;
+  batches = record { knew = 0; knows = 1; first = first; records = records; sync = false } ∷ [];
+}
 
 -- the account of a client that wrote these records as this entry, and learned that its group ends at `group_last`
 abbrev pub account_with : List Record → Entry → ℕ → Account
@@ -162,7 +187,7 @@ account_with records entry group_last = record {
   asked = [];
   attempts = attempt_with records ∷ [];
   read_faults = [];
-  seen = pair_sight;
+  seen = pair_sight records entry.first;
 }
 
 -- both accounts, where the first client learned that its group ends at `group_last`
@@ -174,7 +199,7 @@ pair_accounts group_last =
 -- A client whose second commit of three was refused, and groups of one commit each
 
 abbrev pub three_attempts : List Attempt
-three_attempts = one_attempt ∷ record one_attempt { status = slowed 0 } ∷ one_attempt ∷ []
+three_attempts = one_attempt ∷ record one_attempt { status = slowed; place = 1 } ∷ record one_attempt { place = 2 } ∷ []
 
 abbrev pub group_of_call : ℕ → Group
 group_of_call call =

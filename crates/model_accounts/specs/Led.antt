@@ -5,7 +5,7 @@ use Rattle.std.specs.List.{AllByRecursion}
 use Rattle.model_base.specs.declared.group.Item.{Item}
 use Rattle.model_base.specs.Grouping.{size_of, group_len}
 use Rattle.model_base.specs.Controller.{ControllerCall, delay, Look}
-use Rattle.model_base.specs.Attempts.{Attempt, slowed, item_of}
+use Rattle.model_base.specs.Attempts.{Attempt, item_of}
 use Rattle.model_base.specs.Groups.{Member, Group, HaveOwnPlaces, AreAsked, HaveOneFate}
 
 -- a commit in a leader's group, with its client's number
@@ -54,8 +54,7 @@ abbrev pub HaveOwnClients : List Taken → Type 0
 HaveOwnClients [] = ⊤
 HaveOwnClients (t ∷ ts) = AllByRecursion (λ (u : Taken). t.client ≢ u.client) ts × HaveOwnClients ts
 
--- A leader took a whole group, and asked for a delay for the sum of its sizes. If a commit of the group was slowed, it
--- was by that delay.
+-- A leader took a whole group, and asked for a delay for the sum of its sizes: that is the delay of each of its commits.
 pub record IsLed (group_bytes : ℕ) (controller_calls : List ControllerCall) (g : Led) : Type 0 where
   pub by : ℕ
   pub now : ℕ
@@ -65,8 +64,7 @@ pub record IsLed (group_bytes : ℕ) (controller_calls : List ControllerCall) (g
   pub some : 1 ≤ length g.commits
   pub whole : group_len group_bytes (items_in g.commits) ≡ length g.commits
   pub of_others : HaveOwnClients g.commits
-  pub slowed_here : AllByRecursion
-      (λ (t : Taken). (place : ℕ) → t.attempt.status ≡ slowed place → place ≡ g.place) g.commits
+  pub places : AllByRecursion (λ (t : Taken). t.attempt.place ≡ g.place) g.commits
 
 -- These are all groups that leaders took. Each goes on or is refused as a whole, and together they have all the
 -- clients' attempts.

@@ -13,14 +13,14 @@ ghost use Rattle.model_base.specs.Tokens.{holds_stop, holds_slow};
 ghost use Rattle.model_base.specs.Trace.{Settings};
 ghost use Rattle.model_base.specs.Calls.{add, clear, commit, get, many, scan, updates, stop, unstop, slow, unslow};
 ghost use Rattle.model_base.specs.Calls.{quiet, accepted, refused, found, found_each, rows, updates_found, read_failed, done, held, not_held};
-ghost use Rattle.model_accounts.specs.Accounts.{Account, Keeps, Wrote, Refuses, Reads, ReadsLog, FailsToRead, Asks};
+ghost use Rattle.model_accounts.specs.Accounts.{Account, KnowsOwnTokens, Keeps, Wrote, Refuses, Reads, ReadsLog, FailsToRead, Asks};
 ghost use Rattle.model_accounts.specs.ClientRuns.{Goes, Lacks};
 
 /// A record that is added, a batch that is emptied, and a commit with its answer.
 pub fn commits_are_steps()
-    ensures added { (settings : Settings) (v : Account) (pending : List Record) (r : Record)
+    ensures added { (settings : Settings) (v : Account) (pending : List Record) (r : Record) → KnowsOwnTokens v
         → Goes settings v pending (add r) quiet v (pending ++ r ∷ []) }
-    ensures cleared { (settings : Settings) (v : Account) (pending : List Record)
+    ensures cleared { (settings : Settings) (v : Account) (pending : List Record) → KnowsOwnTokens v
         → Goes settings v pending clear quiet v [] }
     ensures accepted { (settings : Settings) (v : Account) (pending : List Record) (how : WriteOptions)
         (first last group_last : ℕ) (w : Account)

@@ -10,8 +10,8 @@ ghost use Rattle.model_base.specs.Controller.{ControllerCall};
 ghost use Rattle.model_base.specs.Recovery.{Logged};
 ghost use Rattle.model_base.specs.Settings.{with_kept};
 ghost use Rattle.model_base.specs.Trace.{Trace, Settings};
-ghost use Rattle.model_base.specs.Attempts.{Attempt, slowed};
-ghost use Rattle.model_base.specs.Groups.{Member, Group, AreGroups, Holds};
+ghost use Rattle.model_base.specs.Attempts.{Attempt};
+ghost use Rattle.model_base.specs.Groups.{Member, Group, AreGroups};
 ghost use Rattle.model_base.specs.Progress.{Progress};
 ghost use Rattle.model_base.specs.Runs.{IsTranscript};
 ghost use Rattle.model_base.specs.Script.{Script};
@@ -50,11 +50,6 @@ pub fn led_groups()
         (attempts : List (List Attempt))
         → AreLed group_bytes controller_calls led attempts
         → AreGroups group_bytes controller_calls (groups_of led) attempts }
-    ensures slowed { (group_bytes : ℕ) (controller_calls : List ControllerCall) (led : List Led)
-        (attempts : List (List Attempt))
-        → AreLed group_bytes controller_calls led attempts
-        → (i : ℕ) (own : List Attempt) (k : ℕ) (attempt : Attempt) (place : ℕ) → slice_get attempts i ≡ Some own
-        → slice_get own k ≡ Some attempt → attempt.status ≡ slowed place → Holds (groups_of led) place (i + 1) k }
 {}
 
 /// Each commit that a leader took into its group is in its client's transcript, with its batch and the reply of its

@@ -1,6 +1,6 @@
 //! Laws of what a client sees.
 
-ghost use Rattle.std.specs.Prelude.{◌≡◌, ◌≤◌, List, ◌++◌};
+ghost use Rattle.std.specs.Prelude.{◌≡◌, ◌≤◌, List, ◌++◌, length};
 ghost use mathlib.Core.List.{IsPrefix};
 ghost use Rattle.std.specs.List.{AllByRecursion};
 ghost use Rattle.model_base.specs.History.{IsHistory, last_sequence, map_over};
@@ -10,7 +10,7 @@ ghost use Rattle.table_rule.specs.declared.content.MemberVersions.{MemberVersion
 ghost use Rattle.table_rule.specs.declared.content.Version.{Version};
 ghost use Rattle.table_rule.specs.Histories.{Begins, Images, versions_of, map_of as map_of_versions};
 ghost use Rattle.model_accounts.specs.Versions.{versions_of_entry};
-ghost use Rattle.model_accounts.specs.Sights.{Sight, last_seen, map_seen, Sees, Saw};
+ghost use Rattle.model_accounts.specs.Sights.{Sight, WasLogged, last_seen, map_seen, Sees, Saw};
 
 /// What was seen earlier is no more than what is seen later. It may have been seen of each trace of which the later
 /// sight may.
@@ -22,15 +22,16 @@ pub fn earlier_sights()
 {}
 
 /// If the groups that a client has seen published are the first ones of all that were published, it may have seen them
-/// of each trace whose entries made all those groups, whose controller's calls begin with the ones that it saw, and in
-/// which its reads of the log were right.
+/// of each trace whose entries made all those groups, whose controller's calls begin with the ones that it saw, in which
+/// its reads of the log were right, and whose calls of the log writer wrote its batches.
 pub fn sights_of_the_table()
     ensures saw { (trace : Trace) (history : List (List MemberVersions))
         → Images versions_of_entry trace.entries history
         → (sight : Sight) → sight.start ≡ trace.start → sight.opening ≡ trace.opening
         → Begins sight.published history
         → IsPrefix sight.controller_calls trace.controller_calls
-        → AllByRecursion (IsLogRead trace) sight.log_reads → Saw sight trace }
+        → AllByRecursion (IsLogRead trace) sight.log_reads → sight.logged ≤ length trace.log_calls
+        → AllByRecursion (WasLogged trace.log_calls) sight.batches → Saw sight trace }
     // if some versions made the map before the first group, then these and the published ones make the map that was
     // seen
     ensures map { (sight : Sight) (before : List Version) → sight.opening ≡ map_of_versions before

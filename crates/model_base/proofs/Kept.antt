@@ -33,7 +33,7 @@ module _ (kept : Option (List Logged)) (settings : Settings) where
   run_with trace client p [] q s = s
   run_with trace client p (c ∷ calls) q s = (
     s.0,
-    record { replies = replies_with trace client p c.command c.reply s.0 s.1.replies; rises = s.1.rises; within = s.1.within },
+    record { replies = replies_with trace client p c.command c.reply s.0 s.1.replies; rises = s.1.rises; within = s.1.within; tokens = s.1.tokens; logs_rise = s.1.logs_rise; logs_within = s.1.logs_within },
     run_with trace client s.0 calls q s.2,
   )
 

@@ -1,5 +1,6 @@
 -- Prefixes of one list, and of one trace.
-use Rattle.std.proofs.Common.{◌≡◌, ℕ, zero, suc, ◌≤◌, Some, List, [], ◌∷◌, ◌++◌, length, slice_get, refl, ap, sym, ◌∙◌, arith, append_assoc, length-append}
+use Rattle.std.proofs.Common.{◌≡◌, ℕ, zero, suc, ◌≤◌, Some, List, [], ◌∷◌, ◌++◌, length, slice_get, take, refl, ap, sym, ◌∙◌, arith, append_assoc, length-append}
+use Rattle.std.proofs.lemmas.List.{take-append-le}
 use mathlib.Core.List.{IsPrefix}
 use Rattle.model_base.specs.Trace.{Trace, Begins}
 
@@ -22,8 +23,12 @@ at_front (y ∷ xs) rest (suc i) x h = at_front xs rest i x h
 pub prefix_at : {A : Type 0} (xs ys : List A) → IsPrefix xs ys → (i : ℕ) (x : A) → slice_get xs i ≡ Some x → slice_get ys i ≡ Some x
 prefix_at xs ys p i x h = ap (λ zs. slice_get zs i) (sym p.1) ∙ at_front xs p.0 i x h
 
+-- and its first elements are the first ones of the whole list
+pub prefix_take : {A : Type 0} (xs ys : List A) → IsPrefix xs ys → (n : ℕ) → n ≤ length xs → take n ys ≡ take n xs
+prefix_take xs ys p n within = ap (take n) (sym p.1) ∙ take-append-le n xs p.0 within
+
 pub begins_self : (v : Trace) → Begins v v
-begins_self v = record { start = refl; opening = refl; kept = refl; entries = prefix_self v.entries; logged = prefix_self v.logged; controller_calls = prefix_self v.controller_calls }
+begins_self v = record { start = refl; opening = refl; kept = refl; entries = prefix_self v.entries; logged = prefix_self v.logged; controller_calls = prefix_self v.controller_calls; log_calls = prefix_self v.log_calls }
 
 pub begins_trans : (u v w : Trace) → Begins u v → Begins v w → Begins u w
-begins_trans u v w a b = record { start = a.start ∙ b.start; opening = a.opening ∙ b.opening; kept = a.kept ∙ b.kept; entries = prefix_trans u.entries v.entries w.entries a.entries b.entries; logged = prefix_trans u.logged v.logged w.logged a.logged b.logged; controller_calls = prefix_trans u.controller_calls v.controller_calls w.controller_calls a.controller_calls b.controller_calls }
+begins_trans u v w a b = record { start = a.start ∙ b.start; opening = a.opening ∙ b.opening; kept = a.kept ∙ b.kept; entries = prefix_trans u.entries v.entries w.entries a.entries b.entries; logged = prefix_trans u.logged v.logged w.logged a.logged b.logged; controller_calls = prefix_trans u.controller_calls v.controller_calls w.controller_calls a.controller_calls b.controller_calls; log_calls = prefix_trans u.log_calls v.log_calls w.log_calls a.log_calls b.log_calls }

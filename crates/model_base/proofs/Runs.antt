@@ -1,5 +1,5 @@
 -- Runs of calls: what holds in a trace holds in a longer one; and one more call.
-use Rattle.std.proofs.Common.{IfSome, ◌≡◌, ℕ, ◌≤◌, Bool, true, false, Option, Some, None, List, [], ◌∷◌, ◌++◌, map, MatchOption, refl, ap, sym, ◌∙◌, subst, arith, append_assoc}
+use Rattle.std.proofs.Common.{IfSome, ◌≡◌, ℕ, ◌≤◌, Bool, true, false, Option, Some, None, List, [], ◌∷◌, ◌++◌, map, take, MatchOption, refl, ap, sym, ◌∙◌, subst, arith, append_assoc}
 use mathlib.Core.List.{IsPrefix}
 use Rattle.model_base.specs.declared.write.WriteOptions.{WriteOptions}
 use Rattle.model_base.specs.declared.write.Refusal.{Refusal}
@@ -10,13 +10,15 @@ use Rattle.model_base.specs.Recovery.{Logged}
 use Rattle.model_base.specs.Since.{LogRead, records_in, since}
 use Rattle.model_base.specs.Controller.{ControllerCall, Action, Look}
 use Rattle.model_base.specs.Trace.{Trace, Begins, Settings}
-use Rattle.model_base.specs.Attempts.{WriteStatus, succeeded, slowed, faulted, full}
-use Rattle.model_base.specs.Tokens.{holds_stop}
+use Rattle.model_base.specs.Batch.{Record}
+use Rattle.model_base.specs.Attempts.{Fate}
+use Rattle.model_base.specs.LogContents.{GroupCall, IsLoggedBy}
+use Rattle.model_base.specs.Tokens.{tokens_of, holds_stop}
 use Rattle.model_base.specs.Progress.{Progress, fresh, first_missing, early_refusal}
-use Rattle.model_base.specs.Replies.{IsLater, WasHeldUp, LooksAway, IsTold, MayRefuse, IsKeptOut, IsAttempted, ReadsAt, IsDone, Gets, GetsMany, Scans, IfThere, IsLogRead, ReadsLog, Updates, Stops, Unstops, Slows, Unslows, Replies, Stays}
+use Rattle.model_base.specs.Replies.{IsLater, WasHeldUp, LooksAway, IsTold, MayRefuse, IsKeptOut, IsAccepted, IsAttempted, ReadsAt, IsDone, Gets, GetsMany, Scans, IfThere, IsLogRead, ReadsLog, Updates, Stops, Unstops, Slows, Unslows, Replies, Stays}
 use Rattle.model_base.specs.Runs.{Step, Run, IsTranscript, whole, cut_off}
 use Rattle.model_base.specs.Calls.{Command, add, clear, commit, get, many, scan, updates, stop, unstop, slow, unslow, Reply, accepted, refused, found, found_each, rows, updates_found, read_failed, done, held, not_held, Call}
-use Rattle.model_base.proofs.Prefixes.{prefix_at, prefix_length, prefix_trans}
+use Rattle.model_base.proofs.Prefixes.{prefix_at, prefix_length, prefix_take, prefix_trans}
 
 -- A longer trace
 
@@ -39,29 +41,30 @@ away_in : (xs ys : List ControllerCall) → IsPrefix xs ys → (stopping : Bool)
 away_in xs ys p true client by place numbers s = s
 away_in xs ys p false client by place numbers s = record { leader = s.leader; other = s.other; stalled = held_up_in xs ys p s.leader place place (omega arith) s.stalled; looked = s.looked; shown = s.shown }
 
-told_in : (xs ys : List ControllerCall) → IsPrefix xs ys → (stopping : Bool) (client knew knows : ℕ) (numbers : Look) (status : Option WriteStatus) → IsTold xs stopping client knew knows numbers status → IsTold ys stopping client knew knows numbers status
+told_in : (xs ys : List ControllerCall) → IsPrefix xs ys → (stopping : Bool) (client knew knows : ℕ) (numbers : Look) (fate : Option Fate) → IsTold xs stopping client knew knows numbers fate → IsTold ys stopping client knew knows numbers fate
 told_in xs ys p stopping client knew knows numbers None s = (s.0, s.1, later_in xs ys p knew s.1 _ s.2, s.3, away_in xs ys p stopping client s.0 s.1 numbers s.4)
-told_in xs ys p stopping client knew knows numbers (Some (slowed place)) s = (s.0, s.1, s.2, later_in xs ys p knew place _ s.3, s.4, s.5)
-told_in xs ys p stopping client knew knows numbers (Some succeeded) s = absurd s
-told_in xs ys p stopping client knew knows numbers (Some (faulted c)) s = absurd s
-told_in xs ys p stopping client knew knows numbers (Some (full l)) s = absurd s
+told_in xs ys p stopping client knew knows numbers (Some fate) s = (s.0, s.1, s.2, later_in xs ys p knew fate.place _ s.3, s.4, s.5, s.6)
 
 -- a refusal that is right stays so in the longer history, even for a client that was shown less
-pub refuse_in : (xs ys : List ControllerCall) → IsPrefix xs ys → (client : ℕ) (p : Progress) (shown knows : ℕ) → shown ≤ p.seen_up_to → (how : WriteOptions) (why : Refusal) (status : Option WriteStatus)
-    → MayRefuse xs client p knows how why status → MayRefuse ys client (record p { seen_up_to = shown }) knows how why status
-refuse_in xs ys pre client p shown knows low how (no.Incomplete a b c) status s = (s.0, told_in xs ys pre (holds_stop p.asked) client p.known knows _ status s.1)
-refuse_in xs ys pre client p shown knows low how (no.LogFault c) status s = s
-refuse_in xs ys pre client p shown knows low how (no.SequenceFull l) status s = (s.0, s.1, (let seen = s.2 in omega (arith, low, seen)), s.3, s.4, s.5)
-refuse_in xs ys pre client p shown knows low how no.Empty status s = s
-refuse_in xs ys pre client p shown knows low how (no.TooLarge n) status s = s
-refuse_in xs ys pre client p shown knows low how no.SyncWithoutLog status s = s
-refuse_in xs ys pre client p shown knows low how no.SelfStop status s = s
-refuse_in xs ys pre client p shown knows low how (no.NoFamily f) status s = s
-refuse_in xs ys pre client p shown knows low how no.NoMemory status s = s
+pub refuse_in : (xs ys : List ControllerCall) → IsPrefix xs ys → (client : ℕ) (p : Progress) (shown knows : ℕ) → shown ≤ p.seen_up_to → (how : WriteOptions) (why : Refusal) (fate : Option Fate)
+    → MayRefuse xs client p knows how why fate → MayRefuse ys client (record p { seen_up_to = shown }) knows how why fate
+refuse_in xs ys pre client p shown knows low how (no.Incomplete a b c) fate s = (s.0, told_in xs ys pre (holds_stop p.asked) client p.known knows _ fate s.1)
+refuse_in xs ys pre client p shown knows low how (no.LogFault c) fate s = s
+refuse_in xs ys pre client p shown knows low how (no.SequenceFull l) fate s = (s.0, s.1, (let seen = s.2 in omega (arith, low, seen)), s.3, s.4, s.5)
+refuse_in xs ys pre client p shown knows low how no.Empty fate s = s
+refuse_in xs ys pre client p shown knows low how (no.TooLarge n) fate s = s
+refuse_in xs ys pre client p shown knows low how no.SyncWithoutLog fate s = s
+refuse_in xs ys pre client p shown knows low how no.SelfStop fate s = s
+refuse_in xs ys pre client p shown knows low how (no.NoFamily f) fate s = s
+refuse_in xs ys pre client p shown knows low how no.NoMemory fate s = s
 
 -- a commit of a client that holds no stop token may be in a group
-pub not_kept_out : (asked : List Action) (status : WriteStatus) → holds_stop asked ≡ false → IsKeptOut asked (Some status)
-not_kept_out asked status free = λ stopping. absurd (cc (free, stopping))
+pub not_kept_out : (asked : List Action) (fate : Fate) → holds_stop asked ≡ false → IsKeptOut asked (Some fate)
+not_kept_out asked fate free = λ stopping. absurd (cc (free, stopping))
+
+-- a batch that one of the first calls wrote was written by one of all calls
+pub logged_in : (xs ys : List GroupCall) → IsPrefix xs ys → (knew knows first : ℕ) (records : List Record) (sync : Bool) → IsLoggedBy xs knew knows first records sync → IsLoggedBy ys knew knows first records sync
+logged_in xs ys p knew knows first records sync s = record { place = s.place; call = s.call; there = prefix_at xs ys p s.place s.call s.there; later = s.later; known = s.known; wrote = s.wrote }
 
 -- what follows where there is no early refusal
 in_none : {A : Type 0} (X Y : Type 0) (Q : A → Type 0) (o : Option A) → (X → Y) → MatchOption o X Q → MatchOption o Y Q
@@ -70,8 +73,19 @@ in_none X Y Q (Some a) f s = s
 
 module _ (v w : Trace) (b : Begins v w) where
   attempted_in : (client : ℕ) (p : Progress) (how : WriteOptions) (r : Reply) (q : Progress) → IsAttempted v client p how r q → IsAttempted w client p how r q
-  attempted_in client p how (accepted x y rs) q s = s
-  attempted_in client p how (refused why) q s = (s.0, refuse_in v.controller_calls w.controller_calls b.controller_calls client p p.seen_up_to q.known (omega arith) how why s.0 s.1, s.2, s.3)
+  attempted_in client p how (accepted x y rs) q s = record {
+    batch = s.batch;
+    run = s.run;
+    above = s.above;
+    behind = s.behind;
+    alive = s.alive;
+    free = s.free;
+    place = s.place;
+    asked = s.asked;
+    logged = λ to_log. logged_in v.log_calls w.log_calls b.log_calls p.logged q.logged x p.pending how.sync (s.logged to_log);
+    after = s.after;
+  }
+  attempted_in client p how (refused why) q s = (s.0, refuse_in v.controller_calls w.controller_calls b.controller_calls client p p.seen_up_to q.known (omega arith) how why s.0 s.1, s.2, s.3, s.4)
   attempted_in client p how _ q s = absurd s
 
   up_to_in : (at : ℕ) (front : List Entry) → IsUpTo v.start v.entries at front → IsUpTo w.start w.entries at front
@@ -163,7 +177,14 @@ module _ (v w : Trace) (b : Begins v w) where
   replies_in settings client p unslow r q s = unslows_in client p r q s
 
   pub step_in : (settings : Settings) (client : ℕ) (p : Progress) (c : Command) (r : Reply) (q : Progress) → Step settings v client p c r q → Step settings w client p c r q
-  step_in settings client p c r q s = record { replies = replies_in settings client p c r q s.replies; rises = s.rises; within = (let n = s.within in let m = prefix_length v.controller_calls w.controller_calls b.controller_calls in omega arith) }
+  step_in settings client p c r q s = record {
+    replies = replies_in settings client p c r q s.replies;
+    rises = s.rises;
+    within = (let n = s.within in let m = prefix_length v.controller_calls w.controller_calls b.controller_calls in omega arith);
+    tokens = ap (tokens_of client) (prefix_take v.controller_calls w.controller_calls b.controller_calls q.known s.within) ∙ s.tokens;
+    logs_rise = s.logs_rise;
+    logs_within = (let n = s.logs_within in let m = prefix_length v.log_calls w.log_calls b.log_calls in omega arith);
+  }
 
   -- a run of calls in a trace is one in each longer trace too
   pub run_in : (settings : Settings) (client : ℕ) (p : Progress) (calls : List Call) (q : Progress) → Run settings v client p calls q → Run settings w client p calls q

@@ -7,27 +7,43 @@ use Rattle.model_base.specs.Batch.{Record, size_of_batch}
 
 pub data WriteStatus : Type 0 where
   succeeded : WriteStatus
-  -- writes were held up: its group learned that from the call at this place (from 0) of the controller's history
-  slowed : ℕ → WriteStatus
+  -- writes were held up, as the delay of its group answered
+  slowed : WriteStatus
   -- the log failed, with this count of faults
   faulted : ℕ → WriteStatus
   -- after this sequence there was no room for its run
   full : ℕ → WriteStatus
 
+-- how a commit ended in its group, and the place (from 0) in the controller's history of the delay that was asked for
+-- that group
+pub record Fate : Type 0 where
+  pub status : WriteStatus
+  pub place : ℕ
+
+abbrev pub fate_at : ℕ → WriteStatus → Option Fate
+fate_at place status = Some (record { status = status; place = place })
+
+-- the status, where a leader took the commit into a group
+abbrev pub status_in : Option Fate → Option WriteStatus
+status_in None = None
+status_in (Some fate) = Some fate.status
+
 pub record Attempt : Type 0 where
   pub records : List Record
   pub options : WriteOptions
   pub status : WriteStatus
+  -- the place of its group's delay
+  pub place : ℕ
 
 -- what grouping sees of a commit
 abbrev pub item_of : Attempt → Item
 item_of h = record { size = size_of_batch h.records; options = h.options; alone = false }
 
--- a client's commits, with one more if a leader took it into a group, where it got a status
-abbrev pub with_attempt : List Attempt → List Record → WriteOptions → Option WriteStatus → List Attempt
+-- a client's commits, with one more if a leader took it into a group, where it had this fate
+abbrev pub with_attempt : List Attempt → List Record → WriteOptions → Option Fate → List Attempt
 with_attempt attempts records how None = attempts
-with_attempt attempts records how (Some status) =
-    attempts ++ record { records = records; options = how; status = status } ∷ []
+with_attempt attempts records how (Some fate) =
+    attempts ++ record { records = records; options = how; status = fate.status; place = fate.place } ∷ []
 
 abbrev pub is_faulted : WriteStatus → Bool
 is_faulted (faulted count) = true

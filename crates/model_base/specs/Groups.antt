@@ -1,5 +1,5 @@
--- For which groups of commits the controller was asked for a delay, and that each commit's status agrees with the
--- trace.
+-- For which groups of commits the controller was asked for a delay, that each commit is in the group of its own delay,
+-- and that its status agrees with the trace.
 use Rattle.std.specs.Prelude.{◌≡◌, ◌≢◌, ◌⊎◌, ℕ, ◌+◌, ◌<◌, Bool, true, false, IsTrue, List, [], ◌∷◌, length, map, flat_map, ⊤, Option, Some, slice_get}
 use Rattle.std.specs.List.{AllByRecursion, AllZip}
 use Rattle.model_base.specs.declared.group.Item.{Item}
@@ -134,27 +134,28 @@ pub record Proceeds (controller_calls : List ControllerCall) (delays : List ℕ)
         (λ (i : Item). MayProceed controller_calls delays by place numbers i.options.no_slowdown) items
 
 abbrev pub is_slowed : WriteStatus → Bool
-is_slowed (slowed place) = true
+is_slowed slowed = true
 is_slowed succeeded = false
 is_slowed (faulted count) = false
 is_slowed (full last) = false
 
--- Either each of these statuses says that writes were held up, at the group's delay, or none says so and the group may
--- go on.
+-- Either each of these statuses says that writes were held up, or none says so and the group may go on.
 abbrev pub HaveOneFate : List ControllerCall → List ℕ → ℕ → List Item → List WriteStatus → Type 0
-HaveOneFate controller_calls delays place items statuses = AllByRecursion (λ status. status ≡ slowed place) statuses
+HaveOneFate controller_calls delays place items statuses = AllByRecursion (λ status. status ≡ slowed) statuses
     ⊎ (AllByRecursion (λ status. is_slowed status ≡ false) statuses × Proceeds controller_calls delays place items)
 
--- a group is refused as a whole because writes were held up, or goes on as a whole
+-- The members are commits whose delay is the group's. The group is refused as a whole because writes were held up, or
+-- goes on as a whole.
 pub record HasOneFate (controller_calls : List ControllerCall) (groups : List Group)
     (attempts : List (List Attempt)) (g : Group) : Type 0 where
   pub statuses : List WriteStatus
-  pub are : AllZip (λ (m : Member) status. (c : IsCommit attempts m) × (c.attempt.status ≡ status)) g.members statuses
+  pub are : AllZip (λ (m : Member) status. (c : IsCommit attempts m) × (c.attempt.status ≡ status)
+      × (c.attempt.place ≡ g.place)) g.members statuses
   pub together : HaveOneFate controller_calls (map (λ (h : Group). h.place) groups) g.place (items_of g.members)
       statuses
 
 -- The controller's history has one delay for each of these groups, and no other. Each commit is in just one of the
--- groups.
+-- groups, that of its own delay.
 pub record AreGroups (group_bytes : ℕ) (controller_calls : List ControllerCall) (groups : List Group)
     (attempts : List (List Attempt)) : Type 0 where
   pub each : AllByRecursion (IsAskedFor group_bytes controller_calls) groups
@@ -164,19 +165,17 @@ pub record AreGroups (group_bytes : ℕ) (controller_calls : List ControllerCall
   pub apart : AreAllApart (members_of groups)
   pub none_else : (number : ℕ) (commits : List Attempt) (call : ℕ) (attempt : Attempt)
       → slice_get attempts number ≡ Some commits → slice_get commits call ≡ Some attempt
-      → (place : ℕ) × Holds groups place (number + 1) call
+      → Holds groups attempt.place (number + 1) call
   pub together : AllByRecursion (HasOneFate controller_calls groups attempts) groups
 
--- A commit's status agrees with the trace: if it is `slowed`, the group of that delay has the commit; if it is
--- `faulted`, the run has that fault; if it is `full`, the sequence that it names is a boundary.
-abbrev pub IsStatus : Trace → List Group → Option ℕ → ℕ → ℕ → WriteStatus → Type 0
-IsStatus trace groups fault client call succeeded = ⊤
-IsStatus trace groups fault client call (slowed place) = Holds groups place client call
-IsStatus trace groups fault client call (faulted count) = fault ≡ Some count
-IsStatus trace groups fault client call (full last) = IsBoundary trace.start trace.entries last
+-- A commit's status agrees with the trace: if it is `faulted`, the run has that fault; if it is `full`, the sequence
+-- that it names is a boundary. Whether it is right that it is `slowed` is said of its whole group (`HasOneFate`).
+abbrev pub IsStatus : Trace → Option ℕ → WriteStatus → Type 0
+IsStatus trace fault succeeded = ⊤
+IsStatus trace fault slowed = ⊤
+IsStatus trace fault (faulted count) = fault ≡ Some count
+IsStatus trace fault (full last) = IsBoundary trace.start trace.entries last
 
--- so does the status of each of a client's commits, in order; the first of them has the number `call`
-abbrev pub AreStatuses : Trace → List Group → Option ℕ → ℕ → ℕ → List Attempt → Type 0
-AreStatuses trace groups fault client call [] = ⊤
-AreStatuses trace groups fault client call (h ∷ attempts) = IsStatus trace groups fault client call h.status
-    × AreStatuses trace groups fault client (call + 1) attempts
+-- so does the status of each of a client's commits
+abbrev pub AreStatuses : Trace → Option ℕ → List Attempt → Type 0
+AreStatuses trace fault attempts = AllByRecursion (λ (h : Attempt). IsStatus trace fault h.status) attempts

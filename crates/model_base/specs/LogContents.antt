@@ -1,7 +1,7 @@
 -- What a run leaves in the log.
-use Rattle.std.specs.Prelude.{◌≡◌, ℕ, ◌<◌, Bool, Option, List, [], ◌∷◌, length, take, map, flat_map}
+use Rattle.std.specs.Prelude.{◌≡◌, ℕ, ◌+◌, ◌<◌, ◌≤◌, Bool, true, Option, Some, None, List, [], ◌∷◌, ◌++◌, length, take, map, flat_map, sum_by, slice_get}
 use Rattle.std.specs.List.{AllByRecursion}
-use Rattle.model_base.specs.Batch.{Record, group_record}
+use Rattle.model_base.specs.Batch.{Record, count_of, group_record}
 use Rattle.model_base.specs.Log.{Beginning, text_after}
 use Rattle.model_base.specs.History.{Entry, RunsFollow, logged_entries}
 use Rattle.model_base.specs.Calls.{Outcome}
@@ -37,6 +37,25 @@ pub record GroupCall : Type 0 where
 -- the one record that the call writes for its group
 abbrev pub record_of_call : GroupCall → List ℕ
 record_of_call c = group_record c.first c.batches
+
+-- The call wrote this batch, under the run that begins with this sequence. It worked, and it synced if that was asked.
+pub record WroteBatch (first : ℕ) (records : List Record) (sync : Bool) (c : GroupCall) : Type 0 where
+  pub before : List (List Record)
+  pub after : List (List Record)
+  pub among : c.batches ≡ before ++ records ∷ after
+  pub run : first ≡ c.first + sum_by count_of before
+  pub synced : sync ≡ true → c.sync ≡ true
+  pub ok : c.failed ≡ None
+
+-- One of these calls wrote this batch so. It is among the first `knows` of them, and not among the first `knew`.
+pub record IsLoggedBy (calls : List GroupCall) (knew knows first : ℕ) (records : List Record) (sync : Bool)
+    : Type 0 where
+  pub place : ℕ
+  pub call : GroupCall
+  pub there : slice_get calls place ≡ Some call
+  pub later : knew ≤ place
+  pub known : place < knows
+  pub wrote : WroteBatch first records sync call
 
 -- If an image is longer than this text, and longer than any image could be before the text was written (`reached`), it
 -- begins with the text.

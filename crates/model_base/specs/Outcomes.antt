@@ -55,14 +55,14 @@ pub record IsTrace (settings : Settings) (trace : Trace) : Type 0 where
 
 -- A client's calls are right in the trace. Its accepted batches are just its entries there. Its token calls are just
 -- those there, with the tokens that it gave back at its end. Its commits have statuses that agree with the trace.
-pub record IsLegalTranscript (settings : Settings) (trace : Trace) (groups : List Group) (fault : Option ℕ) (client : ℕ)
+pub record IsLegalTranscript (settings : Settings) (trace : Trace) (fault : Option ℕ) (client : ℕ)
     (commands : List Command) (calls : List Call) (attempts : List Attempt) : Type 0 where
   pub end : Progress
   pub is_transcript : IsTranscript settings trace client commands calls end
   pub accepted : entries_of_client client trace.entries ≡ end.mine
   pub tokens : tokens_of client trace.controller_calls ≡ end.asked ++ given_back end.asked
   pub commits : attempts ≡ end.attempts
-  pub statuses : AreStatuses trace groups fault client 0 attempts
+  pub statuses : AreStatuses trace fault attempts
 
 -- The outcome is legal in this trace, with these commits of each client that leaders took into groups. No reply shows
 -- these commits, the controller's history, or the groups that asked it for a delay.
@@ -78,7 +78,7 @@ pub record IsLegalIn (settings : Settings) (ended : ℕ) (script : List (List Co
   pub each : (i : ℕ) (commands : List Command) (calls : List Call) → slice_get script i ≡ Some commands
       → slice_get o.transcripts i ≡ Some calls
       → (h : List Attempt) × (slice_get attempts i ≡ Some h)
-      × IsLegalTranscript settings trace groups o.fault (i + 1) commands calls h
+      × IsLegalTranscript settings trace o.fault (i + 1) commands calls h
   pub last : o.last ≡ last_sequence trace.start trace.entries
   pub state : o.state ≡ map_over trace.opening trace.entries
   pub fault : IfSome o.fault (λ count. Rose settings.opened count × (count ≤ ended))

@@ -24,9 +24,11 @@ pub record Progress : Type 0 where
   pub seen_up_to : ℕ
   -- how many calls of the controller's history it knows of, from the first one on
   pub known : ℕ
+  -- how many calls of the log writer it knows to have returned, from the first one on
+  pub logged : ℕ
 
 abbrev pub fresh : Progress
-fresh = record { pending = []; mine = []; asked = []; attempts = []; seen_up_to = 0; known = 0 }
+fresh = record { pending = []; mine = []; asked = []; attempts = []; seen_up_to = 0; known = 0; logged = 0 }
 
 -- a client's next entry in the history
 abbrev pub next_entry : ℕ → List Entry → WriteOptions → ℕ → List Record → Entry

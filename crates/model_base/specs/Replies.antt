@@ -12,10 +12,10 @@ use Rattle.model_base.specs.Controller as controller
 use Rattle.model_base.specs.Controller.{ControllerCall, Action, Look, HoldUp, ShowTokens}
 use Rattle.model_base.specs.Tokens.{holds_stop, holds_slow}
 use Rattle.model_base.specs.Trace.{Trace, Settings}
-use Rattle.model_base.specs.Attempts.{Attempt, WriteStatus, succeeded, slowed, faulted, full, with_attempt, knows_log_failed}
+use Rattle.model_base.specs.Attempts.{Attempt, WriteStatus, succeeded, slowed, faulted, full, Fate, fate_at, status_in, with_attempt, knows_log_failed}
 use Rattle.model_base.specs.Progress.{Progress, next_entry, first_missing, early_refusal}
 use Rattle.model_base.specs.Counts.{Rose}
-use Rattle.model_base.specs.LogContents.{AreGroupsOf}
+use Rattle.model_base.specs.LogContents.{GroupCall, AreGroupsOf, IsLoggedBy}
 use Rattle.model_base.specs.Since.{LogRead, records_in, since}
 use Rattle.model_base.specs.Calls.{Command, add, clear, commit, get, many, scan, updates, stop, unstop, slow, unslow, Reply, quiet, accepted, refused, found, found_each, rows, updates_found, read_failed, done, held, not_held}
 
@@ -58,15 +58,14 @@ LooksAway false controller_calls client by place numbers = MetStall controller_c
 -- held up. That call comes after all that the client knew before its commit, and the client knows of it once the commit
 -- returns. `stopping` says that the client holds a stop token. Which group a delay was for isn't in the controller's
 -- history: the groups of an outcome say so.
-abbrev pub IsTold : List ControllerCall → Bool → ℕ → ℕ → ℕ → Look → Option WriteStatus → Type 0
+abbrev pub IsTold : List ControllerCall → Bool → ℕ → ℕ → ℕ → Look → Option Fate → Type 0
 IsTold controller_calls stopping client knew knows numbers None = (by : ℕ) × (place : ℕ)
     × IsLater controller_calls knew place (record { client = by; action = controller.look; told = Some numbers })
     × (place < knows) × LooksAway stopping controller_calls client by place numbers
-IsTold controller_calls stopping client knew knows numbers (Some (slowed place)) = (by : ℕ) × (now : ℕ) × (bytes : ℕ)
-    × IsLater controller_calls knew place
+IsTold controller_calls stopping client knew knows numbers (Some fate) = (by : ℕ) × (now : ℕ) × (bytes : ℕ)
+    × IsLater controller_calls knew fate.place
     (record { client = by; action = controller.delay now bytes; told = Some numbers })
-    × (place < knows) × HoldUp numbers
-IsTold controller_calls stopping client knew knows numbers (Some other) = ⊥
+    × (fate.place < knows) × HoldUp numbers × (fate.status ≡ slowed)
 
 -- no accepted batch ends above this sequence
 abbrev pub AreUpTo : List Entry → ℕ → Type 0
@@ -76,76 +75,87 @@ AreUpTo mine last = AllByRecursion (λ e. last_of e ≤ last) mine
 abbrev pub IsFullBelow : ℕ → WriteStatus → Type 0
 IsFullBelow sequence (full last) = last < sequence
 IsFullBelow sequence succeeded = ⊤
-IsFullBelow sequence (slowed place) = ⊤
+IsFullBelow sequence slowed = ⊤
 IsFullBelow sequence (faulted count) = ⊤
 
 abbrev pub AreFullBelow : ℕ → List Attempt → Type 0
 AreFullBelow sequence attempts = AllByRecursion (λ (h : Attempt). IsFullBelow sequence h.status) attempts
 
 -- Why a commit of a client with this progress may be refused, after the early checks. `knows` is how much of the
--- controller's history the client knows afterwards, and `status` how the commit ended in its group, if a leader took it
+-- controller's history the client knows afterwards, and `fate` how the commit ended in its group, if a leader took it
 -- into one.
-abbrev pub MayRefuse : List ControllerCall → ℕ → Progress → ℕ → WriteOptions → Refusal → Option WriteStatus → Type 0
-MayRefuse controller_calls client p knows how (no.Incomplete stops delays wait) status =
+abbrev pub MayRefuse : List ControllerCall → ℕ → Progress → ℕ → WriteOptions → Refusal → Option Fate → Type 0
+MayRefuse controller_calls client p knows how (no.Incomplete stops delays wait) fate =
     (how.no_slowdown ≡ true)
     × IsTold controller_calls (holds_stop p.asked) client p.known knows
-    (record { stops = stops; delays = delays; wait = wait }) status
-MayRefuse controller_calls client p knows how (no.LogFault count) status = status ≡ Some (faulted count)
-MayRefuse controller_calls client p knows how (no.SequenceFull last) status =
-    (status ≡ Some (full last)) × (knows_log_failed p.attempts ≡ false) × (p.seen_up_to ≤ last) × AreUpTo p.mine last
-    × AreFullBelow (last + 1) p.attempts × (max_sequence < last + count_of p.pending)
-MayRefuse controller_calls client p knows how no.Empty status = ⊥
-MayRefuse controller_calls client p knows how (no.TooLarge size) status = ⊥
-MayRefuse controller_calls client p knows how no.SyncWithoutLog status = ⊥
-MayRefuse controller_calls client p knows how no.SelfStop status = ⊥
-MayRefuse controller_calls client p knows how (no.NoFamily family) status = ⊥
-MayRefuse controller_calls client p knows how no.NoMemory status = ⊥
+    (record { stops = stops; delays = delays; wait = wait }) fate
+MayRefuse controller_calls client p knows how (no.LogFault count) fate = status_in fate ≡ Some (faulted count)
+MayRefuse controller_calls client p knows how (no.SequenceFull last) fate =
+    (status_in fate ≡ Some (full last)) × (knows_log_failed p.attempts ≡ false) × (p.seen_up_to ≤ last)
+    × AreUpTo p.mine last × AreFullBelow (last + 1) p.attempts × (max_sequence < last + count_of p.pending)
+MayRefuse controller_calls client p knows how no.Empty fate = ⊥
+MayRefuse controller_calls client p knows how (no.TooLarge size) fate = ⊥
+MayRefuse controller_calls client p knows how no.SyncWithoutLog fate = ⊥
+MayRefuse controller_calls client p knows how no.SelfStop fate = ⊥
+MayRefuse controller_calls client p knows how (no.NoFamily family) fate = ⊥
+MayRefuse controller_calls client p knows how no.NoMemory fate = ⊥
 
 -- A commit of a client that holds a stop token is in no group. Another one is in no group only if it met a stall, and
 -- then it is refused because of that (`IsTold`).
-abbrev pub IsKeptOut : List Action → Option WriteStatus → Type 0
-IsKeptOut asked status = holds_stop asked ≡ true → status ≡ None
+abbrev pub IsKeptOut : List Action → Option Fate → Type 0
+IsKeptOut asked fate = holds_stop asked ≡ true → fate ≡ None
+
+-- The delay of a commit's group is within the commit's call: it comes after all that the client knew before (`knew`),
+-- and the client knows of it once the commit returns (`knows`).
+abbrev pub IsWithinCall : ℕ → ℕ → ℕ → Type 0
+IsWithinCall knew knows place = (knew ≤ place) × (place < knows)
 
 -- Each command
 
--- nothing has changed, except perhaps what is known of the controller
+-- nothing has changed, except perhaps what is known of the controller and of the log's calls
 abbrev pub Stays : Progress → Progress → Type 0
-Stays p q = q ≡ record p { known = q.known }
+Stays p q = q ≡ record p { known = q.known; logged = q.logged }
 
 abbrev pub Adds : Progress → Record → Reply → Progress → Type 0
-Adds p r quiet q = q ≡ record p { pending = p.pending ++ r ∷ []; known = q.known }
+Adds p r quiet q = q ≡ record p { pending = p.pending ++ r ∷ []; known = q.known; logged = q.logged }
 Adds p r other q = ⊥
 
 abbrev pub Clears : Progress → Reply → Progress → Type 0
-Clears p quiet q = q ≡ record p { pending = []; known = q.known }
+Clears p quiet q = q ≡ record p { pending = []; known = q.known; logged = q.logged }
 Clears p other q = ⊥
 
 -- The batch got the run that was replied, and is the client's next entry. The run is above all that the client was
 -- shown, and above each sequence after which there was no room for an earlier batch of this client. The client doesn't
--- know of a fault of the log, and holds no stop token.
-pub record IsAccepted (client : ℕ) (p : Progress) (how : WriteOptions) (first last : ℕ) (records : List Record)
-    (q : Progress) : Type 0 where
+-- know of a fault of the log, and holds no stop token. The delay of its group is within the call. A batch that goes into
+-- the log was written by a call of the log writer that had returned when the client was answered.
+pub record IsAccepted (log_calls : List GroupCall) (client : ℕ) (p : Progress) (how : WriteOptions) (first last : ℕ)
+    (records : List Record) (q : Progress) : Type 0 where
   pub batch : records ≡ p.pending
   pub run : last + 1 ≡ first + count_of p.pending
   pub above : p.seen_up_to < first
   pub behind : AreFullBelow first p.attempts
   pub alive : knows_log_failed p.attempts ≡ false
   pub free : holds_stop p.asked ≡ false
+  pub place : ℕ
+  pub asked : IsWithinCall p.known q.known place
+  pub logged : how.no_log ≡ false → IsLoggedBy log_calls p.logged q.logged first p.pending how.sync
   pub after : q ≡ record p {
     pending = [];
     mine = p.mine ++ next_entry client p.mine how first p.pending ∷ [];
-    attempts = with_attempt p.attempts p.pending how (Some succeeded);
+    attempts = with_attempt p.attempts p.pending how (fate_at place succeeded);
     seen_up_to = max p.seen_up_to last;
     known = q.known;
+    logged = q.logged;
   }
 
 -- a commit that passed the early checks
 abbrev pub IsAttempted : Trace → ℕ → Progress → WriteOptions → Reply → Progress → Type 0
-IsAttempted trace client p how (accepted first last records) q = IsAccepted client p how first last records q
+IsAttempted trace client p how (accepted first last records) q =
+    IsAccepted trace.log_calls client p how first last records q
 IsAttempted trace client p how (refused why) q =
-    (status : Option WriteStatus) × MayRefuse trace.controller_calls client p q.known how why status
-    × (q ≡ record p { attempts = with_attempt p.attempts p.pending how status; known = q.known })
-    × IsKeptOut p.asked status
+    (fate : Option Fate) × MayRefuse trace.controller_calls client p q.known how why fate
+    × (q ≡ record p { attempts = with_attempt p.attempts p.pending how fate; known = q.known; logged = q.logged })
+    × IsKeptOut p.asked fate × IfSome fate (λ fate. IsWithinCall p.known q.known fate.place)
 IsAttempted trace client p how other q = ⊥
 
 abbrev pub Commits : Settings → Trace → ℕ → Progress → WriteOptions → Reply → Progress → Type 0
@@ -159,7 +169,7 @@ pub record ReadsAt (trace : Trace) (p : Progress) (at : ℕ) (answers : Pairs �
   pub is_front : IsUpTo trace.start trace.entries at front
   pub not_below : p.seen_up_to ≤ at
   pub answer : answers (map_over trace.opening front)
-  pub after : q ≡ record p { seen_up_to = at; known = q.known }
+  pub after : q ≡ record p { seen_up_to = at; known = q.known; logged = q.logged }
 
 -- a read of keys in these families: refused by the first one that there isn't, if there is such a one
 abbrev pub IfThere : Settings → List ℕ → Progress → Reply → Progress → Type 0 → Type 0
@@ -209,7 +219,7 @@ pub record IsDone (trace : Trace) (client : ℕ) (p : Progress) (action : Action
   pub place : ℕ
   pub is_later : IsLater trace.controller_calls p.known place (record { client = client; action = action; told = None })
   pub known : place < q.known
-  pub after : q ≡ record p { asked = p.asked ++ action ∷ []; known = q.known }
+  pub after : q ≡ record p { asked = p.asked ++ action ∷ []; known = q.known; logged = q.logged }
 
 abbrev pub Stops : Trace → ℕ → Progress → Reply → Progress → Type 0
 Stops trace client p done q = (holds_stop p.asked ≡ false) × IsDone trace client p controller.stop q

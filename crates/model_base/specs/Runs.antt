@@ -1,18 +1,23 @@
 -- A client's calls, one after another.
-use Rattle.std.specs.Prelude.{◌≡◌, ◌≢◌, ℕ, ◌≤◌, List, [], ◌∷◌, ◌++◌, length, map}
+use Rattle.std.specs.Prelude.{◌≡◌, ◌≢◌, ℕ, ◌≤◌, List, [], ◌∷◌, ◌++◌, length, map, take}
 use Rattle.std.specs.List.{AllByRecursion}
+use Rattle.model_base.specs.Tokens.{tokens_of}
 use Rattle.model_base.specs.Trace.{Trace, Settings}
 use Rattle.model_base.specs.Progress.{Progress, fresh}
 use Rattle.model_base.specs.Replies.{Replies, MayFindNoMemory}
 use Rattle.model_base.specs.Calls.{Command, Reply, no_memory, Call}
 
--- One call of a client takes it from p to q. What it knows of the controller's history never gets less, and is never
--- more than there is.
+-- One call of a client takes it from p to q. What it knows of the controller's history, and of the log's calls, never
+-- gets less, and is never more than there is. Of the controller's calls that it then knows of, its own token calls are
+-- just those that were answered `done`.
 pub record Step (settings : Settings) (trace : Trace) (client : ℕ) (p : Progress) (command : Command) (reply : Reply)
     (q : Progress) : Type 0 where
   pub replies : Replies settings trace client p command reply q
   pub rises : p.known ≤ q.known
   pub within : q.known ≤ length trace.controller_calls
+  pub tokens : tokens_of client (take q.known trace.controller_calls) ≡ q.asked
+  pub logs_rise : p.logged ≤ q.logged
+  pub logs_within : q.logged ≤ length trace.log_calls
 
 -- these calls, one after another, take the client from p to q
 abbrev pub Run : Settings → Trace → ℕ → Progress → List Call → Progress → Type 0

@@ -1,10 +1,11 @@
 -- Outcomes of one client.
-use Rattle.std.proofs.Common.{◌≡◌, ℕ, zero, suc, ◌+◌, Option, Some, List, [], ◌∷◌, ◌++◌, max, slice_get, refl, ap, subst, arith}
+use Rattle.std.proofs.Common.{◌≡◌, ℕ, zero, suc, ◌+◌, ◌≤◌, false, Option, Some, None, List, [], ◌∷◌, ◌++◌, length, max, slice_get, take, refl, ap, subst, arith}
 use Rattle.std.specs.List.{AllByRecursion}
 use Rattle.model_base.specs.Batch.{Record}
 use Rattle.model_base.specs.Trace.{Trace, Settings}
-use Rattle.model_base.specs.Attempts.{Attempt, WriteStatus, succeeded, with_attempt}
-use Rattle.model_base.specs.Groups.{Group}
+use Rattle.model_base.specs.Tokens.{tokens_of}
+use Rattle.model_base.specs.LogContents.{GroupCall, IsLoggedBy}
+use Rattle.model_base.specs.Attempts.{Attempt, WriteStatus, succeeded, fate_at, with_attempt}
 use Rattle.model_base.specs.Progress.{Progress, next_entry}
 use Rattle.model_base.specs.Replies.{Replies}
 use Rattle.model_base.specs.Runs.{Step}
@@ -27,11 +28,11 @@ first_only x y zero h = (refl, cc h)
 first_only x y (suc i) h = absurd (cc h)
 
 -- if there is one client, only its transcript has to be legal
-pub each_one : (settings : Settings) (trace : Trace) (groups : List Group) (fault : Option ℕ) (commands : List Command) (calls : List Call) (attempts : List Attempt)
-    → IsLegalTranscript settings trace groups fault 1 commands calls attempts
+pub each_one : (settings : Settings) (trace : Trace) (fault : Option ℕ) (commands : List Command) (calls : List Call) (attempts : List Attempt)
+    → IsLegalTranscript settings trace fault 1 commands calls attempts
     → (i : ℕ) (cs : List Command) (ks : List Call) → slice_get (commands ∷ []) i ≡ Some cs → slice_get (calls ∷ []) i ≡ Some ks
-    → (h : List Attempt) × (slice_get (attempts ∷ []) i ≡ Some h) × IsLegalTranscript settings trace groups fault (i + 1) cs ks h
-each_one settings trace groups fault commands calls attempts t i cs ks a b =
+    → (h : List Attempt) × (slice_get (attempts ∷ []) i ≡ Some h) × IsLegalTranscript settings trace fault (i + 1) cs ks h
+each_one settings trace fault commands calls attempts t i cs ks a b =
     let f = first_only commands cs i a in
     let g = first_only calls ks i b in (
       attempts,
@@ -39,26 +40,44 @@ each_one settings trace groups fault commands calls attempts t i cs ks a b =
       rw (f.0, ← f.1, ← g.1) t,
     )
 
--- a call of a client that knows nothing of the controller
-pub quietly : (settings : Settings) (trace : Trace) (p : Progress) (c : Command) (r : Reply) (q : Progress) → Replies settings trace 1 p c r q → p.known ≡ 0 → q.known ≡ 0
-    → Step settings trace 1 p c r q
-quietly settings trace p c r q h k l = record { replies = h; rises = omega (arith, k, l); within = omega (arith, l) }
+-- a call after which the client knows of these calls of the controller and of the log
+pub steps : (settings : Settings) (trace : Trace) (p : Progress) (c : Command) (r : Reply) (q : Progress) → Replies settings trace 1 p c r q → p.known ≤ q.known → q.known ≤ length trace.controller_calls
+    → tokens_of 1 (take q.known trace.controller_calls) ≡ q.asked → p.logged ≤ q.logged → q.logged ≤ length trace.log_calls → Step settings trace 1 p c r q
+steps settings trace p c r q h rises within tokens logs_rise logs_within = record { replies = h; rises = rises; within = within; tokens = tokens; logs_rise = logs_rise; logs_within = logs_within }
 
--- The client's progress after each kind of call
+-- a call of the log writer that writes one plain batch, and that it wrote it
+abbrev pub writes : ℕ → List Record → GroupCall
+writes first records = record { first = first; batches = records ∷ []; sync = false; failed = None }
+
+pub logged_alone : (calls : List GroupCall) (knew place first : ℕ) (records : List Record) → slice_get calls place ≡ Some (writes first records) → knew ≤ place → IsLoggedBy calls knew (place + 1) first records false
+logged_alone calls knew place first records there later = record {
+  place = place;
+  call = writes first records;
+  there = there;
+  later = later;
+  known = omega arith;
+  wrote = record { before = []; after = []; among = refl; run = omega arith; synced = λ sync. cc; ok = refl };
+}
+
+-- The client's progress after each kind of call. The delay of a commit's group is at `place`, and is the last call of
+-- the controller that the client then knows of.
 
 abbrev pub added : Record → Progress → Progress
 added r p = record p { pending = p.pending ++ r ∷ [] }
 
-abbrev pub took : ℕ → ℕ → Progress → Progress
-took first last p = record p {
+abbrev pub took : ℕ → ℕ → ℕ → Progress → Progress
+took first last place p = record p {
   pending = [];
   mine = p.mine ++ next_entry 1 p.mine plain first p.pending ∷ [];
-  attempts = with_attempt p.attempts p.pending plain (Some succeeded);
+  attempts = with_attempt p.attempts p.pending plain (fate_at place succeeded);
   seen_up_to = max p.seen_up_to last;
+  known = place + 1;
+  logged = p.logged + 1;
 }
 
-abbrev pub fell : WriteStatus → Progress → Progress
-fell status p = record p { attempts = with_attempt p.attempts p.pending plain (Some status) }
+abbrev pub fell : WriteStatus → ℕ → Progress → Progress
+fell status place p =
+    record p { attempts = with_attempt p.attempts p.pending plain (fate_at place status); known = place + 1 }
 
 abbrev pub shown : ℕ → Progress → Progress
 shown at p = record p { seen_up_to = at }

@@ -5,11 +5,12 @@ use Rattle.model_base.specs.Batch.{Record}
 use Rattle.model_base.specs.Calls.{clear, quiet, refused}
 use Rattle.model_base.specs.declared.write.Refusal.TheVariants as no
 use Rattle.model_base.specs.Trace.{Trace}
-use Rattle.model_base.specs.Attempts.{Attempt, full, with_attempt}
+use Rattle.model_base.specs.Attempts.{Attempt, full, fate_at, with_attempt}
 use Rattle.model_base.specs.Progress.{Progress, fresh, early_refusal}
 use Rattle.model_base.specs.Replies.{AreFullBelow, Commits}
 use Rattle.model_base.specs.Runs.{Run}
 use Rattle.model_base.specs.Outcomes.{IsLegal}
+use Rattle.model_base.proofs.Fates.{fate_with}
 use Rattle.model_rows.specs.Examples.{put_a1, put_b2, plain}
 use Rattle.model_rows.specs.Runs.{nearly_full, adds, commits, finds_full, filling_script, filling_calls, lower_than_full}
 use Rattle.model_rows.proofs.Steps.{run_of, is_accepted, is_attempted}
@@ -20,15 +21,16 @@ unfolding varint_within
 passes = refl
 
 -- a commit that was refused for want of sequences is then the client's last attempt
-told_full : (trace : Trace) (p q : Progress) (last : ℕ) → p.pending ≡ put_a1 ∷ put_b2 ∷ [] → p.asked ≡ [] → Commits nearly_full trace 1 p plain (refused (no.SequenceFull last)) q → q.attempts ≡ with_attempt p.attempts p.pending plain (Some (full last))
+told_full : (trace : Trace) (p q : Progress) (last : ℕ) → p.pending ≡ put_a1 ∷ put_b2 ∷ [] → p.asked ≡ [] → Commits nearly_full trace 1 p plain (refused (no.SequenceFull last)) q → (place : ℕ) × (q.attempts ≡ with_attempt p.attempts p.pending plain (fate_at place (full last)))
 told_full trace p q last pending asked s =
     let refusal = is_attempted nearly_full trace 1 p plain (refused (no.SequenceFull last)) q (rw (pending, asked) passes) s in
-    ap (λ (x : Progress). x.attempts) refusal.2 ∙ ap (with_attempt p.attempts p.pending plain) refusal.1.0
+    let fate = fate_with refusal.0 (full last) refusal.1.0 in
+    (fate.0, ap (λ (x : Progress). x.attempts) refusal.2 ∙ ap (with_attempt p.attempts p.pending plain) fate.1)
 
 -- and a later run is above that sequence
-above_full : (attempts : List Attempt) (records : List Record) (last first : ℕ) → AreFullBelow first (with_attempt attempts records plain (Some (full last))) → last < first
-above_full [] records last first s = s.0
-above_full (h ∷ attempts) records last first s = above_full attempts records last first s.1
+above_full : (attempts : List Attempt) (records : List Record) (place last first : ℕ) → AreFullBelow first (with_attempt attempts records plain (fate_at place (full last))) → last < first
+above_full [] records place last first s = s.0
+above_full (h ∷ attempts) records place last first s = above_full attempts records place last first s.1
 
 -- so no commit at or below it is accepted
 no_run : (trace : Trace) (last first : ℕ) (end : Progress) → first ≤ last
@@ -40,8 +42,8 @@ no_run trace last first end low run =
     let told = told_full trace two run.2.2.0 last pending asked run.2.2.1.replies in
     let kept : begun.attempts ≡ run.2.2.0.attempts = ap (λ (x : Progress). x.attempts) run.2.2.2.2.1.replies ∙ ap (λ (x : Progress). x.attempts) run.2.2.2.1.replies in
     let accepted_at = is_accepted nearly_full trace 1 begun plain first first (put_a1 ∷ []) run.2.2.2.2.2.0 run.2.2.2.2.2.1.replies in
-    let behind = subst (AreFullBelow first) told (subst (AreFullBelow first) kept accepted_at.behind) in
-    absurd (omega (arith, low, above_full two.attempts two.pending last first behind))
+    let behind = subst (AreFullBelow first) told.1 (subst (AreFullBelow first) kept accepted_at.behind) in
+    absurd (omega (arith, low, above_full two.attempts two.pending told.0 last first behind))
 
 pub not_lower : (ended : ℕ) → IsLegal nearly_full ended filling_script lower_than_full → ⊥
 not_lower ended legal =

@@ -11,16 +11,16 @@ use Rattle.model_base.specs.Runs.{whole, commands_of}
 use Rattle.model_base.specs.Outcomes.{IsLegal, IsLegalTranscript}
 use Rattle.model_rows.specs.Examples.{put_b2, plain, key_a}
 use Rattle.model_rows.specs.Runs.{entry_at, begun_before, going_on_script, going_on_calls, went_on}
-use Rattle.model_rows.proofs.Alone.{each_one, quietly, added, took, shown}
+use Rattle.model_rows.proofs.Alone.{each_one, steps, writes, logged_alone, added, took, shown}
 use Rattle.model_rows.proofs.OwnGroups.{delays_of, groups_of, one_alone}
 use Rattle.model_rows.proofs.Steps.{run_of}
 
 abbrev attempt : Attempt
-attempt = record { records = put_b2 ∷ []; options = plain; status = succeeded }
+attempt = record { records = put_b2 ∷ []; options = plain; status = succeeded; place = 0 }
 
 -- the trace of the one batch after what was recovered
 abbrev behind : Trace
-behind = record { start = 1; opening = begun_before.opening; kept = None; entries = entry_at 1 2 put_b2 ∷ []; logged = (entry_at 1 2 put_b2 ∷ []) ∷ []; controller_calls = delays_of attempt }
+behind = record { start = 1; opening = begun_before.opening; kept = None; entries = entry_at 1 2 put_b2 ∷ []; logged = (entry_at 1 2 put_b2 ∷ []) ∷ []; controller_calls = delays_of attempt; log_calls = writes 2 (put_b2 ∷ []) ∷ [] }
 
 -- The client's progress after each call
 
@@ -31,21 +31,21 @@ abbrev begun : Progress
 begun = added put_b2 seen_before
 
 abbrev taken : Progress
-taken = took 2 2 begun
+taken = took 2 2 0 begun
 
-transcript : IsLegalTranscript begun_before behind (groups_of attempt) None 1 (commands_of going_on_calls) going_on_calls taken.attempts
+transcript : IsLegalTranscript begun_before behind None 1 (commands_of going_on_calls) going_on_calls taken.attempts
 unfolding varint_within
 transcript = record {
   end = taken;
   is_transcript = whole refl (
     seen_before,
-    quietly begun_before behind fresh _ _ seen_before (record { front = []; is_front = record { rest = entry_at 1 2 put_b2 ∷ []; split = refl; ends = refl }; not_below = lit≤ tt; answer = refl; after = refl }) refl refl,
+    steps begun_before behind fresh _ _ seen_before (record { front = []; is_front = record { rest = entry_at 1 2 put_b2 ∷ []; split = refl; ends = refl }; not_below = lit≤ tt; answer = refl; after = refl }) (lit≤ tt) (lit≤ tt) refl (lit≤ tt) (lit≤ tt),
     (
       begun,
-      quietly begun_before behind seen_before _ _ begun refl refl refl,
+      steps begun_before behind seen_before _ _ begun refl (lit≤ tt) (lit≤ tt) refl (lit≤ tt) (lit≤ tt),
       (
         taken,
-        quietly begun_before behind begun _ _ taken (record { batch = refl; run = refl; above = lit≤ tt; behind = tt; alive = refl; free = refl; after = refl }) refl refl,
+        steps begun_before behind begun _ _ taken (record { batch = refl; run = refl; above = lit≤ tt; behind = tt; alive = refl; free = refl; place = 0; asked = (lit≤ tt, lit≤ tt); logged = λ to_log. logged_alone _ 0 0 2 (put_b2 ∷ []) refl (lit≤ tt); after = refl }) (lit≤ tt) (lit≤ tt) refl (lit≤ tt) (lit≤ tt),
         refl,
       ),
     ),
@@ -76,8 +76,8 @@ went_on-legal = record {
     count = refl;
     count_attempts = refl;
     groups = groups_of attempt;
-    are_groups = one_alone attempt refl refl;
-    each = each_one begun_before behind (groups_of attempt) None _ going_on_calls taken.attempts transcript;
+    are_groups = one_alone attempt refl refl refl;
+    each = each_one begun_before behind None _ going_on_calls taken.attempts transcript;
     last = refl;
     state = refl;
     fault = tt;

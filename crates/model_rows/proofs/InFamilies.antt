@@ -11,19 +11,19 @@ use Rattle.model_base.specs.Runs.{whole, commands_of}
 use Rattle.model_base.specs.Outcomes.{IsLegal, IsLegalTranscript}
 use Rattle.model_rows.specs.Examples.{put_a1, put_1a2, plain, key_a, key_1a}
 use Rattle.model_rows.specs.Runs.{entry_at, two_families, both_families, put_2a3, families_script, families_calls, in_both_families, torn_script, torn_calls, torn_read}
-use Rattle.model_rows.proofs.Alone.{each_one, quietly, added, took, shown}
+use Rattle.model_rows.proofs.Alone.{each_one, steps, writes, logged_alone, added, took, shown}
 use Rattle.model_rows.proofs.OwnGroups.{delays_of, groups_of, one_alone}
 use Rattle.model_rows.proofs.Steps.{run_of}
 
 abbrev the_attempt : Attempt
-the_attempt = record { records = both_families; options = plain; status = succeeded }
+the_attempt = record { records = both_families; options = plain; status = succeeded; place = 0 }
 
 abbrev the_entry : Entry
 the_entry = record (entry_at 1 1 put_a1) { count = 2; records = both_families }
 
 -- the trace of the one batch
 abbrev one_batch : Trace
-one_batch = record { start = 0; opening = []; kept = None; entries = the_entry ∷ []; logged = (the_entry ∷ []) ∷ []; controller_calls = delays_of the_attempt }
+one_batch = record { start = 0; opening = []; kept = None; entries = the_entry ∷ []; logged = (the_entry ∷ []) ∷ []; controller_calls = delays_of the_attempt; log_calls = writes 1 both_families ∷ [] }
 
 -- The client's progress after each call
 
@@ -31,7 +31,7 @@ abbrev begun : Progress
 begun = added put_1a2 (added put_a1 fresh)
 
 abbrev taken : Progress
-taken = took 1 2 begun
+taken = took 1 2 0 begun
 
 abbrev seen : Progress
 seen = shown 2 taken
@@ -39,32 +39,32 @@ seen = shown 2 taken
 abbrev more : Progress
 more = added put_2a3 seen
 
-transcript : IsLegalTranscript two_families one_batch (groups_of the_attempt) None 1 (commands_of families_calls) families_calls more.attempts
+transcript : IsLegalTranscript two_families one_batch None 1 (commands_of families_calls) families_calls more.attempts
 unfolding varint_within
 transcript = record {
   end = more;
   is_transcript = whole refl (
     added put_a1 fresh,
-    quietly two_families one_batch fresh _ _ (added put_a1 fresh) refl refl refl,
+    steps two_families one_batch fresh _ _ (added put_a1 fresh) refl (lit≤ tt) (lit≤ tt) refl (lit≤ tt) (lit≤ tt),
     (
       begun,
-      quietly two_families one_batch (added put_a1 fresh) _ _ begun refl refl refl,
+      steps two_families one_batch (added put_a1 fresh) _ _ begun refl (lit≤ tt) (lit≤ tt) refl (lit≤ tt) (lit≤ tt),
       (
         taken,
-        quietly two_families one_batch begun _ _ taken (record { batch = refl; run = refl; above = lit≤ tt; behind = tt; alive = refl; free = refl; after = refl }) refl refl,
+        steps two_families one_batch begun _ _ taken (record { batch = refl; run = refl; above = lit≤ tt; behind = tt; alive = refl; free = refl; place = 0; asked = (lit≤ tt, lit≤ tt); logged = λ to_log. logged_alone _ 0 0 1 both_families refl (lit≤ tt); after = refl }) (lit≤ tt) (lit≤ tt) refl (lit≤ tt) (lit≤ tt),
         (
           seen,
-          quietly two_families one_batch taken _ _ seen (record { front = the_entry ∷ []; is_front = record { rest = []; split = refl; ends = refl }; not_below = lit≤ tt; answer = refl; after = refl }) refl refl,
+          steps two_families one_batch taken _ _ seen (record { front = the_entry ∷ []; is_front = record { rest = []; split = refl; ends = refl }; not_below = lit≤ tt; answer = refl; after = refl }) (lit≤ tt) (lit≤ tt) refl (lit≤ tt) (lit≤ tt),
           (
             seen,
-            quietly two_families one_batch seen _ _ seen (record { front = the_entry ∷ []; is_front = record { rest = []; split = refl; ends = refl }; not_below = lit≤ tt; answer = refl; after = refl }) refl refl,
+            steps two_families one_batch seen _ _ seen (record { front = the_entry ∷ []; is_front = record { rest = []; split = refl; ends = refl }; not_below = lit≤ tt; answer = refl; after = refl }) (lit≤ tt) (lit≤ tt) refl (lit≤ tt) (lit≤ tt),
             (
               seen,
-              quietly two_families one_batch seen _ _ seen (record { front = the_entry ∷ []; is_front = record { rest = []; split = refl; ends = refl }; not_below = lit≤ tt; answer = refl; after = refl }) refl refl,
+              steps two_families one_batch seen _ _ seen (record { front = the_entry ∷ []; is_front = record { rest = []; split = refl; ends = refl }; not_below = lit≤ tt; answer = refl; after = refl }) (lit≤ tt) (lit≤ tt) refl (lit≤ tt) (lit≤ tt),
               (
                 more,
-                quietly two_families one_batch seen _ _ more refl refl refl,
-                (more, quietly two_families one_batch more _ _ more (refl, refl) refl refl, refl),
+                steps two_families one_batch seen _ _ more refl (lit≤ tt) (lit≤ tt) refl (lit≤ tt) (lit≤ tt),
+                (more, steps two_families one_batch more _ _ more (refl, refl) (lit≤ tt) (lit≤ tt) refl (lit≤ tt) (lit≤ tt), refl),
               ),
             ),
           ),
@@ -98,8 +98,8 @@ in_both_families-legal = record {
     count = refl;
     count_attempts = refl;
     groups = groups_of the_attempt;
-    are_groups = one_alone the_attempt refl refl;
-    each = each_one two_families one_batch (groups_of the_attempt) None _ families_calls more.attempts transcript;
+    are_groups = one_alone the_attempt refl refl refl;
+    each = each_one two_families one_batch None _ families_calls more.attempts transcript;
     last = refl;
     state = refl;
     fault = tt;

@@ -9,7 +9,7 @@ use Rattle.model_base.specs.Calls.{refused}
 use Rattle.model_base.specs.Controller as controller
 use Rattle.model_base.specs.Controller.{ControllerCall, Action, Numbers, After, Look, opening, after_delay, numbers_after, answer, IsHistoryFrom}
 use Rattle.model_base.specs.Tokens.{is_token, tokens_of, given_back, holds_stop}
-use Rattle.model_base.specs.Attempts.{WriteStatus, slowed}
+use Rattle.model_base.specs.Attempts.{Fate}
 use Rattle.model_base.specs.Trace.{Trace}
 use Rattle.model_base.specs.Progress.{Progress, fresh, early_refusal}
 use Rattle.model_base.specs.Replies.{IsTold}
@@ -106,10 +106,9 @@ pub record IsToldBefore (controller_calls : List ControllerCall) (knows : ℕ) (
   pub told : call.told ≡ Some numbers
   pub before : place < knows
 
-told_before : (controller_calls : List ControllerCall) (stopping : Bool) (client knew knows : ℕ) (numbers : Look) (status : Option WriteStatus) → IsTold controller_calls stopping client knew knows numbers status → IsToldBefore controller_calls knows numbers
+told_before : (controller_calls : List ControllerCall) (stopping : Bool) (client knew knows : ℕ) (numbers : Look) (fate : Option Fate) → IsTold controller_calls stopping client knew knows numbers fate → IsToldBefore controller_calls knows numbers
 told_before controller_calls stopping client knew knows numbers None told = record { place = told.1; call = _; there = told.2.there; told = refl; before = told.3 }
-told_before controller_calls stopping client knew knows numbers (Some (slowed place)) told = record { place = place; call = _; there = told.3.there; told = refl; before = told.4 }
-told_before controller_calls stopping client knew knows numbers (Some other) told = absurd told
+told_before controller_calls stopping client knew knows numbers (Some fate) told = record { place = fate.place; call = _; there = told.3.there; told = refl; before = told.4 }
 
 -- the commit passes the checks
 passes : early_refusal 1 16777216 false (put_a1 ∷ []) noslow ≡ None

@@ -9,6 +9,8 @@ pub mod OwnGroups
 pub mod OwnStop
 pub mod Stale
 pub mod Steps
+pub mod OwnSlowdown
+pub mod Unwritten
 pub mod Waits
 pub mod WholeLogs
 pub mod InFamilies

@@ -7,7 +7,7 @@ use Rattle.model_base.specs.declared.group.Item.{Item}
 use Rattle.model_base.specs.Controller as controller
 use Rattle.model_base.specs.Controller.{ControllerCall, Look}
 use Rattle.model_base.specs.Trace.{Trace}
-use Rattle.model_base.specs.Attempts.{Attempt, succeeded, slowed, with_attempt}
+use Rattle.model_base.specs.Attempts.{Attempt, succeeded, slowed, fate_at, with_attempt}
 use Rattle.model_base.specs.Groups.{Group, Member, IsCommit, MayProceed, HasOneFate, AreGroups}
 use Rattle.model_base.specs.Progress.{Progress, fresh}
 use Rattle.model_base.specs.Runs.{Run}
@@ -60,7 +60,7 @@ module _ (groups : List Group) (attempts : List (List Attempt)) (are_groups : Ar
       let is = is_own m client call one.2.0 in
       let status : one.0 ≡ succeeded = sym one.2.1 ∙ ap (λ (h : Attempt). h.status) is ∙ written in
       elim s.together [
-        | inl slow ↦ (let slow_too : one.0 ≡ slowed g.place = all_at (λ status. status ≡ slowed g.place) s.statuses among one.0 slow one.1 in cc)
+        | inl slow ↦ (let slow_too : one.0 ≡ slowed = all_at (λ status. status ≡ slowed) s.statuses among one.0 slow one.1 in cc)
         | inr on ↦ (
             let p = on.1 in
             let item = slice_get-map (λ (n : Member). n.item) g.members among ∙ ap (option_map (λ (n : Member). n.item)) at in
@@ -70,19 +70,19 @@ module _ (groups : List Group) (attempts : List (List Attempt)) (are_groups : Ar
 
   pub never_written : ⊥
   never_written =
-      let h = (are_groups.none_else 0 (own ∷ []) 0 own there refl).1 in
+      let h = are_groups.none_else 0 (own ∷ []) 0 own there refl in
       stands h.group h.member h.among h.there h.client_is h.call_is (all_at (HasOneFate told_of_a_stop groups attempts) groups h.at h.group are_groups.together h.of_place)
 
 -- the commit was written
-attempted : (trace : Trace) (end : Progress) → Run two_clients trace 1 fresh waiting_calls end → (records : _) × (end.attempts ≡ record { records = records; options = plain; status = succeeded } ∷ [])
+attempted : (trace : Trace) (end : Progress) → Run two_clients trace 1 fresh waiting_calls end → (records : _) × (place : ℕ) × (end.attempts ≡ record { records = records; options = plain; status = succeeded; place = place } ∷ [])
 attempted trace end run =
     let first = ap (λ (x : Progress). x.attempts) run.1.replies in let begun = run.0 in
     let a = is_accepted two_clients trace 1 begun plain 1 1 (put_a1 ∷ []) run.2.0 run.2.1.replies in
-    (begun.pending, ap (λ (x : Progress). x.attempts) run.2.2 ∙ ap (λ (x : Progress). x.attempts) a.after ∙ ap (λ attempts. with_attempt attempts begun.pending plain (Some succeeded)) first)
+    (begun.pending, a.place, ap (λ (x : Progress). x.attempts) run.2.2 ∙ ap (λ (x : Progress). x.attempts) a.after ∙ ap (λ attempts. with_attempt attempts begun.pending plain (fate_at a.place succeeded)) first)
 
 pub not_written : (ended : ℕ) (trace : Trace) (attempts : List (List Attempt)) → trace.controller_calls ≡ told_of_a_stop → IsLegalIn two_clients ended waiting_script trace attempts waited_out → ⊥
 not_written ended trace attempts same l =
     let one = l.each 0 _ _ refl refl in let right = one.2 in
     let own = attempted trace right.end (run_of two_clients trace 1 _ waiting_calls right.end (λ e. cc) right.is_transcript) in
-    never_written l.groups attempts (subst (λ calls. AreGroups 1048576 calls l.groups attempts) same l.are_groups) (record { records = own.0; options = plain; status = succeeded })
-    (one.1 ∙ ap (λ h. Some h) (right.commits ∙ own.1)) refl refl
+    never_written l.groups attempts (subst (λ calls. AreGroups 1048576 calls l.groups attempts) same l.are_groups) (record { records = own.0; options = plain; status = succeeded; place = own.1 })
+    (one.1 ∙ ap (λ h. Some h) (right.commits ∙ own.2)) refl refl

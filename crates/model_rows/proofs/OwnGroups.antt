@@ -1,7 +1,6 @@
 -- Groups of one commit each, of the one client that commits.
-use Rattle.std.proofs.Common.{◌≡◌, ℕ, zero, suc, ◌+◌, ◌<◌, false, Some, List, [], ◌∷◌, map, length, slice_get, refl, sym, subst, inl, inr, arith}
+use Rattle.std.proofs.Common.{◌≡◌, ℕ, zero, suc, ◌+◌, ◌<◌, false, Some, List, [], ◌∷◌, map, length, slice_get, refl, ap, sym, ◌∙◌, subst, inl, inr, arith}
 use Rattle.std.specs.List.{AllByRecursion}
-use Rattle.std.proofs.lemmas.Option.{slice_get_within}
 use Rattle.model_base.specs.Grouping.{size_of}
 use Rattle.model_base.specs.Controller.{ControllerCall, delay, Look}
 use Rattle.model_base.specs.Attempts.{Attempt, item_of}
@@ -54,20 +53,20 @@ module _ (controller_calls : List ControllerCall) (groups : List Group) (place c
     is_commit = record { number = 0; commits = commits; attempt = h; client = refl; of_client = refl; there = is; item = refl }
 
     -- it wasn't refused because writes were held up, and may go on
-    pub stands_together : (numbers : Look) → slice_get controller_calls place ≡ Some (delay_of h numbers) → is_slowed h.status ≡ false
+    pub stands_together : (numbers : Look) → h.place ≡ place → slice_get controller_calls place ≡ Some (delay_of h numbers) → is_slowed h.status ≡ false
         → MayProceed controller_calls (map (λ (g : Group). g.place) groups) 1 place numbers h.options.no_slowdown
         → HasOneFate controller_calls groups (commits ∷ others) (own place call h)
     unfolding is_commit
-    stands_together numbers there written may = record {
+    stands_together numbers at there written may = record {
       statuses = h.status ∷ [];
-      are = ((is_commit, refl), tt);
+      are = ((is_commit, refl, at), tt);
       together = inr ((written, tt), record { by = 1; now = 0; bytes = size_of (item_of h ∷ []); numbers = numbers; there = there; each = (may, tt) });
     }
 
 -- if the other clients have no commits, each commit is the one client's
-pub none_else_by : (groups : List Group) (commits : List Attempt) (others : List (List Attempt)) → AllByRecursion (λ (cs : List Attempt). cs ≡ []) others → ((call : ℕ) → call < length commits → (place : ℕ) × Holds groups place 1 call)
-    → (number : ℕ) (cs : List Attempt) (call : ℕ) (h : Attempt) → slice_get (commits ∷ others) number ≡ Some cs → slice_get cs call ≡ Some h → (place : ℕ) × Holds groups place (number + 1) call
-none_else_by groups commits others empty each zero cs call h is there = each call (slice_get_within commits call h (rw (some_same is) there))
+pub none_else_by : (groups : List Group) (commits : List Attempt) (others : List (List Attempt)) → AllByRecursion (λ (cs : List Attempt). cs ≡ []) others → ((call : ℕ) (h : Attempt) → slice_get commits call ≡ Some h → Holds groups h.place 1 call)
+    → (number : ℕ) (cs : List Attempt) (call : ℕ) (h : Attempt) → slice_get (commits ∷ others) number ≡ Some cs → slice_get cs call ≡ Some h → Holds groups h.place (number + 1) call
+none_else_by groups commits others empty each zero cs call h is there = each call h (rw (some_same is) there)
 none_else_by groups commits others empty each (suc number) cs call h is there =
     let none = all_at (λ (cs : List Attempt). cs ≡ []) others number cs empty is in absurd (subst (λ (cs : List Attempt). slice_get cs call ≡ Some h → ⊥) (sym none) (λ e. cc) there)
 
@@ -78,10 +77,14 @@ delays_of h = delay_of h calm ∷ []
 abbrev pub groups_of : Attempt → List Group
 groups_of h = own 0 0 h ∷ []
 
-module _ (h : Attempt) (waits : h.options.no_slowdown ≡ false) (written : is_slowed h.status ≡ false) where
-  held_alone : (call : ℕ) → call < 1 → (place : ℕ) × Holds (groups_of h) place 1 call
-  held_alone zero within = (0, holds (delays_of h) (groups_of h) 0 0 h 0 refl)
-  held_alone (suc call) within = absurd (omega arith)
+-- the commit that is at this place of a list has its group's place, since the commit there has it
+placed : (groups : List Group) (client call place : ℕ) (g h : Attempt) → Some g ≡ Some h → g.place ≡ place → Holds groups place client call → Holds groups h.place client call
+placed groups client call place g h same at held = subst (λ n. Holds groups n client call) (sym at ∙ ap (λ (x : Attempt). x.place) (some_same same)) held
+
+module _ (h : Attempt) (waits : h.options.no_slowdown ≡ false) (written : is_slowed h.status ≡ false) (at : h.place ≡ 0) where
+  held_alone : (call : ℕ) (g : Attempt) → slice_get (h ∷ []) call ≡ Some g → Holds (groups_of h) g.place 1 call
+  held_alone zero g there = placed (groups_of h) 1 0 0 h g there at (holds (delays_of h) (groups_of h) 0 0 h 0 refl)
+  held_alone (suc call) g there = absurd (cc)
 
   pub one_alone : AreGroups 1048576 (delays_of h) (groups_of h) ((h ∷ []) ∷ [])
   one_alone = record {
@@ -91,7 +94,7 @@ module _ (h : Attempt) (waits : h.options.no_slowdown ≡ false) (written : is_s
     commits = (is_commit (delays_of h) (groups_of h) 0 0 h (h ∷ []) [] refl, tt);
     apart = (tt, tt);
     none_else = none_else_by (groups_of h) (h ∷ []) [] tt held_alone;
-    together = (stands_together (delays_of h) (groups_of h) 0 0 h (h ∷ []) [] refl calm refl written (rw waits (inl refl)), tt);
+    together = (stands_together (delays_of h) (groups_of h) 0 0 h (h ∷ []) [] refl calm at refl written (rw waits (inl refl)), tt);
   }
 
 -- three such delays, one after another
@@ -101,7 +104,8 @@ three_delays a b c = delay_of a calm ∷ delay_of b calm ∷ delay_of c calm ∷
 abbrev pub three_groups : Attempt → Attempt → Attempt → List Group
 three_groups a b c = own 0 0 a ∷ own 1 1 b ∷ own 2 2 c ∷ []
 
-module _ (a b c : Attempt) (wait : AllByRecursion (λ (h : Attempt). h.options.no_slowdown ≡ false) (a ∷ b ∷ c ∷ [])) (written : AllByRecursion (λ (h : Attempt). is_slowed h.status ≡ false) (a ∷ b ∷ c ∷ [])) where
+module _ (a b c : Attempt) (wait : AllByRecursion (λ (h : Attempt). h.options.no_slowdown ≡ false) (a ∷ b ∷ c ∷ [])) (written : AllByRecursion (λ (h : Attempt). is_slowed h.status ≡ false) (a ∷ b ∷ c ∷ []))
+    (at_a : a.place ≡ 0) (at_b : b.place ≡ 1) (at_c : c.place ≡ 2) where
   abbrev delays : List ControllerCall
   delays = three_delays a b c
 
@@ -111,11 +115,11 @@ module _ (a b c : Attempt) (wait : AllByRecursion (λ (h : Attempt). h.options.n
   abbrev commits : List Attempt
   commits = a ∷ b ∷ c ∷ []
 
-  held_each : (call : ℕ) → call < 3 → (place : ℕ) × Holds groups place 1 call
-  held_each zero within = (0, holds delays groups 0 0 a 0 refl)
-  held_each (suc zero) within = (1, holds delays groups 1 1 b 1 refl)
-  held_each (suc (suc zero)) within = (2, holds delays groups 2 2 c 2 refl)
-  held_each (suc (suc (suc call))) within = absurd (omega arith)
+  held_each : (call : ℕ) (g : Attempt) → slice_get commits call ≡ Some g → Holds groups g.place 1 call
+  held_each zero g there = placed groups 1 0 0 a g there at_a (holds delays groups 0 0 a 0 refl)
+  held_each (suc zero) g there = placed groups 1 1 1 b g there at_b (holds delays groups 1 1 b 1 refl)
+  held_each (suc (suc zero)) g there = placed groups 1 2 2 c g there at_c (holds delays groups 2 2 c 2 refl)
+  held_each (suc (suc (suc call))) g there = absurd (cc)
 
   pub three_alone : AreGroups 1048576 delays groups (commits ∷ [])
   three_alone = record {
@@ -126,10 +130,10 @@ module _ (a b c : Attempt) (wait : AllByRecursion (λ (h : Attempt). h.options.n
     apart = (((λ same e. cc), ((λ same e. cc), tt)), (((λ same e. cc), tt), (tt, tt)));
     none_else = none_else_by groups commits [] tt held_each;
     together = (
-      stands_together delays groups 0 0 a commits [] refl calm refl written.0 (rw wait.0 (inl refl)),
+      stands_together delays groups 0 0 a commits [] refl calm at_a refl written.0 (rw wait.0 (inl refl)),
       (
-        stands_together delays groups 1 1 b commits [] refl calm refl written.1.0 (rw wait.1.0 (inl refl)),
-        (stands_together delays groups 2 2 c commits [] refl calm refl written.1.1.0 (rw wait.1.1.0 (inl refl)), tt),
+        stands_together delays groups 1 1 b commits [] refl calm at_b refl written.1.0 (rw wait.1.0 (inl refl)),
+        (stands_together delays groups 2 2 c commits [] refl calm at_c refl written.1.1.0 (rw wait.1.1.0 (inl refl)), tt),
       ),
     );
   }

@@ -1,5 +1,5 @@
 -- A commit of a client that holds a stop token.
-use Rattle.std.proofs.Common.{◌≡◌, ℕ, true, false, Option, None, Some, List, [], ◌∷◌, ◌++◌, refl, ap, ◌∙◌, arith, inl}
+use Rattle.std.proofs.Common.{◌≡◌, ℕ, true, false, Option, None, Some, List, [], ◌∷◌, ◌++◌, refl, ap, ◌∙◌, inl}
 use Rattle.std.proofs.Math.Dec.{lit≤}
 use Rattle.model_base.specs.Varint.{varint_within}
 use Rattle.model_base.specs.declared.write.Refusal.TheVariants as no
@@ -9,7 +9,7 @@ use Rattle.model_base.specs.Calls.{Call, Reply, accepted, refused}
 use Rattle.model_base.specs.Controller as controller
 use Rattle.model_base.specs.Controller.{Look}
 use Rattle.model_base.specs.Tokens.{holds_stop}
-use Rattle.model_base.specs.Attempts.{WriteStatus, faulted, full}
+use Rattle.model_base.specs.Attempts.{WriteStatus, faulted, full, Fate, status_in}
 use Rattle.model_base.specs.Trace.{Trace, Settings}
 use Rattle.model_base.specs.Groups.{AreGroups}
 use Rattle.model_base.specs.Progress.{Progress, fresh, early_refusal}
@@ -39,6 +39,7 @@ looked_trace = record {
       record { client = 1; action = controller.stop; told = None }
       ∷ record { client = 1; action = controller.look; told = Some one_stop }
       ∷ record { client = 1; action = controller.unstop; told = None } ∷ [];
+  log_calls = [];
 }
 
 abbrev refused_calls : List Call
@@ -57,26 +58,29 @@ looked = record begun { known = 2 }
 abbrev freed : Progress
 freed = record looked { asked = controller.stop ∷ controller.unstop ∷ []; known = 3 }
 
-refused_transcript : IsLegalTranscript one_client looked_trace [] None 1 (commands_of refused_calls) refused_calls []
+refused_transcript : IsLegalTranscript one_client looked_trace None 1 (commands_of refused_calls) refused_calls []
 unfolding varint_within
 refused_transcript = record {
   end = freed;
   is_transcript = whole refl (
     stopped,
-    record { replies = (refl, record { place = 0; is_later = record { later = lit≤ tt; there = refl }; known = lit≤ tt; after = refl }); rises = lit≤ tt; within = lit≤ tt },
+    record { replies = (refl, record { place = 0; is_later = record { later = lit≤ tt; there = refl }; known = lit≤ tt; after = refl }); rises = lit≤ tt; within = lit≤ tt; tokens = refl; logs_rise = lit≤ tt; logs_within = lit≤ tt },
     (
       begun,
-      record { replies = refl; rises = lit≤ tt; within = lit≤ tt },
+      record { replies = refl; rises = lit≤ tt; within = lit≤ tt; tokens = refl; logs_rise = lit≤ tt; logs_within = lit≤ tt },
       (
         looked,
         record {
-          replies = (None, (refl, (1, 1, record { later = lit≤ tt; there = refl }, lit≤ tt, (refl, inl (lit≤ tt)))), refl, λ stopping. refl);
+          replies = (None, (refl, (1, 1, record { later = lit≤ tt; there = refl }, lit≤ tt, (refl, inl (lit≤ tt)))), refl, (λ stopping. refl), tt);
           rises = lit≤ tt;
           within = lit≤ tt;
+          tokens = refl;
+          logs_rise = lit≤ tt;
+          logs_within = lit≤ tt;
         },
         (
           freed,
-          record { replies = (refl, record { place = 2; is_later = record { later = lit≤ tt; there = refl }; known = lit≤ tt; after = refl }); rises = lit≤ tt; within = lit≤ tt },
+          record { replies = (refl, record { place = 2; is_later = record { later = lit≤ tt; there = refl }; known = lit≤ tt; after = refl }); rises = lit≤ tt; within = lit≤ tt; tokens = refl; logs_rise = lit≤ tt; logs_within = lit≤ tt },
           refl,
         ),
       ),
@@ -96,7 +100,7 @@ no_groups = record {
   places = tt;
   commits = tt;
   apart = tt;
-  none_else = none_else_by [] [] [] tt (λ call within. absurd (omega (arith, within)));
+  none_else = none_else_by [] [] [] tt (λ call h there. absurd (cc there));
   together = tt;
 }
 
@@ -121,7 +125,7 @@ refused-legal = record {
     count_attempts = refl;
     groups = [];
     are_groups = no_groups;
-    each = each_one one_client looked_trace [] None _ refused_calls [] refused_transcript;
+    each = each_one one_client looked_trace None _ refused_calls [] refused_transcript;
     last = refl;
     state = refl;
     fault = tt;
@@ -148,14 +152,14 @@ module _ (settings : Settings) (trace : Trace) (end : Progress) where
       absurd (cc (holds, free))
 
   no_run_in_a_group : (why : Refusal) (status : WriteStatus) → early_refusal settings.families settings.batch_bytes true (put_a1 ∷ []) noslow ≡ None
-      → ((p : Progress) (knows : ℕ) (got : Option WriteStatus) → MayRefuse trace.controller_calls 1 p knows noslow why got → got ≡ Some status)
+      → ((p : Progress) (knows : ℕ) (got : Option Fate) → MayRefuse trace.controller_calls 1 p knows noslow why got → status_in got ≡ Some status)
       → Run settings trace 1 fresh (own_stop_calls (refused why)) end → ⊥
   no_run_in_a_group why status passes in_a_group run =
       let at = holds_when (refused why) run in
       let refusal = is_attempted settings trace 1 run.2.0 noslow (refused why) run.2.2.0 (rw (at.0, at.1) passes) run.2.2.1.replies in
       let some = in_a_group run.2.0 run.2.2.0.known refusal.0 refusal.1 in
       let none = refusal.3 (ap holds_stop at.0) in
-      absurd (cc (some, none))
+      absurd (cc (some, ap status_in none))
 
 -- the commit passes the checks
 passes : early_refusal 1 16777216 true (put_a1 ∷ []) noslow ≡ None

@@ -1,5 +1,5 @@
 -- A commit that waited for another client's stop to be given back.
-use Rattle.std.proofs.Common.{◌≡◌, ℕ, zero, suc, ◌+◌, ◌<◌, None, Some, List, [], ◌∷◌, ◌++◌, slice_get, refl, arith, inr}
+use Rattle.std.proofs.Common.{◌≡◌, ℕ, zero, suc, ◌+◌, ◌<◌, None, Some, List, [], ◌∷◌, ◌++◌, slice_get, refl, subst, arith, inr}
 use Rattle.std.proofs.Math.Dec.{lit≤}
 use Rattle.model_base.specs.Varint.{varint_within}
 use Rattle.model_base.specs.Controller as controller
@@ -13,7 +13,7 @@ use Rattle.model_base.specs.Runs.{whole, commands_of}
 use Rattle.model_base.specs.Outcomes.{IsLegal, IsLegalTranscript}
 use Rattle.model_rows.specs.Examples.{put_a1}
 use Rattle.model_rows.specs.Runs.{entry_at, two_clients, waiting_script, waiting_calls, stopping_calls, waited_out, told_of_a_stop}
-use Rattle.model_rows.proofs.Alone.{some_same, added, took}
+use Rattle.model_rows.proofs.Alone.{some_same, writes, logged_alone, added, took}
 use Rattle.model_rows.proofs.OwnGroups.{calm, own, asked_for, has_place, holds, is_commit, stands_together, none_else_by}
 use Rattle.model_rows.proofs.Legal.{first_attempt}
 
@@ -29,27 +29,32 @@ waited_trace = record {
   entries = entry_at 1 1 put_a1 ∷ [];
   logged = (entry_at 1 1 put_a1 ∷ []) ∷ [];
   controller_calls = told_of_a_stop ++ record { client = 1; action = controller.look; told = Some calm } ∷ [];
+  log_calls = writes 1 (put_a1 ∷ []) ∷ [];
 }
 
-abbrev its_group : List Group
-its_group = own 1 0 first_attempt ∷ []
+-- the commit, whose group's delay comes after the stop
+abbrev the_attempt : Attempt
+the_attempt = record first_attempt { place = 1 }
 
-held : (call : ℕ) → call < 1 → (place : ℕ) × Holds its_group place 1 call
-held zero within = (1, holds waited_trace.controller_calls its_group 1 0 first_attempt 0 refl)
-held (suc call) within = absurd (omega arith)
+abbrev its_group : List Group
+its_group = own 1 0 the_attempt ∷ []
+
+held : (call : ℕ) (h : Attempt) → slice_get (the_attempt ∷ []) call ≡ Some h → Holds its_group h.place 1 call
+held zero h there = subst (λ (x : Attempt). Holds its_group x.place 1 0) (some_same there) (holds waited_trace.controller_calls its_group 1 0 the_attempt 0 refl)
+held (suc call) h there = absurd (cc)
 
 -- its group has one delay, and goes on after the look
-group_goes_on : AreGroups 1048576 waited_trace.controller_calls its_group ((first_attempt ∷ []) ∷ [] ∷ [])
+group_goes_on : AreGroups 1048576 waited_trace.controller_calls its_group ((the_attempt ∷ []) ∷ [] ∷ [])
 unfolding varint_within
 group_goes_on = record {
-  each = (asked_for waited_trace.controller_calls its_group 1 0 first_attempt 1048576 one_stop refl, tt);
-  all = ((λ is. cc), ((λ is. has_place waited_trace.controller_calls its_group 1 0 first_attempt 0 refl), ((λ is. cc), ((λ is. cc), tt))));
+  each = (asked_for waited_trace.controller_calls its_group 1 0 the_attempt 1048576 one_stop refl, tt);
+  all = ((λ is. cc), ((λ is. has_place waited_trace.controller_calls its_group 1 0 the_attempt 0 refl), ((λ is. cc), ((λ is. cc), tt))));
   places = (tt, tt);
-  commits = (is_commit waited_trace.controller_calls its_group 1 0 first_attempt (first_attempt ∷ []) ([] ∷ []) refl, tt);
+  commits = (is_commit waited_trace.controller_calls its_group 1 0 the_attempt (the_attempt ∷ []) ([] ∷ []) refl, tt);
   apart = (tt, tt);
-  none_else = none_else_by its_group (first_attempt ∷ []) ([] ∷ []) (refl, tt) held;
+  none_else = none_else_by its_group (the_attempt ∷ []) ([] ∷ []) (refl, tt) held;
   together = (
-    stands_together waited_trace.controller_calls its_group 1 0 first_attempt (first_attempt ∷ []) ([] ∷ []) refl one_stop refl refl
+    stands_together waited_trace.controller_calls its_group 1 0 the_attempt (the_attempt ∷ []) ([] ∷ []) refl one_stop refl refl refl
         (inr (record { at = 3; numbers = calm; there = refl; behind = lit≤ tt; before = ((λ behind. absurd (omega arith)), tt); free = refl })),
     tt,
   );
@@ -58,16 +63,16 @@ group_goes_on = record {
 abbrev begun : Progress
 begun = added put_a1 fresh
 
-waiting_transcript : IsLegalTranscript two_clients waited_trace its_group None 1 (commands_of waiting_calls) waiting_calls (first_attempt ∷ [])
+waiting_transcript : IsLegalTranscript two_clients waited_trace None 1 (commands_of waiting_calls) waiting_calls (the_attempt ∷ [])
 unfolding varint_within
 waiting_transcript = record {
-  end = took 1 1 begun;
+  end = took 1 1 1 begun;
   is_transcript = whole refl (
     begun,
-    record { replies = refl; rises = lit≤ tt; within = lit≤ tt },
+    record { replies = refl; rises = lit≤ tt; within = lit≤ tt; tokens = refl; logs_rise = lit≤ tt; logs_within = lit≤ tt },
     (
-      took 1 1 begun,
-      record { replies = record { batch = refl; run = refl; above = lit≤ tt; behind = tt; alive = refl; free = refl; after = refl }; rises = lit≤ tt; within = lit≤ tt },
+      took 1 1 1 begun,
+      record { replies = record { batch = refl; run = refl; above = lit≤ tt; behind = tt; alive = refl; free = refl; place = 1; asked = (lit≤ tt, lit≤ tt); logged = λ to_log. logged_alone _ 0 0 1 (put_a1 ∷ []) refl (lit≤ tt); after = refl }; rises = lit≤ tt; within = lit≤ tt; tokens = refl; logs_rise = lit≤ tt; logs_within = lit≤ tt },
       refl,
     ),
   );
@@ -84,15 +89,15 @@ stopped = record fresh { asked = controller.stop ∷ []; known = 1 }
 abbrev free_again : Progress
 free_again = record fresh { asked = controller.stop ∷ controller.unstop ∷ []; known = 3 }
 
-stopping_transcript : IsLegalTranscript two_clients waited_trace its_group None 2 (commands_of stopping_calls) stopping_calls []
+stopping_transcript : IsLegalTranscript two_clients waited_trace None 2 (commands_of stopping_calls) stopping_calls []
 stopping_transcript = record {
   end = free_again;
   is_transcript = whole refl (
     stopped,
-    record { replies = (refl, record { place = 0; is_later = record { later = lit≤ tt; there = refl }; known = lit≤ tt; after = refl }); rises = lit≤ tt; within = lit≤ tt },
+    record { replies = (refl, record { place = 0; is_later = record { later = lit≤ tt; there = refl }; known = lit≤ tt; after = refl }); rises = lit≤ tt; within = lit≤ tt; tokens = refl; logs_rise = lit≤ tt; logs_within = lit≤ tt },
     (
       free_again,
-      record { replies = (refl, record { place = 2; is_later = record { later = lit≤ tt; there = refl }; known = lit≤ tt; after = refl }); rises = lit≤ tt; within = lit≤ tt },
+      record { replies = (refl, record { place = 2; is_later = record { later = lit≤ tt; there = refl }; known = lit≤ tt; after = refl }); rises = lit≤ tt; within = lit≤ tt; tokens = refl; logs_rise = lit≤ tt; logs_within = lit≤ tt },
       refl,
     ),
   );
@@ -104,8 +109,8 @@ stopping_transcript = record {
 
 -- both transcripts are legal
 each_two : (i : ℕ) (commands : List Command) (calls : List Call) → slice_get waiting_script i ≡ Some commands → slice_get waited_out.transcripts i ≡ Some calls
-    → (h : List Attempt) × (slice_get ((first_attempt ∷ []) ∷ [] ∷ []) i ≡ Some h) × IsLegalTranscript two_clients waited_trace its_group None (i + 1) commands calls h
-each_two zero commands calls a b = (first_attempt ∷ [], refl, rw (← some_same a, ← some_same b) waiting_transcript)
+    → (h : List Attempt) × (slice_get ((the_attempt ∷ []) ∷ [] ∷ []) i ≡ Some h) × IsLegalTranscript two_clients waited_trace None (i + 1) commands calls h
+each_two zero commands calls a b = (the_attempt ∷ [], refl, rw (← some_same a, ← some_same b) waiting_transcript)
 each_two (suc zero) commands calls a b = ([], refl, rw (← some_same a, ← some_same b) stopping_transcript)
 each_two (suc (suc i)) commands calls a b = absurd (cc)
 
@@ -113,7 +118,7 @@ each_two (suc (suc i)) commands calls a b = absurd (cc)
 pub waited_out-legal : IsLegal two_clients 0 waiting_script waited_out
 waited_out-legal = record {
   trace = waited_trace;
-  attempts = (first_attempt ∷ []) ∷ [] ∷ [];
+  attempts = (the_attempt ∷ []) ∷ [] ∷ [];
   legal = record {
     is_trace = record {
       start = refl;

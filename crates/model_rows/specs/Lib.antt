@@ -1,5 +1,6 @@
 pub mod Examples
 pub mod Runs
+pub mod Ignored
 pub mod TwoBatches
 pub mod NumberedLogs
 pub mod Stalls

@@ -52,6 +52,7 @@ over_new_log = record {
   entries = three_commits;
   logged = two_groups;
   controller_calls = [];
+  log_calls = [];
 }
 
 -- a read of the log from the sequence s on, and one from the beginning on

@@ -1,9 +1,10 @@
 //! Outcomes of runs that are legal, and some that are not.
 
-ghost use Rattle.std.specs.Prelude.{◌≡◌, ℕ, List, []};
+ghost use Rattle.std.specs.Prelude.{◌≡◌, ℕ, List, [], ◌∷◌};
 ghost use Rattle.model_base.specs.Attempts.{Attempt};
 ghost use Rattle.model_base.specs.Trace.{Trace};
 ghost use Rattle.model_base.specs.Outcomes.{IsLegal, IsLegalIn};
+ghost use Rattle.model_rows.specs.Ignored.{slow_commands, slow_script, slow_ignored, kept_slow_ignored, two_script, two_commits, written_at_once};
 ghost use Rattle.model_rows.specs.Runs.{one_client, two_clients, nearly_full, used_up, one_script, one_commit, refused_commit, failing_script, failed_write, stale_script, stale_read, early_script, read_ahead, crossing_script, run_below_what_was_read, later_stop_script, refused_by_a_later_stop, own_stop_script, refused_in_its_own_stop, accepted_in_its_own_stop, failed_in_its_own_stop, full_in_its_own_stop, filling_script, lower_than_full, begun_before, going_on_script, went_on, waiting_script, waited_out, told_of_a_stop, two_families, families_script, in_both_families, torn_script, torn_read};
 
 /// A batch is accepted and then read.
@@ -86,4 +87,20 @@ pub fn written_while_stopped()
     ensures not_legal { (ended : ℕ) (trace : Trace) (attempts : List (List Attempt))
         → trace.controller_calls ≡ told_of_a_stop
         → IsLegalIn two_clients ended waiting_script trace attempts waited_out → ⊥ }
+{}
+
+/// A client slows writes to a byte a second. That its own next commit, which may not wait, is accepted is legal in no
+/// trace, whether it gives the token back later, or at its end.
+pub fn own_slowdown_ignored()
+    ensures not_legal { (ended : ℕ) → IsLegal one_client ended slow_script slow_ignored → ⊥ }
+    ensures not_kept { (ended : ℕ) → IsLegal one_client ended (slow_commands ∷ []) kept_slow_ignored → ⊥ }
+{}
+
+/// A batch that goes into the log is accepted once a call of the log writer that wrote it has returned. So an outcome
+/// isn't legal where no call was made, and a client's next batch isn't in the call that wrote its last one.
+pub fn acknowledged_once_written()
+    ensures not_unwritten { (ended : ℕ) (trace : Trace) (attempts : List (List Attempt)) → trace.log_calls ≡ []
+        → IsLegalIn one_client ended one_script trace attempts one_commit → ⊥ }
+    ensures not_at_once { (ended : ℕ) (trace : Trace) (attempts : List (List Attempt))
+        → trace.log_calls ≡ written_at_once → IsLegalIn one_client ended two_script trace attempts two_commits → ⊥ }
 {}

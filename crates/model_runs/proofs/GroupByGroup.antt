@@ -55,9 +55,9 @@ pub one_record_at_the_end : (group_bytes : ℕ) (trace : Trace) (attempts : List
 one_record_at_the_end group_bytes trace attempts groups fault entries writes =
     both_in_one group_bytes attempts fault (last_sequence trace.start trace.entries) writes.parts writes.calls writes.lost writes.each writes.none_else writes.by (writes.cut ∙ ap logged_entries entries)
 
-pub a_record_for_each : (group_bytes : ℕ) (trace : Trace) → trace.entries ≡ two_entries → trace.logged ≡ two_groups → trace.controller_calls ≡ delays_by (1 ∷ 1 ∷ [])
+pub a_record_for_each : (group_bytes : ℕ) (trace : Trace) → trace.entries ≡ two_entries → trace.logged ≡ two_groups → trace.log_calls ≡ in_two_records → trace.controller_calls ≡ delays_by (1 ∷ 1 ∷ [])
     → WritesLog group_bytes (λ calls. calls ≡ in_two_records) trace own_commits own_groups None
-a_record_for_each group_bytes trace entries logged asked = record {
+a_record_for_each group_bytes trace entries logged log asked = record {
   parts = two_groups;
   calls = in_two_records;
   lost = [];
@@ -70,6 +70,7 @@ a_record_for_each group_bytes trace entries logged asked = record {
   logged = sym logged;
   none_else = refl;
   by = refl;
+  log = sym log;
   rise = ((lit< tt, tt), (tt, tt));
   in_turn = (((λ same. lit< tt), tt), (tt, tt));
   by_leaders = subst (λ (calls : List ControllerCall). AllByRecursion (IsAskedByLeader calls) own_groups) (sym asked) (

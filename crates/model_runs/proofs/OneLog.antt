@@ -13,13 +13,13 @@ use Rattle.model_base.specs.Recovery.{logged_bytes, Recovered, IsRecovered}
 use Rattle.model_base.specs.RecoveredLogs.{IsRecoveredAfter, ends_here, in_first}
 use Rattle.model_base.specs.Trace.{Settings}
 use Rattle.log_laws.specs.Prefixes.{RecoversPrefix, BeginsWith, HoldsFront}
-use Rattle.log_laws.specs.Fronts.{plain_text, AreFront, within, whole, RecoverPrefix}
+use Rattle.log_laws.specs.Fronts.{plain_text, AreFront, HaveFront, within, whole, RecoverPrefix}
 use Rattle.log_laws.proofs.Placed.{length_map}
 use Rattle.log_laws.proofs.Recovers.{recovers_front}
 use Rattle.log_laws.proofs.Synced.{spells_one}
 use Rattle.log_laws.proofs.Written.{text_spells, spells_on}
-use Rattle.model_runs.specs.Crashes.{with_failed_record, failed_record, HasSync, HaveSynced, HasAllSafe, IsFailedWrite, HoldsFailedWrite, IsCrashSafe, IsRun, IsSafe, over}
-use Rattle.model_runs.specs.SeveralLogs.{Held, HoldLogs, last_one, IsRunOverLogs, AreCrashSafe, AreSafe}
+use Rattle.model_runs.specs.Crashes.{text_through, with_failed_record, failed_record, HasSync, HaveSynced, HasAllSafe, IsFailedWrite, HoldsFailedWrite, IsCrashSafe, IsRun, IsSafe, over}
+use Rattle.model_runs.specs.SeveralLogs.{begun_records, Held, HoldLogs, last_one, IsRunOverLogs, AreCrashSafe, AreSafe}
 
 -- the text of records and of more after them
 text_append : (offset : ℕ) (xs ys : List (List ℕ)) → text_from plain_log offset (xs ++ ys) ≡ text_from plain_log offset xs ++ text_from plain_log (offset + length (text_from plain_log offset xs)) ys
@@ -135,6 +135,18 @@ module _ (group_bytes : ℕ) (attempts : List (List Attempt)) (o : Outcome) (gro
 alone : (groups : List (List Entry)) → groups ++ [] ≡ groups
 alone groups = append-nil groups
 
+-- where the first `safe` records are there for certain, the image begins with the text up to the end of each group among them
+begins_by_front : (groups : List (List Entry)) (lost : List GroupCall) (k : ℕ) (group : List Entry) (image : List ℕ) (safe : ℕ) → slice_get groups k ≡ Some group → k < safe
+    → HaveFront safe (begun_records (groups ∷ []) (failed_record lost) 0) (image ∷ []) → BeginsWith (text_through new_log groups k) image
+begins_by_front groups lost k group image safe there inside have =
+    let records = with_failed_record (records_of groups) (failed_record lost) in
+    let begins : BeginsWith (plain_text (take have.certain records)) image = one_front have.certain records image have.front in
+    let fewer = begins_with_fewer (k + 1) have.certain records image (omega (arith, inside, have.enough)) begins in
+    let there_is = slice_get_within groups k group there in
+    let own : take (k + 1) records ≡ records_of (take (k + 1) groups) =
+    first_of_begun (k + 1) (records_of groups) (failed_record lost) (omega (arith, there_is, length-map groups record_of_entries)) ∙ take-map record_of_entries (k + 1) groups in
+    subst (λ rs. BeginsWith (plain_text rs) image) own fewer
+
 one_crash : (group_bytes : ℕ) (attempts : List (List Attempt)) (o : Outcome) (groups : List (List Entry)) (held : Held) (reach : ℕ) (made lost : List GroupCall) (a c : List ℕ)
     (b : List GroupCall → List GroupCall → List ℕ)
     → AreCrashSafe group_bytes attempts o (groups ∷ []) 0 (held ∷ []) (reach ∷ []) made lost (λ images. images ≡ a ∷ []) (λ before after images. images ≡ b before after ∷ []) (λ images. images ≡ c ∷ [])
@@ -154,16 +166,8 @@ one_crash group_bytes attempts o groups held reach made lost a c b safe = record
   kept = λ image left. (omega arith, refl);
   kept_since = λ k n group there some lt image left.
       let found = safe.fronts n (image ∷ []) (ap (λ i. i ∷ []) left) in
-      let records = with_failed_record (records_of groups) (failed_record lost) in
       let in_all : HaveSynced (take n groups) found.0 = subst (λ all. HaveSynced (take n all) found.0) (alone groups) found.1 in
-      let certain = (found.2).certain in
-      let begins : BeginsWith (plain_text (take certain records)) image = one_front certain records image (found.2).front in
-      let inside : k < found.0 = among_safe groups n found.0 k group in_all there some lt in
-      let fewer = begins_with_fewer (k + 1) certain records image (omega (arith, inside, (found.2).enough)) begins in
-      let there_is = slice_get_within groups k group there in
-      let own : take (k + 1) records ≡ records_of (take (k + 1) groups) =
-      first_of_begun (k + 1) (records_of groups) (failed_record lost) (omega (arith, there_is, length-map groups record_of_entries)) ∙ take-map record_of_entries (k + 1) groups in
-      subst (λ rs. BeginsWith (plain_text rs) image) own fewer;
+      begins_by_front groups lost k group image found.0 there (among_safe groups n found.0 k group in_all there some lt) found.2;
   at_end = λ x some image left none kept spelled.
       let no_kept : kept ≡ [] = spells_one plain_log [] kept [] spelled (text_spells plain_log []) in
       let prefix = safe.at_end x some (image ∷ []) (ap (λ i. i ∷ []) left) (none, tt) in
@@ -215,6 +219,15 @@ one_logs group_bytes attempts o (groups ∷ []) parts held reach made lost a c b
     )
 one_logs group_bytes attempts o (groups ∷ next ∷ logs) parts held reach made lost a c b some few cut safe = absurd (omega (arith, few))
 
+-- so does what was acknowledged
+one_begins : (logs : List (List (List Entry))) (parts : List (List Entry)) (lost : List GroupCall) (k : ℕ) (group : List Entry) (image : List ℕ) → 0 < length logs → length logs ≤ 1 → flat_map (λ groups. groups) logs ≡ parts
+    → slice_get parts k ≡ Some group → (safe : ℕ) × (k < safe) × HaveFront safe (begun_records logs (failed_record lost) (1 - length logs)) (image ∷ []) → BeginsWith (text_through new_log parts k) image
+one_begins [] parts lost k group image some few cut there is = absurd (omega (arith, some))
+one_begins (groups ∷ []) parts lost k group image some few cut there is =
+    let same : groups ≡ parts = sym (alone groups) ∙ cut in
+    subst (λ all. BeginsWith (text_through new_log all k) image) same (begins_by_front groups lost k group image is.0 (ap (λ all. slice_get all k) same ∙ there) is.1 is.2)
+one_begins (groups ∷ next ∷ logs) parts lost k group image some few cut there is = absurd (omega (arith, few))
+
 pub one_safe : (settings : Settings) (ended : ℕ) (script : List (List Command)) (limit : ℕ) (calls : List GroupCall) (o : Outcome) (run : IsRunOverLogs settings ended script limit 1 (λ made lens. made ≡ calls) o)
     (held : Held) (reach : ℕ) (a c : List ℕ) (b : List GroupCall → List GroupCall → List ℕ)
     → AreSafe run (held ∷ []) (reach ∷ []) (λ images. images ≡ a ∷ []) (λ before after images. images ≡ b before after ∷ []) (λ images. images ≡ c ∷ [])
@@ -230,4 +243,12 @@ one_safe settings ended script limit calls o run held reach a c b safe =
         length_is = run.lens_are ∙ one_length run.logs run.writes.parts run.some run.within run.cut;
       };
       crash = one.1;
+      acknowledged = λ i calls first knew records at told.
+          let s = safe.acknowledged i calls first knew records at told in (
+            s.0,
+            s.1,
+            s.2,
+            s.3,
+            λ image left. one_begins run.logs run.writes.parts run.writes.lost s.0 s.1 image run.some run.within run.cut s.2 (s.4 (image ∷ []) (ap (λ i. i ∷ []) left)),
+          );
     }

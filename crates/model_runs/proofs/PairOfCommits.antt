@@ -20,9 +20,9 @@ use Rattle.model_runs.specs.GroupExamples.{plain, ended, member_of, alone_at, de
 
 -- Calls that worked
 
-pub one_group : (group_bytes : ℕ) (trace : Trace) → trace.entries ≡ pair_entries → trace.logged ≡ pair_entries ∷ [] → trace.controller_calls ≡ delays_by (1 ∷ [])
+pub one_group : (group_bytes : ℕ) (trace : Trace) → trace.entries ≡ pair_entries → trace.logged ≡ pair_entries ∷ [] → trace.log_calls ≡ one_call_for_both false → trace.controller_calls ≡ delays_by (1 ∷ [])
     → WritesLog group_bytes (λ calls. calls ≡ one_call_for_both false) trace (pair_commits succeeded) in_one_group None
-one_group group_bytes trace entries logged asked = record {
+one_group group_bytes trace entries logged log asked = record {
   parts = pair_entries ∷ [];
   calls = one_call_for_both false;
   lost = [];
@@ -32,6 +32,7 @@ one_group group_bytes trace entries logged asked = record {
   logged = sym logged;
   none_else = refl;
   by = refl;
+  log = sym log;
   rise = (tt, tt);
   in_turn = (((λ same. absurd (cc same)), tt), (tt, tt));
   by_leaders = subst (λ (calls : List ControllerCall). AllByRecursion (IsAskedByLeader calls) in_one_group) (sym asked) (record { leader = _; call = _; leads = refl; there = refl; by = refl }, tt);
@@ -165,10 +166,10 @@ out_of_turn group_bytes calls trace attempts fault w = let earlier : 1 < 0 = w.i
 
 -- Calls that failed
 
-pub first_lost : (trace : Trace) → trace.start ≡ 0 → trace.entries ≡ [] → trace.logged ≡ [] → trace.controller_calls ≡ delays_by (1 ∷ 2 ∷ [])
+pub first_lost : (trace : Trace) → trace.start ≡ 0 → trace.entries ≡ [] → trace.logged ≡ [] → trace.log_calls ≡ failed_call 1 put_a false → trace.controller_calls ≡ delays_by (1 ∷ 2 ∷ [])
     → WritesLog 1048576 (λ calls. calls ≡ failed_call 1 put_a false) trace (pair_commits (faulted 1)) (in_two_groups 0 1) (Some 1)
 unfolding varint_within
-first_lost trace start entries logged asked =
+first_lost trace start entries logged log asked =
     let last : last_sequence trace.start trace.entries ≡ 0 = (λ i. last_sequence (start i) (entries i)) in record {
       parts = [];
       calls = [];
@@ -202,6 +203,7 @@ first_lost trace start entries logged asked =
         }),
       );
       by = refl;
+      log = sym log;
       rise = ((lit< tt, tt), (tt, tt));
       in_turn = (((λ same. absurd (cc same)), tt), (tt, tt));
       by_leaders = subst (λ (calls : List ControllerCall). AllByRecursion (IsAskedByLeader calls) (in_two_groups 0 1)) (sym asked) (
@@ -310,10 +312,10 @@ lost_though_kept_out group_bytes trace fault w =
 pub written_after_a_fault : (group_bytes : ℕ) (calls : List GroupCall) (trace : Trace) (fault : Option ℕ) → WritesLog group_bytes (λ made. made ≡ calls) trace fault_ignored lost_then_kept_out fault → ⊥
 written_after_a_fault group_bytes calls trace fault w = (w.dead.1.0 refl).0
 
-pub kept_out_before_the_fault : (trace : Trace) → trace.start ≡ 0 → trace.entries ≡ kept_out_entry ∷ [] → trace.logged ≡ [] → trace.controller_calls ≡ delays_by (2 ∷ 1 ∷ [])
+pub kept_out_before_the_fault : (trace : Trace) → trace.start ≡ 0 → trace.entries ≡ kept_out_entry ∷ [] → trace.logged ≡ [] → trace.log_calls ≡ failed_call 2 put_a false → trace.controller_calls ≡ delays_by (2 ∷ 1 ∷ [])
     → WritesLog 1048576 (λ calls. calls ≡ failed_call 2 put_a false) trace fault_ignored kept_out_then_lost (Some 1)
 unfolding varint_within
-kept_out_before_the_fault trace start entries logged asked =
+kept_out_before_the_fault trace start entries logged log asked =
     let last : last_sequence trace.start trace.entries ≡ 1 = (λ i. last_sequence (start i) (entries i)) in record {
       parts = [];
       calls = [];
@@ -322,6 +324,7 @@ kept_out_before_the_fault trace start entries logged asked =
       runs = tt;
       each = tt;
       logged = sym logged;
+      log = sym log;
       none_else = (
         call_of 2 (put_a ∷ []) false (Some 1),
         refl,

@@ -17,6 +17,7 @@ use Rattle.model_base.specs.Recovery.{NoChance}
 use Rattle.log_laws.specs.Prefixes.{RecoversPrefix, BeginsWith, HoldsFront}
 use Rattle.model_runs.specs.Lost.{IsLostGroup}
 use Rattle.model_runs.specs.Written.{WritesLog}
+use Rattle.model_runs.specs.Acknowledged.{KeepAcknowledged}
 
 -- a crash at some moment from `old` to `now` might have left this image, and the disk still tells of that time
 abbrev pub IsImageSince : {D : Type 0} → (D → ℕ) → (D → ℕ) → (D → ℕ → List ℕ → Type 0) → D → D → List ℕ → Type 0
@@ -129,7 +130,9 @@ pub record IsRun (settings : Settings) (ended : ℕ) (script : List (List Comman
   pub writes : WritesLog settings.group_bytes wrote trace attempts legal.groups o.fault
   pub length_is : o.log_lens ≡ length (text_after b (records_of writes.parts)) ∷ []
 
--- what the log of a run holds, and what a crash leaves of it
+-- What the log of a run holds, and what a crash leaves of it. A batch that was to be synced is safe from the moment on at
+-- which its client was told `ok`: the calls that it then knew of had returned, and once these have, each image begins
+-- with the text up to the end of the batch's group.
 pub record IsSafe {settings : Settings} {ended : ℕ} {script : List (List Command)} {b : Beginning}
     {wrote : List GroupCall → Type 0} {o : Outcome} (run : IsRun settings ended script b wrote o)
     (begun content : List ℕ) (place reached : ℕ) (any : List ℕ → Type 0)
@@ -137,3 +140,5 @@ pub record IsSafe {settings : Settings} {ended : ℕ} {script : List (List Comma
   pub log : IsLogOf b o content run.writes.parts
   pub crash : IsCrashSafe settings.group_bytes run.attempts o b run.writes.parts begun content place
       (run.writes.calls ++ run.writes.lost) run.writes.lost reached any since now
+  pub acknowledged : KeepAcknowledged settings run.trace o.transcripts run.writes.parts
+      (run.writes.calls ++ run.writes.lost) since (λ k image. BeginsWith (text_through b run.writes.parts k) image)

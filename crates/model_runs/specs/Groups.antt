@@ -58,7 +58,7 @@ is_kept_out (leader ∷ members) = leader.item.options.no_log
 abbrev pub MeetsDeadLog : WriteStatus → Type 0
 MeetsDeadLog succeeded = ⊥
 MeetsDeadLog (full last) = ⊥
-MeetsDeadLog (slowed place) = ⊤
+MeetsDeadLog slowed = ⊤
 MeetsDeadLog (faulted count) = ⊤
 
 -- In the order of these groups nobody succeeds in the first group that was answered the log's fault, or in a later one,

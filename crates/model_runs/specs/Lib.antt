@@ -2,6 +2,7 @@ pub mod Lost
 pub mod Parts
 pub mod Groups
 pub mod Written
+pub mod Acknowledged
 pub mod Crashes
 pub mod Examples
 pub mod GroupExamples

@@ -7,7 +7,7 @@ use Rattle.model_base.specs.Groups.{Member, Group}
 
 abbrev pub is_success : WriteStatus → Bool
 is_success succeeded = true
-is_success (slowed place) = false
+is_success slowed = false
 is_success (faulted count) = false
 is_success (full last) = false
 

@@ -12,6 +12,7 @@ use Rattle.model_base.specs.LogContents.{GroupCall, AreGroupsOf, records_of}
 use Rattle.log_laws.specs.Prefixes.{HoldsFront}
 use Rattle.log_laws.specs.Fronts.{plain_text, HaveFront, NoChances, AreFilledTo, RecoverPrefix}
 use Rattle.model_runs.specs.Written.{WritesLog}
+use Rattle.model_runs.specs.Acknowledged.{KeepAcknowledged}
 use Rattle.model_runs.specs.Crashes.{with_failed_record, failed_record, HaveSynced, HoldsSynced, IsFailedWrite}
 
 -- The records of each log that was begun, those of the last one with that of the failed call, if one failed. The other
@@ -98,7 +99,9 @@ module _ (group_bytes : ℕ) (attempts : List (List Attempt)) (o : Outcome) (log
         → LeaveFront (failed_record lost) (since (take n made) (drop n made)) (HaveSynced (take n all_groups))
     pub at_end : LeaveFrontPrefix now (HaveSynced all_groups)
 
--- what the logs of a run hold, and what a crash leaves of them
+-- What the logs of a run hold, and what a crash leaves of them. A batch that was to be synced is safe from the moment on
+-- at which its client was told `ok`: once the calls that it then knew of have returned, the batch's group is among the
+-- records that are there for certain.
 pub record AreSafe {settings : Settings} {ended : ℕ} {script : List (List Command)} {limit disks : ℕ}
     {wrote : List GroupCall → List ℕ → Type 0} {o : Outcome}
     (run : IsRunOverLogs settings ended script limit disks wrote o) (held : List Held) (reached : List ℕ)
@@ -107,3 +110,6 @@ pub record AreSafe {settings : Settings} {ended : ℕ} {script : List (List Comm
   pub of_history : AreGroupsOf o.history run.writes.parts
   pub crash : AreCrashSafe settings.group_bytes run.attempts o run.logs (disks - length run.logs) held reached
       (run.writes.calls ++ run.writes.lost) run.writes.lost any since now
+  pub acknowledged : KeepAcknowledged settings run.trace o.transcripts run.writes.parts
+      (run.writes.calls ++ run.writes.lost) since (λ k images. (safe : ℕ) × (k < safe)
+      × HaveFront safe (begun_records run.logs (failed_record run.writes.lost) (disks - length run.logs)) images)

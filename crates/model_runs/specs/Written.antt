@@ -1,8 +1,7 @@
 -- Which calls wrote the closed log: one for each group that is in the log, and no other, except one that failed.
-use Rattle.std.specs.Prelude.{◌≡◌, ◌≢◌, ⊤, ℕ, ◌+◌, true, false, List, [], ◌∷◌, ◌++◌, map, flat_map, sum_by, Option, Some, None, MatchOption}
+use Rattle.std.specs.Prelude.{◌≡◌, ◌≢◌, ⊤, ℕ, ◌+◌, true, false, List, [], ◌∷◌, ◌++◌, map, flat_map, Option, Some, None, MatchOption}
 use Rattle.std.specs.List.{AllByRecursion, AllZip}
 use Rattle.model_base.specs.declared.history.Flag.TheVariants.{Sync}
-use Rattle.model_base.specs.Batch.{Record, count_of}
 use Rattle.model_base.specs.History.{Entry, RunsFollow, last_sequence, logged_entries}
 use Rattle.model_base.specs.Trace.{Trace}
 use Rattle.model_base.specs.Attempts.{Attempt}
@@ -48,7 +47,7 @@ AreLost group_bytes attempts fault last lost =
 -- all the others. Between two entries of one call no other entry comes in the history, logged or not. Reads of the log
 -- see these parts of it. The groups are in the order of their delays, which their leaders asked for, and a client's
 -- commits are in them in the order in which it made them. In the order of the groups no commit succeeds after the
--- fault. `made` are the entries that each group made.
+-- fault. `made` are the entries that each group made. The clients know of these calls and no others.
 pub record WritesLog (group_bytes : ℕ) (wrote : List GroupCall → Type 0) (trace : Trace)
     (attempts : List (List Attempt)) (groups : List Group) (fault : Option ℕ) : Type 0 where
   pub parts : List (List Entry)
@@ -60,6 +59,7 @@ pub record WritesLog (group_bytes : ℕ) (wrote : List GroupCall → Type 0) (tr
   pub logged : parts ≡ trace.logged
   pub none_else : AreLost group_bytes attempts fault (last_sequence trace.start trace.entries) lost
   pub by : wrote (calls ++ lost)
+  pub log : calls ++ lost ≡ trace.log_calls
   pub rise : PlacesRise groups
   pub in_turn : CallsRise (members_of groups)
   pub by_leaders : AllByRecursion (IsAskedByLeader trace.controller_calls) groups
@@ -69,20 +69,3 @@ pub record WritesLog (group_bytes : ℕ) (wrote : List GroupCall → Type 0) (tr
   pub of_first : AllByRecursion
       (IsOfFirstLost attempts groups (last_sequence trace.start trace.entries)) lost
   pub dead : StaysDead false (map (statuses_in attempts) groups)
-
--- The call wrote this batch, with the run that begins at this sequence, and synced.
-pub record IsSynced (first : ℕ) (records : List Record) (c : GroupCall) : Type 0 where
-  pub before : List (List Record)
-  pub after : List (List Record)
-  pub among : c.batches ≡ before ++ records ∷ after
-  pub run : first ≡ c.first + sum_by count_of before
-  pub synced : c.sync ≡ true
-  pub ok : c.failed ≡ None
-
--- one of these calls wrote this batch and synced
-pub record IsSyncedBy (first : ℕ) (records : List Record) (calls : List GroupCall) : Type 0 where
-  pub front : List GroupCall
-  pub call : GroupCall
-  pub rest : List GroupCall
-  pub there : calls ≡ front ++ call ∷ rest
-  pub is : IsSynced first records call

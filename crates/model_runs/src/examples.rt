@@ -44,6 +44,7 @@ pub fn written_group_by_group()
         → WritesLog group_bytes (λ calls. calls ≡ in_one_record) trace attempts groups fault → ⊥ }
     // In two records they are written as they should be.
     ensures a_record_for_each { (group_bytes : ℕ) (trace : Trace) → trace.entries ≡ two_entries
-        → trace.logged ≡ two_groups → trace.controller_calls ≡ delays_by (1 ∷ 1 ∷ [])
+        → trace.logged ≡ two_groups → trace.log_calls ≡ in_two_records
+        → trace.controller_calls ≡ delays_by (1 ∷ 1 ∷ [])
         → WritesLog group_bytes (λ calls. calls ≡ in_two_records) trace own_commits own_groups None }
 {}

@@ -13,7 +13,8 @@ ghost use Rattle.model_runs.specs.GroupExamples.{delays_by, turned_round, pair_e
 pub fn one_record_for_each_group()
     // One leader takes both, and they are one record, which isn't synced, since nobody asked for it.
     ensures one_group { (group_bytes : ℕ) (trace : Trace) → trace.entries ≡ pair_entries
-        → trace.logged ≡ pair_entries ∷ [] → trace.controller_calls ≡ delays_by (1 ∷ [])
+        → trace.logged ≡ pair_entries ∷ [] → trace.log_calls ≡ one_call_for_both false
+        → trace.controller_calls ≡ delays_by (1 ∷ [])
         → WritesLog group_bytes (λ calls. calls ≡ one_call_for_both false) trace (pair_commits succeeded) in_one_group
         None }
     // So each of them isn't a record of its own,
@@ -49,6 +50,7 @@ pub fn one_record_for_each_group()
 pub fn failed_logs_stay_failed()
     // Both commits are answered the fault. The call was made for client 1's, which was first,
     ensures first_lost { (trace : Trace) → trace.start ≡ 0 → trace.entries ≡ [] → trace.logged ≡ []
+        → trace.log_calls ≡ failed_call 1 put_a false
         → trace.controller_calls ≡ delays_by (1 ∷ 2 ∷ [])
         → WritesLog 1048576 (λ calls. calls ≡ failed_call 1 put_a false) trace (pair_commits (faulted 1))
         (in_two_groups 0 1) (Some 1) }
@@ -73,7 +75,8 @@ pub fn failed_logs_stay_failed()
     // If client 2's group was led first, its commit came before the fault, and the call failed after it. No reply shows
     // which group was led first.
     ensures kept_out_before_the_fault { (trace : Trace) → trace.start ≡ 0 → trace.entries ≡ kept_out_entry ∷ []
-        → trace.logged ≡ [] → trace.controller_calls ≡ delays_by (2 ∷ 1 ∷ [])
+        → trace.logged ≡ [] → trace.log_calls ≡ failed_call 2 put_a false
+        → trace.controller_calls ≡ delays_by (2 ∷ 1 ∷ [])
         → WritesLog 1048576 (λ calls. calls ≡ failed_call 2 put_a false) trace fault_ignored kept_out_then_lost
         (Some 1) }
 {}

@@ -1,5 +1,5 @@
 -- How a run ended: what is printed at each status, and what is known of the logs and of the sink.
-use Rattle.std.proofs.Common.{◌≡◌, inl, inr, ℕ, Bool, true, false, eqb, List, Option, le_trans, refl, sym, subst}
+use Rattle.std.proofs.Common.{◌≡◌, inl, inr, ℕ, Bool, true, false, eqb, List, Option, refl, sym, subst}
 use Rattle.std.specs.Prelude.{⊤}
 use Rattle.model_base.specs.Counts.{Rose}
 use Rattle.model_base.specs.Calls as calls
@@ -150,7 +150,7 @@ module _ (seen : Observation) where
     disk_refused count given alone reached told =
         let there : AtFault = record {
           told = inl (record { script = script; said = said; count = count; reached = reached; untouched = alone; refused = told.1 });
-          rose = le_trans reached.0 reached.1;
+          rose = subst (Rose seen.logs.failed) reached.1 reached.0;
         } in
         subst (λ s. AtStatus (code s)) (sym told.0) there
 

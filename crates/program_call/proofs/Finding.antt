@@ -1,5 +1,5 @@
 -- What recovery of a log, or of several, answers, as what is promised of its text and of its refusal.
-use Rattle.std.proofs.Common.{ℕ, false, true, List, Option, Some, None, Result, Ok, Err, IfSome, le_of_eq, refl, subst}
+use Rattle.std.proofs.Common.{ℕ, false, true, List, Option, Some, None, Result, Ok, Err, IfSome, refl, subst}
 use Rattle.std.specs.Prelude.{IfErr, IfOk}
 use Rattle.std.specs.List.{AllZip}
 use Rattle.base_devices.specs.Disk.{Disk}
@@ -81,7 +81,7 @@ module _ {D : Type 0} (disk : Ghosts D) (mode : Mode) (opened ended : List D) wh
   pub fails_several : (found : Result RecoveredMany RecoverError) → IfErr found (IsErrorOfLogs mode disk.faults opened ended)
       → ((files : List (List ℕ)) → AllZip (Holds disk) opened files → IfErr found (TellDamage mode files)) → IfErr found (FailsTrue IsTextOfLogs true logs)
   fails_several (Ok shown) error tells = tt
-  fails_several (Err (none.Fault count)) error tells = (error.0, le_of_eq error.1)
+  fails_several (Err (none.Fault count)) error tells = error
   fails_several (Err none.NoMemory) error tells = error
   fails_several (Err (none.Damage log at why)) error tells = (
     error.0,

@@ -1,6 +1,6 @@
 -- What is printed of a recovery, of one log or of several, also where a disk failed during it; and all that is promised
 -- of it.
-use Rattle.std.proofs.Common.{◌≡◌, ◌≢◌, ◌⊎◌, inl, inr, ⊎_elim, ℕ, Bool, List, Option, Result, Ok, Err, le_trans, ap, ◌∙◌, arith}
+use Rattle.std.proofs.Common.{◌≡◌, ◌≢◌, ◌⊎◌, inl, inr, ⊎_elim, ℕ, Bool, List, Option, Result, Ok, Err, ap, ◌∙◌, subst, arith}
 use Rattle.std.specs.Prelude.{IfErr, IfOk, OnOk}
 use Rattle.std.specs.Io.KnownBytes.{Appends}
 use Rattle.base_devices.specs.declared.sink.Sink as sink
@@ -103,14 +103,14 @@ module _ {T : Type 0} (Is : T → List ℕ → Type 0) (several : Bool) (logs : 
       one = inr (inl is);
       no_fault = λ e. absurd (⊎_elim (λ a. omega (arith, is, a)) (λ a. omega (arith, is, a)) e);
       sink_failed = λ e. absurd (omega (arith, is, e));
-      disk_failed = λ e. le_trans reached.0 reached.1;
+      disk_failed = λ e. subst (Rose logs.failed) reached.1 reached.0;
       fault_is_told = λ e. absurd (e is);
       recovered = λ e. absurd (omega (arith, is, e));
       recovered_prefix = λ e. absurd (omega (arith, is, e));
       refused = λ e. (count, reached, said);
       damaged = λ e. absurd (omega (arith, is, e));
       silent = λ e. absurd (omega (arith, is, e));
-      completes = λ a b c. absurd (b (le_trans reached.0 reached.1));
+      completes = λ a b c. absurd (b (subst (Rose logs.failed) reached.1 reached.0));
     }
 
     at_damage : n ≡ 8 → (text : List ℕ) → logs.damaged text → SaysTo old new text failed fails → logs.no_fault → Ends

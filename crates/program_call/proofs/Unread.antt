@@ -1,5 +1,5 @@
 -- No script was read, or no schedule: what is printed then, also where the source failed.
-use Rattle.std.proofs.Common.{◌≡◌, ◌≢◌, ◌⊎◌, inl, inr, ⊎_elim, ℕ, List, Option, Some, None, Ok, Err, IfSome, le_trans, ap, ◌∙◌, arith}
+use Rattle.std.proofs.Common.{◌≡◌, ◌≢◌, ◌⊎◌, inl, inr, ⊎_elim, ℕ, List, Option, Some, None, Ok, Err, IfSome, ap, ◌∙◌, subst, arith}
 use Rattle.model_base.specs.Counts.{Rose}
 use Rattle.model_base.specs.Script.{Script, Fault, script_of, whole_grammar}
 use Rattle.model_base.specs.declared.script.ScriptFault.{ScriptFault}
@@ -32,7 +32,7 @@ pub source_failed : (Why : ReadError → Type 0) (failed fails : ℕ) → ((coun
     → (sold snew : Option (List ℕ)) (kf kfs n : ℕ) (given : Status) → n ≡ code given → (why : ReadError) → Why why → TellsReadError sold snew kf kfs why given
     → n ≡ 4 → Rose failed fails × ((count : ℕ) × IsReached failed count fails × SaysTo sold snew (source_fault count) kf kfs)
 source_failed Why failed fails reached sold snew kf kfs n given is (read.Fault count) error tells four =
-    let at = reached count error in (le_trans at.0 at.1, (count, at, tells.1))
+    let at = reached count error in (subst (Rose failed) at.1 at.0, (count, at, tells.1))
 source_failed Why failed fails reached sold snew kf kfs n given is (read.Script line kind) error tells four =
     ⊎_elim (λ said. absurd (let a = said.0 in omega (arith, a, four))) (λ none. absurd (let a = none.0 in omega (arith, a, four))) (refused_as sold snew kf kfs _ _ given n is tells)
 source_failed Why failed fails reached sold snew kf kfs n given is read.NoMemory error tells four = absurd (let a : n ≡ 6 = is ∙ ap code tells.0 in omega (arith, a, four))
@@ -65,7 +65,7 @@ pub unread_completes : (left : Option (List ℕ)) (failed fails kf kfs n : ℕ) 
     → IsScriptError left failed fails why → TellsReadError sold snew kf kfs why given → NoFault failed fails
     → IfSome left (λ text. (script : Script) → script_of whole_grammar text ≡ Ok script → (n ≡ 0) ⊎ (n ≡ 6))
 unread_completes None failed fails kf kfs n sold snew given is why error tells stood = tt
-unread_completes (Some text) failed fails kf kfs n sold snew given is (read.Fault count) error tells stood = λ script said. absurd (stood (le_trans error.0 error.1))
+unread_completes (Some text) failed fails kf kfs n sold snew given is (read.Fault count) error tells stood = λ script said. absurd (stood (subst (Rose failed) error.1 error.0))
 unread_completes (Some text) failed fails kf kfs n sold snew given is (read.Script line kind) error tells stood = λ script said. absurd (cc (error, said))
 unread_completes (Some text) failed fails kf kfs n sold snew given is read.NoMemory error tells stood = λ script said. inr (is ∙ ap code tells.0)
 
@@ -74,7 +74,7 @@ pub unread_other : (left : Option (List ℕ)) (failed fails kf kfs n : ℕ) (sol
     → IsScriptError left failed fails why → TellsReadError sold snew kf kfs why given → n ≢ 6 → NoFault failed fails
     → IfSome left (λ text. (f : Fault) → script_of whole_grammar text ≡ Err f → n ≡ 2)
 unread_other None failed fails kf kfs n sold snew given is why error tells memory stood = tt
-unread_other (Some text) failed fails kf kfs n sold snew given is (read.Fault count) error tells memory stood = λ f other. absurd (stood (le_trans error.0 error.1))
+unread_other (Some text) failed fails kf kfs n sold snew given is (read.Fault count) error tells memory stood = λ f other. absurd (stood (subst (Rose failed) error.1 error.0))
 unread_other (Some text) failed fails kf kfs n sold snew given is (read.Script line kind) error tells memory stood =
     λ f other. ⊎_elim (λ said. said.0) (λ lacks. absurd (memory lacks.0)) (refused_as sold snew kf kfs _ _ given n is tells)
 unread_other (Some text) failed fails kf kfs n sold snew given is read.NoMemory error tells memory stood = λ f other. absurd (memory (is ∙ ap code tells.0))
@@ -84,7 +84,7 @@ pub unread_schedule_completes : (left : Option (List ℕ)) (failed fails kf kfs 
     → IsScheduleError left failed fails why → TellsReadError sold snew kf kfs why given → NoFault failed fails
     → IfSome left (λ text. (schedule : Schedule) → schedule_of replay_grammar event_words text ≡ Ok schedule → (n ≡ 0) ⊎ (n ≡ 6))
 unread_schedule_completes None failed fails kf kfs n sold snew given is why error tells stood = tt
-unread_schedule_completes (Some text) failed fails kf kfs n sold snew given is (read.Fault count) error tells stood = λ schedule said. absurd (stood (le_trans error.0 error.1))
+unread_schedule_completes (Some text) failed fails kf kfs n sold snew given is (read.Fault count) error tells stood = λ schedule said. absurd (stood (subst (Rose failed) error.1 error.0))
 unread_schedule_completes (Some text) failed fails kf kfs n sold snew given is (read.Script line kind) error tells stood = λ schedule said. absurd (cc (error, said))
 unread_schedule_completes (Some text) failed fails kf kfs n sold snew given is read.NoMemory error tells stood = λ schedule said. inr (is ∙ ap code tells.0)
 

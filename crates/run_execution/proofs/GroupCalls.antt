@@ -60,6 +60,15 @@ synced_first (suc n) (group ∷ groups) [] more safe each have = absurd each
 synced_first (suc n) (group ∷ groups) (c ∷ calls) more zero each have = ((λ to_sync. have.0 (each.0).ok (has_synced group c each.0 to_sync)), synced_first n groups calls more zero each.1 have.1)
 synced_first (suc n) (group ∷ groups) (c ∷ calls) more (suc safe) each have = synced_first n groups calls more safe each.1 have
 
+-- where those of the first n that had to be synced are among the first `safe`, one of them that had to be is
+pub synced_in : (groups : List (List Entry)) (n safe k : ℕ) (group : List Entry) → slice_get groups k ≡ Some group → HasSync group → k < n → HaveSynced (take n groups) safe → k < safe
+synced_in [] n safe k group there has less have = absurd (cc there)
+synced_in (g ∷ groups) zero safe k group there has less have = absurd (omega (arith, less))
+synced_in (g ∷ groups) (suc n) zero zero group there has less have = let same : g ≡ group = cc there in absurd (have.0 (subst HasSync (sym same) has))
+synced_in (g ∷ groups) (suc n) zero (suc k) group there has less have = let among = synced_in groups n zero k group there has (omega (arith, less)) have.1 in absurd (omega (arith, among))
+synced_in (g ∷ groups) (suc n) (suc safe) zero group there has less have = omega arith
+synced_in (g ∷ groups) (suc n) (suc safe) (suc k) group there has less have = let among = synced_in groups n safe k group there has (omega (arith, less)) have in omega (arith, among)
+
 -- where those that had to be synced are among the first m, they are among the first n, if that is no less, or all
 pub synced_on : (groups : List (List Entry)) (m n all : ℕ) → length groups ≤ all → min m all ≤ n → HaveSynced groups m → HaveSynced groups n
 synced_on [] m zero all few less have = tt

@@ -8,7 +8,7 @@ use Rattle.model_base.specs.Progress.{families_in}
 use Rattle.model_base.specs.History.{Entry}
 use Rattle.model_base.specs.Trace.{Trace, Settings}
 use Rattle.model_base.specs.Attempts.{Attempt}
-use Rattle.model_base.specs.Groups.{Group, AreStatuses}
+use Rattle.model_base.specs.Groups.{AreStatuses}
 use Rattle.model_base.specs.Calls.{Command, Call, Outcome}
 use Rattle.model_base.specs.Outcomes.{IsClient, IsLegalIn, IsLegalTranscript, entries_of_client}
 use Rattle.model_runs.specs.Refusals.{AreRefusedForThemselves}
@@ -52,13 +52,13 @@ module _ (P : Entry → Type 0) where
 -- Outcomes
 
 -- a client's part of a legal outcome
-record HasPart (settings : Settings) (script : List (List Command)) (trace : Trace) (groups : List Group) (o : Outcome) (i : ℕ) (calls : List Call) : Type 0 where
+record HasPart (settings : Settings) (script : List (List Command)) (trace : Trace) (o : Outcome) (i : ℕ) (calls : List Call) : Type 0 where
   commands : List Command
   attempts : List Attempt
-  part : IsLegalTranscript settings trace groups o.fault (i + 1) commands calls attempts
+  part : IsLegalTranscript settings trace o.fault (i + 1) commands calls attempts
 
 part_at : (settings : Settings) (ended : ℕ) (script : List (List Command)) (trace : Trace) (attempts : List (List Attempt)) (o : Outcome) (legal : IsLegalIn settings ended script trace attempts o)
-    → (i : ℕ) (calls : List Call) → slice_get o.transcripts i ≡ Some calls → HasPart settings script trace legal.groups o i calls
+    → (i : ℕ) (calls : List Call) → slice_get o.transcripts i ≡ Some calls → HasPart settings script trace o i calls
 part_at settings ended script trace attempts o legal i calls at =
     let within = slice_get_within o.transcripts i calls at in let count = legal.count in
     let mine = at_place script i (omega (arith, within, count)) in
@@ -93,6 +93,6 @@ pub refused_for_themselves : (settings : Settings) (ended : ℕ) (script : List 
     → AllByRecursion AreRefusedForThemselves o.transcripts
 refused_for_themselves settings ended script trace attempts o legal fault = all_by_places AreRefusedForThemselves o.transcripts (λ i calls at. (
     let has = part_at settings ended script trace attempts o legal i calls at in
-    let statuses = subst (λ (f : Option ℕ). AreStatuses trace legal.groups f (i + 1) 0 has.attempts) fault has.part.statuses in
-    let none = subst NoneFaulted has.part.commits (none_faulted trace legal.groups (i + 1) 0 has.attempts statuses) in
+    let statuses = subst (λ (f : Option ℕ). AreStatuses trace f has.attempts) fault has.part.statuses in
+    let none = subst NoneFaulted has.part.commits (none_faulted trace has.attempts statuses) in
     ((transcribed settings trace (i + 1) has.commands calls has.part.end has.part.is_transcript).told none).1))

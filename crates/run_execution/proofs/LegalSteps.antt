@@ -1,7 +1,7 @@
 -- What each step of a client's calls keeps: no accepted batch is larger than the settings allow, or in a family that
 -- there isn't, and where no fault of the log ended one of the client's commits, each refused call was refused only for a
 -- cause of its own.
-use Rattle.std.proofs.Common.{◌≡◌, ℕ, ◌+◌, ◌<◌, ◌≤◌, ◌==◌, nat_lt, nat_le, Bool, true, false, not, ◌&&◌, cond, Option, Some, None, List, [], ◌∷◌, ◌++◌, map, MatchOption, refl, ap, sym, ◌∙◌, subst}
+use Rattle.std.proofs.Common.{◌≡◌, ℕ, ◌<◌, ◌≤◌, ◌==◌, nat_lt, nat_le, Bool, true, false, not, ◌&&◌, cond, Option, Some, None, List, [], ◌∷◌, ◌++◌, map, MatchOption, refl, ap, sym, ◌∙◌, subst}
 use Rattle.std.specs.List.{AllByRecursion}
 use Rattle.std.specs.Option.{option_map_or}
 use Rattle.std.proofs.lemmas.Bool.{ltb-false, leb-false}
@@ -15,8 +15,8 @@ use Rattle.model_base.specs.History.{Entry}
 use Rattle.model_base.specs.Controller.{ControllerCall, Action}
 use Rattle.model_base.specs.Tokens.{holds_stop}
 use Rattle.model_base.specs.Trace.{Trace, Settings}
-use Rattle.model_base.specs.Attempts.{Attempt, WriteStatus, succeeded, slowed, faulted, full, is_faulted, with_attempt}
-use Rattle.model_base.specs.Groups.{Group, IsStatus, AreStatuses}
+use Rattle.model_base.specs.Attempts.{Attempt, Fate, WriteStatus, succeeded, slowed, faulted, full, fate_at, is_faulted, status_in, with_attempt}
+use Rattle.model_base.specs.Groups.{IsStatus, AreStatuses}
 use Rattle.model_base.specs.Progress.{Progress, fresh, next_entry, families_in, first_missing, early_refusal}
 use Rattle.model_base.specs.Replies.{MayRefuse, IsAttempted, Commits, ReadsAt, IfThere, IsDone, Stays, Adds, Clears, Gets, GetsMany, Scans, Updates, Stops, Unstops, Slows, Unslows, Replies}
 use Rattle.model_base.specs.Runs.{Run, IsTranscript, whole, cut_off}
@@ -88,34 +88,37 @@ early_for_itself families bytes stopping records how why e =
 abbrev pub NoneFaulted : List Attempt → Type 0
 NoneFaulted attempts = AllByRecursion (λ (h : Attempt). is_faulted h.status ≡ false) attempts
 
-status_without_fault : (trace : Trace) (groups : List Group) (client call : ℕ) (status : WriteStatus) → IsStatus trace groups None client call status → is_faulted status ≡ false
-status_without_fault trace groups client call succeeded is = refl
-status_without_fault trace groups client call (slowed place) is = refl
-status_without_fault trace groups client call (faulted count) is = absurd (cc is)
-status_without_fault trace groups client call (full last) is = refl
+status_without_fault : (trace : Trace) (status : WriteStatus) → IsStatus trace None status → is_faulted status ≡ false
+status_without_fault trace succeeded is = refl
+status_without_fault trace slowed is = refl
+status_without_fault trace (faulted count) is = absurd (cc is)
+status_without_fault trace (full last) is = refl
 
-pub none_faulted : (trace : Trace) (groups : List Group) (client call : ℕ) (attempts : List Attempt) → AreStatuses trace groups None client call attempts → NoneFaulted attempts
-none_faulted trace groups client call [] are = tt
-none_faulted trace groups client call (h ∷ attempts) are = (status_without_fault trace groups client call h.status are.0, none_faulted trace groups client (call + 1) attempts are.1)
+pub none_faulted : (trace : Trace) (attempts : List Attempt) → AreStatuses trace None attempts → NoneFaulted attempts
+none_faulted trace [] are = tt
+none_faulted trace (h ∷ attempts) are = (status_without_fault trace h.status are.0, none_faulted trace attempts are.1)
 
-earlier : (attempts : List Attempt) (records : List Record) (how : WriteOptions) (status : Option WriteStatus) → NoneFaulted (with_attempt attempts records how status) → NoneFaulted attempts
+earlier : (attempts : List Attempt) (records : List Record) (how : WriteOptions) (fate : Option Fate) → NoneFaulted (with_attempt attempts records how fate) → NoneFaulted attempts
 earlier attempts records how None none = none
-earlier attempts records how (Some status) none = all_front (λ (h : Attempt). is_faulted h.status ≡ false) attempts (record { records = records; options = how; status = status } ∷ []) none
+earlier attempts records how (Some fate) none = all_front (λ (h : Attempt). is_faulted h.status ≡ false) attempts (record { records = records; options = how; status = fate.status; place = fate.place } ∷ []) none
 
-last_faulted : (attempts : List Attempt) (records : List Record) (how : WriteOptions) (count : ℕ) → NoneFaulted (with_attempt attempts records how (Some (faulted count))) → ⊥
-last_faulted attempts records how count none = let last = (all_back (λ (h : Attempt). is_faulted h.status ≡ false) attempts (record { records = records; options = how; status = faulted count } ∷ []) none).0 in cc last
+last_faulted : (attempts : List Attempt) (records : List Record) (how : WriteOptions) (count : ℕ) (fate : Option Fate) → status_in fate ≡ Some (faulted count) → NoneFaulted (with_attempt attempts records how fate) → ⊥
+last_faulted attempts records how count None is none = cc is
+last_faulted attempts records how count (Some fate) is none =
+    let last : is_faulted fate.status ≡ false = (all_back (λ (h : Attempt). is_faulted h.status ≡ false) attempts (record { records = records; options = how; status = fate.status; place = fate.place } ∷ []) none).0 in
+    let same : fate.status ≡ faulted count = cc is in cc (sym last ∙ ap is_faulted same)
 
-for_itself : (controller_calls : List ControllerCall) (client : ℕ) (p : Progress) (knows : ℕ) (how : WriteOptions) (why : Refusal) (status : Option WriteStatus)
-    → MayRefuse controller_calls client p knows how why status → NoneFaulted (with_attempt p.attempts p.pending how status) → is_for_itself why ≡ true
-for_itself controller_calls client p knows how (no.Incomplete stops delays wait) status may none = refl
-for_itself controller_calls client p knows how (no.LogFault count) status may none = absurd (last_faulted p.attempts p.pending how count (subst (λ (o : Option WriteStatus). NoneFaulted (with_attempt p.attempts p.pending how o)) may none))
-for_itself controller_calls client p knows how (no.SequenceFull last) status may none = refl
-for_itself controller_calls client p knows how no.Empty status may none = absurd may
-for_itself controller_calls client p knows how (no.TooLarge size) status may none = absurd may
-for_itself controller_calls client p knows how no.SyncWithoutLog status may none = absurd may
-for_itself controller_calls client p knows how (no.NoFamily family) status may none = absurd may
-for_itself controller_calls client p knows how no.SelfStop status may none = absurd may
-for_itself controller_calls client p knows how no.NoMemory status may none = absurd may
+for_itself : (controller_calls : List ControllerCall) (client : ℕ) (p : Progress) (knows : ℕ) (how : WriteOptions) (why : Refusal) (fate : Option Fate)
+    → MayRefuse controller_calls client p knows how why fate → NoneFaulted (with_attempt p.attempts p.pending how fate) → is_for_itself why ≡ true
+for_itself controller_calls client p knows how (no.Incomplete stops delays wait) fate may none = refl
+for_itself controller_calls client p knows how (no.LogFault count) fate may none = absurd (last_faulted p.attempts p.pending how count fate may none)
+for_itself controller_calls client p knows how (no.SequenceFull last) fate may none = refl
+for_itself controller_calls client p knows how no.Empty fate may none = absurd may
+for_itself controller_calls client p knows how (no.TooLarge size) fate may none = absurd may
+for_itself controller_calls client p knows how no.SyncWithoutLog fate may none = absurd may
+for_itself controller_calls client p knows how (no.NoFamily family) fate may none = absurd may
+for_itself controller_calls client p knows how no.SelfStop fate may none = absurd may
+for_itself controller_calls client p knows how no.NoMemory fate may none = absurd may
 
 -- Steps
 
@@ -162,7 +165,7 @@ module _ (settings : Settings) (trace : Trace) (client : ℕ) where
   attempted p how (accepted first last records) q fits s = record {
     small = λ are. subst (AreSmall settings.families settings.batch_bytes) (sym (ap (λ (x : Progress). x.mine) s.after))
         (all_append (λ (e : Entry). IsAllowed settings.families settings.batch_bytes e.records) p.mine (next_entry client p.mine how first p.pending ∷ []) are (fits, tt));
-    told = λ none. (earlier p.attempts p.pending how (Some succeeded) (subst NoneFaulted (ap (λ (x : Progress). x.attempts) s.after) none), λ why e. absurd (cc e));
+    told = λ none. (earlier p.attempts p.pending how (fate_at s.place succeeded) (subst NoneFaulted (ap (λ (x : Progress). x.attempts) s.after) none), λ why e. absurd (cc e));
   }
   attempted p how (refused why) q fits s = record {
     small = λ are. subst (AreSmall settings.families settings.batch_bytes) (sym (ap (λ (x : Progress). x.mine) s.2)) are;

@@ -308,7 +308,6 @@ readable_groups start entries groups calls is suit cut runs each records kept =
     let small = are_small groups calls each runs (subst (AllByRecursion Suits) (sym cut) (all_logged Suits entries suit)) in
     let low : ℕ = last_kept 0 kept.batches in
     let rise = subst (Rise low) (sym cut) (logged_rise low start entries kept.below is) in (
-      refl,
       all_joined IsOwnBatch kept.batches (map as_logged groups) kept.each (are_own low groups small rise),
       order_joined 0 kept.batches (map as_logged groups) kept.rising (in_order low low groups (omega arith) small rise),
     )

@@ -246,7 +246,7 @@ module _ {D : Type 0} (ghosts : Ghosts D) (disk now : D) where
       crash = leaves_looked ghosts disk now only same (error.looked_at).time
 
       by_cause : (why : OpenError) → IsCause ghosts disk now why → CountStands ghosts disk now why → IsRefused ghosts New mode disk now (end_of why)
-      by_cause (Fault count) cause stands = let now_is = cause.1 in (inl same, (cause.0, omega (arith, now_is)), crash)
+      by_cause (Fault count) cause stands = (inl same, (cause.0, cause.1), crash)
       by_cause (NotEmpty len) cause stands = (refl, cause.0, cause.1, same, stands, crash)
       by_cause NoMemory cause stands = (inl same, stands, crash)
 
@@ -257,7 +257,7 @@ module _ {D : Type 0} (ghosts : Ghosts D) (disk now : D) where
       found = inr (tt, tt, as_found (Over n) nothing (ghosts.told disk) (ghosts.told now) (λ x y. y ≡ rewound x) refl (λ x y e. e) error.told)
 
       by_cause : (why : OpenError) → IsCauseOver ghosts disk now why → IsRefused ghosts (Over n) mode disk now (end_of why)
-      by_cause (Fault count) cause = let now_is = cause.1 in (found, (cause.0, omega (arith, now_is)), error.crash)
+      by_cause (Fault count) cause = (found, (cause.0, cause.1), error.crash)
       by_cause (NotEmpty len) cause = absurd cause
       by_cause NoMemory cause = (found, ap ghosts.faults cause, error.crash)
 

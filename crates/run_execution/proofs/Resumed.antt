@@ -121,7 +121,7 @@ module _ (number : Option ℕ) (shown : Recovered) where
           crash = inr (accepted, in_range, (before_of (ghosts.told disk) has, goes_behind (ghosts.told disk) has, subst (λ (n : ℕ). LeavesOf ghosts disk now n) (sym (kept_len (ghosts.told disk) has)) (leaves_first now only error.crash)))
 
           by_cause : (why : OpenError) → IsCauseOver ghosts read now why → IsRefused ghosts (Behind number) mode disk now (end_of why)
-          by_cause (Fault count) cause = let now_is = cause.1 in (found, (subst (λ (n : ℕ). Rose n count) no_fault cause.0, omega (arith, now_is)), crash)
+          by_cause (Fault count) cause = (found, (subst (λ (n : ℕ). Rose n count) no_fault cause.0, cause.1), crash)
           by_cause (NotEmpty len) cause = absurd cause
           by_cause NoMemory cause = (found, ap ghosts.faults cause ∙ no_fault, crash)
 

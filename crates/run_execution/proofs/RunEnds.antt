@@ -124,6 +124,7 @@ module _ {D : Type 0} {ghosts : Ghosts D} where
               logged = writes.logged;
               none_else = writes.none_else;
               by = (log, written, refl);
+              log = writes.log;
               rise = writes.rise;
               in_turn = writes.in_turn;
               by_leaders = writes.by_leaders;

@@ -35,6 +35,7 @@ use Rattle.run_outcome.specs.declared.log_start.LogStart.{LogStart}
 use Rattle.run_outcome.specs.declared.log_start.LogStart.TheVariants.{New}
 use Rattle.run_outcome.specs.Running.{Execution, Before, beginning_of, begun_on, IsRunOf, IfGoesOn, RecoversKept, SafeStays, AreReadable, batch_of_group, LeavesSafeLog, GoesOn}
 use Rattle.model_runs.specs.Written.{WroteEntries, AreLost, WritesLog}
+use Rattle.model_runs.proofs.Acknowledged.{acknowledged_stay}
 use Rattle.run_execution.proofs.LoggedGroups.{IsBounded, Suits, each_has_entries, AreKept, rising_groups, readable_groups}
 use Rattle.run_execution.proofs.GroupCalls.{written_front, safe_front, written_is, synced_is, held_is, kept_is, failed_write}
 
@@ -346,6 +347,7 @@ module _ {D : Type 0} {ghosts : Ghosts D} where
             safe = record {
               log = log_left (own execution) run.trace execution.before.batches keeps run.attempts execution.settings.group_bytes o run.legal.history run.legal.last (run.legal.is_trace).entries suit run.writes.parts run.writes.calls run.writes.lost run.writes.cut run.writes.runs run.writes.each run.writes.none_else begun y holds.0 holds.1 text run.length_is;
               crash = crash_safe (own execution) run.trace execution.before.batches keeps run.attempts execution.settings.group_bytes o run.legal.history run.legal.last (run.legal.is_trace).entries suit run.writes.parts run.writes.calls run.writes.lost run.writes.cut run.writes.runs run.writes.each run.writes.none_else begun y holds.0 holds.1 text run.length_is x.reach execution.images execution.since held kept kept_since;
+              acknowledged = acknowledged_stay execution.settings _ execution.script run.trace run.attempts o run.legal _ run.legal.groups run.writes execution.since (λ k image. BeginsWith (text_through (own execution) run.writes.parts k) image) kept_since;
             };
             went_on = went;
             stays = stay;

@@ -1,5 +1,5 @@
 -- How a run over a set of logs ends, from its result over its opened set.
-use Rattle.std.proofs.Common.{◌≡◌, ℕ, ◌+◌, ◌-◌, ◌^◌, ◌<◌, ◌≤◌, min, List, [], ◌∷◌, ◌++◌, length, map, sum_by, IfSome, Vec, Global, refl, ap, sym, ◌∙◌, subst, arith, length-append}
+use Rattle.std.proofs.Common.{◌≡◌, ℕ, ◌+◌, ◌-◌, ◌^◌, ◌<◌, ◌≤◌, min, List, [], ◌∷◌, ◌++◌, length, map, take, sum_by, IfSome, Vec, Global, refl, ap, sym, ◌∙◌, subst, arith, length-append}
 use Rattle.std.proofs.lemmas.List.Sums.{sum_by-cons}
 use Rattle.std.specs.List.{AllByRecursion, AllZip}
 use Rattle.model_base.specs.declared.limits.TheConstants.{MAX_CLIENTS, MAX_SIZE}
@@ -11,7 +11,7 @@ use Rattle.model_base.specs.Trace.{Settings}
 use Rattle.model_base.specs.Calls.{Command}
 use Rattle.model_base.specs.Calls as calls
 use Rattle.model_base.specs.Outcomes.{IsLegalIn, outcome_of}
-use Rattle.model_base.specs.History.{IsHistory}
+use Rattle.model_base.specs.History.{Entry, IsHistory}
 use Rattle.model_base.specs.Map.{Pairs}
 use Rattle.model_base.specs.declared.options.Options.{Options}
 use Rattle.model_base.specs.Settings.{settings_of, with_kept}
@@ -33,7 +33,10 @@ use Rattle.log_writer.specs.ReadLaws.{none_were_read, were_read_on}
 use Rattle.log_writer.proofs.Reading.{all_were_read}
 use Rattle.log_writer.specs.SetCrashes.{HasOpenedSet}
 use Rattle.log_writer.specs.SetWritten.{disks_of}
+use Rattle.model_runs.specs.Crashes.{HaveSynced}
 use Rattle.model_runs.specs.Written.{WritesLog}
+use Rattle.model_runs.proofs.Acknowledged.{acknowledged_stay}
+use Rattle.run_execution.proofs.GroupCalls.{synced_in}
 use Rattle.run_threads.specs.declared.run.ClientsEnd.{ClientsEnd}
 use Rattle.run_threads.specs.declared.run.ClientsEnd.TheVariants.{NotRun, Untold, Told}
 use Rattle.run_threads.specs.Runs.{HaveRun, ComesTo, log_of, outcome_with}
@@ -102,7 +105,7 @@ module _ {D : Type 0} (ghosts : Ghosts D) where
         alone = looked_alone olds news error.looked_at
 
         by_cause : (why : OpenError) → IsSetCause ghosts olds news why → EndsOnSet ghosts options limit script olds news (end_of why)
-        by_cause (Fault count) cause = let same = cause.1 in (alone, cause.0, omega (arith, same))
+        by_cause (Fault count) cause = (alone, cause.0, cause.1)
         by_cause (NotEmpty len) cause = (cause.0, alone, cause.1)
         by_cause NoMemory cause = (alone, ap (count_in_all ghosts.faults) cause)
 
@@ -186,6 +189,7 @@ module _ {D : Type 0} {ghosts : Ghosts D} where
               logged = w.logged;
               none_else = w.none_else;
               by = (set, record { opened = opened; has_opened = has; limit_is = limit_is; wrote = w.by }, refl, refl);
+              log = w.log;
               rise = w.rise;
               in_turn = w.in_turn;
               by_leaders = w.by_leaders;
@@ -214,6 +218,11 @@ module _ {D : Type 0} {ghosts : Ghosts D} where
               safe = λ safe_disks held tells reached reach. record {
                 of_history = of_history laws limit disks opened has limit_is ran.trace ran.attempts settings.group_bytes (fault_in set) history w.parts w.calls w.lost w.cut w.runs w.each w.none_else set w.by outcome legal.history;
                 crash = crash_safe laws limit disks opened has limit_is ran.trace ran.attempts settings.group_bytes (fault_in set) history w.parts w.calls w.lost w.cut w.runs w.each w.none_else set w.by safe_disks suit outcome legal.last refl held tells reached reach;
+                -- the group of a batch that was to be synced is among the records that are there for certain
+                acknowledged = acknowledged_stay settings ended script ran.trace ran.attempts outcome in_groups.0 _ in_groups.0.groups run.writes (execution.since outcome.log_lens) _
+                    (λ k n group there to_sync less images left.
+                    let front = (crash_safe laws limit disks opened has limit_is ran.trace ran.attempts settings.group_bytes (fault_in set) history w.parts w.calls w.lost w.cut w.runs w.each w.none_else set w.by safe_disks suit outcome legal.last refl held tells reached reach).fronts n images left in
+                    (front.0, synced_in w.parts n front.0 k group there to_sync less (subst (λ (l : List (List Entry)). HaveSynced (take n l) front.0) run.cut front.1), front.2));
               };
             };
           }

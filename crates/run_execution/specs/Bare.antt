@@ -12,7 +12,7 @@ bare_of (NotRun l) = NotRun l.log
 bare_of (Untold l last) = Untold l.log last
 bare_of (Told l last transcripts history state) = Told l.log last transcripts history state
 
--- As it was opened, the log had these batches and no others, in order and up to this last sequence, and what it holds is
--- known.
+-- As it was opened, the log had these batches and no others, in order and up to this last sequence, and what it holds
+-- is known.
 abbrev pub HasKept : {L : Type 0} → (ghosts : Ghosts L) → L → ℕ → List Logged → Type 0
 HasKept ghosts log last batches = Had {ghosts = ghosts} (record { log = log; knows = refl }) last batches

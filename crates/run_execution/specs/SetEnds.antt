@@ -1,5 +1,5 @@
 -- How a run over several logs ends, and what is true then.
-use Rattle.std.specs.Prelude.{◌≡◌, ℕ, ◌≤◌, List, [], ◌∷◌, ◌++◌, length, map, Option, None, Some, option_and_then, IfSome}
+use Rattle.std.specs.Prelude.{◌≡◌, ℕ, List, [], ◌∷◌, ◌++◌, length, map, Option, None, Some, option_and_then, IfSome}
 use Rattle.std.specs.List.{AllByRecursion, AllZip}
 use Rattle.base_devices.specs.Disk.{Disk}
 use Rattle.base_devices.specs.Faults.{Rose, count_in_all}
@@ -60,7 +60,8 @@ nothing_told ghosts (disk ∷ disks) = option_and_then (λ (d : Disk). nothing_t
 abbrev pub set_execution_on : {D : Type 0} → Ghosts D → Options → ℕ → List (List calls.Command) → List D → List D
     → SetExecution
 set_execution_on ghosts options limit script olds news = record {
-  settings = with_kept (nothing_told ghosts olds) (settings_of options [] (length script) (count_in_all ghosts.faults olds));
+  settings = with_kept (nothing_told ghosts olds)
+      (settings_of options [] (length script) (count_in_all ghosts.faults olds));
   script = script;
   ended = count_in_all ghosts.faults news;
   limit = limit;
@@ -92,8 +93,8 @@ pub record LeaveSafeLogs {D : Type 0} (ghosts : Ghosts D) (olds news : List D) (
   pub safe : AreSafeAfterFirst ghosts olds → (held : List Held) → TellHeld ghosts news held → (reached : List ℕ)
       → TellReach ghosts olds reached → AreSafe run held reached x.images (x.since o.log_lens) x.now
 
--- A script was run, and this is its outcome. Where no write of a log failed and no read of one, the disks have counted no
--- fault in the run. Where the logs have no fault, commits were refused only for causes of their own.
+-- A script was run, and this is its outcome. Where no write of a log failed and no read of one, the disks have counted
+-- no fault in the run. Where the logs have no fault, commits were refused only for causes of their own.
 pub record HasSetOutcome {D : Type 0} (ghosts : Ghosts D) (olds news : List D) (x : SetExecution) (o : calls.Outcome)
     : Type 0 where
   pub run : IsRunOfSet x o
@@ -118,7 +119,7 @@ module _ {D : Type 0} (ghosts : Ghosts D) (options : Options) (limit : ℕ) (scr
 
   abbrev pub EndsOnSet : RunEnd → Type 0
   EndsOnSet (end.DiskFault count) = AreLeftAlone ghosts olds news × Rose (count_in_all ghosts.faults olds) count
-      × (count ≤ count_in_all ghosts.faults news)
+      × (count ≡ count_in_all ghosts.faults news)
   EndsOnSet (end.NotEmpty len) =
       HasFirstBytes ghosts olds len × AreLeftAlone ghosts olds news × CountNone ghosts olds news
   EndsOnSet (end.Damage at why) = ⊥

@@ -60,8 +60,8 @@ pub fn runs_leave_safe_logs<D: Disk>()
     an_image_of_the_file();
 }
 
-/// What a log has as it is opened for a run, where that is known: the batches that the run goes on from. A new set of logs
-/// has none.
+/// What a log has as it is opened for a run, where that is known: the batches that the run goes on from. A new set of
+/// logs has none.
 pub fn logs_have_batches<D: Disk>()
     ensures one { (start : LogStart) (before : Before) (disk : D) (opened : Log D ⟦<D as Disk>⟧) (last : ℕ)
         → GoesOnFrom start (D.told disk) before → HasOpenedAs start before disk opened → before.last ≤ last

@@ -7,7 +7,7 @@ use Rattle.model_base.specs.declared.write.Refusal.TheVariants as no
 use Rattle.model_base.specs.Batch.{count_of, size_of_batch}
 use Rattle.model_base.specs.History.{max_sequence}
 use Rattle.model_base.specs.Tokens.{holds_stop}
-use Rattle.model_base.specs.Attempts.{Attempt, WriteStatus, faulted, full, with_attempt}
+use Rattle.model_base.specs.Attempts.{Attempt, Fate, faulted, full, with_attempt}
 use Rattle.model_base.specs.Trace.{Trace, Settings}
 use Rattle.std.specs.List.{AllByRecursion}
 use Rattle.model_base.specs.Progress.{Progress, fresh, families_in, first_missing, early_refusal, batch_after}
@@ -15,6 +15,7 @@ use Rattle.model_base.specs.Replies.{MayRefuse, IsAttempted, Commits, Stays}
 use Rattle.model_base.specs.Outcomes.{IsLegal, IsLegalTranscript}
 use Rattle.model_base.specs.Calls.{Command, commit, Reply, accepted, refused, no_memory, Call, Outcome}
 use Rattle.model_base.specs.Script.{Script}
+use Rattle.model_base.proofs.Fates.{fate_with}
 use Rattle.run_laws.proofs.Plain.{AreSound}
 use Rattle.run_laws.proofs.Counts.{sequences_of, sound}
 use Rattle.run_laws.specs.Accepting.{HasRoom, HoldsNothingUp, asked_by, ReachesCommit, PassesChecks, IsAccepted}
@@ -54,22 +55,23 @@ module _ (settings : Settings) (ended : ℕ) (script : Script) (o : Outcome) (cl
   most = history.end_of_history settings ended script o legal
 
   -- the commit can't be refused
-  never_refused : (p : Progress) (knows : ℕ) (why : Refusal) (status : Option WriteStatus) → most + count_of p.pending ≤ max_sequence → (how.no_slowdown ≡ false) ⊎ HoldsNothingUp script
-      → AreSound most (with_attempt p.attempts p.pending how status) → MayRefuse trace.controller_calls (client + 1) p knows how why status → ⊥
-  never_refused p knows (no.Incomplete stops delays wait) status room (inl waits) s may = let yes = may.0 in cc
-  never_refused p knows (no.Incomplete stops delays wait) status room (inr quiet) s may =
-      not_held_up trace.controller_calls legal.legal.is_trace.controller_calls (history.calm settings ended script o legal quiet) (holds_stop p.asked) (client + 1) p.known knows _ status may.1
-  never_refused p knows (no.LogFault count) status room freed s may =
-      sound_last most p.attempts p.pending how (faulted count) (subst (λ x. AreSound most (with_attempt p.attempts p.pending how x)) may s)
-  never_refused p knows (no.SequenceFull last) status room freed s may =
-      let within : last ≤ most = sound_last most p.attempts p.pending how (full last) (subst (λ x. AreSound most (with_attempt p.attempts p.pending how x)) may.0 s) in
+  never_refused : (p : Progress) (knows : ℕ) (why : Refusal) (fate : Option Fate) → most + count_of p.pending ≤ max_sequence → (how.no_slowdown ≡ false) ⊎ HoldsNothingUp script
+      → AreSound most (with_attempt p.attempts p.pending how fate) → MayRefuse trace.controller_calls (client + 1) p knows how why fate → ⊥
+  never_refused p knows (no.Incomplete stops delays wait) fate room (inl waits) s may = let yes = may.0 in cc
+  never_refused p knows (no.Incomplete stops delays wait) fate room (inr quiet) s may =
+      not_held_up trace.controller_calls legal.legal.is_trace.controller_calls (history.calm settings ended script o legal quiet) (holds_stop p.asked) (client + 1) p.known knows _ fate may.1
+  never_refused p knows (no.LogFault count) fate room freed s may =
+      let f = fate_with fate (faulted count) may in sound_last most p.attempts p.pending how f.0 (faulted count) (subst (λ x. AreSound most (with_attempt p.attempts p.pending how x)) f.1 s)
+  never_refused p knows (no.SequenceFull last) fate room freed s may =
+      let f = fate_with fate (full last) may.0 in
+      let within : last ≤ most = sound_last most p.attempts p.pending how f.0 (full last) (subst (λ x. AreSound most (with_attempt p.attempts p.pending how x)) f.1 s) in
       let past = may.5 in omega (arith, room, within, past)
-  never_refused p knows no.Empty status room freed s may = may
-  never_refused p knows (no.TooLarge size) status room freed s may = may
-  never_refused p knows no.SyncWithoutLog status room freed s may = may
-  never_refused p knows (no.NoFamily family) status room freed s may = may
-  never_refused p knows no.SelfStop status room freed s may = may
-  never_refused p knows no.NoMemory status room freed s may = may
+  never_refused p knows no.Empty fate room freed s may = may
+  never_refused p knows (no.TooLarge size) fate room freed s may = may
+  never_refused p knows no.SyncWithoutLog fate room freed s may = may
+  never_refused p knows (no.NoFamily family) fate room freed s may = may
+  never_refused p knows no.SelfStop fate room freed s may = may
+  never_refused p knows no.NoMemory fate room freed s may = may
 
   attempt_accepted : (p q : Progress) (told : Reply) → (q.mine ≡ p.mine → most + count_of p.pending ≤ max_sequence) → (how.no_slowdown ≡ false) ⊎ HoldsNothingUp script → AreSound most q.attempts
       → IsAttempted trace (client + 1) p how told q → IsAccepted p.pending told
@@ -86,12 +88,12 @@ module _ (settings : Settings) (ended : ℕ) (script : Script) (o : Outcome) (cl
       (subst (λ early. MatchOption early (IsAttempted trace (client + 1) p how reply q) (λ why. (reply ≡ refused why) × Stays p q)) none e))
 
   statuses_sound : (attempts : List Attempt) (commands : List Command) (calls : List Call) → o.fault ≡ None
-      → (right : IsLegalTranscript settings trace legal.legal.groups o.fault (client + 1) commands calls attempts) → AreSound most right.end.attempts
+      → (right : IsLegalTranscript settings trace o.fault (client + 1) commands calls attempts) → AreSound most right.end.attempts
   statuses_sound attempts commands calls no_fault right =
-      subst (AreSound most) right.commits (sound most trace legal.legal.groups o.fault (client + 1) 0 attempts no_fault (history.last_within settings ended script o legal) right.statuses)
+      subst (AreSound most) right.commits (sound most trace o.fault attempts no_fault (history.last_within settings ended script o legal) right.statuses)
 
   -- if a commit wasn't accepted, its batch had room
-  has_room_at : {commands : List Command} {attempts : List Attempt} (to : ReachesCommit o client before how reply) (right : IsLegalTranscript settings trace legal.legal.groups o.fault (client + 1) commands to.calls attempts)
+  has_room_at : {commands : List Command} {attempts : List Attempt} (to : ReachesCommit o client before how reply) (right : IsLegalTranscript settings trace o.fault (client + 1) commands to.calls attempts)
       → (c : Comes settings trace (client + 1) fresh before (record { command = commit how; reply = reply }) to.after right.end) → c.next.mine ≡ c.at.mine → HasRoom settings o → most + count_of c.at.pending ≤ max_sequence
   has_room_at to right c same room =
       let all = ap sequences_of right.accepted in

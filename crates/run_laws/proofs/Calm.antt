@@ -5,7 +5,7 @@ use Rattle.std.proofs.lemmas.Bool.{cond-true}
 use Rattle.model_base.specs.Controller as controller
 use Rattle.model_base.specs.Controller.{ControllerCall, Action, Numbers, After, Look, HoldUp, ShowTokens, look_with, opening, after_delay, numbers_after, answer, IsHistoryFrom}
 use Rattle.model_base.specs.Tokens.{is_token, tokens_of, holds_stop, holds_slow, given_back}
-use Rattle.model_base.specs.Attempts.{WriteStatus, slowed}
+use Rattle.model_base.specs.Attempts.{Fate}
 use Rattle.model_base.specs.Trace.{Trace, Settings}
 use Rattle.model_base.specs.Progress.{Progress, fresh}
 use Rattle.model_base.specs.Runs.{Run, commands_of, IsTranscript}
@@ -131,8 +131,7 @@ module _ (controller_calls : List ControllerCall) (history : IsHistoryFrom openi
   not_either l calm (inl stopped) = let none_stop = calm.0 in omega arith
   not_either l calm (inr slowed_by) = let none_slow = calm.1 in omega arith
 
-  pub not_held_up : (stopping : Bool) (client knew knows : ℕ) (l : Look) (status : Option WriteStatus) → IsTold controller_calls stopping client knew knows l status → ⊥
+  pub not_held_up : (stopping : Bool) (client knew knows : ℕ) (l : Look) (fate : Option Fate) → IsTold controller_calls stopping client knew knows l fate → ⊥
   not_held_up true client knew knows l None told = not_up l (told_at opening controller_calls history none (refl, refl) told.1 _ l told.2.there refl) told.4.1
   not_held_up false client knew knows l None told = not_either l (told_at opening controller_calls history none (refl, refl) told.1 _ l told.2.there refl) told.4.shown
-  not_held_up stopping client knew knows l (Some (slowed place)) told = not_up l (told_at opening controller_calls history none (refl, refl) place _ l told.3.there refl) told.5
-  not_held_up stopping client knew knows l (Some other) told = absurd told
+  not_held_up stopping client knew knows l (Some fate) told = not_up l (told_at opening controller_calls history none (refl, refl) fate.place _ l told.3.there refl) told.5

@@ -4,7 +4,7 @@ use Rattle.std.proofs.lemmas.List.Sums.{sum_by-cons, sum_by-append, sum_by_push,
 use Rattle.model_base.specs.Batch.{Record, is_counted, count_of}
 use Rattle.model_base.specs.History.{Entry, IsHistory, last_sequence, last_of, IsBoundary}
 use Rattle.model_base.specs.Attempts.{Attempt, WriteStatus, succeeded, slowed, faulted, full}
-use Rattle.model_base.specs.Groups.{Group, IsStatus, AreStatuses}
+use Rattle.model_base.specs.Groups.{IsStatus, AreStatuses}
 use Rattle.model_base.specs.Trace.{Trace, Settings}
 use Rattle.model_base.specs.Progress.{Progress, fresh, next_entry}
 use Rattle.model_base.specs.Runs.{Run, commands_of, IsTranscript}
@@ -41,18 +41,17 @@ counted start (e ∷ entries) h =
     omega (arith, first, counted (last_of e) entries h.1, sum_by-cons (λ (e : Entry). e.count) e entries, sum_by-cons (λ (e : Entry). count_of e.records) e entries)
 
 -- if there was no fault, the statuses are sound
-sound_one : (most : ℕ) (trace : Trace) (groups : List Group) (fault : Option ℕ) (client call : ℕ) (status : WriteStatus) → fault ≡ None → ((last : ℕ) → IsBoundary trace.start trace.entries last → last ≤ most)
-    → IsStatus trace groups fault client call status → IsSound most status
-sound_one most trace groups fault client call succeeded none within is = tt
-sound_one most trace groups fault client call (slowed place) none within is = tt
-sound_one most trace groups fault client call (faulted count) none within is = let e : fault ≡ Some count = is in cc
-sound_one most trace groups fault client call (full last) none within is = within last is
+sound_one : (most : ℕ) (trace : Trace) (fault : Option ℕ) (status : WriteStatus) → fault ≡ None → ((last : ℕ) → IsBoundary trace.start trace.entries last → last ≤ most)
+    → IsStatus trace fault status → IsSound most status
+sound_one most trace fault succeeded none within is = tt
+sound_one most trace fault slowed none within is = tt
+sound_one most trace fault (faulted count) none within is = let e : fault ≡ Some count = is in cc
+sound_one most trace fault (full last) none within is = within last is
 
-pub sound : (most : ℕ) (trace : Trace) (groups : List Group) (fault : Option ℕ) (client call : ℕ) (attempts : List Attempt) → fault ≡ None → ((last : ℕ) → IsBoundary trace.start trace.entries last → last ≤ most)
-    → AreStatuses trace groups fault client call attempts → AreSound most attempts
-sound most trace groups fault client call [] none within are = tt
-sound most trace groups fault client call (h ∷ attempts) none within are =
-    (sound_one most trace groups fault client call h.status none within are.0, sound most trace groups fault client (call + 1) attempts none within are.1)
+pub sound : (most : ℕ) (trace : Trace) (fault : Option ℕ) (attempts : List Attempt) → fault ≡ None → ((last : ℕ) → IsBoundary trace.start trace.entries last → last ≤ most)
+    → AreStatuses trace fault attempts → AreSound most attempts
+sound most trace fault [] none within are = tt
+sound most trace fault (h ∷ attempts) none within are = (sound_one most trace fault h.status none within are.0, sound most trace fault attempts none within are.1)
 
 -- A client's sequences
 
@@ -74,9 +73,9 @@ weighs : (client : ℕ) (p : Progress) (command : Command) (q : Progress) → Mo
 weighs client p command q (stays e f g) = omega (arith, weight_at q _ _ e f)
 weighs client p command q (adds r is e f g) = let one = ap adds_one is in omega (arith, one, weight_at q _ _ e f, length-append p.pending (r ∷ []))
 weighs client p command q (clears e f g) = omega (arith, weight_at q _ _ e f)
-weighs client p command q (accepts how first e f g) =
+weighs client p command q (accepts how first place e f g) =
     omega (arith, weight_at q _ _ e f, sum_by_push (λ (e : Entry). e.count) p.mine (next_entry client p.mine how first p.pending), count_by-le-length is_counted p.pending)
-weighs client p command q (refuses how status e f g) = omega (arith, weight_at q _ _ e f)
+weighs client p command q (refuses how fate e f g) = omega (arith, weight_at q _ _ e f)
 
 weighs_run : (settings : Settings) (trace : Trace) (client : ℕ) (p : Progress) (calls : List Call) (q : Progress) → Run settings trace client p calls q → weight q ≤ weight p + additions (commands_of calls)
 weighs_run settings trace client p [] q run = let same = ap weight run in omega arith

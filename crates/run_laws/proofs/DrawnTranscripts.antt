@@ -5,7 +5,6 @@ use Rattle.model_base.specs.Batch.{Record}
 use Rattle.model_base.specs.Calls.{Command, Call, Outcome}
 use Rattle.model_base.specs.Trace.{Trace, Settings}
 use Rattle.model_base.specs.Attempts.{Attempt}
-use Rattle.model_base.specs.Groups.{Group}
 use Rattle.model_base.specs.Outcomes.{entries_of_client, IsLegalTranscript, IsLegal}
 use Rattle.model_base.specs.Generator.{first_state, batches_drawn, script_of_seed}
 use Rattle.run_laws.proofs.Lists.{there_is, made_at, length_made, all_mapped}
@@ -18,17 +17,17 @@ abbrev pub commands_drawn : ℕ → ℕ → ℕ → List Command
 commands_drawn seed batches client = batches_drawn batches client (first_state seed client)
 
 -- the client's transcript, and that it is right
-pub record HasTranscript (settings : Settings) (trace : Trace) (groups : List Group) (o : Outcome) (i : ℕ) (commands : List Command) : Type 0 where
+pub record HasTranscript (settings : Settings) (trace : Trace) (o : Outcome) (i : ℕ) (commands : List Command) : Type 0 where
   pub calls : List Call
   pub there : slice_get o.transcripts i ≡ Some calls
   pub attempts : List Attempt
-  pub right : IsLegalTranscript settings trace groups o.fault (i + 1) commands calls attempts
+  pub right : IsLegalTranscript settings trace o.fault (i + 1) commands calls attempts
 
 module _ (seed clients batches ended : ℕ) (settings : Settings) (o : Outcome) (legal : IsLegal settings ended (script_of_seed seed clients batches) o) where
   pub length_generated : length (script_of_seed seed clients batches) ≡ clients
   length_generated = length_made (commands_drawn seed batches) 1 clients
 
-  pub transcript_of : (i : ℕ) → i < clients → HasTranscript settings legal.trace legal.legal.groups o i (commands_drawn seed batches (i + 1))
+  pub transcript_of : (i : ℕ) → i < clients → HasTranscript settings legal.trace o i (commands_drawn seed batches (i + 1))
   transcript_of i within =
       let l = legal.legal in let length_is = length_generated in let count = l.count in
       let commands = there_is (script_of_seed seed clients batches) i (omega arith) in
@@ -40,7 +39,7 @@ module _ (seed clients batches ended : ℕ) (settings : Settings) (o : Outcome) 
         calls = calls.0;
         there = calls.1;
         attempts = right.0;
-        right = subst (λ cs. IsLegalTranscript settings legal.trace l.groups o.fault (i + 1) cs calls.0 right.0) (made ∙ ap (commands_drawn seed batches) number) right.2;
+        right = subst (λ cs. IsLegalTranscript settings legal.trace o.fault (i + 1) cs calls.0 right.0) (made ∙ ap (commands_drawn seed batches) number) right.2;
       }
 
   -- each entry is of one of the clients

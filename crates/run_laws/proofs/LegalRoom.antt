@@ -8,7 +8,6 @@ use Rattle.model_base.specs.Tokens.{tokens_of}
 use Rattle.model_base.specs.Trace.{Trace, Settings}
 use Rattle.model_base.specs.Outcomes.{entries_of_client, IsLegalTranscript, IsLegal}
 use Rattle.model_base.specs.Attempts.{Attempt}
-use Rattle.model_base.specs.Groups.{Group}
 use Rattle.run_laws.proofs.Lists.{there_is, all_at, all_mapped}
 use Rattle.run_laws.proofs.DrawnTranscripts.{HasTranscript}
 use Rattle.run_laws.proofs.Counts.{sequences_of, boundary_within}
@@ -19,23 +18,23 @@ use Rattle.run_laws.proofs.Room.{takes, TakeWithin, all_take_less}
 use Rattle.run_laws.proofs.Calm.{AsksNothing, HasNoTokens, no_tokens_of, no_tokens}
 
 -- the commands that a client's transcript answers, and that it is right
-pub record HasCommands (settings : Settings) (trace : Trace) (groups : List Group) (o : Outcome) (i : ℕ) (calls : List Call) : Type 0 where
+pub record HasCommands (settings : Settings) (trace : Trace) (o : Outcome) (i : ℕ) (calls : List Call) : Type 0 where
   pub commands : List Command
   pub attempts : List Attempt
-  pub right : IsLegalTranscript settings trace groups o.fault (i + 1) commands calls attempts
+  pub right : IsLegalTranscript settings trace o.fault (i + 1) commands calls attempts
 
 module _ (settings : Settings) (ended : ℕ) (script : Script) (o : Outcome) (legal : IsLegal settings ended script o) where
   abbrev pub trace : Trace
   trace = legal.trace
 
-  pub transcript_of : (i : ℕ) (commands : List Command) → slice_get script i ≡ Some commands → HasTranscript settings trace legal.legal.groups o i commands
+  pub transcript_of : (i : ℕ) (commands : List Command) → slice_get script i ≡ Some commands → HasTranscript settings trace o i commands
   transcript_of i commands there =
       let l = legal.legal in let count = l.count in let within = place_within script i commands there in
       let calls = there_is o.transcripts i (omega arith) in let right = l.each i commands calls.0 there calls.1 in
       record { calls = calls.0; there = calls.1; attempts = right.0; right = right.2 }
 
   -- the commands that a transcript answers
-  pub right_of : (i : ℕ) (calls : List Call) → slice_get o.transcripts i ≡ Some calls → HasCommands settings trace legal.legal.groups o i calls
+  pub right_of : (i : ℕ) (calls : List Call) → slice_get o.transcripts i ≡ Some calls → HasCommands settings trace o i calls
   right_of i calls there =
       let l = legal.legal in let count = l.count in let within = place_within o.transcripts i calls there in
       let commands = there_is script i (omega arith) in let right = l.each i commands.0 calls commands.1 there in

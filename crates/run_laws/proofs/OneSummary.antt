@@ -87,7 +87,7 @@ module _ (seed clients batches ended : ℕ) (settings : Settings) (o : Outcome) 
       let commands = commands_drawn seed batches (i + 1) in
       let found_here = all_at NoneWithoutMemory o.transcripts i t.calls found t.there in
       let w = whole_of settings trace (i + 1) commands t.calls right.end found_here right.is_transcript in
-      let statuses = sound 25600000 trace legal.legal.groups o.fault (i + 1) 0 t.attempts no_fault
+      let statuses = sound 25600000 trace o.fault t.attempts no_fault
       (λ last b. omega (arith, all_within, trace_start, boundary_within trace.start trace.entries last legal.legal.is_trace.entries b)) right.statuses in
       let is_plain = subst (IsPlain 0) w.0 (plain_batches batches (i + 1) (first_state seed (i + 1)) (omega arith)) in
       let accepted = all_accepted 25600000 (omega arith) settings bytes some_family trace (i + 1) 0 fresh t.calls right.end is_plain (record { long = refl; short = tt; asked = refl }) (subst (AreSound 25600000) right.commits statuses) w.1 in

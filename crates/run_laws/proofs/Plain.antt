@@ -12,13 +12,14 @@ use Rattle.model_base.specs.declared.write.Refusal.TheVariants as no
 use Rattle.model_base.specs.Batch.{Record, is_counted, count_of, record_bytes, header, body, size_of_batch}
 use Rattle.model_base.specs.History.{Entry, max_sequence}
 use Rattle.model_base.specs.Tokens.{holds_stop}
-use Rattle.model_base.specs.Attempts.{Attempt, WriteStatus, succeeded, slowed, faulted, full, with_attempt}
+use Rattle.model_base.specs.Attempts.{Attempt, Fate, WriteStatus, succeeded, slowed, faulted, full, fate_at, with_attempt}
 use Rattle.model_base.specs.Trace.{Trace, Settings}
 use Rattle.model_base.specs.Progress.{Progress, next_entry, family_about, families_in, first_missing, early_refusal}
 use Rattle.model_base.specs.Generator.{plain}
 use Rattle.model_base.specs.Runs.{Run, commands_of}
 use Rattle.model_base.specs.Replies.{MayRefuse, Adds, IsAttempted, Commits, Stays, Replies}
 use Rattle.model_base.specs.Calls.{Command, add, commit, Reply, quiet, accepted, refused, Call}
+use Rattle.model_base.proofs.Fates.{fate_with}
 use Rattle.run_laws.specs.Summaries.{batches_after}
 use Rattle.run_laws.proofs.Lists.{all_front, all_back, all_both}
 use Rattle.run_laws.proofs.Progresses.{Moves, stays, adds, clears, accepts, refuses, moves}
@@ -66,26 +67,26 @@ passes families some_family records a some few =
 -- a status that is no fault, and is `full` only after a sequence up to `most`
 abbrev pub IsSound : ℕ → WriteStatus → Type 0
 IsSound most succeeded = Unit {0}
-IsSound most (slowed place) = Unit {0}
+IsSound most slowed = Unit {0}
 IsSound most (faulted count) = ⊥
 IsSound most (full last) = last ≤ most
 
 abbrev pub AreSound : ℕ → List Attempt → Type 0
 AreSound most attempts = AllByRecursion (λ (h : Attempt). IsSound most h.status) attempts
 
-sound_before : (most : ℕ) (attempts : List Attempt) (records : List Record) (how : WriteOptions) (status : Option WriteStatus) → AreSound most (with_attempt attempts records how status) → AreSound most attempts
+sound_before : (most : ℕ) (attempts : List Attempt) (records : List Record) (how : WriteOptions) (fate : Option Fate) → AreSound most (with_attempt attempts records how fate) → AreSound most attempts
 sound_before most attempts records how None a = a
-sound_before most attempts records how (Some status) a = all_front (λ (h : Attempt). IsSound most h.status) attempts _ a
+sound_before most attempts records how (Some fate) a = all_front (λ (h : Attempt). IsSound most h.status) attempts _ a
 
-sound_last : (most : ℕ) (attempts : List Attempt) (records : List Record) (how : WriteOptions) (status : WriteStatus) → AreSound most (with_attempt attempts records how (Some status)) → IsSound most status
-sound_last most attempts records how status a = (all_back (λ (h : Attempt). IsSound most h.status) attempts _ a).0
+sound_last : (most : ℕ) (attempts : List Attempt) (records : List Record) (how : WriteOptions) (place : ℕ) (status : WriteStatus) → AreSound most (with_attempt attempts records how (fate_at place status)) → IsSound most status
+sound_last most attempts records how place status a = (all_back (λ (h : Attempt). IsSound most h.status) attempts _ a).0
 
 sound_step : (most client : ℕ) (p : Progress) (command : Command) (q : Progress) → Moves client p command q → AreSound most q.attempts → AreSound most p.attempts
 sound_step most client p command q (stays e f g) a = subst (AreSound most) g a
 sound_step most client p command q (adds r is e f g) a = subst (AreSound most) g a
 sound_step most client p command q (clears e f g) a = subst (AreSound most) g a
-sound_step most client p command q (accepts how first e f g) a = sound_before most p.attempts p.pending how (Some succeeded) (subst (AreSound most) g a)
-sound_step most client p command q (refuses how status e f g) a = sound_before most p.attempts p.pending how status (subst (AreSound most) g a)
+sound_step most client p command q (accepts how first place e f g) a = sound_before most p.attempts p.pending how (fate_at place succeeded) (subst (AreSound most) g a)
+sound_step most client p command q (refuses how fate e f g) a = sound_before most p.attempts p.pending how fate (subst (AreSound most) g a)
 
 sound_run : (most : ℕ) (settings : Settings) (trace : Trace) (client : ℕ) (p : Progress) (calls : List Call) (q : Progress) → Run settings trace client p calls q → AreSound most q.attempts → AreSound most p.attempts
 sound_run most settings trace client p [] q run a = subst (λ (x : Progress). AreSound most x.attempts) run a
@@ -126,20 +127,21 @@ module _ (most : ℕ) (small : most + 4 ≤ max_sequence) (settings : Settings) 
   after_add n p r commands other q is s e = absurd e
 
   -- the commit can't be refused
-  never_refused : (n : ℕ) (p : Progress) (knows : ℕ) (how : WriteOptions) (why : Refusal) (status : Option WriteStatus) → how ≡ plain → n ≤ 4 → Stands n p
-      → AreSound most (with_attempt p.attempts p.pending how status) → MayRefuse trace.controller_calls client p knows how why status → ⊥
-  never_refused n p knows how (no.Incomplete stops delays wait) status is few s a may = let no_wait : how.no_slowdown ≡ false = ap (λ (x : WriteOptions). x.no_slowdown) is in let yes = may.0 in cc
-  never_refused n p knows how (no.LogFault count) status is few s a may =
-      sound_last most p.attempts p.pending how (faulted count) (subst (λ x. AreSound most (with_attempt p.attempts p.pending how x)) may a)
-  never_refused n p knows how (no.SequenceFull last) status is few s a may =
-      let within : last ≤ most = sound_last most p.attempts p.pending how (full last) (subst (λ x. AreSound most (with_attempt p.attempts p.pending how x)) may.0 a) in
+  never_refused : (n : ℕ) (p : Progress) (knows : ℕ) (how : WriteOptions) (why : Refusal) (fate : Option Fate) → how ≡ plain → n ≤ 4 → Stands n p
+      → AreSound most (with_attempt p.attempts p.pending how fate) → MayRefuse trace.controller_calls client p knows how why fate → ⊥
+  never_refused n p knows how (no.Incomplete stops delays wait) fate is few s a may = let no_wait : how.no_slowdown ≡ false = ap (λ (x : WriteOptions). x.no_slowdown) is in let yes = may.0 in cc
+  never_refused n p knows how (no.LogFault count) fate is few s a may =
+      let f = fate_with fate (faulted count) may in sound_last most p.attempts p.pending how f.0 (faulted count) (subst (λ x. AreSound most (with_attempt p.attempts p.pending how x)) f.1 a)
+  never_refused n p knows how (no.SequenceFull last) fate is few s a may =
+      let f = fate_with fate (full last) may.0 in
+      let within : last ≤ most = sound_last most p.attempts p.pending how f.0 (full last) (subst (λ x. AreSound most (with_attempt p.attempts p.pending how x)) f.1 a) in
       let past = may.5 in let count = short_count p.pending s.short in let long = s.long in omega (arith, small, within, past, count, long, few)
-  never_refused n p knows how no.Empty status is few s a may = may
-  never_refused n p knows how (no.TooLarge size) status is few s a may = may
-  never_refused n p knows how no.SyncWithoutLog status is few s a may = may
-  never_refused n p knows how (no.NoFamily family) status is few s a may = may
-  never_refused n p knows how no.SelfStop status is few s a may = may
-  never_refused n p knows how no.NoMemory status is few s a may = may
+  never_refused n p knows how no.Empty fate is few s a may = may
+  never_refused n p knows how (no.TooLarge size) fate is few s a may = may
+  never_refused n p knows how no.SyncWithoutLog fate is few s a may = may
+  never_refused n p knows how (no.NoFamily family) fate is few s a may = may
+  never_refused n p knows how no.SelfStop fate is few s a may = may
+  never_refused n p knows how no.NoMemory fate is few s a may = may
 
   after_attempt : (n : ℕ) (p : Progress) (how : WriteOptions) (commands : List Command) (reply : Reply) (q : Progress) → IsPlain n (commit how ∷ commands) → Stands n p → AreSound most q.attempts
       → IsAttempted trace client p how reply q → GoesOn p (commit how) commands q

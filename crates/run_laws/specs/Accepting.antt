@@ -78,8 +78,8 @@ pub record PassesChecks (settings : Settings) (before : List Call) (how : WriteO
 abbrev pub IsAccepted : List Record → Reply → Type 0
 IsAccepted batch reply = (first : ℕ) × (last : ℕ) × (reply ≡ accepted first last batch)
 
--- The client with this number (from 0) reaches a read of the log: after these calls it reads from the sequence s on, and
--- gets this reply.
+-- The client with this number (from 0) reaches a read of the log: after these calls it reads from the sequence s on,
+-- and gets this reply.
 pub record ReachesUpdates (o : Outcome) (client : ℕ) (before : List Call) (s : ℕ) (reply : Reply) : Type 0 where
   pub calls : List Call
   pub there : slice_get o.transcripts client ≡ Some calls

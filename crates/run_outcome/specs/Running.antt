@@ -2,20 +2,20 @@
 use Rattle.std.specs.Prelude.{◌≡◌, ◌⊎◌, ℕ, ◌≤◌, ⊤, min, List, [], ◌∷◌, ◌++◌, length, take, map, flat_map, Option, Some, None, option_map, IfSome}
 use Rattle.std.specs.List.{AllByRecursion}
 use Rattle.base_devices.specs.Disk.{Disk, Told, IsImage, all_safe, rewound, cut_at}
-use Rattle.model_base.specs.Batch.{Record}
+use Rattle.model_base.specs.Batch.{Record, IsBatch}
 use Rattle.model_base.specs.Counts.{Rose}
 use Rattle.model_base.specs.History.{Entry}
 use Rattle.model_base.specs.Map.{Pairs}
 use Rattle.model_base.specs.Trace.{Settings}
 use Rattle.model_base.specs.Calls as calls
 use Rattle.model_base.specs.Log.{Beginning, plain_log, SpellsWhole}
-use Rattle.model_base.specs.Recovery.{Logged, logged_bytes, Recovered, IsRecovered, recovered_map, recovered_last}
+use Rattle.model_base.specs.Recovery.{Logged, logged_bytes, AreInOrder, Recovered, IsRecovered, recovered_map, recovered_last}
 use Rattle.model_base.specs.LogContents.{GroupCall}
 use Rattle.run_outcome.specs.declared.outcome.Outcome.{Outcome}
 use Rattle.run_outcome.specs.declared.log_start.LogStart.{LogStart}
 use Rattle.run_outcome.specs.declared.log_start.LogStart.TheVariants.{New, Over, Behind}
 use Rattle.run_outcome.specs.Shows.{ShowsOutcome}
-use Rattle.log_laws.specs.Prefixes.{RecoversPrefix, AreTheseBatches}
+use Rattle.log_laws.specs.Prefixes.{RecoversPrefix}
 use Rattle.log_recovery_laws.specs.Images.{MeetsNoOther}
 use Rattle.model_runs.specs.Refusals.{AreRefusedForThemselves}
 use Rattle.model_runs.specs.Crashes.{IsRun, IsSafe}
@@ -123,16 +123,16 @@ batches_of_log before groups = before.batches ++ map batch_of_group groups
 
 -- recovery reads these batches from their bytes, each after those before it, since their runs rise
 abbrev pub AreReadable : List Logged → Type 0
-AreReadable batches = AreTheseBatches (map logged_bytes batches) batches
+AreReadable batches = AllByRecursion (λ b. IsBatch (logged_bytes b) b.first b.records) batches × AreInOrder 0 batches
 
 -- Where the log is a new one, the disk was found empty. The log holds the logged batches of the outcome after what it
--- keeps, and a crash leaves a prefix of them, unless a checksum matches by chance. What a log that goes on keeps, and was
--- safe, stays. All that the log holds can be recovered.
+-- keeps, and a crash leaves a prefix of them, unless a checksum matches by chance. What a log that goes on keeps, and
+-- was safe, stays. All that the log holds can be recovered.
 pub record LeavesSafeLog (execution : Execution) (o : calls.Outcome) (run : IsRunOf execution o)
     (opened ended : Disk) : Type 0 where
   pub found_empty : execution.start ≡ New → opened.content ≡ []
-  pub safe : IsSafe run (begun_on execution.start execution.before opened.content) ended.content ended.place opened.reach
-      execution.images execution.since (IsImage ended)
+  pub safe : IsSafe run (begun_on execution.start execution.before opened.content) ended.content ended.place
+      opened.reach execution.images execution.since (IsImage ended)
   pub went_on : IfGoesOn execution.start
       (RecoversKept execution.start execution.before opened.content execution.images)
   pub stays : IfGoesOn execution.start (SafeStays execution.before opened execution.images)
@@ -159,9 +159,9 @@ pub record HasRun (execution : Execution) (old new : Option Disk) (shown : Outco
   pub refusals : shown.fault ≡ None → AllByRecursion AreRefusedForThemselves outcome.transcripts
   pub log : Told old new (LeavesSafeLog execution outcome run)
 
--- a count of faults that was reached in a call
+-- a count of faults that rose in a call, and what it is after the call
 abbrev pub IsReached : ℕ → ℕ → ℕ → Type 0
-IsReached before count now = Rose before count × (count ≤ now)
+IsReached before count now = Rose before count × (count ≡ now)
 
 -- The disk's time goes on: its moments don't turn back, and what it has forgotten isn't told again.
 pub record GoesOn {D : Type 0} (moment from : D → ℕ) (old new : D) : Type 0 where

@@ -4,7 +4,7 @@ ghost use Rattle.std.specs.Prelude.{◌≡◌, ◌≤◌, [], ◌∷◌, None, I
 ghost use Rattle.model_base.specs.Trace.{Settings};
 ghost use Rattle.model_base.specs.Calls as calls;
 ghost use Rattle.log_batch.specs.View.{record_of};
-ghost use Rattle.model_accounts.specs.Accounts.{Account};
+ghost use Rattle.model_accounts.specs.Accounts.{Account, KnowsOwnTokens};
 ghost use Rattle.run_threads.specs.Answers.{records_in, accepted_in, GoesOn, Answers, HasRoom, IsLeft};
 ghost use Rattle.run_threads.specs.declared.batches.CurrentBatch.TheVariants.{Nothing};
 
@@ -24,8 +24,9 @@ pub fn add(
     view: RecordView<'_>,
 ) -> Result<Option<Reply>, NoMemory>
     requires room { HasRoom (records_in batches.old.current) (calls.add (record_of view) ∷ []) }
-    ensures answers { (settings : Settings) (a : Account) → Answers settings a (records_in batches.old.current)
-        (calls.add (record_of view.entry)) result a (records_in batches.new.current) }
+    ensures answers { (settings : Settings) (a : Account) → KnowsOwnTokens a
+        → Answers settings a (records_in batches.old.current) (calls.add (record_of view.entry)) result a
+        (records_in batches.new.current) }
     ensures left { OnOk result (IsLeft (records_in batches.old.current) (calls.add (record_of view.entry))
         (records_in batches.new.current)) }
     ensures kept { accepted_in batches.new ≡ accepted_in batches.old }
@@ -44,8 +45,8 @@ pub fn add(
 
 /// Empties the batch in the making.
 pub fn clear(batches: &mut ClientBatches)
-    ensures goes { (settings : Settings) (a : Account) → GoesOn settings a (records_in batches.old.current) calls.clear
-        None a (records_in batches.new.current) }
+    ensures goes { (settings : Settings) (a : Account) → KnowsOwnTokens a
+        → GoesOn settings a (records_in batches.old.current) calls.clear None a (records_in batches.new.current) }
     ensures none { records_in batches.new.current ≡ [] }
     ensures kept { accepted_in batches.new ≡ accepted_in batches.old }
 {

@@ -1,6 +1,7 @@
 //! A client's commands, one by one.
 
 ghost use Rattle.std.specs.Prelude.{◌≡◌, ◌≤◌, [], ◌∷◌, OnOk};
+ghost use Rattle.model_accounts.specs.Accounts.{KnowsOwnTokens};
 ghost use Rattle.run_command_list.specs.Views.{command_of};
 ghost use Rattle.run_threads.specs.Answers.{records_in, accepted_in, Answers, ShowsAccepted, HasRoom, IsLeft};
 
@@ -17,6 +18,13 @@ use run_outcome::Reply;
 use std::alloc::Global;
 use std::rt;
 use std::sync::Wait;
+
+/// Tells the proof that a client knows of its own calls of the write controller that take a token or give one back. It
+/// does nothing.
+fn own_tokens<E: Engine>(engine: &E, client: &E::Client)
+    requires { E.belongs engine.now client.now }
+    ensures { KnowsOwnTokens (E.account client.now) }
+{}
 
 /// Runs one command of a client, and returns its reply, if it has one.
 pub fn answer<E: Engine, R: Wait + rt::Clock>(
@@ -39,6 +47,7 @@ pub fn answer<E: Engine, R: Wait + rt::Clock>(
     ensures entries { ShowsAccepted (E.account client.old).number (accepted_in batches.new)
         (E.account client.new).mine }
 {
+    own_tokens(engine, client);
     match command {
         CommandView::Put { family, key, value } => {
             add(alloc, batches, RecordView::Value { family, key, value })

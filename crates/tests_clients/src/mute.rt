@@ -64,7 +64,7 @@ impl Engine for Mute {
 
     type Log = NoLog;
 
-    ghost use Rattle.std.specs.Prelude.{⊤, [], None, List, Option, IfSome, map};
+    ghost use Rattle.std.specs.Prelude.{⊤, [], None, refl, List, Option, IfSome, map};
     ghost use Rattle.model_base.specs.Recovery.{Logged};
     ghost use Rattle.model_accounts.specs.Accounts.{newcomer};
     ghost use Rattle.model_accounts.specs.Closing.{AreOurs, HasOneTrace};
@@ -77,6 +77,8 @@ impl Engine for Mute {
     ghost account = { λ c. newcomer 0 [] c.number };
 
     ghost belongs = { λ e c. ⊤ };
+
+    ghost own_tokens = { λ e c is. refl };
 
     ghost closes = { λ e room. ⊤ };
 

@@ -307,14 +307,25 @@ fn torn_writes_leave_drawn_bytes(rt: HostRuntime) -> Result<(), Fail> {
     Ok(())
 }
 
-const PAUSES: [(u64, u64); 4] = [(0, 1000), (500, 1500), (u64::MAX, u64::MAX), (1, u64::MAX)];
+// A pause, the moment after it, and how much was paused so far.
+const PAUSES: [(u64, u64, u64); 4] = [
+    (0, 1000, 0),
+    (500, 1500, 500),
+    (u64::MAX, u64::MAX, u64::MAX),
+    (1, u64::MAX, u64::MAX),
+];
 
 #[test]
 fn clock_moves_by_pauses(rt: HostRuntime) {
     let mut clock = SteppedClock::new(1000);
-    for (row, (micros, wanted)) in PAUSES.iter().enumerate() {
+    for (row, (micros, wanted, paused)) in PAUSES.iter().enumerate() {
         clock.pause(*micros);
-        check(&rt, row, &clock.now(), wanted);
+        check(
+            &rt,
+            row,
+            &(clock.now(), clock.paused()),
+            &(*wanted, *paused),
+        );
     }
 }
 

@@ -1,6 +1,6 @@
 //! A disk that holds one append back.
 
-ghost use Rattle.std.specs.Prelude.{◌≡◌, ◌≢◌, ◌+◌, ◌-◌, ◌^◌, ◌<◌, ◌≤◌, length, false, IfOk, IfSome, OnOk};
+ghost use Rattle.std.specs.Prelude.{◌≡◌, ◌≢◌, ◌+◌, ◌-◌, ◌^◌, ◌<◌, ◌≤◌, length, drop, false, IfOk, IfSome, OnErr, OnOk};
 
 use crate::AppendHold;
 use base_devices::{Disk, Failed, MemDisk};
@@ -120,6 +120,8 @@ impl<'h> Disk for HeldDisk<'h> {
     fn read(&mut self, at: u64, buf: &mut [u8]) -> Result<usize, Failed>
         ensures bytes { IfSome (held_told self.old) (λ d. ReadsAt d at buf.new result) }
         ensures at_most { IfOk result (λ n. n ≤ length buf.new) }
+        ensures rest { IfOk result (λ n. drop n buf.new ≡ drop n buf.old) }
+        ensures failed { OnErr result (buf.new ≡ buf.old) }
         ensures small { IfOk result (λ n. 0 < n → at + n < 2 ^ 63) }
         ensures same { held_told self.new ≡ held_told self.old }
         ensures adds_none { held_added self.new ≡ held_added self.old }

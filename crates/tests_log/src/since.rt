@@ -46,13 +46,17 @@ type Numbers = (u64, u64);
 
 // From which place of `LOG` on it is read, from which sequence on and up to which one; how many records that gives, to
 // which place it comes, and whether it ends there. It stops before a record that goes past the last sequence.
-const FROM: [(Numbers, u64, u64, usize, Numbers, bool); 6] = [
+const FROM: [(Numbers, u64, u64, usize, Numbers, bool); 8] = [
     ((0, 0), 1, 1, 1, (24, 1), false),
     ((0, 0), 1, 9, 2, (48, 2), true),
     ((24, 1), 2, 9, 1, (48, 2), true),
     ((24, 1), 2, 1, 0, (24, 1), false),
     ((24, 1), 3, 9, 0, (48, 2), true),
     ((48, 2), 3, 9, 0, (48, 2), true),
+    // The log ends before the place.
+    ((60, 2), 3, 9, 0, (60, 2), true),
+    // The last sequence before the place is above the one up to which records are read.
+    ((48, 7), 3, 5, 0, (48, 7), true),
 ];
 
 // How many records are read of `LOG` from this place on, to which place that comes, and where it ends, if it does.

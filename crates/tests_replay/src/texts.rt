@@ -11,8 +11,8 @@ use std::process::Abort;
 use std::test::Fail;
 
 /// The log's fault refuses a commit, one read finds nothing, one is of a family that there isn't, one of the log gives
-/// a record, the next one meets another fault, and the last one finds no memory. The map has a key of the default family
-/// and one of another.
+/// a record, the next one meets another fault, and the last one finds no memory. The map has a key of the default
+/// family and one of another.
 fn one_fault(alloc: Global) -> Result<Outcome<FamilyMap>, NoMemory> {
     let mut state = FamilyMap::new(alloc);
     state.insert(12, b"a", b"1")?;

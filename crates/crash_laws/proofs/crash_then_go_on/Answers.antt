@@ -7,7 +7,7 @@ use Rattle.run_outcome.specs.Running.{Before, RecoversTo}
 use Rattle.crash_laws.specs.Restarts.{Call, number_of, IsAfterCrash}
 use Rattle.crash_laws.proofs.Promised.{goes_after}
 use Rattle.crash_laws.proofs.Front.{found_by_none, found_in_opening, map_found, last_found}
-use Rattle.crash_laws.proofs.Certain.{safe_found, begun_found, synced_found, kept_at_end, synced_at_end}
+use Rattle.crash_laws.proofs.Certain.{safe_found, begun_found, synced_found, acknowledged_found, kept_at_end, synced_at_end}
 use Rattle.crash_laws.proofs.Whole.{after_groups, all_found, state_found}
 use Rattle.crash_laws.proofs.crash_then_go_on.Goals as goal
 
@@ -17,6 +17,7 @@ after_crash call image next to = record {
   safe = safe_found call image next to;
   begun = begun_found call image next to;
   synced = synced_found call image next to;
+  acknowledged = acknowledged_found call image next to;
   ended = λ left none. (kept_at_end call image next to left none, synced_at_end call image next to left none);
   map = map_found call image next to;
   last = last_found call image next to;

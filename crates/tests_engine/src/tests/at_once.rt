@@ -80,8 +80,8 @@ fn two_write_at_once(rt: HostRuntime) {
     two_write(&rt, alloc, true);
 }
 
-// A client writes a hundred times, and another one reads the whole log a hundred times meanwhile. Each batch is a record
-// of its own, so a read up to a sequence gives as many records.
+// A client writes a hundred times, and another one reads the whole log a hundred times meanwhile. Each batch is a
+// record of its own, so a read up to a sequence gives as many records.
 fn one_follows<R: Threads + Wait + rt::Clock + Abort + Sync>(
     rt: &R,
     alloc: Global,

@@ -69,8 +69,8 @@ const OVER_TWO: &[u8] =
 
 const BEFORE: &str = "client 1\nok 1 1\nok 2 2\n";
 
-/// Which calls of the disks fail, the status, and what the two reads are answered. The first log is one record long, and
-/// is read first.
+/// Which calls of the disks fail, the status, and what the two reads are answered. The first log is one record long,
+/// and is read first.
 const TWO_LOGS: [(Fails, u8, &str); 3] = [
     (
         (&[], &[]),

@@ -136,6 +136,7 @@ impl<'a> Gate for Turnstile<'a> {
 #[derive(Drop)]
 struct HeldClock<'a> {
     passed: &'a Passed,
+    paused: u64,
 }
 
 impl<'a> Clock for HeldClock<'a> {
@@ -143,11 +144,14 @@ impl<'a> Clock for HeldClock<'a> {
 
     ghost last = { λ _. None };
 
+    ghost paused = { λ clock. clock.paused };
+
     fn now(&mut self) -> u64 {
         START
     }
 
-    fn pause(&mut self, _micros: u64) {
+    fn pause(&mut self, micros: u64) {
+        self.paused = self.paused.saturating_add(micros);
         self.passed.leader_waits.fetch_add(1, SeqCst);
         self.passed.wait_for(Place::HastyAnswered);
     }
@@ -176,7 +180,10 @@ fn meet<R: Threads + Wait + rt::Clock + Abort + Sync>(
         mut sink,
         disk,
     } = devices_of(rt, alloc, given);
-    let clock = HeldClock { passed: &passed };
+    let clock = HeldClock {
+        passed: &passed,
+        paused: 0,
+    };
     let Ended { status, disk } = run_gated(
         rt,
         alloc,

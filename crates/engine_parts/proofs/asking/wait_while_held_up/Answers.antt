@@ -1,4 +1,5 @@
-use Rattle.std.proofs.Common.{◌∙◌, inl, subst, sym, Some}
+use Rattle.std.proofs.Common.{ℕ, ◌∙◌, inl, subst, sym, arith, Some}
+use Rattle.base_devices.specs.Clocks.{HasPaused}
 use Rattle.model_base.specs.Controller.{look}
 use Rattle.engine_controller.specs.Looks.{look_of}
 use Rattle.engine_controller.specs.Passes.{client_of, seen_by, EndsWith}
@@ -14,6 +15,9 @@ returns-then-stops-eq0-clause-looks g c = c.loop.invariant.looks
 pub returns-then-stops-eq0-clause-proceeds : goal.returns-then-stops-eq0-clause-proceeds
 returns-then-stops-eq0-clause-proceeds g c = c.loop.invariant.proceeds c.if-stops-eq0.true
 
+pub returns-then-stops-eq0-clause-waited : goal.returns-then-stops-eq0-clause-waited
+returns-then-stops-eq0-clause-waited g c = c.loop.invariant.waited
+
 pub loop-init : goal.loop-init
 loop-init g c = record {
   next = tt;
@@ -22,6 +26,7 @@ loop-init g c = record {
   client = λ i. client_of c.args.pass.now;
   looks = only_none (client_of c.args.pass.now) (seen_by c.args.pass.now);
   proceeds = λ free. inl (sym c.stops-stops.ensures ∙ free);
+  waited = subst (λ (n : ℕ). HasPaused (g.Time.Clock.paused c.args.clock.now) n (g.Time.Clock.paused c.pause_for.new.clock)) c.wait.ensures c.pause_for.ensures;
 }
 
 pub loop-preserved : goal.loop-preserved
@@ -36,4 +41,5 @@ loop-preserved g c =
           (subst (λ k. EndsWith k (seen_by c.loop.pass) look (Some (look_of c.look.result)) (seen_by c.look.new.pass)) v.client n.asked);
       proceeds = λ free. looked_free (client_of was) (seen_by was) (seen_by c.loop.pass) (seen_by c.look.new.pass) (look_of c.args.look) (look_of c.look.result) v.looks.begins
           (subst (λ k. EndsWith k (seen_by c.loop.pass) look (Some (look_of c.look.result)) (seen_by c.look.new.pass)) v.client n.asked) (sym c.stops-stops-in-loop.ensures ∙ free);
+      waited = omega (arith, v.waited, c.pause.ensures.counted);
     }

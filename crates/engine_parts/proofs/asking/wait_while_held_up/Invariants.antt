@@ -1,5 +1,7 @@
--- So far the client only looked, and where the newest look showed no stop, its group may go on.
+-- So far the client only looked, and where the newest look showed no stop, its group may go on. The clock has paused as
+-- long as the delay answered.
 use Rattle.std.proofs.Common.{◌≡◌, false}
+use Rattle.base_devices.specs.Clocks.{HasPaused}
 use Rattle.engine_controller.specs.Looks.{look_of}
 use Rattle.engine_controller.specs.Passes.{client_of, seen_by, IsPassOf}
 use Rattle.engine_rule.specs.Plans.{LetsProceed}
@@ -14,4 +16,5 @@ invariant-loop g l = record {
   client : client_of l.pass ≡ client_of l.fn.pass;
   looks : OnlyLooks (client_of l.fn.pass) (seen_by l.fn.pass) (seen_by l.pass);
   proceeds : l.stops ≡ 0 → LetsProceed (client_of l.fn.pass) (look_of l.fn.look) (seen_by l.fn.pass) (seen_by l.pass) false;
+  waited : HasPaused (g.Time.Clock.paused l.fn.clock) (look_of l.fn.look).wait (g.Time.Clock.paused l.clock);
 }

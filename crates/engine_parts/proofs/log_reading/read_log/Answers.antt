@@ -10,17 +10,17 @@ use Rattle.engine_parts.proofs.log_reading.read_log.Goals as goal
 pub updates_of_logs-requires-clause-there : goal.updates_of_logs-requires-clause-there
 updates_of_logs-requires-clause-there g c =
     let path = c.args.path.now in let log = path.log.log in let S = c.requires.stands in
-    (reads_well S.0 S.1 path.log path.places path.last S.2 (g.met.Log.ReadableLog.some_logs log) g.met.Log.ReadableLog.known g.met.Log.ReadableLog.as_many c.places_stay.ensures.first c.args.since c.nearest-from.result c.nearest-from.ensures.one_of).there
+    (reads_well S.0 S.1 path.log path.places path.last path.made S.2 (g.met.Log.ReadableLog.some_logs log) g.met.Log.ReadableLog.known g.met.Log.ReadableLog.as_many c.places_stay.ensures.first c.args.since c.nearest-from.result c.nearest-from.ensures.one_of).there
 
 pub updates_of_logs-requires-clause-small : goal.updates_of_logs-requires-clause-small
 updates_of_logs-requires-clause-small g c =
     let path = c.args.path.now in let log = path.log.log in let S = c.requires.stands in
-    (reads_well S.0 S.1 path.log path.places path.last S.2 (g.met.Log.ReadableLog.some_logs log) g.met.Log.ReadableLog.known g.met.Log.ReadableLog.as_many c.places_stay.ensures.first c.args.since c.nearest-from.result c.nearest-from.ensures.one_of).small
+    (reads_well S.0 S.1 path.log path.places path.last path.made S.2 (g.met.Log.ReadableLog.some_logs log) g.met.Log.ReadableLog.known g.met.Log.ReadableLog.as_many c.places_stay.ensures.first c.args.since c.nearest-from.result c.nearest-from.ensures.one_of).small
 
 pub returns-in-Ok-clause-right : goal.returns-in-Ok-clause-right
 returns-in-Ok-clause-right g c = λ clients past is low.
     let path = c.args.path.now in let log = path.log.log in let number = g.Log.GroupLog.number log in
-    let well = reads_well clients past path.log path.places path.last is (g.met.Log.ReadableLog.some_logs log) g.met.Log.ReadableLog.known g.met.Log.ReadableLog.as_many c.places_stay.ensures.first c.args.since c.nearest-from.result c.nearest-from.ensures.one_of in
+    let well = reads_well clients past path.log path.places path.last path.made is (g.met.Log.ReadableLog.some_logs log) g.met.Log.ReadableLog.known g.met.Log.ReadableLog.as_many c.places_stay.ensures.first c.args.since c.nearest-from.result c.nearest-from.ensures.one_of in
     record {
       low = low;
       answer = λ batches had.
@@ -35,8 +35,8 @@ pub returns-in-Ok-clause-begins : goal.returns-in-Ok-clause-begins
 returns-in-Ok-clause-begins g c = λ clients past is.
     let path = c.args.path.now in let log = path.log.log in let now = c.updates_of_logs.new.log in
     let stays = c.in-Ok.ensures.stays in
-    let well = reads_well clients past path.log path.places path.last is (g.met.Log.ReadableLog.some_logs log) g.met.Log.ReadableLog.known g.met.Log.ReadableLog.as_many c.places_stay.ensures.first c.args.since c.nearest-from.result c.nearest-from.ensures.one_of in
-    read_on clients past path.log _ path.places path.last is (g.met.Log.ReadableLog.stays_many log now stays) (g.met.Log.ReadableLog.stays_number log now stays) (λ files holds. g.met.Log.ReadableLog.stays_held log now files stays holds) c.args.since c.args.at c.nearest-from.result well
+    let well = reads_well clients past path.log path.places path.last path.made is (g.met.Log.ReadableLog.some_logs log) g.met.Log.ReadableLog.known g.met.Log.ReadableLog.as_many c.places_stay.ensures.first c.args.since c.nearest-from.result c.nearest-from.ensures.one_of in
+    read_on clients past path.log _ path.places path.last path.made is (g.met.Log.ReadableLog.stays_many log now stays) (g.met.Log.ReadableLog.stays_number log now stays) (λ files holds. g.met.Log.ReadableLog.stays_held log now files stays holds) c.args.since c.args.at c.nearest-from.result well
     c.in-Ok.field-0 c.in-Ok.ensures.place.0 c.in-Ok.ensures.place.1 (c.in-Ok.ensures.fixed well.fixed) (λ batches had files before holds ordered stands none. c.in-Ok.ensures.updates past.opened.log batches is.calls files before had.keeps is.wrote holds ordered stands none)
     c.args.client c.reach.new.self c.reach.ensures.reach c.reach.ensures.none
 
@@ -44,10 +44,10 @@ pub returns-in-Err-Fault-clause-begins : goal.returns-in-Err-Fault-clause-begins
 returns-in-Err-Fault-clause-begins g c = λ clients past is.
     let path = c.args.path.now in let log = path.log.log in let now = c.updates_of_logs.new.log in
     let stays = c.in-Err-Fault.ensures.stays in
-    read_not clients past path.log _ path.places path.last is (g.met.Log.ReadableLog.stays_many log now stays) (g.met.Log.ReadableLog.stays_number log now stays) (λ files holds. g.met.Log.ReadableLog.stays_held log now files stays holds)
+    read_not clients past path.log _ path.places path.last path.made is (g.met.Log.ReadableLog.stays_many log now stays) (g.met.Log.ReadableLog.stays_number log now stays) (λ files holds. g.met.Log.ReadableLog.stays_held log now files stays holds)
 
 pub returns-in-Err-NoMemory-clause-begins : goal.returns-in-Err-NoMemory-clause-begins
 returns-in-Err-NoMemory-clause-begins g c = λ clients past is.
     let path = c.args.path.now in let log = path.log.log in let now = c.updates_of_logs.new.log in
     let stays = c.in-Err-NoMemory.ensures.stays in
-    read_not clients past path.log _ path.places path.last is (g.met.Log.ReadableLog.stays_many log now stays) (g.met.Log.ReadableLog.stays_number log now stays) (λ files holds. g.met.Log.ReadableLog.stays_held log now files stays holds)
+    read_not clients past path.log _ path.places path.last path.made is (g.met.Log.ReadableLog.stays_many log now stays) (g.met.Log.ReadableLog.stays_number log now stays) (λ files holds. g.met.Log.ReadableLog.stays_held log now files stays holds)

@@ -19,8 +19,8 @@ returns-clause-path g c = λ clients past one is.
     let since : c.in-Some-since.since ≡ one.since =
     same_since clients requests one (c.in-Some.client, c.in-Some.request) c.take_first.new.items.items c.in-Some.ensures.first c.in-Some-since.since (ap (λ q. q.since) (sym c.open-request.ensures) ∙ c.in-Some-since.is) in
     let right = subst (λ (s : ℕ). IfOk r (λ t. IsRight (Had past.opened past.start) path.last is.calls (record { since = s; at = c.args.at; records = t.records }))) since (e.right clients past is c.requires.at) in
-    subst (λ (last : ℕ). StandsForPast clients (with_read past requests replies) now.log now.places last) (sym e.stays.1)
-    (stands_with_read clients past path.log now.log path.places now.places path.last is
+    subst (λ (z : ℕ × ℕ). StandsForPast clients (with_read past requests replies) now.log now.places z.0 z.1) (λ i. (sym e.stays.1 i, sym e.stays.2 i))
+    (stands_with_read clients past path.log now.log path.places now.places path.last path.made is
     (g.met.Log.ReadableLog.stays_written past.opened.log path.log.log now.log.log is.calls is.wrote e.stays.0)
     (g.met.Log.ReadableLog.stays_failed path.log.log now.log.log e.stays.0)
     (g.met.Log.ReadableLog.stays_counted path.log.log now.log.log e.stays.0)

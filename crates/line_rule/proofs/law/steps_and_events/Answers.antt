@@ -39,13 +39,13 @@ pub returns-clause-fetch : goal.returns-clause-fetch
 returns-clause-fetch g a z slots id c me lead x (mine, at) (newer, walk) = fetches_is _ z.clients slots id me c _ lead mine newer x at walk refl
 
 pub returns-clause-leave : goal.returns-clause-leave
-returns-clause-leave g a z slots id c member me lead gs p ((mine, at), all) (l, group, slot, stood, hands) is = leaves_is _ z.clients slots id me c member lead mine gs p l none at group slot is all stood hands
+returns-clause-leave g a z slots id c member me lead gs p ((mine, at), all) (l, group, slot, stood, hands, own_group) is = leaves_is _ z.clients slots id me c member lead mine gs p l none at group slot is all stood hands
 
 pub returns-clause-cut_off : goal.returns-clause-cut_off
 returns-clause-cut_off g a z slots id c me lead x ((mine, at), all) (newer, walk) = cuts_is _ z.clients slots id me c _ _ lead mine newer x at walk refl refl all
 
 pub returns-clause-wake : goal.returns-clause-wake
-returns-clause-wake g a z slots id c me lead x gs p (mine, at) client (l, group, slot, stood, hands) = wakes_is _ z.clients slots id me c _ lead x mine gs p l at group slot refl client stood hands
+returns-clause-wake g a z slots id c me lead x gs p (mine, at) client (l, group, slot, stood, hands, own_group) = wakes_is _ z.clients slots id me c _ lead x mine gs p l at group slot refl client stood hands
 
 pub returns-clause-complete : goal.returns-clause-complete
 returns-clause-complete g a z slots id c me d member (mine, at) (others, owed) (more, slot) client = tells_is _ z.clients slots id me c _ member others d.own d.reply mine more (owing d (member ∷ others) owed c mine _ me at) slot refl client

@@ -16,10 +16,12 @@ pub returns-clause-served : goal.returns-clause-served
 returns-clause-served g a z s id c stage back squad r (mine, sees) is = served_oldest _ z.clients s r id c stage mine back sees squad is
 
 pub returns-clause-told : goal.returns-clause-told
-returns-clause-told g a z s id c d member r (mine, sees) (others, owed) = told_apart _ z.clients s r id c mine member others d.own d.reply (owing_seen s id d (member ∷ others) owed c mine _ sees)
+returns-clause-told g a z s id c d member r (mine, sees) (others, owed) =
+    let t = told_apart _ z.clients s r id c mine member others d.own d.reply (owing_seen s id d (member ∷ others) owed c mine _ sees) in (t.0, (t.1, t.2))
 
 pub returns-clause-told_last : goal.returns-clause-told_last
-returns-clause-told_last g a z s id c own p r (mine, sees) = told_last _ z.clients s r id c mine own p sees
+returns-clause-told_last g a z s id c own p r (mine, sees) =
+    let t = told_last _ z.clients s r id c mine own p sees in (t.0, (t.1, t.2))
 
 pub returns-clause-own : goal.returns-clause-own
 returns-clause-own g a z s id c stage back r (mine, sees) = own_stage _ z.clients s r id c stage mine back sees
@@ -31,4 +33,5 @@ pub returns-clause-coded : goal.returns-clause-coded
 returns-clause-coded g a z s r = queue_coded _ z.clients s r
 
 pub returns-clause-dropped : goal.returns-clause-dropped
-returns-clause-dropped g a z s id c w lead x p back r (mine, sees) = told_dropped _ z.clients s r id c mine w lead x p back sees
+returns-clause-dropped g a z s id c w lead x p back r (mine, sees) =
+    let t = told_dropped _ z.clients s r id c mine w lead x p back sees in (t.0, (t.1, t.2))

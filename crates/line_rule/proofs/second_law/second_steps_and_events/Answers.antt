@@ -17,10 +17,10 @@ pub returns-clause-mark : goal.returns-clause-mark
 returns-clause-mark g a z slots id c member me lead from ((mine, at), all) is = marks_is _ z.clients from slots id me c member lead mine none at is all
 
 pub returns-clause-wake : goal.returns-clause-wake
-returns-clause-wake g a z slots id c me lead x back gs p client (mine, at) (more, (l, group, slot, stood, hands)) = wakes_on_is _ z.clients slots id me c _ lead x mine back gs p l more at group slot refl client stood hands
+returns-clause-wake g a z slots id c me lead x back gs p client (mine, at) (more, (l, group, slot, stood, hands, own_group)) = wakes_on_is _ z.clients slots id me c _ lead x mine back gs p l more at group slot refl client stood hands own_group
 
 pub returns-clause-free : goal.returns-clause-free
-returns-clause-free g a z slots id c me lead back gs p (mine, at) (more, (l, group, slot, stood, hands)) = frees_is _ z.clients slots id me c lead mine back gs p l more none at group slot stood hands
+returns-clause-free g a z slots id c me lead back gs p (mine, at) (more, (l, group, slot, stood, hands, own_group)) = frees_is _ z.clients slots id me c lead mine back gs p l more none at group slot stood hands own_group
 
 pub returns-clause-cut_behind_mark : goal.returns-clause-cut_behind_mark
 returns-clause-cut_behind_mark g a z slots id c me lead back x (mine, at) (newer, walk) = cuts_marked_is _ z.clients slots id me c _ _ lead mine back newer x at walk refl refl

@@ -1,7 +1,8 @@
-use Rattle.std.proofs.Common.{IfSome, ◌≡◌, ◌<◌, ◌^◌, sym, ◌∙◌, subst}
+use Rattle.std.proofs.Common.{IfSome, ◌≡◌, ◌<◌, ◌^◌, sym, ◌∙◌, subst, arith}
 use Rattle.log_recovery.specs.declared.following.MoreUpdates.{MoreUpdates}
 use Rattle.log_recovery.specs.declared.picked.Picked.{Picked}
-use Rattle.log_recovery.proofs.FollowSteps.{SaysMore, more_answer, begins_following, picked_on, stopped_at, follows_more, stops_there, ends_there}
+use Rattle.log_recovery.specs.Following.{RisesTo}
+use Rattle.log_recovery.proofs.FollowSteps.{SaysMore, more_answer, begins_following, picked_on, stopped_at, rises_on, follows_more, stops_there, ends_there}
 use Rattle.log_recovery.proofs.following.updates_from.Goals as goal
 
 pub loop-start-init : goal.loop-start-init
@@ -13,6 +14,7 @@ loop-start-init g c =
       going = log.going;
       so_far = begins_following told c.args.number c.args.since c.args.upto c.args.from c.from_place-picked.result c.in_ok-log.log c.from_place-picked.ensures.records c.from_place-picked.ensures.last c.from_place-picked.ensures.end log.there;
       small = subst (λ n. n < 2 ^ 63) (sym c.from_place-picked.ensures.end) c.requires.small;
+      last = (omega (arith, c.from_place-picked.ensures.last), λ above. c.from_place-picked.ensures.last);
       worked = log.worked;
       disk = log.disk;
     }
@@ -35,6 +37,7 @@ loop-start-preserved g c =
       going = now.stopped old.going;
       so_far = follows_more told before number s upto c.args.from c.loop-start.picked c.pick_on.new.self log c.next.new.self c.in-Record.start end c.next.new.self.in_hand bytes (g.met.R.ReadAt.reads_keep _ _ old.disk) old.number old.going (now.place old.going) c.record.ensures adds old.so_far now.reads now.follows;
       small = subst (λ n. n < 2 ^ 63) (sym adds.picks.end_is) (now.forward old.going).1;
+      last = rises_on s upto c.args.from.last c.loop-start.picked c.pick_on.new.self bytes end adds old.last;
       worked = now.fault old.going ∙ old.worked;
       disk = g.met.R.ReadAt.reads_on _ _ _ old.disk now.disk;
     }
@@ -73,6 +76,14 @@ returns-in-Some-clause-small g c =
 
 pub returns-in-End-clause-small : goal.returns-in-End-clause-small
 returns-in-End-clause-small g c = subst (λ (m : MoreUpdates). m.place.at < 2 ^ 63) (sym c.more_of-in-End.ensures) c.loop-start.invariant.small
+
+pub returns-in-Some-clause-last : goal.returns-in-Some-clause-last
+returns-in-Some-clause-last g c =
+    let stops = stopped_at c.args.since c.args.upto c.loop-start.picked c.pick_on.new.self c.record.result.now c.in-Record.end c.in_ok-stop-in-Record.field-0 c.in-Some.stop (c.in_ok-stop-in-Record.ensures {u = tt}) c.in-Some.is in
+    subst (λ (m : MoreUpdates). RisesTo c.args.upto c.args.from.last m.place.last) (sym c.more_of.ensures) (subst (λ (p : Picked). RisesTo c.args.upto c.args.from.last p.last) (sym stops.0) c.loop-start.invariant.last)
+
+pub returns-in-End-clause-last : goal.returns-in-End-clause-last
+returns-in-End-clause-last g c = subst (λ (m : MoreUpdates). RisesTo c.args.upto c.args.from.last m.place.last) (sym c.more_of-in-End.ensures) c.loop-start.invariant.last
 
 pub returns-in-Some-clause-worked : goal.returns-in-Some-clause-worked
 returns-in-Some-clause-worked g c = let old = c.loop-start.invariant in c.in-Record.ensures.fault old.going ∙ old.worked

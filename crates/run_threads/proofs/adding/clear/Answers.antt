@@ -7,10 +7,10 @@ use Rattle.run_threads.proofs.Hands.{none_pending}
 use Rattle.run_threads.proofs.adding.clear.Goals as goal
 
 pub returns-in-Pending-clause-goes : goal.returns-in-Pending-clause-goes
-returns-in-Pending-clause-goes c = λ settings a. record {
+returns-in-Pending-clause-goes c = λ settings a own. record {
   reply = calls.quiet;
   shows = refl;
-  goes = rw c.clear.ensures (c.commits_are_steps.ensures.cleared settings a (records_in c.args.batches.now.current));
+  goes = rw c.clear.ensures (c.commits_are_steps.ensures.cleared settings a (records_in c.args.batches.now.current) own);
 }
 
 -- no batch is in the making
@@ -19,10 +19,10 @@ returns-in_default c =
     let before = records_in c.args.batches.now.current in
     let none = none_pending c.args.batches.now.current c.in_default.not-Pending in
     record {
-      goes = λ settings a. record {
+      goes = λ settings a own. record {
         reply = calls.quiet;
         shows = refl;
-        goes = subst (λ (after : List Record). Goes settings a before calls.clear calls.quiet a after) (sym none) (c.commits_are_steps.ensures.cleared settings a before);
+        goes = subst (λ (after : List Record). Goes settings a before calls.clear calls.quiet a after) (sym none) (c.commits_are_steps.ensures.cleared settings a before own);
       };
       none = none;
       kept = refl;

@@ -23,7 +23,7 @@ returns-in_default-clause-answers g c =
       reply = calls.refused Empty;
       shows = refl;
       goes = c.commits_are_steps.ensures.refused settings v [] c.args.options Empty v (λ e. absurd (cc e))
-          (refl, record { number = refl; mine = refl; ends = refl; asked = refl; attempts = refl; read_faults = refl; seen = c.earlier_sights.ensures.same v.seen });
+          (refl, record { number = refl; mine = refl; ends = refl; asked = refl; attempts = refl; read_faults = refl; seen = c.earlier_sights.ensures.same v.seen; tokens = g.E.Engine.own_tokens c.args.engine.now c.args.client.now c.requires.belongs });
     })
 
 pub returns-in-Ok-clause-answers : goal.returns-in-Ok-clause-answers

@@ -21,7 +21,7 @@ returns-in-Some-clause-answers g c = λ pending.
       shows = refl;
       goes = c.refused_reads_are_steps.ensures.many settings v pending c.args.keys family v
           (sym (rw c.families.ensures at c.missing_family.ensures) ∙ c.in-Some.is)
-          (record { number = refl; mine = refl; ends = refl; asked = refl; attempts = refl; read_faults = refl; seen = c.earlier_sights.ensures.same v.seen });
+          (record { number = refl; mine = refl; ends = refl; asked = refl; attempts = refl; read_faults = refl; seen = c.earlier_sights.ensures.same v.seen; tokens = g.E.Engine.own_tokens c.args.engine.now c.args.client.now c.requires });
     }
 
 -- there is no memory for the copies
@@ -30,7 +30,7 @@ returns-in_err-places-clause-answers g c = λ pending.
     let v = g.E.Engine.account c.args.client.now in
     let exit = err_from_is_err_and c.from_residual.result c.from_residual.ensures.1 in
     rw exit.1 (record {
-      keeps = record { number = refl; mine = refl; ends = refl; asked = refl; attempts = refl; read_faults = refl; seen = c.earlier_sights.ensures.same v.seen };
+      keeps = record { number = refl; mine = refl; ends = refl; asked = refl; attempts = refl; read_faults = refl; seen = c.earlier_sights.ensures.same v.seen; tokens = g.E.Engine.own_tokens c.args.engine.now c.args.client.now c.requires };
       may = λ shown. sym (rw c.families.ensures at c.missing_family.ensures) ∙ c.in_default.is;
     })
 

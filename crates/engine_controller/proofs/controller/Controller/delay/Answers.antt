@@ -74,4 +74,4 @@ returns-clause-asked g c =
     let busy = is_not_free c.ask_unslowed-found.result c.else-found-eq0.either in
     let told = c.call.ensures.made in
     let made = follows_makes _ _ _ _ _ (sees_follows _ _ _ _ (c.ask_unslowed-found.ensures.asks.other busy)) told.1 in
-    (now, c.now-now.ensures, ends_told (client_of old) (seen_by old) (delay now bytes) (look_at (numbers_of told.0) (delay now bytes)) (look_of c.call.result) (history_of (seen_in (cell_view c.call.new.seat))) told.2 (made_ends _ _ _ _ made))
+    (now, c.now-now.ensures.last, ends_told (client_of old) (seen_by old) (delay now bytes) (look_at (numbers_of told.0) (delay now bytes)) (look_of c.call.result) (history_of (seen_in (cell_view c.call.new.seat))) told.2 (made_ends _ _ _ _ made))

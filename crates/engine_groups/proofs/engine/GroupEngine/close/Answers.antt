@@ -10,7 +10,7 @@ use Rattle.engine_rule.specs.Consistent.{AreAccountsOf, AreReadsRight, Standing}
 use Rattle.engine_rule.specs.Reading.{answers_in, reads_in}
 use Rattle.engine_groups.specs.declared.leader.Held.{Held}
 use Rattle.engine_groups.specs.Clients.{account_in, had_in, opened_log, settings_of}
-use Rattle.engine_parts.specs.Handled.{commits_in, reads_handled}
+use Rattle.engine_parts.specs.Handled.{commits_in, reads_handled, sights_in}
 use Rattle.engine_groups.proofs.engine.GroupEngine.close.Goals as goal
 use Rattle.engine_groups.proofs.Ending.{accounts_number, all_out, all_passes, all_there, are_calls, is_engine, parts, passes_number, right_where, seats_ready, written_by}
 use Rattle.engine_groups.proofs.Finally.{ends_at, ends_with, one_place}
@@ -85,7 +85,7 @@ returns g c kept had =
     let commits = commits_in L.0 in let published = g.Versions.Table.history c.one_turn-turn.result in let right = c.close-leadership.result.1 in let about = about_of e.list in
     let ends = ends_with g.Versions.Table about leadership L.0 right (piped_of e.list) set.pipelined L.1.0 L.1.1 L.2 L.3 in
     let at = ends_at g.Versions.Table about leadership L.0 leadership.turn right.turn c.one_turn-turn.result ends c.one_turn-turn.ensures in
-    let stands = stands_by our_log as_is about.opened.value leadership.held.value.path.log leadership.held.value.path.places published leadership.held.value.path.last tt tt about.start start about.clients (clients_of e.list) about.group_bytes (bound_of e.list) asked asked L.0 refl set.start set.about_clients set.group_bytes refl at.1 in
+    let stands = stands_by our_log as_is about.opened.value leadership.held.value.path.log leadership.held.value.path.places published leadership.held.value.path.last leadership.held.value.path.made tt tt about.start start about.clients (clients_of e.list) about.group_bytes (bound_of e.list) asked asked L.0 refl set.start set.about_clients set.group_bytes refl at.1 in
     let merged = subst (Merged L.0) c.part_all.ensures.writers L.4 in
     let seen = subst (λ (ss : List _). IsTableClosing start published (map meaning.account ss)) c.part_all.ensures.seats c.close.ensures in
     let ended = c.end_controller.ensures in let calls = ended.0 in
@@ -101,7 +101,7 @@ returns g c kept had =
       published = published;
       calls = stands.calls;
     } in
-    let theirs : AreAccountsOf settings standing calls accounts = record { all = number; each = own } in
+    let theirs : AreAccountsOf settings standing (sights_in L.0) calls accounts = record { all = number; each = own } in
     let right : AreReadsRight settings kept (faults_of leadership.held.value.path.log) standing = record {
       right = right_where (had_in meaning e) kept leadership.held.value.path.last stands.calls (reads_in (answers_in (reads_handled L.0))) had stands.right;
       of_clients = stands.readers;
@@ -109,7 +109,7 @@ returns g c kept had =
       own = stands.counted.own;
       counted = stands.counted.no_fault;
     } in
-    let closed = c.closings.ensures.closing settings kept (faults_of (leadership.held.value.path.log)) standing calls accounts stands.consistent theirs whole.legal (are_calls meaning e cs all calls whole) ended.2 right in
+    let closed = c.closings.ensures.closing settings kept (faults_of (leadership.held.value.path.log)) standing (sights_in L.0) calls accounts stands.consistent stands.shown theirs whole.legal (are_calls meaning e cs all calls whole) ended.2 right in
     subst (λ (h : Held _ _ _). HasOneTrace settings kept (faults_of (h.path.log)) accounts h.path.last (fault_of h.path.log) (λ made. Wrote (opened_log e) made h.path.log)) (sym c.into_inner-path.ensures) (
       closed.0,
       closed.1,

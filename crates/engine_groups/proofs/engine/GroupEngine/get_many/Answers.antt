@@ -1,5 +1,5 @@
 -- The places are those of the keys in the default family.
-use Rattle.std.proofs.Common.{◌≡◌, ℕ, List, Option, map, None, ap, ◌∙◌}
+use Rattle.std.proofs.Common.{◌≡◌, refl, ℕ, List, Option, map, None, ap, ◌∙◌}
 use Rattle.std.proofs.lemmas.Result.{IfOk-weaker}
 use Rattle.std.proofs.lemmas.Simd.{map-map}
 use Rattle.base_bytes.specs.declared.answers.Place.{Place}
@@ -12,7 +12,7 @@ use Rattle.engine_groups.proofs.engine.GroupEngine.get_many.Goals as goal
 
 -- there was no memory for the places, and nothing has changed
 pub returns-in_err-places-clause-keeps : goal.returns-in_err-places-clause-keeps
-returns-in_err-places-clause-keeps g c = keeps_self (account_in g.Versions.Table c.args.client.now)
+returns-in_err-places-clause-keeps g c = keeps_self (account_in g.Versions.Table c.args.client.now) refl
 
 pub returns-clause-belongs : goal.returns-clause-belongs
 returns-clause-belongs g c = seat_moved g.Versions.Table c.args.self.now c.args.client.now c.requires c.read_many_in.new.seat c.read_many_in.ensures.ours c.read_many_in.ensures.seen

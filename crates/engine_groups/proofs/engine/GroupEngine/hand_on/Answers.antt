@@ -134,7 +134,7 @@ exit_memtable-requires-clause-serves g c =
     let now = served_now home.start seen all (g.Versions.Table.history c.turn_in-turn.result) (group_of w.layout.parts.parts) l.before.handed_back answered l.kept.handed_back kept h.parts.made t.1 in
     let published = subst (AreServed (commits_in to)) (sym c.lead-turn.ensures.published) now in
     let covers = h.leaves.covers in let logged = covers.path.consistent in
-    let ends = history_end our_log as_is tt about.opened.value about.start about.clients about.group_bytes (seen_by_note c.args.leadership.asked) c.args.leadership.held.value.path.log c.args.leadership.held.value.path.places covers.published c.args.leadership.held.value.path.last (seen ++ all) covers.path ∙ logged.last_is in
+    let ends = history_end our_log as_is tt about.opened.value about.start about.clients about.group_bytes (seen_by_note c.args.leadership.asked) c.args.leadership.held.value.path.log c.args.leadership.held.value.path.places covers.published c.args.leadership.held.value.path.last c.args.leadership.held.value.path.made (seen ++ all) covers.path ∙ logged.last_is in
     let named = named_now about.start seen all (g.Versions.Table.history c.turn_in-turn.result) covers.published (group_of w.layout.parts.parts) l.kept.handed_back l.kept.answered now ends logged.named t.2 in (
       c.lead-turn.ensures.client.1,
       (

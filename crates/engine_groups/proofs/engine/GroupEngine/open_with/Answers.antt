@@ -64,12 +64,12 @@ open-requires-clause-log g c =
     let first = c.groups_stay_consistent.ensures.first last about.clients about.group_bytes in let note = c.first_note.ensures.note in
     let fresh = stands_first our_log as_is tt c.args.held.value.path.log c.args.held.value.path.places last about.clients about.group_bytes [] (seen_by_note c.first_note.result) first tt refl c.requires.log.0 note.1 (g.met.Log.GroupLog.no_call c.args.held.value.path.log.log) c.requires.places in
     let t = turn_first g.Versions.Table c.args.table last c.args.seats.turn c.requires.turn.0 c.requires.turn.1 first.named c.part_turn-with_log.result.0 c.part_turn-with_log.result.1 c.args.pipelined c.part_turn-with_log.ensures.single c.part_turn-with_log.ensures.piped in
-    let opened = subst (λ z. LogCovers z last about.clients about.group_bytes (seen_by_note c.first_note.result) c.args.held.value.path.log c.args.held.value.path.places [] last []) (sym (made.engine.2 ∙ ap (λ (h : Held _ _ _). h.path.log) c.deref.ensures)) fresh in
+    let opened = subst (λ z. LogCovers z last about.clients about.group_bytes (seen_by_note c.first_note.result) c.args.held.value.path.log c.args.held.value.path.places [] last 0 []) (sym (made.engine.2 ∙ ap (λ (h : Held _ _ _). h.path.log) c.deref.ensures)) fresh in
     let staged = subst (λ b. TurnIs g.Versions.Table c.args.table b [] c.part_turn-with_log.result.0) (sym made.numbers.3) t.0 in (
       record {
         note = subst (λ k. IsNoteOf k c.first_note.result) (sym made.engine.1) note.0;
         published = [];
-        path = subst (λ (z : ℕ × ℕ). LogCovers about.opened.value z.0 about.clients about.group_bytes (seen_by_note c.first_note.result) c.args.held.value.path.log c.args.held.value.path.places [] z.1 []) (λ i. (sym made.numbers.0 i, sym c.requires.log.1 i)) opened;
+        path = subst (λ (z : ℕ × ℕ × ℕ). LogCovers about.opened.value z.0 about.clients about.group_bytes (seen_by_note c.first_note.result) c.args.held.value.path.log c.args.held.value.path.places [] z.1 z.2 []) (λ i. (sym made.numbers.0 i, sym c.requires.log.1 i, sym c.requires.log.2 i)) opened;
         turn = subst (λ k. TurnIs g.Versions.Table k about.pipelined [] c.part_turn-with_log.result.0) (sym made.engine.0) staged;
       },
       subst (λ k. AreHandled about.controller.value about.opened.value k []) (sym made.numbers.0) (kept_first _ _ last about.clients about.group_bytes first (g.met.Log.GroupLog.no_call about.opened.value.log)),

@@ -1,4 +1,4 @@
-use Rattle.std.proofs.Common.{◌≡◌, ◌≤◌, ◌<◌, ℕ, List, [], ◌∷◌, ◌++◌, length, refl, sym, ap, ◌∙◌, subst, arith}
+use Rattle.std.proofs.Common.{◌≡◌, ◌≤◌, ◌<◌, ℕ, Some, List, [], ◌∷◌, ◌++◌, length, refl, sym, ap, ◌∙◌, subst, arith}
 use Rattle.std.specs.List.{AllByRecursion}
 use Rattle.table_rule.specs.Histories.{last_of}
 use Rattle.line_rule.specs.declared.view.QueuedWriter.{QueuedWriter}
@@ -16,7 +16,7 @@ use Rattle.engine_parts.specs.Logs.{faults_of}
 use Rattle.engine_parts.specs.ReadAnswers.{HasReadTo, IsOneRead}
 use Rattle.engine_parts.specs.Runs.{run_of}
 use Rattle.engine_parts.proofs.Paying.{pays_length}
-use Rattle.engine_parts.proofs.Serves.{replies_shown}
+use Rattle.engine_parts.proofs.Serves.{reads_shown}
 use Rattle.engine_parts.proofs.Whole.{read_of}
 use Rattle.engine_groups.specs.declared.leader.Held.{Held}
 use Rattle.engine_groups.specs.Clients.{opened_log}
@@ -43,7 +43,7 @@ read_phase-requires-clause-stands g c =
     let L = c.requires.leads in let about = about_of c.args.self.now.list in let st = L.6 in let old = c.args.leadership in
     let past : Past _ = record { opened = about.opened.value; start = about.start; group_bytes = about.group_bytes; asked = seen_by_note old.asked; published = st.published; handled = L.1 } in
     let path_is = ap (λ (h : Held _ _ _). h.path) c.deref_mut.ensures.value in
-    (about.clients, past, subst (λ (q : LogPath _ _). LogCovers about.opened.value about.start about.clients about.group_bytes (seen_by_note old.asked) q.log q.places st.published q.last L.1) (sym path_is) st.path)
+    (about.clients, past, subst (λ (q : LogPath _ _). LogCovers about.opened.value about.start about.clients about.group_bytes (seen_by_note old.asked) q.log q.places st.published q.last q.made L.1) (sym path_is) st.path)
 
 pub read_phase-requires-clause-read : goal.read_phase-requires-clause-read
 read_phase-requires-clause-read g c =
@@ -68,14 +68,14 @@ returns-clause-leaves g c =
     let at = c.await_end-at in let R = c.read_phase in let H = R.ensures in
     let xs : List (ℕ × Request) = c.group.new.requests.list.items in let ys : List (ℕ × Answer) = R.new.replies.items in
     let one : IsOneRead n xs = subst (IsOneRead n) (sym G.3) (read_of c.codes_stand_for_items.ensures (λ q code h. h.0) (bound_of e.list) n own G.0 G.1 L.3.0 L.3.1 G.2.4 low high) in
-    let d : Delay = record { pass = c.of.result } in
+    let d : Delay = record { pass = c.of.result; made = c.deref-2.result.now.path.made } in
     let old = c.args.leadership in let p = R.new.path in
     let leadership = record old { held = record old.held { value = record old.held.value { path = p } } } in
     let past : Past _ = record { opened = about.opened.value; start = about.start; group_bytes = about.group_bytes; asked = seen_by_note old.asked; published = st.published; handled = L.1 } in
     let path_is = ap (λ (h : Held _ _ _). h.path) c.deref_mut.ensures.value in
-    let before = subst (λ (q : LogPath _ _). LogCovers about.opened.value about.start about.clients about.group_bytes (seen_by_note old.asked) q.log q.places st.published q.last L.1) (sym path_is) st.path in
+    let before = subst (λ (q : LogPath _ _). LogCovers about.opened.value about.start about.clients about.group_bytes (seen_by_note old.asked) q.log q.places st.published q.last q.made L.1) (sym path_is) st.path in
     let after = H.path about.clients past (subst (λ (k : ℕ). IsOneRead k xs) (sym E.about_clients) one) before in
-    let shown = shown_as e.controller about.controller.value (handled_with xs ys) (sym E.controller) (replies_shown e.controller d xs ys H.replies.2) in
+    let shown = shown_as e.controller about.controller.value (handled_with xs ys) (sym E.controller) (reads_shown e.controller d xs ys H.replies.2 (subst (AllByRecursion (λ (x : ℕ × Request). (k : ℕ) × (x.1.since ≡ Some k))) (sym one.is) ((one.since, one.reads), tt))) in
     let led = has_led about leadership st.published own G.0 L.1 xs ys G.3 H.replies.0 after (of_list g.Versions.Table e E.controller E.start L.1 L.5) H.replies.1 shown in
     let t = led.is_paid in let all = all_answers own t.own_reply t.gs in
     let mine : answers_told c.group.new.writer ≡ answers_told v.writer = group_told (wanted_in e.list) n (bound_of e.list) own G.0 G.1 L.1 (answers_told v.writer) c.group.new.writer G.2 in

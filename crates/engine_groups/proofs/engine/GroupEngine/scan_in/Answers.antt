@@ -1,4 +1,4 @@
-use Rattle.std.proofs.Common.{◌≡◌, [], ◌∷◌, Ok, sym, ◌∙◌}
+use Rattle.std.proofs.Common.{◌≡◌, refl, [], ◌∷◌, Ok, sym, ◌∙◌}
 use Rattle.base_bytes.specs.declared.answers.Rows.{Rows}
 use Rattle.model_base.specs.Map.{rows_within}
 use Rattle.model_base.specs.declared.write.ReadRefused.{ReadRefused}
@@ -10,7 +10,7 @@ use Rattle.engine_groups.proofs.engine.GroupEngine.scan_in.Goals as goal
 
 -- there isn't one of the families, and nothing has changed
 pub returns-in-Some-clause-keeps : goal.returns-in-Some-clause-keeps
-returns-in-Some-clause-keeps g c = keeps_self (account_in g.Versions.Table c.args.client.now)
+returns-in-Some-clause-keeps g c = keeps_self (account_in g.Versions.Table c.args.client.now) refl
 
 pub returns-in-Some-clause-family : goal.returns-in-Some-clause-family
 returns-in-Some-clause-family g c = refused_family Rows (settings_of g.Versions.Table c.args.self.now) (c.args.family ∷ []) c.in-Some.family (sym c.missing.ensures ∙ c.in-Some.is)

@@ -8,7 +8,7 @@ use Rattle.engine_rule.specs.Entries.{account_of}
 use Rattle.engine_rule.specs.Reading.{IsAtEnd, reads_in}
 use Rattle.engine_parts.specs.declared.requests.Request.{Request}
 use Rattle.engine_parts.specs.declared.requests.Answer.{Answer}
-use Rattle.engine_groups.specs.Clients.{own_answers, own_commits, map_at_opening}
+use Rattle.engine_groups.specs.Clients.{own_answers, own_commits, own_sights, map_at_opening}
 use Rattle.engine_groups.proofs.engine.GroupEngine.seat_one.Goals as goal
 
 pub returns : goal.returns
@@ -38,5 +38,5 @@ returns g c =
         at_ends = subst (λ (mine : List (Request × Answer)). AllByRecursion (IsAtEnd (g.Versions.Table.opening c.args.self.now.table).start (g.Versions.Table.account c.args.seat).seen) (reads_in (own_answers mine))) (sym none) tt;
         envelope = refl;
       };
-      new = (λ i. account_of (r.engine.1 i) (map_at_opening g.Versions.Table (c.of.ensures i)) n (own_commits n (none i)) (own_answers (none i)) (r.seat.2 i) (r.pass.unseen i));
+      new = (λ i. account_of (r.engine.1 i) (map_at_opening g.Versions.Table (c.of.ensures i)) n (own_commits n (none i)) (own_sights n (none i)) (own_answers (none i)) (r.seat.2 i) (r.pass.unseen i));
     }

@@ -1,5 +1,8 @@
 use Rattle.std.proofs.Common.{◌≡◌, ◌≤◌, ◌<◌, ◌-◌, ℕ, Bool, IfSome, List, [], ◌∷◌, ◌++◌, length, refl, sym, ap, ◌∙◌, subst, take, drop, vec_capacity, arith}
 use Rattle.std.specs.List.{AllByRecursion, AllZip}
+use Rattle.std.specs.declared.snapshot.Snapshot.{Snapshot}
+use mathlib.Core.List.{IsPrefix}
+use Rattle.engine_controller.specs.declared.pass.Pass.{Pass}
 use Rattle.model_base.specs.Controller.{ControllerCall, Look}
 use Rattle.model_base.specs.History.{max_sequence}
 use Rattle.line_rule.specs.declared.words.TheConstants.{STALL}
@@ -14,7 +17,7 @@ use Rattle.engine_parts.specs.declared.requests.Delay.{Delay}
 use Rattle.engine_parts.specs.declared.requests.Request.{Request}
 use Rattle.engine_parts.specs.declared.requests.Answer.{Answer}
 use Rattle.engine_parts.specs.Asking.{HasAskedFor, OnlyLooks, all_seen}
-use Rattle.engine_parts.specs.Handled.{EndsInDelay, HandsBack, InOrder, IsHeldUp, IsNoted, commit_requests_of, handled_with, seen_at}
+use Rattle.engine_parts.specs.Handled.{EndsInDelay, HandsBack, InOrder, IsDelayed, IsHeldUp, IsNoted, IsNotedAs, commit_requests_of, handled_with, noted_in, seen_at}
 use Rattle.engine_parts.specs.LogLaw.{LogCovers, Past}
 use Rattle.engine_parts.specs.Led.{AreAlike, GoesOnWith, IsLedGroup, LeadsBy}
 use Rattle.engine_parts.specs.Numbering.{AreHelpers, others_in}
@@ -22,11 +25,12 @@ use Rattle.engine_parts.specs.Staged.{IsStaged, published_with}
 use Rattle.engine_parts.specs.declared.logging.LogPath.{LogPath}
 use Rattle.engine_groups.specs.declared.leader.Held.{Held}
 use Rattle.engine_groups.proofs.Members.{beside_where, others_unnoted}
-use Rattle.engine_parts.proofs.Serves.{as_many, asked_after, asked_delays, asked_is, asked_sees, asked_shown, back_unnoted, first_flag, held_at, held_back, held_order, held_shown, led_unnoted, looks_sees, order_unnoted, proceeds, put_back, replies_at, replies_shown, stands_by, stands_held_up, stands_noted}
+use Rattle.engine_parts.proofs.Serves.{as_many, asked_after, asked_delays, asked_is, asked_sees, asked_shown, back_unnoted, delayed_all, first_flag, held_at, held_back, held_order, held_shown, led_unnoted, looks_sees, order_unnoted, proceeds, put_back, replies_at, replies_shown, stands_by, stands_held_up, stands_noted}
+use Rattle.engine_parts.proofs.Noting.{noted_at, noted_back, noted_order, noted_runs, noted_staged, noted_stands, put_noted}
 use Rattle.engine_parts.proofs.Staging.{laid, no_runs_held}
 use Rattle.engine_parts.proofs.Standing.{last_low}
 use Rattle.engine_groups.proofs.Turning.{is_none_by}
-use Rattle.engine_parts.proofs.Views.{unseen_commits}
+use Rattle.engine_parts.proofs.Views.{Saw, prefix_same, unseen_commits}
 use Rattle.engine_groups.proofs.engine.GroupEngine.serve.Goals as goal
 
 -- takes the place of a table's `our_turn`, where only the log matters
@@ -93,10 +97,11 @@ may_go_on-proceeds-requires-clause-leads g c =
 pub note-requires : goal.note-requires
 note-requires g c = record { own = c.may_go_on-proceeds.ensures.pass.0 }
 
-pub refuse_held_up-requires-clause-pass : goal.refuse_held_up-requires-clause-pass
-refuse_held_up-requires-clause-pass g c =
-    let N = c.note.ensures in let no = c.may_go_on-proceeds.ensures.refused c.if-not-proceeds.true in
-    (N.own.0, N.seen ∙ (no.2 ∙ sym (ap seen_by c.of.ensures)))
+pub note_all-requires : goal.note_all-requires
+note_all-requires g c = record { pass = c.note.ensures.own.0 }
+
+pub note_all-requires-2 : goal.note_all-requires-2
+note_all-requires-2 g c = record { pass = c.note.ensures.own.0 }
 
 pub refuse_held_up-requires-clause-empty : goal.refuse_held_up-requires-clause-empty
 refuse_held_up-requires-clause-empty g c = c.requires.served.no_replies
@@ -150,10 +155,14 @@ returns-clause-turn g c = refl
 
 pub returns-clause-staged : goal.returns-clause-staged
 returns-clause-staged g c =
-    let v = c.args.client.now in let H = c.log_phase-end in
+    let e = c.args.self.now in let v = c.args.client.now in let H = c.log_phase-end in
+    let went : List ControllerCall = seen_by c.note.new.pass in let ys : List (ℕ × Answer) = c.log_phase-end.new.replies.items in let room = c.log_phase-end.new.replies in
+    let noted : AllZip (IsNotedAs e.controller went) ys c.note_all-2.new.replies = subst (λ l. AllZip (IsNotedAs e.controller went) l c.note_all-2.new.replies) c.deref_mut-4.ensures.value c.note_all-2.ensures.replies in
+    let zs : List (ℕ × Answer) = take room.len (c.note_all-2.new.replies ++ drop (length c.note_all-2.new.replies) ys) in
+    let with_notes : AllZip (IsNotedAs e.controller went) ys zs = subst (AllZip (IsNotedAs e.controller went) ys) (sym (put_noted e.controller went ys c.note_all-2.new.replies room.len room.ok.0 noted)) noted in
     let path_is = ap (λ (h : Held _ _ _). h.path) c.deref_mut-3.ensures.value ∙ ap (λ (h : Held _ _ _). h.path) c.deref_mut.ensures.value in
-    subst (λ (z : ℕ × ℕ). IsStaged v.number z.0 z.1 H.new.path.last H.result H.new.layout.members.items H.new.layout.parts.parts H.new.replies.items)
-    (λ i. (c.requires.served.layout.clear.3 i, (path_is i).last)) H.ensures.staged
+    subst (λ (z : ℕ × ℕ). IsStaged v.number z.0 z.1 H.new.path.last H.result H.new.layout.members.items H.new.layout.parts.parts zs)
+    (λ i. (c.requires.served.layout.clear.3 i, (path_is i).last)) (noted_staged e.controller went v.number _ _ H.new.path.last H.result H.new.layout.members.items H.new.layout.parts.parts ys zs with_notes H.ensures.staged)
 
 pub returns-then-not-proceeds-clause-served : goal.returns-then-not-proceeds-clause-served
 returns-then-not-proceeds-clause-served g c =
@@ -166,20 +175,27 @@ returns-then-not-proceeds-clause-served g c =
     let h : HasAskedFor k was asked xs n known = subst (λ (z : ℕ × List (ℕ × Request)). HasAskedFor z.0 was asked z.1 n known) (λ i. (q.pass_number i, same i)) A.asked in
     let left : List (ℕ × Request) = take L.len (new ++ drop (length new) L.items) in
     let left_is : left ≡ all_seen xs = put_back xs new L.len L.ok.0 (A.requests ∙ ap all_seen same) in
-    let d : Delay = record { pass = c.of.result } in
+    let d : Delay = record { pass = c.of.result; made = c.deref.result.now.path.made } in
     let is : seen_at d ≡ known = ap seen_by c.of.ensures in
     let ys : List (ℕ × Answer) = c.refuse_held_up.new.replies.items in
-    let zip : AllZip (IsHeldUp e.controller d n) (all_seen xs) ys = subst (λ l. AllZip (IsHeldUp e.controller d n) l ys) left_is R.replies in
+    let zip : AllZip (IsHeldUp d n) (all_seen xs) ys = subst (λ l. AllZip (IsHeldUp d n) l ys) left_is R.replies in
     let may : MayNotWait (commit_requests_of xs) = subst (λ (b : Bool). AreAlike b (commit_requests_of xs)) (ap (λ o. o.no_slowdown) (first_flag (bound_of e.list) (clients_of e.list) xs S.led left c.index.result.now left_is c.index.ensures ∙ ap (λ (r : Request). r.options) (sym c.as_request.ensures)) ∙ no.0) S.led.slowdown in
     let still : seen_by c.note.new.pass ≡ known = N.seen ∙ no.2 in
+    let went : List ControllerCall = seen_by c.note.new.pass in let room = c.refuse_held_up.new.replies in
+    let noted : AllZip (IsNotedAs e.controller went) ys c.note_all.new.replies = subst (λ l. AllZip (IsNotedAs e.controller went) l c.note_all.new.replies) c.deref_mut-then-not-proceeds.ensures.value c.note_all.ensures.replies in
+    let zs : List (ℕ × Answer) = take room.len (c.note_all.new.replies ++ drop (length c.note_all.new.replies) ys) in
+    let with_notes : AllZip (IsNotedAs e.controller went) ys zs = subst (AllZip (IsNotedAs e.controller went) ys) (sym (put_noted e.controller went ys c.note_all.new.replies room.len room.ok.0 noted)) noted in
+    let same_now : seen_by c.note_all.new.pass ≡ known = c.note_all.ensures.pass.2 ∙ still in
+    let begins : IsPrefix (seen_at d) went = subst (IsPrefix (seen_at d)) (is ∙ sym still) (prefix_same (seen_at d)) in
+    let late : (x : ℕ × Request) → Saw h.before x → IsDelayed (noted_in x.1.note) (seen_at d) n = λ x saw. subst (λ (l : List ControllerCall). IsDelayed (noted_in x.1.note) l n) (sym is) (asked_shown k was asked known xs n h x saw) in
     record {
       seats = record {
         is_engine = q.is_engine;
         seat = q.seat;
         ready = q.ready;
         seat_number = q.seat_number;
-        pass = R.pass.0;
-        pass_number = R.pass.1 ∙ (N.own.1 ∙ (c.may_go_on-proceeds.ensures.pass.1 ∙ (A.pass.1 ∙ q.pass_number)));
+        pass = c.note_all.ensures.pass.0;
+        pass_number = c.note_all.ensures.pass.1 ∙ (N.own.1 ∙ (c.may_go_on-proceeds.ensures.pass.1 ∙ (A.pass.1 ∙ q.pass_number)));
         number = q.number;
       };
       layout = laid (clients_of e.list) v.layout S.layout;
@@ -189,16 +205,16 @@ returns-then-not-proceeds-clause-served g c =
       table = refl;
       writer = c.may_go_on-proceeds.ensures.leads.0;
       walk_room = c.may_go_on-proceeds.ensures.leads.1;
-      in_order = held_order e.controller d n xs ys zip;
-      handed_back = held_back e.controller d n xs ys zip;
-      shown = held_shown e.controller d n known h.before is no.1 (asked_shown k was asked known xs n h) xs ys zip may h.members;
+      in_order = noted_order e.controller went xs ys zs with_notes (held_order d n xs ys zip);
+      handed_back = noted_back e.controller went xs ys zs with_notes (held_back d n xs ys zip);
+      shown = held_shown e.controller d n went begins no.1 h.before late xs ys zs zip with_notes may h.members;
       taken = R.taken;
       requests_room = R.room.0;
       replies_room = R.room.1;
-      sees_more = subst (SeesMore k was) (sym (R.pass.2 ∙ still)) (asked_sees k was asked known xs n h);
+      sees_more = subst (SeesMore k was) (sym same_now) (asked_sees k was asked known xs n h);
       known = known;
-      delays = subst (λ (l : List ControllerCall). delays_of k l ≡ delays_of k was ++ (length known - 1) ∷ []) (sym (R.pass.2 ∙ still)) (asked_delays k was asked known xs n h);
-      of_delay = held_at e.controller d n known is xs ys zip;
+      delays = subst (λ (l : List ControllerCall). delays_of k l ≡ delays_of k was ++ (length known - 1) ∷ []) (sym same_now) (asked_delays k was asked known xs n h);
+      of_delay = noted_at e.controller went known ys zs with_notes (held_at d n known is xs ys zip);
     }
 
 pub returns-then-not-proceeds-clause-leadership : goal.returns-then-not-proceeds-clause-leadership
@@ -212,19 +228,24 @@ returns-then-not-proceeds-clause-leadership g c hs st =
     let h : HasAskedFor k was asked xs n known = subst (λ (z : ℕ × List (ℕ × Request)). HasAskedFor z.0 was asked z.1 n known) (λ i. (q.pass_number i, same i)) A.asked in
     let left : List (ℕ × Request) = take L.len (new ++ drop (length new) L.items) in
     let left_is : left ≡ all_seen xs = put_back xs new L.len L.ok.0 (A.requests ∙ ap all_seen same) in
-    let d : Delay = record { pass = c.of.result } in
+    let d : Delay = record { pass = c.of.result; made = c.deref.result.now.path.made } in
     let is : seen_at d ≡ known = ap seen_by c.of.ensures in
     let ys : List (ℕ × Answer) = c.refuse_held_up.new.replies.items in
-    let zip : AllZip (IsHeldUp e.controller d n) (all_seen xs) ys = subst (λ l. AllZip (IsHeldUp e.controller d n) l ys) left_is R.replies in
+    let zip : AllZip (IsHeldUp d n) (all_seen xs) ys = subst (λ l. AllZip (IsHeldUp d n) l ys) left_is R.replies in
     let may : MayNotWait (commit_requests_of xs) = subst (λ (b : Bool). AreAlike b (commit_requests_of xs)) (ap (λ o. o.no_slowdown) (first_flag (bound_of e.list) (clients_of e.list) xs S.led left c.index.result.now left_is c.index.ensures ∙ ap (λ (r : Request). r.options) (sym c.as_request.ensures)) ∙ no.0) S.led.slowdown in
     let still : seen_by c.note.new.pass ≡ known = N.seen ∙ no.2 in
+    let went : List ControllerCall = seen_by c.note.new.pass in let room = c.refuse_held_up.new.replies in
+    let noted : AllZip (IsNotedAs e.controller went) ys c.note_all.new.replies = subst (λ l. AllZip (IsNotedAs e.controller went) l c.note_all.new.replies) c.deref_mut-then-not-proceeds.ensures.value c.note_all.ensures.replies in
+    let zs : List (ℕ × Answer) = take room.len (c.note_all.new.replies ++ drop (length c.note_all.new.replies) ys) in
+    let with_notes : AllZip (IsNotedAs e.controller went) ys zs = subst (AllZip (IsNotedAs e.controller went) ys) (sym (put_noted e.controller went ys c.note_all.new.replies room.len room.ok.0 noted)) noted in
     let led : IsLedGroup about.group_bytes about.clients xs = subst (λ (z : ℕ × ℕ). IsLedGroup z.0 z.1 xs) (λ i. (sym q.is_engine.group_bytes i, sym q.is_engine.about_clients i)) S.led in
     record {
       turn = st.turn;
       note = subst (λ ctl. IsNoteOf ctl c.note.result) (sym q.is_engine.controller) N.note.0;
-      path = subst (λ (h : Held _ _ _). LogCovers about.opened.value about.start about.clients about.group_bytes (seen_by_note c.note.result) h.path.log h.path.places st.published h.path.last (hs ++ handled_with xs ys)) (sym c.deref_mut.ensures.value)
-          (stands_by our_log as_is about.opened.value path.log path.places st.published path.last tt tt about.start about.start about.clients about.clients about.group_bytes about.group_bytes known (seen_by_note c.note.result) (hs ++ handled_with xs ys) refl refl refl refl (sym (N.note.1 ∙ no.2))
-          (stands_held_up our_log as_is about.opened.value path.log path.places st.published path.last e.controller d n tt about.start about.clients about.group_bytes asked known hs xs ys zip is led (asked_is k was asked known xs n h about.group_bytes about.clients led S.leads) (asked_after k was asked known xs n h) no.1 may st.path));
+      path = subst (λ (h : Held _ _ _). LogCovers about.opened.value about.start about.clients about.group_bytes (seen_by_note c.note.result) h.path.log h.path.places st.published h.path.last h.path.made (hs ++ handled_with xs zs)) (sym c.deref_mut.ensures.value)
+          (stands_by our_log as_is about.opened.value path.log path.places st.published path.last path.made tt tt about.start about.start about.clients about.clients about.group_bytes about.group_bytes known (seen_by_note c.note.result) (hs ++ handled_with xs zs) refl refl refl refl (sym (N.note.1 ∙ no.2))
+          (noted_stands e.controller went our_log as_is about.opened.value path.log path.places st.published path.last path.made tt about.start about.clients about.group_bytes known hs xs ys zs with_notes
+          (stands_held_up our_log as_is about.opened.value path.log path.places st.published path.last path.made d n tt about.start about.clients about.group_bytes asked known hs xs ys zip is (ap (λ (h : Held _ _ _). h.path.made) c.deref.ensures) led (asked_is k was asked known xs n h about.group_bytes about.clients led S.leads) (asked_after k was asked known xs n h) no.1 may st.path)));
     }
 
 pub refuse_held_up-requires-clause-room : goal.refuse_held_up-requires-clause-room
@@ -245,17 +266,21 @@ returns-then-not-proceeds-clause-staged g c =
     let L = v.lists.requests.list in let new : List (ℕ × Request) = c.ask-look.new.requests in
     let left : List (ℕ × Request) = take L.len (new ++ drop (length new) L.items) in
     let left_is : left ≡ all_seen xs = put_back xs new L.len L.ok.0 (c.ask-look.ensures.requests ∙ ap all_seen same) in
-    let d : Delay = record { pass = c.of.result } in
+    let d : Delay = record { pass = c.of.result; made = c.deref.result.now.path.made } in
     let ys : List (ℕ × Answer) = c.refuse_held_up.new.replies.items in
-    let zip : AllZip (IsHeldUp e.controller d n) (all_seen xs) ys = subst (λ l. AllZip (IsHeldUp e.controller d n) l ys) left_is c.refuse_held_up.ensures.replies in
-    (S.layout.clear.2, ap (λ (h : Held _ _ _). h.path.last) c.deref_mut.ensures.value, no_runs_held e.controller d n (all_seen xs) ys zip)
+    let zip : AllZip (IsHeldUp d n) (all_seen xs) ys = subst (λ l. AllZip (IsHeldUp d n) l ys) left_is c.refuse_held_up.ensures.replies in
+    let went : List ControllerCall = seen_by c.note.new.pass in let room = c.refuse_held_up.new.replies in
+    let noted : AllZip (IsNotedAs e.controller went) ys c.note_all.new.replies = subst (λ l. AllZip (IsNotedAs e.controller went) l c.note_all.new.replies) c.deref_mut-then-not-proceeds.ensures.value c.note_all.ensures.replies in
+    let zs : List (ℕ × Answer) = take room.len (c.note_all.new.replies ++ drop (length c.note_all.new.replies) ys) in
+    let with_notes : AllZip (IsNotedAs e.controller went) ys zs = subst (AllZip (IsNotedAs e.controller went) ys) (sym (put_noted e.controller went ys c.note_all.new.replies room.len room.ok.0 noted)) noted in
+    (S.layout.clear.2, ap (λ (h : Held _ _ _). h.path.last) c.deref_mut.ensures.value, noted_runs e.controller went ys zs with_notes (no_runs_held d n (all_seen xs) ys zip))
 
 pub log_phase-end-requires-clause-last : goal.log_phase-end-requires-clause-last
 log_phase-end-requires-clause-last g c =
     let q = c.requires.served.seats in let e = c.args.self.now in let about = about_of e.list in let path = c.args.leadership.held.value.path in let st = c.requires.leadership.1 in
     let path_is = ap (λ (h : Held _ _ _). h.path) c.deref_mut-3.ensures.value ∙ ap (λ (h : Held _ _ _). h.path) c.deref_mut.ensures.value in
     subst (λ (p : LogPath _ _). p.last ≤ max_sequence) (sym path_is)
-    (last_low our_log as_is tt about.opened.value about.start about.clients about.group_bytes (seen_by_note c.args.leadership.asked) path.log path.places st.published path.last c.requires.leadership.0 st.path
+    (last_low our_log as_is tt about.opened.value about.start about.clients about.group_bytes (seen_by_note c.args.leadership.asked) path.log path.places st.published path.last path.made c.requires.leadership.0 st.path
     (subst (λ (k : ℕ). k ≤ max_sequence) (sym q.is_engine.start) q.is_engine.low))
 
 pub log_phase-end-requires-clause-group : goal.log_phase-end-requires-clause-group
@@ -279,19 +304,27 @@ returns-clause-served g c =
     let h : HasAskedFor k was asked xs n known = subst (λ (z : ℕ × List (ℕ × Request)). HasAskedFor z.0 was asked z.1 n known) (λ i. (q.pass_number i, same i)) A.asked in
     let left : List (ℕ × Request) = take L.len (new ++ drop (length new) L.items) in
     let left_is : left ≡ all_seen xs = put_back xs new L.len L.ok.0 (A.requests ∙ ap all_seen same) in
-    let d : Delay = record { pass = c.of.result } in
+    let d : Delay = record { pass = c.of.result; made = c.deref.result.now.path.made } in
     let is : seen_at d ≡ known = ap seen_by c.of.ensures in
-    let ys : List (ℕ × Answer) = c.log_phase-end.new.replies.items in
+    let went : List ControllerCall = seen_by c.note.new.pass in let ys : List (ℕ × Answer) = c.log_phase-end.new.replies.items in let room = c.log_phase-end.new.replies in
+    let noted : AllZip (IsNotedAs e.controller went) ys c.note_all-2.new.replies = subst (λ l. AllZip (IsNotedAs e.controller went) l c.note_all-2.new.replies) c.deref_mut-4.ensures.value c.note_all-2.ensures.replies in
+    let zs : List (ℕ × Answer) = take room.len (c.note_all-2.new.replies ++ drop (length c.note_all-2.new.replies) ys) in
+    let with_notes : AllZip (IsNotedAs e.controller went) ys zs = subst (AllZip (IsNotedAs e.controller went) ys) (sym (put_noted e.controller went ys c.note_all-2.new.replies room.len room.ok.0 noted)) noted in
+    let later : Delay = c.log_phase-end.new.delay in
+    let later_is : seen_at later ≡ known = ap (λ (p : Snapshot Pass). seen_by p.value) H.delay ∙ is in
     let own : client_of c.ask-look.new.pass ≡ k = A.pass.1 ∙ q.pass_number in
     let looks : OnlyLooks k known (seen_by c.note.new.pass) = subst (λ (z : ℕ × List ControllerCall). OnlyLooks z.0 known z.1) (λ i. (own i, sym N.seen i)) P.looks in
+    let same_now : seen_by c.note_all-2.new.pass ≡ seen_by c.note.new.pass = c.note_all-2.ensures.pass.2 in
+    let begins : IsPrefix (seen_at later) went = subst (λ (l : List ControllerCall). IsPrefix l went) (sym later_is) looks.begins in
+    let late : (x : ℕ × Request) → Saw h.before x → IsDelayed (noted_in x.1.note) (seen_at later) n = λ x saw. subst (λ (l : List ControllerCall). IsDelayed (noted_in x.1.note) l n) (sym later_is) (asked_shown k was asked known xs n h x saw) in
     record {
       seats = record {
         is_engine = q.is_engine;
         seat = q.seat;
         ready = q.ready;
         seat_number = q.seat_number;
-        pass = N.own.0;
-        pass_number = N.own.1 ∙ (P.pass.1 ∙ own);
+        pass = c.note_all-2.ensures.pass.0;
+        pass_number = c.note_all-2.ensures.pass.1 ∙ (N.own.1 ∙ (P.pass.1 ∙ own));
         number = q.number;
       };
       layout = record {
@@ -308,16 +341,16 @@ returns-clause-served g c =
       table = refl;
       writer = c.may_go_on-proceeds.ensures.leads.0;
       walk_room = c.may_go_on-proceeds.ensures.leads.1;
-      in_order = order_unnoted xs ys (subst (λ l. InOrder l ys) left_is H.replies.0);
-      handed_back = back_unnoted xs ys (subst (λ l. AllByRecursion HandsBack (handled_with l ys)) left_is H.replies.1);
-      shown = replies_shown e.controller d xs ys H.replies.2;
+      in_order = noted_order e.controller went xs ys zs with_notes (order_unnoted xs ys (subst (λ l. InOrder l ys) left_is H.replies.0));
+      handed_back = noted_back e.controller went xs ys zs with_notes (back_unnoted xs ys (subst (λ l. AllByRecursion HandsBack (handled_with l ys)) left_is H.replies.1));
+      shown = replies_shown e.controller later went begins xs ys zs H.replies.2 with_notes (delayed_all h.before (seen_at later) n late xs h.members);
       taken = H.taken.0;
       requests_room = H.room.0;
       replies_room = H.room.3;
-      sees_more = looks_sees k was known (seen_by c.note.new.pass) (asked_sees k was asked known xs n h) looks;
+      sees_more = subst (SeesMore k was) (sym same_now) (looks_sees k was known (seen_by c.note.new.pass) (asked_sees k was asked known xs n h) looks);
       known = known;
-      delays = looks.delays ∙ asked_delays k was asked known xs n h;
-      of_delay = replies_at e.controller d known is ys H.replies.2;
+      delays = ap (delays_of k) same_now ∙ (looks.delays ∙ asked_delays k was asked known xs n h);
+      of_delay = noted_at e.controller went known ys zs with_notes (replies_at later known later_is ys H.replies.2);
     }
 
 pub returns-clause-leadership : goal.returns-clause-leadership
@@ -331,9 +364,12 @@ returns-clause-leadership g c hs st =
     let h : HasAskedFor k was asked xs n known = subst (λ (z : ℕ × List (ℕ × Request)). HasAskedFor z.0 was asked z.1 n known) (λ i. (q.pass_number i, same i)) A.asked in
     let left : List (ℕ × Request) = take L.len (new ++ drop (length new) L.items) in
     let left_is : left ≡ all_seen xs = put_back xs new L.len L.ok.0 (A.requests ∙ ap all_seen same) in
-    let d : Delay = record { pass = c.of.result } in
+    let d : Delay = record { pass = c.of.result; made = c.deref.result.now.path.made } in
     let is : seen_at d ≡ known = ap seen_by c.of.ensures in
-    let ys : List (ℕ × Answer) = c.log_phase-end.new.replies.items in
+    let told : List ControllerCall = seen_by c.note.new.pass in let ys : List (ℕ × Answer) = c.log_phase-end.new.replies.items in let room = c.log_phase-end.new.replies in
+    let noted : AllZip (IsNotedAs e.controller told) ys c.note_all-2.new.replies = subst (λ l. AllZip (IsNotedAs e.controller told) l c.note_all-2.new.replies) c.deref_mut-4.ensures.value c.note_all-2.ensures.replies in
+    let zs : List (ℕ × Answer) = take room.len (c.note_all-2.new.replies ++ drop (length c.note_all-2.new.replies) ys) in
+    let with_notes : AllZip (IsNotedAs e.controller told) ys zs = subst (AllZip (IsNotedAs e.controller told) ys) (sym (put_noted e.controller told ys c.note_all-2.new.replies room.len room.ok.0 noted)) noted in
     let many : ℕ = v.layout.parts.clients in
     let led : IsLedGroup about.group_bytes many left = subst (λ (z : ℕ × ℕ × List (ℕ × Request)). IsLedGroup z.0 z.1 z.2) (λ i. (sym E.group_bytes i, sym S.layout.clear.3 i, sym left_is i)) (led_unnoted (bound_of e.list) (clients_of e.list) xs S.led) in
     let comes : ComesAfter asked (seen_at d) = subst (ComesAfter asked) (sym is) (asked_after k was asked known xs n h) in
@@ -345,7 +381,7 @@ returns-clause-leadership g c hs st =
     let lets : LetsProceed k n known went S.led.first.1.options.no_slowdown = subst (λ (z : ℕ × Bool). LetsProceed z.0 n known went z.1) (λ i. (own i, sym flag i)) (P.proceeds c.if-not-proceeds.false) in
     let on : ProceedsWith (commit_requests_of left) n (seen_at d) went = subst (λ (z : List CommitRequest × List ControllerCall). ProceedsWith z.0 n z.1 went) (λ i. (sym alike i, sym is i)) (proceeds k n known went (bound_of e.list) (clients_of e.list) xs S.led S.leads P.looks.begins lets) in
     let clients_are : about.clients ≡ many = E.about_clients ∙ sym S.layout.clear.3 in
-    let before : LogCovers about.opened.value about.start many about.group_bytes asked path.log path.places st.published path.last hs = stands_by our_log as_is about.opened.value path.log path.places st.published path.last tt tt about.start about.start about.clients many about.group_bytes about.group_bytes asked asked hs refl refl clients_are refl refl st.path in
+    let before : LogCovers about.opened.value about.start many about.group_bytes asked path.log path.places st.published path.last path.made hs = stands_by our_log as_is about.opened.value path.log path.places st.published path.last path.made tt tt about.start about.start about.clients many about.group_bytes about.group_bytes asked asked hs refl refl clients_are refl refl st.path in
     let p = c.log_phase-end.new.path in
     let now = published_with c.log_phase-end.result c.log_phase-end.new.layout.parts.parts st.published in
     let past : Past _ = record {
@@ -358,12 +394,13 @@ returns-clause-leadership g c hs st =
     } in
     let goes_on : GoesOnWith about.group_bytes many asked left (seen_at d) went = record { led = led; numbers = n; comes_after = comes; asked_for = is_for; proceeds = on } in
     let path_is = ap (λ (h : Held _ _ _). h.path) c.deref_mut-3.ensures.value ∙ ap (λ (h : Held _ _ _). h.path) c.deref_mut.ensures.value in
-    let after = H.path past went goes_on (subst (λ (p : LogPath _ _). LogCovers about.opened.value about.start many about.group_bytes asked p.log p.places st.published p.last hs) (sym path_is) before) in
-    let unnoted = subst (λ l. LogCovers about.opened.value about.start many about.group_bytes went p.log p.places now p.last (hs ++ handled_with l ys)) left_is after in
-    let as_was = stands_noted our_log as_is about.opened.value p.log p.places now p.last tt about.start many about.group_bytes went hs xs ys unnoted in
+    let after = H.path past went goes_on (subst (λ (p : LogPath _ _). LogCovers about.opened.value about.start many about.group_bytes asked p.log p.places st.published p.last p.made hs) (sym path_is) before) in
+    let unnoted = subst (λ l. LogCovers about.opened.value about.start many about.group_bytes went p.log p.places now p.last p.made (hs ++ handled_with l ys)) left_is after in
+    let as_was = noted_stands e.controller told our_log as_is about.opened.value p.log p.places now p.last p.made tt about.start many about.group_bytes went hs xs ys zs with_notes
+    (stands_noted our_log as_is about.opened.value p.log p.places now p.last p.made tt about.start many about.group_bytes went hs xs ys unnoted) in
     record {
       note = subst (λ ctl. IsNoteOf ctl c.note.result) (sym E.controller) N.note.0;
-      path = stands_by our_log as_is about.opened.value p.log p.places now p.last tt tt about.start about.start many about.clients about.group_bytes about.group_bytes went (seen_by_note c.note.result) (hs ++ handled_with xs ys) refl refl (sym clients_are) refl (sym N.note.1) as_was;
+      path = stands_by our_log as_is about.opened.value p.log p.places now p.last p.made tt tt about.start about.start many about.clients about.group_bytes about.group_bytes went (seen_by_note c.note.result) (hs ++ handled_with xs zs) refl refl (sym clients_are) refl (sym N.note.1) as_was;
       turn = st.turn;
     }
 

@@ -16,7 +16,7 @@ use Rattle.engine_parts.specs.declared.requests.Request.{Request}
 use Rattle.engine_parts.specs.Handled.{read_answer}
 use Rattle.engine_parts.specs.Logs.{faults_of}
 use Rattle.engine_parts.specs.ReadAnswers.{HasReadTo}
-use Rattle.engine_groups.specs.Clients.{IsReadBy, account_in, map_at_opening, opened_log, own_answers, own_commits, settings_of, told_of}
+use Rattle.engine_groups.specs.Clients.{IsReadBy, account_in, map_at_opening, opened_log, own_answers, own_commits, own_sights, settings_of, told_of}
 use Rattle.engine_groups.proofs.Answered.{keeps_self}
 use Rattle.engine_groups.proofs.AtEnds.{ends_more, ends_on, ends_read}
 use Rattle.engine_groups.proofs.ClientMoves.{envelope_moved, same_tokens}
@@ -30,7 +30,7 @@ pub returns-then-is_stopping-clause-err : goal.returns-then-is_stopping-clause-e
 returns-then-is_stopping-clause-err g c =
     let v = c.args.client.now in
     let held = sym (c.is_stopping.ensures ∙ ap holds_stop (same_tokens g.Versions.Table c.args.self.now v c.requires)) ∙ c.if-is_stopping.true in
-    (held, keeps_self (account_in g.Versions.Table v))
+    (held, keeps_self (account_in g.Versions.Table v) refl)
 
 -- there was no memory
 
@@ -42,7 +42,7 @@ pub returns-in_err-batch-clause-err : goal.returns-in_err-batch-clause-err
 returns-in_err-batch-clause-err g c =
     let v = c.args.client.now in let e = c.args.self.now in let account = account_in g.Versions.Table v in
     let free = sym (c.is_stopping.ensures ∙ ap holds_stop (same_tokens g.Versions.Table e v c.requires)) ∙ c.if-is_stopping.false in
-    err_as c.from_residual.result (λ why. FailsFor (settings_of g.Versions.Table e) account why account) NoMemory c.from_residual.ensures.1 (free, keeps_self account)
+    err_as c.from_residual.result (λ why. FailsFor (settings_of g.Versions.Table e) account why account) NoMemory c.from_residual.ensures.1 (free, keeps_self account refl)
 
 pub ask_log-requires-clause-client : goal.ask_log-requires-clause-client
 ask_log-requires-clause-client g c = envelope_moved g.Versions.Table c.args.self.now c.args.client.now c.take.new.self c.requires.idle
@@ -70,6 +70,7 @@ returns g c =
       opening = map_at_opening meaning v.table.value;
       client = v.number;
       own = own_commits v.number (told_of v);
+      sights = own_sights v.number (told_of v);
       answers = own_answers (told_of v);
       before = (meaning.account v.seat).seen;
       after = now;

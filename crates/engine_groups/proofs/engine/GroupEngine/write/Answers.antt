@@ -9,7 +9,7 @@ use Rattle.engine_calls.specs.declared.answers.Refused.{Refused}
 use Rattle.model_accounts.specs.Accounts.{Refuses}
 use Rattle.engine_rule.specs.Entries.{account_of}
 use Rattle.engine_rule.proofs.Own.{refused_looked}
-use Rattle.engine_groups.specs.Clients.{IsAnsweredInGroup, IsLeftOut, map_at_opening, account_in, opened_log, own_answers, own_commits, settings_of}
+use Rattle.engine_groups.specs.Clients.{IsAnsweredInGroup, IsLeftOut, map_at_opening, account_in, opened_log, own_answers, own_commits, own_sights, settings_of}
 use Rattle.engine_parts.specs.declared.requests.Request.{Request}
 use Rattle.engine_parts.specs.declared.requests.Answer.{Answer}
 use Rattle.engine_groups.proofs.Answered.{above_seen, begins_on, begins_self, impatient_if, none_is, refuses_early, refuses_late}
@@ -23,7 +23,7 @@ returns-in-Some-clause-err g c =
     let how = c.args.options in let records = c.args.batch.records in
     let stops = c.is_stopping-stopping.ensures ∙ ap holds_stop (same_tokens g.Versions.Table e v c.requires) in
     let at_once = sym (ap (λ (b : Bool). early_refusal settings.families settings.batch_bytes b records how) stops) ∙ sym (c.refusal_at_once.ensures e.families records c.of-measure.ensures.value) in
-    refuses_early settings (account_in g.Versions.Table v) records how c.in-Some.why (at_once ∙ c.in-Some.is)
+    refuses_early settings (account_in g.Versions.Table v) records how c.in-Some.why (at_once ∙ c.in-Some.is) refl
 
 pub returns-then-stopping-clause-belongs : goal.returns-then-stopping-clause-belongs
 returns-then-stopping-clause-belongs g c =
@@ -45,8 +45,8 @@ returns-then-stopping-clause-err g c =
     let ends = subst (λ k. EndsWith k (seen_by v.pass) look (Some (look_of c.look-look.result)) (seen_by c.look-look.new.pass)) S.pass_number L.asked in
     let impatient = impatient_if settings.families settings.batch_bytes records how (subst (λ (b : Bool). early_refusal settings.families settings.batch_bytes b records how ≡ None) held passed) in
     let seen = (g.Versions.Table.account v.seat).seen in
-    let refused = refused_looked v.start (map_at_opening g.Versions.Table v.table.value) v.number (own_commits v.number (answers_told v.writer)) (own_answers (answers_told v.writer)) records how seen seen (seen_by v.pass) (seen_by c.look-look.new.pass) (look_of c.look-look.result) (begins_self seen) held ends impatient (inl some) in
-    subst (λ (r : Refused). Refuses settings (account_in g.Versions.Table v) records how r.why (account_of v.start (map_at_opening g.Versions.Table v.table.value) v.number (own_commits v.number (answers_told v.writer)) (own_answers (answers_told v.writer)) seen (seen_by c.look-look.new.pass))) (sym c.refused_by.ensures)
+    let refused = refused_looked v.start (map_at_opening g.Versions.Table v.table.value) v.number (own_commits v.number (answers_told v.writer)) (own_sights v.number (answers_told v.writer)) (own_answers (answers_told v.writer)) records how seen seen (seen_by v.pass) (seen_by c.look-look.new.pass) (look_of c.look-look.result) (begins_self seen) held ends impatient (inl some) in
+    subst (λ (r : Refused). Refuses settings (account_in g.Versions.Table v) records how r.why (account_of v.start (map_at_opening g.Versions.Table v.table.value) v.number (own_commits v.number (answers_told v.writer)) (own_sights v.number (answers_told v.writer)) (own_answers (answers_told v.writer)) seen (seen_by c.look-look.new.pass))) (sym c.refused_by.ensures)
     (refuses_late settings (account_in g.Versions.Table v) records how _ _ passed (inr refused))
 
 pub submit-requires-clause-client : goal.submit-requires-clause-client
@@ -71,7 +71,7 @@ see-requires-clause-note g c =
     let e = c.args.self.now in
     let v = record c.args.client.now { seat = c.last-shown.new.seat; envelope = c.take.new.self } in
     subst (λ (a : Answer). IfSome a.note (IsNoteOf e.controller)) (sym c.open-told.ensures)
-    (note_is e.controller (opened_log e) (g.Versions.Table.opening e.table).start c.ask.result c.submit.result v c.submit.new.client c.submit.ensures.answered)
+    (note_is e.controller (opened_log e) (g.Versions.Table.opening e.table).start c.ask.result c.submit.result v c.submit.new.client c.submit.ensures.answered (ap (λ (q : Request). q.since) c.ask.ensures))
 
 pub returns : goal.returns
 returns g c =
@@ -91,7 +91,7 @@ returns g c =
     let sees = begins_on before between now (begins_on before loaded between L.ensures.seen.seen c.submit.ensures.seen.0) E.seen.0 in
     let above = above_seen v.start start L.result before loaded p.answer S.start L.ensures.seen.seen L.ensures.value c.await_above.ensures in
     let all = concludes_either g.Versions.Table e v L.new.seat c.take.new.self w1 w2 _ p S.start E.same.0 E.same.1 E.same.2 E.same.3 sees c.submit.ensures.seen.1 E.seen.1 E.noted E.published passed free above A refl in
-    record { belongs = E.fits; ok = all.accepted; back = all.back; synced = all.synced; err = all.refused; unchanged = all.unchanged }
+    record { belongs = E.fits; ok = all.accepted; back = all.back; logged = all.logged; err = all.refused; unchanged = all.unchanged }
 
 pub submit-requires-clause-write : goal.submit-requires-clause-write
 submit-requires-clause-write g c = ap (λ (q : Request). q.since) c.ask.ensures

@@ -120,7 +120,7 @@ wake_on-requires-clause-ready g c =
     let cut = c.cut_behind.ensures.cut lead' o.1 o.2 b.pre b.x at2 b.parts by in let e3 = c.cut_behind.ensures.seat.1 in let e4 = e3 ∙ e2 in
     let at3 = subst (λ (j : ℕ). AtWith j (Cutting lead' b.x) o.1 o.2 c.cut_behind.new.writer.seat.me) (sym e3) cut.0 in
     let slot3 = cut.1 ∙ ap (λ m. m.1) me ∙ b.slots_same ∙ o.9 ∙ (λ i. (0, TheLog o.5) ∷ slots_of o.3 ((sym e4 i, Told o.4) ∷ o.6)) in
-    (b.x, by, (lead', o.1, o.2, o.3, o.4, o.5, o.6, at3, o.8, slot3, o.10, o.11))
+    (b.x, by, (lead', o.1, o.2, o.3, o.4, o.5, o.6, at3, o.8, slot3, o.10, o.11, o.12))
 
 pub returns-clause-settling : goal.returns-clause-settling
 returns-clause-settling g c lead mine y gs p l t at heads_are slot_is =

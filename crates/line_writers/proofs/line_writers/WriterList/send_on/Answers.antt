@@ -36,7 +36,7 @@ go_on-requires-clause-ready g c =
     let tail = (n + 1, TheRight jn.0) ∷ [] in let tn = c.turn.ensures.2 in let m3 = c.turn.new.self.me in
     let stage = subst (λ m. HasStage c.join_second-alone.new.writer.client lead' o.1 (Holding (squad_with_end gp to)) next m) (sym tn) (subst (λ (j : ℕ). HasStage j lead' o.1 (Holding (squad_with_end gp to)) next (m2.0, turned m2.1)) (sym e2) jn.2) in
     let slot2 = ap (λ m. m.1) tn ∙ ap (λ l. turned l) (jn.3 ∙ ap (λ l. (n + 1, TheRight jn.0) ∷ l) (pt.2 ∙ o.7.1)) ∙ ap (λ zz. (0, TheLog o.4) ∷ zz) (slots_snoc o.2 ((k, Told o.3) ∷ []) tail) ∙ (λ i. (0, TheLog o.4) ∷ slots_of o.2 ((sym e2 i, Told o.3) ∷ tail)) in
-    (lead', o.1, Holding (squad_with_end gp to), o.2, o.3, o.4, tail, stage, o.7.0, slot2, o.8, (c.requires.piped, o.9.1))
+    (lead', o.1, Holding (squad_with_end gp to), o.2, o.3, o.4, tail, stage, o.7.0, slot2, o.8, (c.requires.piped, o.9.1), (refl, refl))
 
 pub go_on-requires-2-clause-ready : goal.go_on-requires-2-clause-ready
 go_on-requires-2-clause-ready g c =
@@ -48,7 +48,7 @@ go_on-requires-2-clause-ready g c =
     let jn = joined_behind (g.Log.LogOfGroups.serves c.args.self.now.table.shared.key.about) n k to next lead' o.1 gp m1 m2 pt.1 (λ st here. subst (λ (y : Bool). HasJoined (g.Log.LogOfGroups.serves c.args.self.now.table.shared.key.about) n k to y st o.1 gp m1 m2) c.if-alone.false (joined st here)) in
     let stage = subst (λ (j : ℕ). HasStage j lead' o.1 (Joining (squad_with_end gp to)) next m2) (sym e2) jn.0 in
     let slot2 = jn.1 ∙ pt.2 ∙ o.7.1 ∙ (λ i. (0, TheLog o.4) ∷ slots_of o.2 ((sym e2 i, Told o.3) ∷ [])) in
-    (lead', o.1, Joining (squad_with_end gp to), o.2, o.3, o.4, [], stage, o.7.0, slot2, o.8, (c.requires.piped, o.9.1))
+    (lead', o.1, Joining (squad_with_end gp to), o.2, o.3, o.4, [], stage, o.7.0, slot2, o.8, (c.requires.piped, o.9.1), (refl, refl))
 
 pub returns-then-alone-clause-sent : goal.returns-then-alone-clause-sent
 returns-then-alone-clause-sent g c lead mine gs p l at heads_are slot =

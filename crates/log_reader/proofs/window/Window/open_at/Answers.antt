@@ -18,3 +18,7 @@ returns-in-Ok-clause-there g c =
     let is_on = on (record { in_file = omega (arith, start_is, inside); block = λ read. absurd (false≢true (sym unread ∙ read)) }) in
     let there = in_block_there file filled place ok.sound is_on ok.read (ok.start ∙ start_is) inside in
     (omega (arith, c.go_to.ensures.there, c.min-at.ensures, ok.start, start_is, there, inside), c.go_to.ensures.on file is_on))
+
+pub returns-in-Ok-clause-within : goal.returns-in-Ok-clause-within
+returns-in-Ok-clause-within g c =
+    omega (arith, c.go_to.ensures.there, c.min-at.ensures, c.in-Ok.ensures.start, c.in_ok-window.ensures.start)

@@ -1,0 +1,56 @@
+-- Runs in which a client's own token isn't heeded, or a batch is acknowledged that the log hasn't.
+use Rattle.std.specs.Prelude.{ℕ, codes, false, List, [], ◌∷◌, None}
+use Rattle.model_base.specs.Batch.{Record}
+use Rattle.model_base.specs.Calls.{Command, add, commit, slow, unslow, accepted, done, Call, Outcome}
+use Rattle.model_base.specs.LogContents.{GroupCall}
+use Rattle.model_rows.specs.Examples.{put_a1, put_b2, plain, noslow, key_a, key_b}
+use Rattle.model_rows.specs.Runs.{entry_at, adds, commits, one_commit}
+
+abbrev pub says_done : Command → Call
+says_done c = record { command = c; reply = done }
+
+-- a commit that may not wait is accepted
+abbrev pub commits_at_once : ℕ → Record → Call
+commits_at_once at r = record { command = commit noslow; reply = accepted at at (r ∷ []) }
+
+-- `slow 1`, `put a 1`, `commit noslow`: the client slows writes to a byte a second, and its own commit, which may not
+-- wait, is accepted.
+abbrev pub slow_commands : List Command
+slow_commands = slow 1 ∷ add put_a1 ∷ commit noslow ∷ []
+
+abbrev pub slow_calls : List Call
+slow_calls = says_done (slow 1) ∷ adds put_a1 ∷ commits_at_once 1 put_a1 ∷ []
+
+-- then `unslow`
+abbrev pub slow_script : List (List Command)
+slow_script = (slow 1 ∷ add put_a1 ∷ commit noslow ∷ unslow ∷ []) ∷ []
+
+abbrev pub slow_ignored : Outcome
+slow_ignored = record one_commit {
+  transcripts = (says_done (slow 1) ∷ adds put_a1 ∷ commits_at_once 1 put_a1 ∷ says_done unslow ∷ []) ∷ [];
+}
+
+-- or the token is given back at the client's end
+abbrev pub kept_slow_ignored : Outcome
+kept_slow_ignored = record one_commit { transcripts = slow_calls ∷ [] }
+
+-- `put a 1`, `commit`, `put b 2`, `commit`: both are accepted
+abbrev pub two_script : List (List Command)
+two_script = (add put_a1 ∷ commit plain ∷ add put_b2 ∷ commit plain ∷ []) ∷ []
+
+abbrev pub two_calls : List Call
+two_calls = adds put_a1 ∷ commits 1 put_a1 ∷ adds put_b2 ∷ commits 2 put_b2 ∷ []
+
+abbrev pub two_commits : Outcome
+two_commits = record one_commit {
+  transcripts = two_calls ∷ [];
+  history = entry_at 1 1 put_a1 ∷ entry_at 2 2 put_b2 ∷ [];
+  last = 2;
+  state = (key_a, codes "1") ∷ (key_b, codes "2") ∷ [];
+  log_lens = 48 ∷ [];
+}
+
+-- one call of the log writer wrote both batches
+abbrev pub written_at_once : List GroupCall
+written_at_once =
+    record { first = 1; batches = (put_a1 ∷ []) ∷ (put_b2 ∷ []) ∷ []; sync = false; failed = None } ∷ []
