@@ -94,7 +94,7 @@ struct Task {
 
 static size_t read_by_library(const std::string& log) {
     std::string record(1 << 20, ' ');
-    wz_handle reader = WZ_HANDLE_INIT;
+    wz_reader reader = WZ_HANDLE_INIT;
     wz_record found;
     wz_end end;
     size_t sum = 0;
@@ -104,14 +104,14 @@ static size_t read_by_library(const std::string& log) {
         check(wz_reader_record(&reader, bytes(record), record.size()) == WZ_DONE, "a record");
         sum += found.len;
     }
-    wz_close(&reader);
-    check(end.why == WZ_CLEAN, "a log that reads whole");
+    wz_reader_close(&reader);
+    check(end.why == WZ_WHY_CLEAN, "a log that reads whole");
     return sum;
 }
 
 static std::vector<std::string> records_of(const std::string& log) {
     std::vector<std::string> records;
-    wz_handle reader = WZ_HANDLE_INIT;
+    wz_reader reader = WZ_HANDLE_INIT;
     wz_record found;
     wz_end end;
     check(wz_reader_open(&reader, 0) == WZ_DONE, "a reader");
@@ -119,7 +119,7 @@ static std::vector<std::string> records_of(const std::string& log) {
         records.emplace_back(found.len, ' ');
         check(wz_reader_record(&reader, bytes(records.back()), found.len) == WZ_DONE, "a record");
     }
-    wz_close(&reader);
+    wz_reader_close(&reader);
     return records;
 }
 
@@ -135,28 +135,28 @@ static size_t write_by_library(const std::vector<std::string>& records, std::str
 }
 
 static size_t recover_by_library(const std::string& log) {
-    wz_handle recovery = WZ_HANDLE_INIT;
+    wz_recovery recovery = WZ_HANDLE_INIT;
     wz_recovered found;
-    check(wz_recover(&recovery, 0, WZ_ABSOLUTE, bytes(log), log.size(), &found) == WZ_DONE, "a recovery");
-    wz_close(&recovery);
+    check(wz_recover(&recovery, 0, WZ_MODE_ABSOLUTE, bytes(log), log.size(), &found) == WZ_DONE, "a recovery");
+    wz_recovery_close(&recovery);
     return found.pairs;
 }
 
 enum { BATCHES = 4000, PUTS = 100 };
 
 static size_t build_by_library(const std::string& key, const std::string& value) {
-    wz_handle batch = WZ_HANDLE_INIT;
+    wz_batch batch = WZ_HANDLE_INIT;
     size_t sum = 0, len = 0;
     check(wz_batch_new(&batch) == WZ_DONE, "a batch");
     for (int i = 0; i < BATCHES; i++) {
-        wz_batch_clear(&batch);
+        check(wz_batch_clear(&batch) == WZ_DONE, "a batch is emptied");
         for (int j = 0; j < PUTS; j++) {
             check(wz_batch_put(&batch, bytes(key), key.size(), bytes(value), value.size()) == WZ_DONE, "a put");
         }
         check(wz_batch_len(&batch, &len) == WZ_DONE, "a length");
         sum += len;
     }
-    wz_close(&batch);
+    wz_batch_close(&batch);
     return sum;
 }
 

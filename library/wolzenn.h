@@ -1,35 +1,62 @@
-/* Wolzenn for programs in C, C++ and Rust: the logs and write batches of RocksDB and LevelDB, read and written by
-   proved code.
+/* Wolzenn for programs in C, C++, Rust and Python: the logs and write batches of RocksDB and LevelDB, read and written
+   by proved code.
 
    Answers. A function that can fail answers one of the codes WZ_DONE .. below. What it gives is written through the
    pointers that it names, and only at the answers that it names; at any other answer what they point to stays as it
    was.
 
-   Handles. A wz_handle is the caller's own variable. It starts as WZ_HANDLE_INIT, and holds nothing then. What it
-   holds is the library's memory: a reader, a recovery or a batch. A call that opens one of these first frees what the
-   handle held, so that it holds nothing where that call fails. wz_close frees what it holds, and is fine for a handle
-   that holds nothing. A handle may be moved in memory between calls, after which only the new place is used. It is
-   never copied otherwise, and stays on one thread while it holds something; threads may use different handles at once.
-   Its fields are the library's own.
+   Handles. A wz_reader, a wz_recovery and a wz_batch are handles: variables of the caller, which start as
+   WZ_HANDLE_INIT, or as zeros, and hold nothing then. What a handle holds is the library's memory. A call that opens
+   something in a handle first frees what the handle held: so it must be set before the first call too, and it holds
+   nothing where that call fails. wz_reader_close, wz_recovery_close and wz_batch_close free what a handle holds, and
+   are fine for one that holds nothing. A handle may be moved in memory between calls, after which only the new place is
+   used. It is never copied otherwise, and stays on one thread while it holds something; threads may use different
+   handles at once. EACH CALL WRITES TO ITS HANDLE, also one that only looks something up: no two threads may make calls
+   with the same handle. Its fields are the library's own.
 
-   Bytes. A pointer with a length means that many bytes, which are read (const) or written, and fewer than 2^63. No
-   pointer may be null, not even where the length is 0. (Beware: malloc(0) and the data() of an empty std::vector may
-   be null.) What a pointer that isn't const points to, a handle too, overlaps nothing else of the same call. The bytes
-   stay the caller's: no function keeps a pointer to them. No function locks, waits, starts a thread, calls back, or
-   ends the process. There is no global state.
+   Bytes. A pointer with a length means that many bytes, which are read (const) or written, and fewer than 2^63. Where
+   the length is 0 it may be null. No other pointer may be null, and each is aligned as its type asks: a call with one
+   that isn't may end the process. What a pointer that isn't const points to, a handle too, overlaps nothing else of the
+   same call. The bytes stay the caller's: no function keeps a pointer to them. No function locks, waits, starts a
+   thread, calls back, or ends the process otherwise. There is no global state. errno says nothing, and may change,
+   since malloc may set it.
 
    Memory comes from malloc and realloc, and is freed by free. Where these find none the answer is WZ_NO_MEMORY, and no
    memory is leaked.
 
-   What is promised below is proved, of the functions as they are called from Rattle. Two things are only tested: that
-   WZ_NO_MEMORY comes only where there was no memory, and that no memory is leaked. That pointers and lengths are as
-   said above is up to the caller. docs/LIBRARY.md has more, and first programs. */
+   What is promised below is proved, of the functions as they are called from Rattle. Four things are only tested: that
+   WZ_NO_MEMORY comes only where there was no memory; that no memory is leaked; that a null pointer with the length 0
+   means no bytes; and the texts of codes and reasons. That pointers and lengths are as said above is up to the caller.
+   docs/LIBRARY.md has more, and first programs.
+
+   A program that was written when this header had one type of handle defines WZ_OLD_NAMES before it includes it: then
+   all handles are a wz_handle, which wz_close closes, codes and reasons are a uint32_t, and reasons, modes and
+   operations have their old names too. The functions are the same. */
 #ifndef WOLZENN_H
 #define WOLZENN_H
 
 #include <stdbool.h>
 #include <stddef.h>
 #include <stdint.h>
+
+/* What a compiler may see to: that a pointer isn't null, by its place among the parameters, and that an answer isn't
+   dropped. */
+#if defined(__GNUC__)
+#define WZ_NONNULL(...) __attribute__((nonnull(__VA_ARGS__)))
+#define WZ_ANSWER __attribute__((warn_unused_result))
+#else
+#define WZ_NONNULL(...)
+#define WZ_ANSWER
+#endif
+
+/* An enum that has the size of a uint32_t. */
+#if defined(WZ_OLD_NAMES)
+#define WZ_ENUM(name) enum
+#elif defined(__cplusplus)
+#define WZ_ENUM(name) enum name : uint32_t
+#else
+#define WZ_ENUM(name) enum name
+#endif
 
 #ifdef __cplusplus
 extern "C" {
@@ -41,7 +68,7 @@ extern "C" {
 uint32_t wz_version(void);
 
 /* What a function answers. */
-enum {
+WZ_ENUM(wz_code) {
   WZ_DONE = 0,      /* it was done */
   WZ_NO_MEMORY = 1, /* malloc or realloc failed */
   WZ_CLOSED = 2,    /* the handle holds nothing of the kind that the function works on */
@@ -56,75 +83,130 @@ enum {
 /* Why reading or recovery ended, or why bytes are no batch: `why` of wz_end. The reason's own numbers are in `first`
    and `second`, which are 0 where it has none. `at` is the offset of the fragment or the record that the reason is
    about. */
-enum {
-  WZ_CLEAN = 1,        /* the log ends after a whole record, or in or after the zeros that end its block, or is
-                          empty: `at` is its length, which may be past `kept` of its recovery */
-  WZ_SHORT_HEADER = 2, /* a fragment's header is incomplete */
-  WZ_ZEROS = 3,        /* a header of zeros */
-  WZ_BAD_LENGTH = 4,   /* a fragment passes the end of its block or of the log */
-  WZ_BAD_TYPE = 5,     /* a fragment of no type that such a log has: first is its type */
-  WZ_BAD_CHECKSUM = 6, /* a fragment's checksum doesn't match its bytes */
-  WZ_BAD_TRAILER = 7,  /* bytes that aren't zeros where a block ends */
-  WZ_OLD_LOG = 8,      /* a fragment of another log: first is that log's number */
-  WZ_BAD_ORDER = 9,    /* a fragment is where none of its type may be */
-  WZ_UNFINISHED = 10,  /* the log ends inside a record */
-  WZ_SHORT = 11,       /* a batch whose header or record is incomplete */
-  WZ_BAD_VARINT = 12,  /* a length or a family in a batch isn't in its shortest spelling, or is too long */
-  WZ_TAG = 13,         /* a record of a batch has a tag that isn't read: first is the tag */
-  WZ_COUNT = 14,       /* a batch's header has another count (first) than its records (second) */
-  WZ_ORDER = 15,       /* a batch's run of sequences begins (first) at or below the last one before it (second) */
-  WZ_HIGH = 16         /* a batch's run of sequences passes 2^56 - 1: its first one (first), and how many (second) */
+WZ_ENUM(wz_why) {
+  WZ_WHY_CLEAN = 1,        /* the log ends after a whole record, or in or after the zeros that end its block, or is
+                              empty: `at` is its length, which may be past `kept` of its recovery */
+  WZ_WHY_SHORT_HEADER = 2, /* a fragment's header is incomplete */
+  WZ_WHY_ZEROS = 3,        /* a header of zeros */
+  WZ_WHY_BAD_LENGTH = 4,   /* a fragment passes the end of its block or of the log */
+  WZ_WHY_BAD_TYPE = 5,     /* a fragment of no type that such a log has: first is its type */
+  WZ_WHY_BAD_CHECKSUM = 6, /* a fragment's checksum doesn't match its bytes */
+  WZ_WHY_BAD_TRAILER = 7,  /* bytes that aren't zeros where a block ends */
+  WZ_WHY_OLD_LOG = 8,      /* a fragment of another log: first is that log's number */
+  WZ_WHY_BAD_ORDER = 9,    /* a fragment is where none of its type may be */
+  WZ_WHY_UNFINISHED = 10,  /* the log ends inside a record */
+  WZ_WHY_SHORT = 11,       /* a batch whose header or record is incomplete */
+  WZ_WHY_BAD_VARINT = 12,  /* a length or a family in a batch isn't in its shortest spelling, or is too long */
+  WZ_WHY_TAG = 13,         /* a record of a batch has a tag that isn't read: first is the tag */
+  WZ_WHY_COUNT = 14,       /* a batch's header has another count (first) than its records (second) */
+  WZ_WHY_ORDER = 15,       /* a batch's run of sequences begins (first) at or below the last one before it (second) */
+  WZ_WHY_HIGH = 16         /* a batch's run of sequences passes 2^56 - 1: its first one (first), their count (second) */
 };
 
 /* Which ends of a log recovery accepts. */
-enum {
-  WZ_POINT = 0,   /* any: the records before it are recovered (kPointInTimeRecovery) */
-  WZ_TAIL = 1,    /* that of a whole log, and one where the last write is incomplete */
-  WZ_ABSOLUTE = 2 /* that of a whole log (kAbsoluteConsistency) */
+WZ_ENUM(wz_mode) {
+  WZ_MODE_POINT = 0,   /* any: the records before it are recovered (kPointInTimeRecovery) */
+  WZ_MODE_TAIL = 1,    /* that of a whole log, and one where the last write is incomplete */
+  WZ_MODE_ABSOLUTE = 2 /* that of a whole log (kAbsoluteConsistency) */
 };
 /* After the end of a log that was written over an older one come the older bytes, and they may show as any of the
-   reasons: there only WZ_POINT is sure to accept the end. A log that has a number and is read with another one (not 0)
-   ends at 0 with WZ_OLD_LOG, which each mode accepts, so that nothing is recovered. */
+   reasons: there only WZ_MODE_POINT is sure to accept the end. A log that has a number and is read with another one
+   (not 0) ends at 0 with WZ_WHY_OLD_LOG, which each mode accepts, so that nothing is recovered. */
 
 /* What a record of a batch does. Those with CF name the column family of their key; the others are about the default
    one, whose number is 0. */
-enum {
-  WZ_DELETION = 0,           /* takes a key out */
-  WZ_VALUE = 1,              /* gives a key a value */
-  WZ_LOG_DATA = 3,           /* is in the log only, and takes no sequence: its bytes are the key of wz_op */
-  WZ_DELETION_CF = 4,        /* takes a key of a family out */
-  WZ_VALUE_CF = 5,           /* gives a key of a family a value */
-  WZ_SINGLE_DELETION = 7,    /* takes a key out that was set at most once */
-  WZ_SINGLE_DELETION_CF = 8  /* takes a key of a family out that was set at most once */
+WZ_ENUM(wz_kind) {
+  WZ_KIND_DELETION = 0,           /* takes a key out */
+  WZ_KIND_VALUE = 1,              /* gives a key a value */
+  WZ_KIND_LOG_DATA = 3,           /* is in the log only, and takes no sequence: its bytes are the key of wz_op */
+  WZ_KIND_DELETION_CF = 4,        /* takes a key of a family out */
+  WZ_KIND_VALUE_CF = 5,           /* gives a key of a family a value */
+  WZ_KIND_SINGLE_DELETION = 7,    /* takes a key out that was set at most once */
+  WZ_KIND_SINGLE_DELETION_CF = 8  /* takes a key of a family out that was set at most once */
 };
 
 #define WZ_BLOCK_LEN 32768u       /* the bytes of a log's block */
 #define WZ_BATCH_HEADER_LEN 12u   /* the bytes of a batch's header */
 #define WZ_MAX_BATCH 16777216u    /* the most bytes of a batch that is built here */
 
-typedef struct { bool full; void *at; } wz_handle;
+/* What each handle is, whatever it holds. */
+typedef struct wz_handle { bool full; void *at; } wz_handle;
+
+#ifndef WZ_OLD_NAMES
+typedef enum wz_code wz_code;
+typedef enum wz_why wz_why;
+typedef enum wz_mode wz_mode;
+typedef enum wz_kind wz_kind;
+typedef char wz_enums_have_four_bytes[sizeof(wz_code) == 4 && sizeof(wz_why) == 4 && sizeof(wz_kind) == 4 ? 1 : -1];
+
+/* A reader of a log's records, what a log recovers, and a batch that is built. */
+typedef struct wz_reader { wz_handle handle; } wz_reader;
+typedef struct wz_recovery { wz_handle handle; } wz_recovery;
+typedef struct wz_batch { wz_handle handle; } wz_batch;
+#ifdef __cplusplus
+#define WZ_HANDLE_INIT {{false, nullptr}}
+#else
+#define WZ_HANDLE_INIT {{false, NULL}}
+#endif
+#else
+typedef uint32_t wz_code;
+typedef uint32_t wz_why;
+typedef uint32_t wz_mode;
+typedef uint32_t wz_kind;
+typedef wz_handle wz_reader;
+typedef wz_handle wz_recovery;
+typedef wz_handle wz_batch;
 #define WZ_HANDLE_INIT {0, 0}
+enum {
+  WZ_CLEAN = WZ_WHY_CLEAN,
+  WZ_SHORT_HEADER = WZ_WHY_SHORT_HEADER,
+  WZ_ZEROS = WZ_WHY_ZEROS,
+  WZ_BAD_LENGTH = WZ_WHY_BAD_LENGTH,
+  WZ_BAD_TYPE = WZ_WHY_BAD_TYPE,
+  WZ_BAD_CHECKSUM = WZ_WHY_BAD_CHECKSUM,
+  WZ_BAD_TRAILER = WZ_WHY_BAD_TRAILER,
+  WZ_OLD_LOG = WZ_WHY_OLD_LOG,
+  WZ_BAD_ORDER = WZ_WHY_BAD_ORDER,
+  WZ_UNFINISHED = WZ_WHY_UNFINISHED,
+  WZ_SHORT = WZ_WHY_SHORT,
+  WZ_BAD_VARINT = WZ_WHY_BAD_VARINT,
+  WZ_TAG = WZ_WHY_TAG,
+  WZ_COUNT = WZ_WHY_COUNT,
+  WZ_ORDER = WZ_WHY_ORDER,
+  WZ_HIGH = WZ_WHY_HIGH,
+  WZ_POINT = WZ_MODE_POINT,
+  WZ_TAIL = WZ_MODE_TAIL,
+  WZ_ABSOLUTE = WZ_MODE_ABSOLUTE,
+  WZ_DELETION = WZ_KIND_DELETION,
+  WZ_VALUE = WZ_KIND_VALUE,
+  WZ_LOG_DATA = WZ_KIND_LOG_DATA,
+  WZ_DELETION_CF = WZ_KIND_DELETION_CF,
+  WZ_VALUE_CF = WZ_KIND_VALUE_CF,
+  WZ_SINGLE_DELETION = WZ_KIND_SINGLE_DELETION,
+  WZ_SINGLE_DELETION_CF = WZ_KIND_SINGLE_DELETION_CF
+};
+#endif
 
 /* Where something ends, and why. */
-typedef struct { uint64_t at; uint32_t why; uint64_t first; uint64_t second; } wz_end;
+typedef struct wz_end { uint64_t at; wz_why why; uint64_t first; uint64_t second; } wz_end;
 
 /* A record: the offset of its first fragment, the offset after its last one, and how many bytes the record has. */
-typedef struct { uint64_t start; uint64_t end; size_t len; } wz_record;
+typedef struct wz_record { uint64_t start; uint64_t end; size_t len; } wz_record;
 
 /* A recovery: how many records are kept, each of which is one batch; how many pairs they leave; the last sequence and
    the offset after the last record kept, each 0 where there is none; and where and why it ended. */
-typedef struct { size_t groups; size_t pairs; uint64_t last; uint64_t kept; wz_end end; } wz_recovered;
+typedef struct wz_recovered { size_t groups; size_t pairs; uint64_t last; uint64_t kept; wz_end end; } wz_recovered;
 
 /* The column family of a pair's key, and how many bytes its key and its value have. */
-typedef struct { uint32_t family; size_t key_len; size_t value_len; } wz_pair_lens;
+typedef struct wz_pair_lens { uint32_t family; size_t key_len; size_t value_len; } wz_pair_lens;
 
 /* A batch's sequence, and how many of its records count. */
-typedef struct { uint64_t sequence; uint32_t count; } wz_batch_head;
+typedef struct wz_batch_head { uint64_t sequence; uint32_t count; } wz_batch_head;
 
 /* A record of a batch: what it does, the column family that it names, or 0, and where in the batch's bytes its key and
    its value are. */
-typedef struct {
-  uint32_t kind;
+typedef struct wz_op {
+  wz_kind kind;
   uint32_t family;
   size_t key_at;
   size_t key_len;
@@ -133,15 +215,29 @@ typedef struct {
 } wz_op;
 
 /* Frees what the handle holds. It holds nothing then. */
-void wz_close(wz_handle *handle);
+void wz_close(wz_handle *handle) WZ_NONNULL(1);
+#ifndef WZ_OLD_NAMES
+static inline void wz_reader_close(wz_reader *reader) { wz_close(&reader->handle); }
+static inline void wz_recovery_close(wz_recovery *recovery) { wz_close(&recovery->handle); }
+static inline void wz_batch_close(wz_batch *batch) { wz_close(&batch->handle); }
+#endif
+
+/* ---- texts ----
+   They are constant, and never null. */
+
+/* What a code means, in words: "no memory". */
+const char *wz_code_text(wz_code code);
+
+/* A reason as docs/RECOVERY.md names it, in one word without its numbers: "badlength". */
+const char *wz_why_text(wz_why why);
 
 /* ---- checksums ---- */
 
 /* The CRC-32C of the bytes. */
-uint32_t wz_crc32c(const uint8_t *bytes, size_t len);
+uint32_t wz_crc32c(const void *bytes, size_t len);
 
 /* The CRC-32C of some bytes followed by these bytes. `crc` is the CRC-32C of the first ones. */
-uint32_t wz_crc32c_extend(uint32_t crc, const uint8_t *bytes, size_t len);
+uint32_t wz_crc32c_extend(uint32_t crc, const void *bytes, size_t len);
 
 /* The form that a checksum has in a log: it is masked. */
 uint32_t wz_crc32c_mask(uint32_t crc);
@@ -149,34 +245,36 @@ uint32_t wz_crc32c_mask(uint32_t crc);
 /* ---- reading a log ----
    `number` is the log's number where its fragments have one (RocksDB's recycle_log_file_num): that of the file's name,
    4 for 000004.log. It is 0 where they have none, as in LevelDB's logs and most of RocksDB's. A log with a number that
-   is read with 0 ends at 0 with WZ_BAD_TYPE and 5 to 8. */
+   is read with 0 ends at 0 with WZ_WHY_BAD_TYPE and 5 to 8. */
 
 /* Opens a reader at the start of a log. WZ_DONE, WZ_NO_MEMORY. */
-uint32_t wz_reader_open(wz_handle *handle, uint32_t number);
+WZ_ANSWER wz_code wz_reader_open(wz_reader *reader, uint32_t number) WZ_NONNULL(1);
 
 /* Opens a reader at a place of the log: the end of a record (record->end), or 0. So a log that grows is read on where
    an earlier reader came to, and each record is read once. At any other place it reads what would be read if a record
    ended there. The log's bytes are all of them, from its start on, and the same as at each later call of this reader.
    WZ_DONE. WZ_RANGE: the log ends before the place. WZ_NO_MEMORY. At any answer except WZ_DONE the handle holds
    nothing. */
-uint32_t wz_reader_open_at(wz_handle *handle, uint32_t number, uint64_t place, const uint8_t *log, size_t log_len);
+WZ_ANSWER wz_code wz_reader_open_at(wz_reader *reader, uint32_t number, uint64_t place, const void *log,
+                                    size_t log_len) WZ_NONNULL(1);
 
 /* Reads the next record of the log. The log's bytes must be the same at each call of this reader: a log that has grown
    needs a new reader, since this one keeps a copy of a block. WZ_DONE: record->start is the offset of the record's
    first fragment, record->end the offset after its last one, and record->len how many bytes the record has;
    wz_reader_record copies it. WZ_END: *end says at which offset no more is read, and why. WZ_NO_MEMORY. After WZ_END
    and WZ_NO_MEMORY each further call answers the same. WZ_CLOSED: the handle holds no reader. */
-uint32_t wz_reader_next(wz_handle *handle, const uint8_t *log, size_t log_len, wz_record *record, wz_end *end);
+WZ_ANSWER wz_code wz_reader_next(wz_reader *reader, const void *log, size_t log_len, wz_record *record, wz_end *end)
+    WZ_NONNULL(1, 4, 5);
 
 /* The same, but it skips the batches that take no sequence or whose last sequence is lower than `since`. A record that
    is no batch isn't skipped. */
-uint32_t wz_reader_next_since(wz_handle *handle, uint64_t since, const uint8_t *log, size_t log_len, wz_record *record,
-                              wz_end *end);
+WZ_ANSWER wz_code wz_reader_next_since(wz_reader *reader, uint64_t since, const void *log, size_t log_len,
+                                       wz_record *record, wz_end *end) WZ_NONNULL(1, 5, 6);
 
 /* Copies the record that the last wz_reader_next or wz_reader_next_since read to the start of the buffer, and touches
    nothing after it. WZ_DONE. WZ_SMALL. WZ_END: that call read none, or there was no such call yet. WZ_CLOSED: the
    handle holds no reader. */
-uint32_t wz_reader_record(wz_handle *handle, uint8_t *buffer, size_t buffer_len);
+WZ_ANSWER wz_code wz_reader_record(wz_reader *reader, void *buffer, size_t buffer_len) WZ_NONNULL(1);
 
 /* ---- recovering a log ---- */
 
@@ -188,78 +286,82 @@ uint32_t wz_reader_record(wz_handle *handle, uint8_t *buffer, size_t buffer_len)
    summary->kept.
    WZ_DAMAGE: the mode doesn't accept the end; summary->end says where and why, and the rest of *summary is 0.
    WZ_RANGE: there is no such mode. WZ_NO_MEMORY. At any answer except WZ_DONE the handle holds nothing. */
-uint32_t wz_recover(wz_handle *handle, uint32_t number, uint32_t mode, const uint8_t *log, size_t log_len,
-                    wz_recovered *summary);
+WZ_ANSWER wz_code wz_recover(wz_recovery *recovery, uint32_t number, wz_mode mode, const void *log, size_t log_len,
+                             wz_recovered *summary) WZ_NONNULL(1, 6);
 
 /* The column family of a pair's key, and how many bytes its key and its value have. The pairs are by family, the
    default one (0) first, and in a family in the byte order of their keys, with indices from 0. WZ_DONE. WZ_END: there
    is no such pair. WZ_CLOSED: the handle holds no recovery. */
-uint32_t wz_pair_len(wz_handle *handle, size_t index, wz_pair_lens *lens);
+WZ_ANSWER wz_code wz_pair_len(wz_recovery *recovery, size_t index, wz_pair_lens *lens) WZ_NONNULL(1, 3);
 
 /* Copies the key and the value of the pair with this index to the starts of the two buffers, and touches nothing after
    them. WZ_DONE. WZ_SMALL: one of the buffers is too small, and neither was written to. WZ_END. WZ_CLOSED. */
-uint32_t wz_pair(wz_handle *handle, size_t index, uint8_t *key, size_t key_len, uint8_t *value, size_t value_len);
+WZ_ANSWER wz_code wz_pair(wz_recovery *recovery, size_t index, void *key, size_t key_len, void *value,
+                          size_t value_len) WZ_NONNULL(1);
 
 /* How many pairs have a key before this one of this column family: the index of its own pair, if it has one, otherwise
    the index that it would have. WZ_DONE: the key has a pair, and *index is its index. WZ_END: it has none, and *index
    is that of the next key's pair, or how many pairs there are. WZ_CLOSED: the handle holds no recovery. */
-uint32_t wz_pair_find(wz_handle *handle, uint32_t family, const uint8_t *key, size_t key_len, size_t *index);
+WZ_ANSWER wz_code wz_pair_find(wz_recovery *recovery, uint32_t family, const void *key, size_t key_len, size_t *index)
+    WZ_NONNULL(1, 5);
 
 /* ---- building a batch ---- */
 
 /* Opens a batch of no records, with the sequence 0. WZ_DONE, WZ_NO_MEMORY. */
-uint32_t wz_batch_new(wz_handle *handle);
+WZ_ANSWER wz_code wz_batch_new(wz_batch *batch) WZ_NONNULL(1);
 
 /* Adds a record after the others. WZ_DONE. At any other answer the batch is as it was: WZ_TOO_LARGE. WZ_NO_MEMORY.
    WZ_CLOSED: the handle holds no batch. */
-uint32_t wz_batch_put(wz_handle *handle, const uint8_t *key, size_t key_len, const uint8_t *value, size_t value_len);
-uint32_t wz_batch_delete(wz_handle *handle, const uint8_t *key, size_t key_len);
-uint32_t wz_batch_single_delete(wz_handle *handle, const uint8_t *key, size_t key_len);
-uint32_t wz_batch_log_data(wz_handle *handle, const uint8_t *blob, size_t blob_len);
+WZ_ANSWER wz_code wz_batch_put(wz_batch *batch, const void *key, size_t key_len, const void *value, size_t value_len)
+    WZ_NONNULL(1);
+WZ_ANSWER wz_code wz_batch_delete(wz_batch *batch, const void *key, size_t key_len) WZ_NONNULL(1);
+WZ_ANSWER wz_code wz_batch_single_delete(wz_batch *batch, const void *key, size_t key_len) WZ_NONNULL(1);
+WZ_ANSWER wz_code wz_batch_log_data(wz_batch *batch, const void *blob, size_t blob_len) WZ_NONNULL(1);
 
 /* The same for a key of a column family. The record names the family, as those of RocksDB do, unless it is 0: then it
    is that of the function above. */
-uint32_t wz_batch_put_cf(wz_handle *handle, uint32_t family, const uint8_t *key, size_t key_len, const uint8_t *value,
-                         size_t value_len);
-uint32_t wz_batch_delete_cf(wz_handle *handle, uint32_t family, const uint8_t *key, size_t key_len);
-uint32_t wz_batch_single_delete_cf(wz_handle *handle, uint32_t family, const uint8_t *key, size_t key_len);
+WZ_ANSWER wz_code wz_batch_put_cf(wz_batch *batch, uint32_t family, const void *key, size_t key_len, const void *value,
+                                  size_t value_len) WZ_NONNULL(1);
+WZ_ANSWER wz_code wz_batch_delete_cf(wz_batch *batch, uint32_t family, const void *key, size_t key_len) WZ_NONNULL(1);
+WZ_ANSWER wz_code wz_batch_single_delete_cf(wz_batch *batch, uint32_t family, const void *key, size_t key_len)
+    WZ_NONNULL(1);
 
 /* Adds the records of another batch's bytes after the others, so that several batches make one record of the log, a
    group. The other batch's sequence is ignored. WZ_NO_BATCH: the bytes are no batch (wz_batch_read says why), whatever
    the handle holds, and nothing has changed. Otherwise it answers like wz_batch_put. */
-uint32_t wz_batch_append(wz_handle *handle, const uint8_t *bytes, size_t len);
+WZ_ANSWER wz_code wz_batch_append(wz_batch *batch, const void *bytes, size_t len) WZ_NONNULL(1);
 
 /* Takes all records out, and sets the sequence to 0. WZ_DONE, WZ_CLOSED. */
-uint32_t wz_batch_clear(wz_handle *handle);
+WZ_ANSWER wz_code wz_batch_clear(wz_batch *batch) WZ_NONNULL(1);
 
 /* Sets the batch's sequence, which is that of its first record that counts. WZ_DONE, WZ_CLOSED. Any number is taken.
    Recovery keeps a batch with such records only where its run begins above the last sequence before it, so at 1 or
    more, and ends at 2^56 - 1 or below. */
-uint32_t wz_batch_set_sequence(wz_handle *handle, uint64_t sequence);
+WZ_ANSWER wz_code wz_batch_set_sequence(wz_batch *batch, uint64_t sequence) WZ_NONNULL(1);
 
 /* The batch's sequence, and how many of its records count: each of these takes a sequence. WZ_DONE, WZ_CLOSED. */
-uint32_t wz_batch_get(wz_handle *handle, wz_batch_head *head);
+WZ_ANSWER wz_code wz_batch_get(wz_batch *batch, wz_batch_head *head) WZ_NONNULL(1, 2);
 
 /* How many bytes the batch has. WZ_DONE, WZ_CLOSED. */
-uint32_t wz_batch_len(wz_handle *handle, size_t *len);
+WZ_ANSWER wz_code wz_batch_len(wz_batch *batch, size_t *len) WZ_NONNULL(1, 2);
 
 /* Copies the batch's bytes, which are those of RocksDB's WriteBatch::Data(), to the start of the buffer, and touches
    nothing after them. WZ_DONE, WZ_SMALL, WZ_CLOSED. */
-uint32_t wz_batch_bytes(wz_handle *handle, uint8_t *buffer, size_t buffer_len);
+WZ_ANSWER wz_code wz_batch_bytes(wz_batch *batch, void *buffer, size_t buffer_len) WZ_NONNULL(1);
 
 /* ---- reading a batch ---- */
 
 /* Checks the bytes of a batch. WZ_DONE: they are one, and *head has its sequence and its count. WZ_NO_BATCH:
-   they are none, and *why says why: WZ_SHORT, WZ_BAD_VARINT, WZ_TAG or WZ_COUNT, with the offset 0; wz_batch_next
-   finds the place of a record that can't be read. */
-uint32_t wz_batch_read(const uint8_t *bytes, size_t len, wz_batch_head *head, wz_end *why);
+   they are none, and *why says why: WZ_WHY_SHORT, WZ_WHY_BAD_VARINT, WZ_WHY_TAG or WZ_WHY_COUNT, with the offset 0;
+   wz_batch_next finds the place of a record that can't be read. */
+WZ_ANSWER wz_code wz_batch_read(const void *bytes, size_t len, wz_batch_head *head, wz_end *why) WZ_NONNULL(3, 4);
 
 /* The record at the place *at of a batch's bytes. *at starts as WZ_BATCH_HEADER_LEN; at a place where no record begins
    the bytes are read as if one did. WZ_DONE: *op says what the record does and where in the bytes its key and its
    value are, and *at is moved to the place after it. WZ_END: the bytes end there. WZ_NO_BATCH: no record is there, and
    *why says why, with this place as the offset. WZ_RANGE: *at is past the end. Except at WZ_DONE *at stays as it was.
    Where a record has no value, op->value_at and op->value_len are 0. Nothing is copied, and no memory is taken. */
-uint32_t wz_batch_next(const uint8_t *bytes, size_t len, size_t *at, wz_op *op, wz_end *why);
+WZ_ANSWER wz_code wz_batch_next(const void *bytes, size_t len, size_t *at, wz_op *op, wz_end *why) WZ_NONNULL(3, 4, 5);
 
 /* ---- writing a log ----
    The file is the caller's. The caller writes what these functions give at the log's end, syncs the file when that
@@ -273,8 +375,8 @@ size_t wz_log_record_len(uint32_t number, uint64_t offset, size_t len);
 
 /* Puts the bytes that a record takes at this offset of a log at the start of the buffer, and touches nothing after
    them. WZ_DONE: *len says how many they are. WZ_SMALL. */
-uint32_t wz_log_record(uint32_t number, uint64_t offset, const uint8_t *record, size_t record_len, uint8_t *buffer,
-                       size_t buffer_len, size_t *len);
+WZ_ANSWER wz_code wz_log_record(uint32_t number, uint64_t offset, const void *record, size_t record_len, void *buffer,
+                                size_t buffer_len, size_t *len) WZ_NONNULL(7);
 
 #ifdef __cplusplus
 }

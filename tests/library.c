@@ -14,6 +14,8 @@
 // them, so that a write past its end is seen. `calls` and `memory` print nothing where all is well. It is linked with
 // `-Wl,--wrap=malloc,--wrap=realloc,--wrap=free`, and counts the blocks that are held.
 
+// One type for all handles, so that a handle can be of another kind than a function works on.
+#define WZ_OLD_NAMES
 #include "wolzenn.h"
 
 #include <inttypes.h>
@@ -390,6 +392,74 @@ static void check_large(wz_handle *batch) {
     done_with(old);
 }
 
+// Adds empty keys, values and log data: by pointers to no bytes, or by null.
+static bytes batch_of_nothing(const uint8_t *none) {
+    wz_handle batch = WZ_HANDLE_INIT;
+    WANTED(wz_batch_new(&batch) == WZ_DONE);
+    WANTED(wz_batch_put(&batch, none, 0, none, 0) == WZ_DONE);
+    WANTED(wz_batch_delete(&batch, none, 0) == WZ_DONE);
+    WANTED(wz_batch_single_delete(&batch, none, 0) == WZ_DONE);
+    WANTED(wz_batch_put_cf(&batch, 1, none, 0, none, 0) == WZ_DONE);
+    WANTED(wz_batch_put_cf(&batch, 2, none, 0, none, 0) == WZ_DONE);
+    WANTED(wz_batch_delete_cf(&batch, 1, none, 0) == WZ_DONE);
+    WANTED(wz_batch_single_delete_cf(&batch, 3, none, 0) == WZ_DONE);
+    WANTED(wz_batch_log_data(&batch, none, 0) == WZ_DONE);
+    WANTED(wz_batch_set_sequence(&batch, 1) == WZ_DONE);
+    WANTED(wz_batch_append(&batch, NULL, 0) == WZ_NO_BATCH);
+    WANTED(wz_batch_bytes(&batch, NULL, 0) == WZ_SMALL);
+    bytes found = bytes_of_batch(&batch);
+    wz_close(&batch);
+    return found;
+}
+
+// Reads and recovers a log of no bytes and one of an empty record, by null for what is empty.
+static void check_null_logs(wz_handle *handle) {
+    uint8_t log[64];
+    size_t len = 0;
+    wz_record record = {1, 2, 3};
+    wz_end end = {1, 2, 3, 4};
+    wz_recovered found;
+    WANTED(wz_reader_open_at(handle, 0, 1, NULL, 0) == WZ_RANGE);
+    WANTED(wz_reader_open_at(handle, 0, 0, NULL, 0) == WZ_DONE);
+    WANTED(wz_reader_next(handle, NULL, 0, &record, &end) == WZ_END && end.at == 0 && end.why == WZ_CLEAN);
+    WANTED(wz_reader_open(handle, 0) == WZ_DONE);
+    WANTED(wz_reader_next_since(handle, 1, NULL, 0, &record, &end) == WZ_END && end.why == WZ_CLEAN);
+    WANTED(wz_reader_record(handle, NULL, 0) == WZ_END);
+    WANTED(wz_recover(handle, 7, WZ_ABSOLUTE, NULL, 0, &found) == WZ_DONE && found.groups == 0);
+    WANTED(wz_log_record(0, 0, NULL, 0, NULL, 0, &len) == WZ_SMALL && len == 0);
+    WANTED(wz_log_record(0, 0, NULL, 0, log, sizeof log, &len) == WZ_DONE && len == 7);
+    WANTED(wz_reader_open(handle, 0) == WZ_DONE);
+    WANTED(wz_reader_next(handle, log, len, &record, &end) == WZ_DONE && record.len == 0);
+    WANTED(wz_reader_record(handle, NULL, 0) == WZ_DONE);
+}
+
+// A null pointer with the length 0 means no bytes.
+static void check_nulls(void) {
+    wz_handle handle = WZ_HANDLE_INIT;
+    wz_batch_head head;
+    wz_end end = {1, 2, 3, 4};
+    wz_recovered found;
+    wz_pair_lens lens;
+    wz_op op;
+    uint8_t log[128];
+    size_t len = 0, at = 0, index;
+    WANTED(wz_crc32c(NULL, 0) == wz_crc32c(log, 0) && wz_crc32c_extend(77, NULL, 0) == 77);
+    WANTED(wz_batch_read(NULL, 0, &head, &end) == WZ_NO_BATCH && end.why == WZ_SHORT);
+    WANTED(wz_batch_next(NULL, 0, &at, &op, &end) == WZ_END && at == 0);
+    check_null_logs(&handle);
+    bytes one = batch_of_nothing(NULL), other = batch_of_nothing(log);
+    WANTED(one.len == other.len && !memcmp(one.at, other.at, one.len));
+    WANTED(wz_log_record(0, 0, one.at, one.len, log, sizeof log, &len) == WZ_DONE);
+    WANTED(wz_recover(&handle, 0, WZ_ABSOLUTE, log, len, &found) == WZ_DONE && found.pairs == 1);
+    WANTED(wz_pair_len(&handle, 0, &lens) == WZ_DONE && lens.family == 2 && lens.key_len == 0 && lens.value_len == 0);
+    WANTED(wz_pair(&handle, 0, NULL, 0, NULL, 0) == WZ_DONE);
+    WANTED(wz_pair_find(&handle, 2, NULL, 0, &index) == WZ_DONE && index == 0);
+    WANTED(wz_pair_find(&handle, 0, NULL, 0, &index) == WZ_END && index == 0);
+    done_with(one);
+    done_with(other);
+    wz_close(&handle);
+}
+
 static int calls(void) {
     static const uint8_t batch[] = {1, 0, 0, 0, 0, 0, 0, 0, 1, 0, 0, 0, 1, 1, 'a', 1, '1'};
     uint8_t log[64];
@@ -458,6 +528,7 @@ static int calls(void) {
     WANTED(wz_log_record_len(0, 0, SIZE_MAX) == SIZE_MAX && wz_log_record_len(0, 0, SIZE_MAX - 7) == SIZE_MAX);
     WANTED(wz_log_record_len(7, UINT64_MAX, 0) == 12 && wz_log_record_len(0, UINT64_MAX, 0) == 8);
     WANTED(wz_log_record_len(0, 0, (size_t)1 << 62) > (size_t)1 << 62);
+    check_nulls();
     WANTED(held == 0);
     return 0;
 }

@@ -10,6 +10,7 @@
 //
 // The plain code here follows docs/FORMATS.md, and has nothing of the library's own.
 
+#define WZ_OLD_NAMES
 #include "wolzenn.h"
 
 #include <inttypes.h>
@@ -360,6 +361,11 @@ static struct {
     uint32_t number;
 } seeds[SEEDS];
 
+// Ends the program where a batch can't be built.
+static void built(uint32_t code) {
+    if (code != WZ_DONE) exit(2);
+}
+
 static void append(wz_handle *batch) {
     static uint8_t key[64], value[300];
     for (size_t i = 0; i < sizeof key; i++) key[i] = (uint8_t) "ab"[draw(2)];
@@ -367,10 +373,10 @@ static void append(wz_handle *batch) {
     size_t key_len = draw(8) == 0 ? draw(sizeof key) : draw(3);
     size_t value_len = draw(6) == 0 ? draw(sizeof value) : draw(4);
     switch (draw(6)) {
-        case 0: wz_batch_delete(batch, key, key_len); break;
-        case 1: wz_batch_single_delete(batch, key, key_len); break;
-        case 2: wz_batch_log_data(batch, value, value_len); break;
-        default: wz_batch_put(batch, key, key_len, value, value_len);
+        case 0: built(wz_batch_delete(batch, key, key_len)); break;
+        case 1: built(wz_batch_single_delete(batch, key, key_len)); break;
+        case 2: built(wz_batch_log_data(batch, value, value_len)); break;
+        default: built(wz_batch_put(batch, key, key_len, value, value_len));
     }
 }
 
@@ -385,13 +391,14 @@ static void make_seed(int seed) {
     seeds[seed].len = 0;
     int is_long = seed % 6 == 5;
     for (uint64_t count = 2 + draw(5), i = 0; i < count; i++) {
-        if (wz_batch_new(&batch) != WZ_DONE) exit(2);
+        built(wz_batch_new(&batch));
         for (uint64_t ops = draw(4); ops > 0; ops--) append(&batch);
-        if (is_long && i == 0) wz_batch_log_data(&batch, bytes, BLOCK - 40 + draw(30));
-        wz_batch_set_sequence(&batch, next);
-        wz_batch_get(&batch, &head);
-        wz_batch_len(&batch, &len);
-        if (len > sizeof bytes || wz_batch_bytes(&batch, bytes, len) != WZ_DONE) exit(2);
+        if (is_long && i == 0) built(wz_batch_log_data(&batch, bytes, BLOCK - 40 + draw(30)));
+        built(wz_batch_set_sequence(&batch, next));
+        built(wz_batch_get(&batch, &head));
+        built(wz_batch_len(&batch, &len));
+        if (len > sizeof bytes) exit(2);
+        built(wz_batch_bytes(&batch, bytes, len));
         next += head.count + draw(2);
         uint8_t *to = seeds[seed].bytes + seeds[seed].len;
         size_t room = SEED_LEN - seeds[seed].len;

@@ -54,7 +54,7 @@ static std::vector<PEER::ColumnFamilyHandle*> families;
 
 // Adds an operation on a key of this family to both batches, and answers it in the form in which print_log prints it.
 // The default family isn't named.
-static std::string add_in(uint32_t family, PEER::WriteBatch& theirs, wz_handle* ours) {
+static std::string add_in(uint32_t family, PEER::WriteBatch& theirs, wz_batch* ours) {
     std::string key = text(), value = text(), name = family == 0 ? "" : std::to_string(family) + " ";
     auto kind = draws() % 4;
     if (kind == 0) {
@@ -76,12 +76,12 @@ static std::string add_in(uint32_t family, PEER::WriteBatch& theirs, wz_handle* 
 
 // Adds an operation to both batches, and answers it in the form in which print_log prints it.
 template <class Batch>
-static std::string add(Batch& theirs, wz_handle* ours) {
+static std::string add(Batch& theirs, wz_batch* ours) {
 #ifdef ROCKSDB_MAJOR
     if (auto family = draws() % (2 * families.size()); family < families.size()) return add_in(family, theirs, ours);
 #endif
     std::string key = text(), value = text();
-    uint32_t code = WZ_DONE;
+    wz_code code = WZ_DONE;
     std::string line;
     auto kind = draws() % 6;
     if (kind == 0) {
@@ -110,12 +110,12 @@ static std::string add(Batch& theirs, wz_handle* ours) {
 
 // Compares the bytes of both, where the peer shows its own.
 template <class Batch>
-static void compare(const Batch& theirs, wz_handle* ours) {
+static void compare(const Batch& theirs, wz_batch* ours) {
     if constexpr (requires { theirs.Data(); }) {
         size_t len = 0;
         check(wz_batch_len(ours, &len) == WZ_DONE, "a length");
         std::string found(len, ' ');
-        check(wz_batch_bytes(ours, reinterpret_cast<uint8_t*>(&found[0]), len) == WZ_DONE, "bytes");
+        check(wz_batch_bytes(ours, &found[0], len) == WZ_DONE, "bytes");
         check(found == theirs.Data(), "the bytes of a batch");
     }
 }
@@ -134,7 +134,7 @@ int main(int argc, char** argv) {
     check(PEER::DB::Open(options, argv[1], &opened).ok(), "an opening");
 #endif
     std::unique_ptr<PEER::DB> database(opened);
-    wz_handle ours = WZ_HANDLE_INIT;
+    wz_batch ours = WZ_HANDLE_INIT;
     for (int turn = 0; turn < 400; turn++) {
         PEER::WriteBatch theirs;
         std::string lines;
@@ -147,7 +147,7 @@ int main(int argc, char** argv) {
         check(database->Write(PEER::WriteOptions(), &theirs).ok(), "a write");
         std::fputs(lines.c_str(), stdout);
     }
-    wz_close(&ours);
+    wz_batch_close(&ours);
 #ifdef ROCKSDB_MAJOR
     for (auto* family : families) database->DestroyColumnFamilyHandle(family);
 #endif

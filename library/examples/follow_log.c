@@ -5,7 +5,7 @@
 
    NUMBER is the log's own, where its fragments have one. A line has where the record is, and its batch's sequence and
    count. It ends where the log has not grown for a second, or where it can't be read on, and says where and for which
-   of the reasons of wolzenn.h. What is not synced yet may be lost in a crash, also after it was printed here. */
+   of the reasons of docs/RECOVERY.md. What is not synced yet may be lost in a crash, also after it was printed here. */
 #define _POSIX_C_SOURCE 200809L
 #include "wolzenn.h"
 
@@ -36,13 +36,12 @@ static long read_more(followed *log) {
 }
 
 /* Prints the batch of the record that was read last. */
-static uint32_t print_record(wz_handle *reader, wz_record record) {
+static wz_code print_record(wz_reader *reader, wz_record record) {
     wz_batch_head head;
     wz_end why;
-    /* One byte more, since malloc(0) may give null. */
-    uint8_t *bytes = malloc(record.len + 1);
-    if (bytes == NULL) return WZ_NO_MEMORY;
-    uint32_t code = wz_reader_record(reader, bytes, record.len);
+    uint8_t *bytes = malloc(record.len);
+    if (bytes == NULL && record.len > 0) return WZ_NO_MEMORY;
+    wz_code code = wz_reader_record(reader, bytes, record.len);
     if (code == WZ_DONE) code = wz_batch_read(bytes, record.len, &head, &why);
     if (code == WZ_DONE) printf("record %" PRIu64 " %" PRIu64, record.start, record.end);
     if (code == WZ_DONE) printf("  batch %" PRIu64 " %" PRIu32 "\n", head.sequence, head.count);
@@ -51,23 +50,24 @@ static uint32_t print_record(wz_handle *reader, wz_record record) {
 }
 
 /* Prints the records after the place, up to where reading ends now. */
-static uint32_t print_more(followed *log, uint32_t number, uint64_t since, wz_end *end) {
-    wz_handle reader = WZ_HANDLE_INIT;
+static wz_code print_more(followed *log, uint32_t number, uint64_t since, wz_end *end) {
+    wz_reader reader = WZ_HANDLE_INIT;
     wz_record record;
-    uint32_t code = wz_reader_open_at(&reader, number, log->place, log->bytes, log->len);
+    wz_code code = wz_reader_open_at(&reader, number, log->place, log->bytes, log->len);
     while (code == WZ_DONE &&
            (code = wz_reader_next_since(&reader, since, log->bytes, log->len, &record, end)) == WZ_DONE) {
         code = print_record(&reader, record);
         if (code == WZ_DONE) log->place = record.end;
     }
     fflush(stdout);
-    wz_close(&reader);
+    wz_reader_close(&reader);
     return code;
 }
 
 /* Whether the log may end like this only because its last record isn't written whole yet. */
 static int may_grow(wz_end end) {
-    return end.why == WZ_CLEAN || end.why == WZ_UNFINISHED || end.why == WZ_SHORT_HEADER || end.why == WZ_BAD_LENGTH;
+    return end.why == WZ_WHY_CLEAN || end.why == WZ_WHY_UNFINISHED || end.why == WZ_WHY_SHORT_HEADER ||
+           end.why == WZ_WHY_BAD_LENGTH;
 }
 
 int main(int argc, char **argv) {
@@ -76,8 +76,8 @@ int main(int argc, char **argv) {
     uint64_t since = strtoull(argv[2], NULL, 10);
     uint32_t number = argc > 3 ? (uint32_t)strtoul(argv[3], NULL, 10) : 0;
 
-    wz_end end = {0, WZ_CLEAN, 0, 0};
-    uint32_t code = WZ_END;
+    wz_end end = {0, WZ_WHY_CLEAN, 0, 0};
+    wz_code code = WZ_END;
     for (int quiet = 0; code == WZ_END && may_grow(end) && quiet < QUIET_MS; quiet += PAUSE_MS) {
         struct timespec pause = {0, PAUSE_MS * 1000000L};
         long more = read_more(&log);
@@ -86,7 +86,7 @@ int main(int argc, char **argv) {
         if (more > 0) code = print_more(&log, number, since, &end);
         if (code == WZ_END) nanosleep(&pause, NULL);
     }
-    if (code == WZ_END) printf("end %" PRIu64 " %" PRIu32 "\n", end.at, end.why);
+    if (code == WZ_END) printf("end %" PRIu64 " %s\n", end.at, wz_why_text(end.why));
     fclose(log.file);
     free(log.bytes);
     return code == WZ_END ? 0 : 1;

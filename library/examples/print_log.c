@@ -4,7 +4,7 @@
 
    NUMBER is the log's own, where its fragments have one. Keys and values are printed in hexadecimal, `-` for none,
    after the number of the column family that an operation names. The last line says where reading ended, and for which
-   of the reasons of wolzenn.h, with its two numbers. */
+   of the reasons of docs/RECOVERY.md, with its two numbers. */
 #include "wolzenn.h"
 
 #include <inttypes.h>
@@ -16,14 +16,14 @@ static void print_bytes(const uint8_t *bytes, size_t len) {
     if (len == 0) printf("-");
 }
 
-static const char *name_of(uint32_t kind) {
-    if (kind == WZ_VALUE || kind == WZ_VALUE_CF) return "put";
-    if (kind == WZ_DELETION || kind == WZ_DELETION_CF) return "del";
-    return kind == WZ_LOG_DATA ? "note" : "sdel";
+static const char *name_of(wz_kind kind) {
+    if (kind == WZ_KIND_VALUE || kind == WZ_KIND_VALUE_CF) return "put";
+    if (kind == WZ_KIND_DELETION || kind == WZ_KIND_DELETION_CF) return "del";
+    return kind == WZ_KIND_LOG_DATA ? "note" : "sdel";
 }
 
-static int names_family(uint32_t kind) {
-    return kind == WZ_VALUE_CF || kind == WZ_DELETION_CF || kind == WZ_SINGLE_DELETION_CF;
+static int names_family(wz_kind kind) {
+    return kind == WZ_KIND_VALUE_CF || kind == WZ_KIND_DELETION_CF || kind == WZ_KIND_SINGLE_DELETION_CF;
 }
 
 /* Prints the operations of the batch that a record holds, up to the first that can't be read. */
@@ -31,20 +31,20 @@ static void print_batch(const uint8_t *bytes, size_t len) {
     wz_batch_head head;
     wz_end why;
     wz_op op;
-    uint32_t code = wz_batch_read(bytes, len, &head, &why);
+    wz_code code = wz_batch_read(bytes, len, &head, &why);
     if (code == WZ_DONE) printf("  batch %" PRIu64 " %" PRIu32 "\n", head.sequence, head.count);
     size_t at = WZ_BATCH_HEADER_LEN;
     while (code == WZ_DONE && (code = wz_batch_next(bytes, len, &at, &op, &why)) == WZ_DONE) {
         printf("  %s ", name_of(op.kind));
         if (names_family(op.kind)) printf("%" PRIu32 " ", op.family);
         print_bytes(bytes + op.key_at, op.key_len);
-        if (op.kind == WZ_VALUE || op.kind == WZ_VALUE_CF) {
+        if (op.kind == WZ_KIND_VALUE || op.kind == WZ_KIND_VALUE_CF) {
             printf(" ");
             print_bytes(bytes + op.value_at, op.value_len);
         }
         printf("\n");
     }
-    if (code == WZ_NO_BATCH) printf("  no batch: reason %" PRIu32 "\n", why.why);
+    if (code == WZ_NO_BATCH) printf("  no batch: %s\n", wz_why_text(why.why));
 }
 
 /* The whole file in memory, or null. */
@@ -71,22 +71,21 @@ int main(int argc, char **argv) {
     uint8_t *log = argc > 1 ? read_file(argv[1], &len) : NULL;
     if (log == NULL) return fprintf(stderr, "print_log: the log can't be read\n"), 2;
 
-    wz_handle reader = WZ_HANDLE_INIT;
+    wz_reader reader = WZ_HANDLE_INIT;
     wz_record record;
     wz_end end;
-    uint32_t code = wz_reader_open(&reader, argc > 2 ? (uint32_t)strtoul(argv[2], NULL, 10) : 0);
+    wz_code code = wz_reader_open(&reader, argc > 2 ? (uint32_t)strtoul(argv[2], NULL, 10) : 0);
     while (code == WZ_DONE && (code = wz_reader_next(&reader, log, len, &record, &end)) == WZ_DONE) {
         printf("record %" PRIu64 " %" PRIu64 "\n", record.start, record.end);
-        /* One byte more, since malloc(0) may give null. */
-        uint8_t *bytes = malloc(record.len + 1);
-        if (bytes == NULL) code = WZ_NO_MEMORY;
+        uint8_t *bytes = malloc(record.len);
+        if (bytes == NULL && record.len > 0) code = WZ_NO_MEMORY;
         if (code == WZ_DONE) code = wz_reader_record(&reader, bytes, record.len);
         if (code == WZ_DONE) print_batch(bytes, record.len);
         free(bytes);
     }
-    if (code == WZ_END) printf("end %" PRIu64 " %" PRIu32, end.at, end.why);
+    if (code == WZ_END) printf("end %" PRIu64 " %s", end.at, wz_why_text(end.why));
     if (code == WZ_END) printf(" %" PRIu64 " %" PRIu64 "\n", end.first, end.second);
-    wz_close(&reader);
+    wz_reader_close(&reader);
     free(log);
     return code == WZ_END ? 0 : 1;
 }

@@ -14,30 +14,22 @@
 #include <iostream>
 #include <string>
 
-// A handle that is closed where its scope ends. It is neither copied nor moved.
-class Handle {
+// A recovery that is closed where its scope ends. It is neither copied nor moved.
+class Recovery {
  public:
-    Handle() = default;
-    ~Handle() {
-        wz_close(&handle_);
+    Recovery() = default;
+    ~Recovery() {
+        wz_recovery_close(&recovery_);
     }
-    Handle(const Handle&) = delete;
-    Handle& operator=(const Handle&) = delete;
-    wz_handle* get() {
-        return &handle_;
+    Recovery(const Recovery&) = delete;
+    Recovery& operator=(const Recovery&) = delete;
+    wz_recovery* get() {
+        return &recovery_;
     }
 
  private:
-    wz_handle handle_ = WZ_HANDLE_INIT;
+    wz_recovery recovery_ = WZ_HANDLE_INIT;
 };
-
-// A string's bytes as the library takes them. They are never null.
-static const uint8_t* bytes(const std::string& text) {
-    return reinterpret_cast<const uint8_t*>(text.data());
-}
-static uint8_t* bytes(std::string& text) {
-    return reinterpret_cast<uint8_t*>(&text[0]);
-}
 
 static std::string hex(const std::string& text) {
     static const char digits[] = "0123456789abcdef";
@@ -46,15 +38,11 @@ static std::string hex(const std::string& text) {
     return found.empty() ? "-" : found;
 }
 
-// A reason in the words of docs/RECOVERY.md.
+// A reason in the words of docs/RECOVERY.md, with its numbers.
 static std::string reason(const wz_end& end) {
-    static const char* const names[] = {"",           "clean",       "shortheader", "zeros",  "badlength",
-                                        "badtype",    "badchecksum", "badtrailer",  "oldlog", "badorder",
-                                        "unfinished", "short",       "badvarint",   "tag",    "count",
-                                        "order",      "high"};
-    std::string found = names[end.why];
-    bool has_two = end.why == WZ_COUNT || end.why == WZ_ORDER || end.why == WZ_HIGH;
-    bool has_one = has_two || end.why == WZ_BAD_TYPE || end.why == WZ_OLD_LOG || end.why == WZ_TAG;
+    std::string found = wz_why_text(end.why);
+    bool has_two = end.why == WZ_WHY_COUNT || end.why == WZ_WHY_ORDER || end.why == WZ_WHY_HIGH;
+    bool has_one = has_two || end.why == WZ_WHY_BAD_TYPE || end.why == WZ_WHY_OLD_LOG || end.why == WZ_WHY_TAG;
     if (has_one) found += " " + std::to_string(end.first);
     if (has_two) found += " " + std::to_string(end.second);
     return found;
@@ -75,20 +63,20 @@ int main(int argc, char** argv) {
     const std::string& log = content;
     uint32_t number = argc > 2 ? static_cast<uint32_t>(std::strtoul(argv[2], nullptr, 10)) : 0;
     std::string word = argc > 3 ? argv[3] : "point";
-    uint32_t mode = word == "absolute" ? WZ_ABSOLUTE : word == "tail" ? WZ_TAIL : WZ_POINT;
+    wz_mode mode = word == "absolute" ? WZ_MODE_ABSOLUTE : word == "tail" ? WZ_MODE_TAIL : WZ_MODE_POINT;
 
-    Handle recovery;
+    Recovery recovery;
     wz_recovered found = {};
-    uint32_t code = wz_recover(recovery.get(), number, mode, bytes(log), log.size(), &found);
+    wz_code code = wz_recover(recovery.get(), number, mode, log.data(), log.size(), &found);
     if (code == WZ_DAMAGE) return std::cout << "damage " << found.end.at << " " << reason(found.end) << "\n", 8;
-    if (code != WZ_DONE) return std::cerr << "recover_log: no memory\n", 6;
+    if (code != WZ_DONE) return std::cerr << "recover_log: " << wz_code_text(code) << "\n", 6;
 
     std::cout << "groups " << found.groups << "\nstate " << found.last << " " << found.pairs << "\n";
     for (size_t i = 0; i < found.pairs; i++) {
         wz_pair_lens lens = {};
         if (wz_pair_len(recovery.get(), i, &lens) != WZ_DONE) return 3;
         std::string key(lens.key_len, '\0'), value(lens.value_len, '\0');
-        if (wz_pair(recovery.get(), i, bytes(key), key.size(), bytes(value), value.size()) != WZ_DONE) return 3;
+        if (wz_pair(recovery.get(), i, &key[0], key.size(), &value[0], value.size()) != WZ_DONE) return 3;
         if (lens.family != 0) std::cout << lens.family << " ";
         std::cout << hex(key) << " " << hex(value) << "\n";
     }

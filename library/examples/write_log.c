@@ -33,16 +33,12 @@ static uint8_t *room_for(size_t len) {
     return bytes;
 }
 
-static const uint8_t *bytes_of(const char *text) {
-    return (const uint8_t *)text;
-}
-
-static void put(wz_handle *batch, const char *key, const char *value) {
-    check(wz_batch_put(batch, bytes_of(key), strlen(key), bytes_of(value), strlen(value)) == WZ_DONE, "a put");
+static void put(wz_batch *batch, const char *key, const char *value) {
+    check(wz_batch_put(batch, key, strlen(key), value, strlen(value)) == WZ_DONE, "a put");
 }
 
 /* The bytes of a batch, which the caller frees. */
-static uint8_t *bytes_of_batch(wz_handle *batch, size_t *len) {
+static uint8_t *bytes_of_batch(wz_batch *batch, size_t *len) {
     check(wz_batch_len(batch, len) == WZ_DONE, "a length");
     uint8_t *bytes = room_for(*len);
     check(wz_batch_bytes(batch, bytes, *len) == WZ_DONE, "the bytes of a batch");
@@ -50,7 +46,7 @@ static uint8_t *bytes_of_batch(wz_handle *batch, size_t *len) {
 }
 
 /* Writes a batch as the next record of the log, with the next sequences, and syncs the file. */
-static void commit(log_file *log, wz_handle *batch) {
+static void commit(log_file *log, wz_batch *batch) {
     wz_batch_head head;
     size_t len, text_len;
     check(wz_batch_set_sequence(batch, log->sequence) == WZ_DONE && wz_batch_get(batch, &head) == WZ_DONE,
@@ -91,21 +87,21 @@ int main(int argc, char **argv) {
     sync_folder(argv[1]);
 
     /* A batch of three records, of which two count: log data takes no sequence. */
-    wz_handle batch = WZ_HANDLE_INIT;
+    wz_batch batch = WZ_HANDLE_INIT;
     check(wz_batch_new(&batch) == WZ_DONE, "no memory");
     put(&batch, "apple", "red");
     put(&batch, "plum", "blue");
-    check(wz_batch_log_data(&batch, bytes_of("a note"), 6) == WZ_DONE, "a note");
+    check(wz_batch_log_data(&batch, "a note", 6) == WZ_DONE, "a note");
     commit(&log, &batch);
 
     /* A group: two batches, as two clients may have built them, which go into the log as one record. */
-    wz_handle first = WZ_HANDLE_INIT, second = WZ_HANDLE_INIT;
+    wz_batch first = WZ_HANDLE_INIT, second = WZ_HANDLE_INIT;
     check(wz_batch_new(&first) == WZ_DONE && wz_batch_new(&second) == WZ_DONE, "no memory");
     put(&first, "apple", "green");
-    check(wz_batch_delete(&second, bytes_of("plum"), 4) == WZ_DONE, "a deletion");
+    check(wz_batch_delete(&second, "plum", 4) == WZ_DONE, "a deletion");
     put(&second, "pear", "");
     check(wz_batch_clear(&batch) == WZ_DONE, "a batch is emptied");
-    wz_handle *members[] = {&first, &second};
+    wz_batch *members[] = {&first, &second};
     for (size_t i = 0; i < 2; i++) {
         size_t len;
         uint8_t *bytes = bytes_of_batch(members[i], &len);
@@ -119,13 +115,13 @@ int main(int argc, char **argv) {
     value[100000] = 0;
     check(wz_batch_clear(&batch) == WZ_DONE, "a batch is emptied");
     put(&batch, "quince", value);
-    check(wz_batch_single_delete(&batch, bytes_of("pear"), 4) == WZ_DONE, "a single deletion");
+    check(wz_batch_single_delete(&batch, "pear", 4) == WZ_DONE, "a single deletion");
     commit(&log, &batch);
 
     free(value);
-    wz_close(&first);
-    wz_close(&second);
-    wz_close(&batch);
+    wz_batch_close(&first);
+    wz_batch_close(&second);
+    wz_batch_close(&batch);
     check(close(log.file) == 0, "the log can't be closed");
     return 0;
 }

@@ -29,6 +29,8 @@ fn print_batch(bytes: &[u8]) -> Result<(), wolzenn::Error> {
             Op::DeleteCf(family, key) => println!("  del {family} {}", hex(key)),
             Op::SingleDeleteCf(family, key) => println!("  sdel {family} {}", hex(key)),
             Op::LogData(blob) => println!("  note {}", hex(blob)),
+            // Kinds that a later version may know.
+            other => println!("  {other:?}"),
         }
     }
     Ok(())

@@ -103,8 +103,9 @@ pub fn read_batch(bytes: &[u8]) -> Result<BatchHead, Error> {
 }
 
 /// A record of a batch. Those with `Cf` name the column family of their key; the others are about the default one,
-/// whose number is 0.
+/// whose number is 0. Later versions may know more kinds.
 #[derive(Clone, Copy, Debug, PartialEq, Eq)]
+#[non_exhaustive]
 pub enum Op<'a> {
     /// Gives a key a value.
     Put(&'a [u8], &'a [u8]),

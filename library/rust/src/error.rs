@@ -13,8 +13,9 @@ pub struct End {
 }
 
 /// Why reading or recovery ended, or why bytes are no batch. It is printed in the words of the repository's
-/// `docs/RECOVERY.md`.
+/// `docs/RECOVERY.md`. Later versions may know more.
 #[derive(Clone, Copy, Debug, PartialEq, Eq)]
+#[non_exhaustive]
 pub enum Why {
     /// The log ends after a whole record, or is empty.
     Clean,
@@ -94,8 +95,9 @@ impl fmt::Display for End {
     }
 }
 
-/// Why something wasn't done.
+/// Why something wasn't done. Later versions may know more.
 #[derive(Clone, Copy, Debug, PartialEq, Eq)]
+#[non_exhaustive]
 pub enum Error {
     /// There was no memory.
     NoMemory,

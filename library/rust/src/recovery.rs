@@ -5,8 +5,9 @@ use crate::{End, Error};
 use std::iter::FusedIterator;
 use std::num::NonZeroU32;
 
-/// Which ends of a log recovery accepts.
+/// Which ends of a log recovery accepts. Later versions may have more.
 #[derive(Clone, Copy, Debug, PartialEq, Eq)]
+#[non_exhaustive]
 pub enum Mode {
     /// Any end: the records before it are recovered (kPointInTimeRecovery).
     Point,

@@ -1,0 +1,281 @@
+"""Tests of `wolzenn.py`. `tests/library` runs them, over the library that `library/build` has made."""
+
+import gc
+import io
+import mmap
+import os
+import tempfile
+import threading
+import unittest
+
+import wolzenn
+from wolzenn import Batch, BatchHead, End, Kind, LogWriter, Mode, Op, Pair, Records, Why
+
+
+def built(sequence, *additions):
+    """The bytes of a batch with a key and a value for each addition; without a value the key is deleted."""
+    with Batch(sequence) as batch:
+        for key, *value in additions:
+            if value:
+                batch.put(key, *value)
+            else:
+                batch.delete(key)
+        return bytes(batch)
+
+
+def log_of(*batches, number=0):
+    writer = LogWriter(io.BytesIO(), number)
+    for batch in batches:
+        writer.append(batch)
+    return writer.file.getvalue()
+
+
+ONE, TWO = built(1, (b"a", b"1"), (b"b", b"")), built(3, (b"a",), (b"c", b"3"))
+LOG = log_of(ONE, TWO)
+
+
+class Reading(unittest.TestCase):
+    def test_records_and_the_end(self):
+        records = Records(LOG)
+        self.assertIsNone(records.end)
+        found = list(records)
+        self.assertEqual([it.bytes for it in found], [ONE, TWO])
+        self.assertEqual((found[0].start, found[0].end, found[1].end), (0, found[1].start, len(LOG)))
+        self.assertEqual(records.end, End(len(LOG), Why.CLEAN))
+        self.assertEqual(list(records), [])
+
+    def test_from_a_place_and_since_a_sequence(self):
+        first = next(Records(LOG))
+        self.assertEqual([it.bytes for it in Records(LOG, place=first.end)], [TWO])
+        self.assertEqual([it.bytes for it in Records(LOG, since=3)], [TWO])
+        with self.assertRaises(wolzenn.PastEnd):
+            Records(LOG, place=len(LOG) + 1)
+
+    def test_a_log_with_a_number(self):
+        log = log_of(ONE, number=7)
+        self.assertEqual([it.bytes for it in Records(log, 7)], [ONE])
+        for number, says in ((0, "0 badtype 5"), (8, "0 oldlog 7")):
+            records = Records(log, number)
+            self.assertEqual((list(records), str(records.end)), ([], says))
+
+    def test_damage(self):
+        records = Records(LOG[:-1])
+        self.assertEqual(len(list(records)), 1)
+        self.assertEqual(records.end.why, Why.BAD_LENGTH)
+        self.assertEqual(list(Records(b"")), [])
+
+    def test_a_map_that_is_only_read(self):
+        with tempfile.TemporaryFile() as file:
+            file.write(LOG)
+            file.flush()
+            with mmap.mmap(file.fileno(), 0, access=mmap.ACCESS_READ) as log:
+                with Records(log) as records:
+                    self.assertEqual(next(records).bytes, ONE)
+                self.assertEqual(wolzenn.recover(log).groups, 2)
+
+    def test_the_log_is_kept_until_the_end(self):
+        log = bytearray(LOG)
+        records = Records(log)
+        with self.assertRaises(BufferError):
+            log.append(0)
+        list(records)
+        log.append(0)
+
+    def test_closed(self):
+        records = Records(LOG)
+        records.close()
+        records.close()
+        with self.assertRaises(ValueError):
+            next(records)
+
+
+class Recovering(unittest.TestCase):
+    def test_pairs(self):
+        with wolzenn.recover(LOG) as found:
+            self.assertEqual((found.groups, found.last, found.kept), (2, 4, len(LOG)))
+            self.assertEqual(list(found), [Pair(0, b"b", b""), Pair(0, b"c", b"3")])
+            self.assertEqual((len(found), found[-1], found.get(b"c"), found.get(b"a")), (2, found[1], b"3", None))
+            places = [found.find(b"c"), found.find(b"bb"), found.find(b"", 1)]
+            self.assertEqual(places, [(1, True), (1, False), (2, False)])
+            self.assertEqual(found.end, End(len(LOG), Why.CLEAN))
+            with self.assertRaises(IndexError):
+                found[2]
+
+    def test_modes(self):
+        cut = LOG[:-1]
+        for mode in (Mode.POINT, Mode.TAIL):
+            with wolzenn.recover(cut, mode=mode) as found:
+                self.assertEqual((found.groups, found.end.why), (1, Why.BAD_LENGTH))
+        with self.assertRaises(wolzenn.Damage) as raised:
+            wolzenn.recover(cut, mode=Mode.ABSOLUTE)
+        self.assertEqual(raised.exception.end.why, Why.BAD_LENGTH)
+        with self.assertRaises(ValueError):
+            wolzenn.recover(cut, mode=3)
+
+    def test_families(self):
+        with Batch(1) as batch:
+            batch.put(b"k", b"2", family=300)
+            batch.put(b"k", b"1")
+            batch.put(b"gone", b"1", family=2)
+            batch.delete(b"gone", family=2)
+            log = log_of(batch)
+        with wolzenn.recover(log) as found:
+            self.assertEqual(list(found), [Pair(0, b"k", b"1"), Pair(300, b"k", b"2")])
+            self.assertEqual(found.get(b"k", family=300), b"2")
+
+
+class Batches(unittest.TestCase):
+    def test_operations(self):
+        with Batch() as batch:
+            batch.put(b"a", bytearray(b"1"))
+            batch.put(memoryview(b"a"), b"", family=1)
+            batch.delete(b"")
+            batch.single_delete(b"s")
+            batch.single_delete(b"s", 1)
+            batch.delete(b"d", 2)
+            batch.log_data(b"note")
+            batch.sequence = 2**56
+            self.assertEqual((batch.sequence, batch.count, len(batch)), (2**56, 6, len(bytes(batch))))
+            data = bytes(batch)
+        self.assertEqual(wolzenn.read_batch(data), BatchHead(2**56, 6))
+        says = [
+            Op(Kind.VALUE, 0, b"a", b"1"),
+            Op(Kind.VALUE_CF, 1, b"a", b""),
+            Op(Kind.DELETION, 0, b"", None),
+            Op(Kind.SINGLE_DELETION, 0, b"s", None),
+            Op(Kind.SINGLE_DELETION_CF, 1, b"s", None),
+            Op(Kind.DELETION_CF, 2, b"d", None),
+            Op(Kind.LOG_DATA, 0, b"note", None),
+        ]
+        self.assertEqual(list(wolzenn.operations(data)), says)
+
+    def test_a_group(self):
+        with Batch(9) as group, Batch(1) as member:
+            member.put(b"a", b"1")
+            group.append(member)
+            group.append(TWO)
+            self.assertEqual((group.sequence, group.count), (9, 3))
+            old = bytes(group)
+            with self.assertRaises(wolzenn.NoBatch) as raised:
+                group.append(TWO[:-1])
+            self.assertEqual((raised.exception.end, bytes(group)), (End(0, Why.SHORT), old))
+            group.clear()
+            self.assertEqual(bytes(group), bytes(12))
+
+    def test_too_large(self):
+        with Batch() as batch:
+            with self.assertRaises(wolzenn.TooLarge):
+                batch.delete(bytes(wolzenn.MAX_BATCH))
+            self.assertEqual(len(batch), wolzenn.BATCH_HEADER_LEN)
+
+    def test_no_batch(self):
+        uncounted = ONE[:8] + bytes(4) + ONE[12:]
+        for data, says in ((b"", "0 short"), (ONE + b"\x02", "0 tag 2"), (uncounted, "0 count 0 2")):
+            with self.assertRaises(wolzenn.NoBatch) as raised:
+                wolzenn.read_batch(data)
+            self.assertEqual(str(raised.exception.end), says)
+        found = wolzenn.operations(ONE + b"\x02")
+        self.assertEqual([next(found).key, next(found).key], [b"a", b"b"])
+        with self.assertRaises(wolzenn.NoBatch) as raised:
+            next(found)
+        self.assertEqual(str(raised.exception.end), f"{len(ONE)} tag 2")
+        with self.assertRaises(wolzenn.NoBatch):
+            next(wolzenn.operations(b"short"))
+
+    def test_numbers_out_of_range(self):
+        with Batch() as batch:
+            for call in (lambda: batch.put(b"", b"", 2**32), lambda: setattr(batch, "sequence", -1)):
+                with self.assertRaises(ValueError):
+                    call()
+        for call in (lambda: Records(LOG, -1), lambda: Records(LOG, 0, 2**64), lambda: wolzenn.crc32c(b"", 2**32)):
+            with self.assertRaises(ValueError):
+                call()
+        with self.assertRaises(TypeError):
+            Records("text")
+
+
+class Writing(unittest.TestCase):
+    def test_a_record_of_many_blocks(self):
+        large = bytes(100_000)
+        text = wolzenn.record_bytes(large, 7, 40_000)
+        log = bytes(40_000) + text
+        self.assertEqual([it.bytes for it in Records(log, 7, 40_000)], [large])
+
+    def test_resumed(self):
+        with tempfile.TemporaryFile(buffering=0) as file:
+            writer = LogWriter(file)
+            self.assertEqual(writer.append(ONE), writer.offset)
+            file.write(b"torn")
+            file.seek(0)
+            with wolzenn.recover(file.read(), mode=Mode.TAIL) as found:
+                file.truncate(found.kept)
+                file.seek(found.kept)
+                LogWriter(file, 0, found.kept).append(TWO)
+            file.seek(0)
+            self.assertEqual(file.read(), LOG)
+
+    def test_a_file_that_takes_a_part(self):
+        class Slow(io.RawIOBase):
+            taken = b""
+
+            def write(self, data):
+                if len(self.taken) >= 40:
+                    raise OSError("full")
+                self.taken += bytes(data[:9])
+                return min(len(data), 9)
+
+        writer = LogWriter(Slow())
+        end = writer.append(ONE)
+        self.assertEqual(writer.file.taken, LOG[:end])
+        with self.assertRaises(OSError):
+            writer.append(TWO)
+        with self.assertRaisesRegex(OSError, "an earlier record"):
+            writer.append(TWO)
+        self.assertEqual(writer.offset, end)
+
+
+class Others(unittest.TestCase):
+    def test_checksums(self):
+        self.assertEqual(wolzenn.crc32c(b"123456789"), 0xE3069283)
+        self.assertEqual(wolzenn.crc32c(b"6789", wolzenn.crc32c(b"12345")), 0xE3069283)
+        self.assertEqual((wolzenn.crc32c(b""), wolzenn.crc32c_mask(0)), (0, 0xA282EAD8))
+
+    def test_another_thread(self):
+        batch, raised = Batch(), []
+
+        def use():
+            try:
+                batch.put(b"a", b"1")
+            except RuntimeError as why:
+                raised.append(why)
+
+        thread = threading.Thread(target=use)
+        thread.start()
+        thread.join()
+        self.assertEqual((len(raised), batch.count), (1, 0))
+
+    def test_memory_is_given_back(self):
+        def pages():
+            with open("/proc/self/statm") as file:
+                return int(file.read().split()[1])
+
+        large = bytes(1_000_000)
+        before = 0
+        for at in range(60):
+            with self.assertRaises(wolzenn.NoBatch):
+                Batch().append(b"no batch")
+            batch = Batch(1)
+            batch.put(large, large)
+            found = wolzenn.recover(log_of(batch))
+            next(Records(log_of(batch)))
+            del batch, found
+            gc.collect()
+            before = pages() if at == 20 else before
+        self.assertLess(pages() - before, 10_000_000 // os.sysconf("SC_PAGE_SIZE"))
+
+    def test_words(self):
+        self.assertEqual([str(it) for it in (Why.SHORT_HEADER, Why.OLD_LOG)], ["shortheader", "oldlog"])
+
+
+if __name__ == "__main__":
+    unittest.main()
