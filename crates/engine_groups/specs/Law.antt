@@ -10,7 +10,7 @@ use Rattle.engine_parts.specs.declared.requests.Answer.{Answer}
 use Rattle.engine_groups.specs.declared.leader.EngineAtOpening.{EngineAtOpening}
 use Rattle.engine_groups.specs.declared.leader.Leadership.{Leadership}
 use Rattle.engine_groups.specs.declared.leader.Right.{Right}
-use Rattle.table_tree.specs.declared.parts.MemberNodes.{MemberNodes}
+use Rattle.table_nodes.specs.declared.parts.MemberNodes.{MemberNodes}
 use Rattle.engine_rule.specs.Consistent.{EndsAreNamed}
 use Rattle.engine_stage_laws.specs.Served.{AreServed}
 use Rattle.line_writers.specs.declared.line_writers.WriterList.{WriterList}

@@ -4,7 +4,7 @@ use Rattle.log_writer.specs.declared.group_log.GroupLog.{Ghosts}
 use Rattle.engine_parts.specs.declared.log.OpenLog.{OpenLog}
 use Rattle.table_rule.specs.declared.content.MemberVersions.{MemberVersions}
 use Rattle.table_rule.specs.Histories.{last_of, made_by, versions_in}
-use Rattle.table_tree.specs.Parts.{group_of}
+use Rattle.table_nodes.specs.Parts.{group_of}
 use Rattle.line_rule.specs.declared.view.QueuedWriter.{QueuedWriter}
 use Rattle.line_rule.specs.declared.view.Handling.{Handling}
 use Rattle.line_rule.specs.Chain.{heads, all_answers, of}

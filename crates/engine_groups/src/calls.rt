@@ -16,7 +16,7 @@ use model_base::{NoMemory, ReadRefused, WriteOptions};
 use std::rt;
 use std::sync::Wait;
 use table_calls::Table;
-use table_tree::{Nodes, Parts};
+use table_nodes::{Nodes, Parts};
 
 impl<Log: ReadableLog, Versions: Table<Nodes, Parts>, Time: Clock + Drop, Watch: Gate + Drop> Engine
     for GroupEngine<Log, Versions, Time, Watch> {

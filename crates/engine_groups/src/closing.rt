@@ -19,7 +19,7 @@ use log_writer::GroupLog;
 use std::rt;
 use std::sync::Wait;
 use table_calls::{Seats, Table};
-use table_tree::{Nodes, Parts};
+use table_nodes::{Nodes, Parts};
 
 /// Takes the clients apart into their writers, seats and passes.
 pub(crate) fn part_all<Log: GroupLog, Versions: Table<Nodes, Parts>, Time>(

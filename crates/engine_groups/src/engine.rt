@@ -9,7 +9,7 @@ use log_writer::GroupLog;
 use std::alloc::Global;
 use std::snapshot::Snapshot;
 use table_calls::Table;
-use table_tree::{Nodes, Parts};
+use table_nodes::{Nodes, Parts};
 
 /// A write path whose clients write in groups.
 pub struct GroupEngine<Log: GroupLog, Versions: Table<Nodes, Parts>, Time, Watch> {

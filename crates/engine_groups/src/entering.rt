@@ -22,7 +22,7 @@ use model_base::Item;
 use std::rt;
 use std::sync::Wait;
 use table_calls::Table;
-use table_tree::{Nodes, Parts};
+use table_nodes::{Nodes, Parts};
 
 impl<
     Log: GroupLog,

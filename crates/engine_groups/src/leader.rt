@@ -10,7 +10,7 @@ use line_writers::PipelinedRole;
 use log_writer::GroupLog;
 use std::snapshot::Snapshot;
 use table_calls::Table;
-use table_tree::{Nodes, Parts};
+use table_nodes::{Nodes, Parts};
 
 /// The engine that a list of writers is for: its table, its controller, its log as it was opened, its numbers, and
 /// whether its groups go into the table in a second stage.

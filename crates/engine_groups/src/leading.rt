@@ -3,7 +3,7 @@
 ghost use Rattle.std.specs.Prelude.{◌≡◌, [], ◌∷◌, ◌++◌};
 ghost use Rattle.table_rule.specs.Histories.{last_of, Begins};
 ghost use Rattle.table_calls.specs.Account.{IsReady};
-ghost use Rattle.table_tree.specs.Parts.{group_of};
+ghost use Rattle.table_nodes.specs.Parts.{group_of};
 ghost use Rattle.engine_parts.specs.Staged.{MayLaunch};
 
 use engine_calls::Gate;
@@ -11,7 +11,7 @@ use engine_memtable::await_group;
 use std::rt;
 use std::sync::Wait;
 use table_calls::Table;
-use table_tree::{Nodes, Parts};
+use table_nodes::{Nodes, Parts};
 
 /// Puts the parts of a group into the table, and waits until they are published.
 pub(crate) fn publish_alone<Versions: Table<Nodes, Parts>, Watch: Gate, R: Wait + rt::Clock>(

@@ -20,7 +20,7 @@ use log_writer::GroupLog;
 use std::rt;
 use std::sync::Wait;
 use table_calls::Table;
-use table_tree::{Nodes, Parts};
+use table_nodes::{Nodes, Parts};
 
 impl<
     Log: GroupLog,

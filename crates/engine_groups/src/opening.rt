@@ -33,7 +33,7 @@ use model_base::{MAX_CLIENTS, MAX_SIZE, Options};
 use std::alloc::{AllocFailed, Global};
 use std::snapshot::Snapshot;
 use table_calls::{Seats, Table};
-use table_tree::{Nodes, Parts};
+use table_nodes::{Nodes, Parts};
 
 /// What an engine should have been opened with, handed back as it was.
 pub struct OpenRefused<Log: GroupLog, Versions: Table<Nodes, Parts>, Time, Watch> {

@@ -13,7 +13,7 @@ use log_writer::GroupLog;
 use std::rt;
 use std::sync::Wait;
 use table_calls::Table;
-use table_tree::{Nodes, Parts};
+use table_nodes::{Nodes, Parts};
 
 /// How many times a leader yields before it closes a group that must be synced.
 const YIELDS: u32 = 5;

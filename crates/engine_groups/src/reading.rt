@@ -17,7 +17,7 @@ use std::alloc::Global;
 use std::rt;
 use std::sync::Wait;
 use table_calls::Table;
-use table_tree::{Nodes, Parts};
+use table_nodes::{Nodes, Parts};
 
 /// The family, if there isn't it.
 fn missing(family: u32, families: u32) -> Option<u32>

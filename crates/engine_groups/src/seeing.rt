@@ -17,7 +17,7 @@ use model_base::Refusal;
 use std::rt;
 use std::sync::Wait;
 use table_calls::Table;
-use table_tree::{Nodes, Parts};
+use table_nodes::{Nodes, Parts};
 
 /// Waits until an answer speaks of sequences above `shown`. Up to `shown` the client had seen what is published when
 /// it made the call.

@@ -34,7 +34,7 @@ use std::rt;
 use std::snapshot::Snapshot;
 use std::sync::Wait;
 use table_calls::Table;
-use table_tree::{Nodes, Parts};
+use table_nodes::{Nodes, Parts};
 
 /// A read of the log waits like a write that may wait, and is written nowhere.
 const PLAIN: WriteOptions = WriteOptions {

@@ -42,7 +42,7 @@ use std::rt;
 use std::snapshot::Snapshot;
 use std::sync::Wait;
 use table_calls::Table;
-use table_tree::{Nodes, Parts};
+use table_nodes::{Nodes, Parts};
 
 impl<
     Log: GroupLog,

@@ -20,11 +20,11 @@ use Rattle.engine_controller.proofs.pass.Pass.TheSendSync as pass
 use Rattle.engine_controller.proofs.pass.Note.TheSendSync as note
 use Rattle.model_base.proofs.write.WriteOptions.TheSendSync as options
 use Rattle.log_batch.proofs.batch.Batch.TheSendSync as batch
-use Rattle.table_tree.specs.contracts.node.Nodes as nodes
+use Rattle.table_nodes.specs.contracts.node.Nodes as nodes
 use Rattle.table_tree.specs.contracts.tree.Tree as tree
-use Rattle.table_tree.specs.contracts.gathered.GatheredNodes as gathered
-use Rattle.table_tree.specs.contracts.parts.Parts as parts
-use Rattle.table_tree.specs.contracts.parts.MemberNodes as part
+use Rattle.table_nodes.specs.contracts.gathered.GatheredNodes as gathered
+use Rattle.table_nodes.specs.contracts.parts.Parts as parts
+use Rattle.table_nodes.specs.contracts.parts.MemberNodes as part
 use Rattle.table_steps.specs.contracts.seat.TableSeat as seat_row
 use Rattle.table_steps.specs.contracts.launching.Turn as turn_row
 use Rattle.table_memory.specs.contracts.memory_table.MemoryTable as table

@@ -12,8 +12,8 @@ use Rattle.table_rule.specs.declared.content.MemberVersions.{MemberVersions}
 use Rattle.table_rule.specs.declared.content.Version.{Version}
 use Rattle.table_rule.specs.Batches.{new_versions, number_from}
 use Rattle.table_rule.specs.Histories.{Apart, Members, versions_in}
-use Rattle.table_tree.specs.declared.parts.MemberNodes.{MemberNodes}
-use Rattle.table_tree.specs.Parts.{group_of, with_part}
+use Rattle.table_nodes.specs.declared.parts.MemberNodes.{MemberNodes}
+use Rattle.table_nodes.specs.Parts.{group_of, with_part}
 use Rattle.engine_rule.specs.Parts.{HaveParts, members_of}
 use Rattle.engine_rule.specs.Plans.{AreLawful, CommitRequest, last_with, versions_from}
 use Rattle.engine_stage_laws.specs.Served.{part_at, parts_from}

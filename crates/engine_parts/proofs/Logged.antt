@@ -11,7 +11,7 @@ use Rattle.engine_parts.specs.declared.log.OpenLog.{OpenLog}
 use Rattle.log_writer.specs.Adding.{call_of, count_of_fault}
 use Rattle.engine_parts.specs.Logs.{Adds}
 use Rattle.table_rule.specs.declared.content.Version.{Version}
-use Rattle.table_tree.specs.declared.parts.MemberNodes.{MemberNodes}
+use Rattle.table_nodes.specs.declared.parts.MemberNodes.{MemberNodes}
 use Rattle.table_rule.specs.Batches.{new_versions, number_from}
 use Rattle.engine_parts.specs.declared.requests.Request.{Request}
 use Rattle.engine_parts.specs.declared.requests.Delay.{Delay}

@@ -8,7 +8,7 @@ use Rattle.model_base.specs.Controller.{ControllerCall}
 use Rattle.table_rule.specs.declared.content.MemberVersions.{MemberVersions}
 use Rattle.line_rule.specs.declared.view.Handling.{Handling}
 use Rattle.log_updates.specs.declared.places.LogPlace.{LogPlace}
-use Rattle.table_tree.specs.declared.parts.MemberNodes.{MemberNodes}
+use Rattle.table_nodes.specs.declared.parts.MemberNodes.{MemberNodes}
 use Rattle.engine_controller.specs.declared.controller.Controller.{Controller}
 use Rattle.engine_controller.specs.Noted.{Noted}
 use Rattle.engine_rule.specs.Commits.{Commit}

@@ -11,7 +11,7 @@ use Rattle.engine_parts.specs.Places.{MayBegin}
 use Rattle.model_base.specs.Controller.{ControllerCall}
 use Rattle.model_base.specs.LogContents.{GroupCall}
 use Rattle.table_rule.specs.declared.content.MemberVersions.{MemberVersions}
-use Rattle.table_tree.specs.declared.parts.MemberNodes.{MemberNodes}
+use Rattle.table_nodes.specs.declared.parts.MemberNodes.{MemberNodes}
 use Rattle.line_rule.specs.declared.view.Handling.{Handling}
 use Rattle.engine_rule.specs.Consistent.{AreConsistent}
 use Rattle.engine_rule.specs.LogSights.{worked_in, ShowTheLog}

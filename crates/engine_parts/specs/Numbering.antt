@@ -10,8 +10,8 @@ use Rattle.table_rule.specs.declared.content.MemberVersions.{MemberVersions}
 use Rattle.table_rule.specs.declared.content.Version.{Version}
 use Rattle.table_rule.specs.Batches.{new_versions, number_from}
 use Rattle.table_rule.specs.Histories.{In, Members, versions_in}
-use Rattle.table_tree.specs.Parts.{with_part}
-use Rattle.table_tree.specs.declared.parts.MemberNodes.{MemberNodes}
+use Rattle.table_nodes.specs.Parts.{with_part}
+use Rattle.table_nodes.specs.declared.parts.MemberNodes.{MemberNodes}
 use Rattle.engine_rule.specs.Parts.{HaveParts}
 use Rattle.engine_rule.specs.Plans.{last_with}
 use Rattle.engine_parts.specs.declared.requests.Request.{Request}

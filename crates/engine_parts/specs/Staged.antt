@@ -3,8 +3,8 @@ use Rattle.std.specs.Prelude.{◌≡◌, ℕ, ◌+◌, ◌<◌, List, [], ◌∷
 use Rattle.std.specs.List.{AllByRecursion}
 use Rattle.table_rule.specs.declared.content.MemberVersions.{MemberVersions}
 use Rattle.table_rule.specs.Histories.{Members, Runs, versions_in}
-use Rattle.table_tree.specs.declared.parts.MemberNodes.{MemberNodes}
-use Rattle.table_tree.specs.Parts.{group_of}
+use Rattle.table_nodes.specs.declared.parts.MemberNodes.{MemberNodes}
+use Rattle.table_nodes.specs.Parts.{group_of}
 use Rattle.engine_rule.specs.Parts.{HaveParts}
 use Rattle.engine_rule.specs.Commits.{Answer as CommitAnswer, accepted, held_up, failed, no_room}
 use Rattle.engine_parts.specs.declared.requests.Answer.{Answer}

@@ -7,7 +7,7 @@ use crate::numbering::Numbering;
 use log_batch::Batch;
 use model_base::NoMemory;
 use std::alloc::Global;
-use table_tree::Parts;
+use table_nodes::Parts;
 
 /// A leader's lists, with room for all clients. Between its groups they are empty, except that `members` still lists
 /// those that worked in parallel with it last.

@@ -8,7 +8,7 @@ ghost use Rattle.engine_parts.specs.declared.log.OpenLog.{OpenLog as Opened};
 ghost use Rattle.log_writer.specs.Groups.{counts_of, body_lens_of};
 ghost use Rattle.log_writer.specs.Adding.{call_of};
 ghost use Rattle.engine_parts.specs.Logs.{Adds};
-ghost use Rattle.table_tree.specs.Parts.{group_of};
+ghost use Rattle.table_nodes.specs.Parts.{group_of};
 ghost use Rattle.engine_parts.specs.Handled.{HandsBack, IsReplyOf, seen_at, handled_with, InOrder};
 ghost use Rattle.engine_parts.specs.Numbering.{AreHelpers, AreEnough, answers, others_in};
 ghost use Rattle.engine_parts.specs.Layout.{IsClear};

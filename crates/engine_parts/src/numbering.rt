@@ -3,7 +3,7 @@
 ghost use Rattle.std.specs.Prelude.{◌≡◌, ◌≤◌, ◌+◌, ◌<◌, ◌^◌, ℕ, List, Err, false, true, [], ◌∷◌, ◌++◌, length, if◌then◌else◌, MatchOption, vec_len, vec_capacity};
 ghost use Rattle.model_base.specs.History.{max_sequence};
 ghost use Rattle.table_rule.specs.declared.content.Version.{Version};
-ghost use Rattle.table_tree.specs.Parts.{group_of};
+ghost use Rattle.table_nodes.specs.Parts.{group_of};
 ghost use Rattle.engine_rule.specs.Plans.{last_with_all, last_with, versions_at, versions_from, AreLawful, HaveOwnClients};
 ghost use Rattle.engine_rule.specs.Parts.{members_of};
 ghost use Rattle.engine_stage_laws.specs.Served.{parts_from};
@@ -18,7 +18,7 @@ use engine_calls::{Receipt, Refused};
 use log_batch::{Batch, Run, next_run};
 use model_base::Refusal;
 use std::snapshot::Snapshot;
-use table_tree::Parts;
+use table_nodes::Parts;
 
 /// How many records a member must bring, on average, so that it is faster to wake it and let it insert them itself
 /// than to let its leader insert them too.

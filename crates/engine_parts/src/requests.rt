@@ -11,7 +11,7 @@ use engine_controller::{Note, Pass};
 use log_batch::Batch;
 use model_base::WriteOptions;
 use std::snapshot::Snapshot;
-use table_tree::Nodes;
+use table_nodes::Nodes;
 
 /// A batch that should be written, with the nodes that it makes, those of its last record first. Or the log should be
 /// read: then the batch is an empty one.

@@ -2,14 +2,19 @@
 use denote.Struct.Declared.{shape, fields}
 use denote.Param.Send.{IsSend, IsSync, AllSync, struct_sync, recorded_sync, sendable}
 use Rattle.std.proofs.Crossing.{crosses}
-use Rattle.table_tree.proofs.value.Value.TheSendSync as value
+use Rattle.table_nodes.proofs.value.Value.TheSendSync as value
 use Rattle.base_maps.proofs.key.ByteKey.TheSendSync as key
-use Rattle.table_tree.specs.contracts.node.Nodes as nodes
+use Rattle.table_nodes.specs.contracts.node.Node as node
+use Rattle.table_nodes.specs.contracts.node.Nodes as nodes
 use Rattle.table_tree.specs.contracts.tree.Tree as tree
-use Rattle.table_tree.proofs.node.Nodes.TheLaws.TheKnot as knot
-use Rattle.table_tree.proofs.node.Balance.TheSendSync as balance
+use Rattle.table_tree.specs.contracts.entry.Entry as entry
+use Rattle.table_tree.specs.contracts.page.Page as page
+use Rattle.table_nodes.proofs.node.Nodes.TheLaws.TheKnot as knot
+use Rattle.table_tree.proofs.front.Front.TheSendSync as front
+use Rattle.table_tree.proofs.entry.Families.TheSendSync as families
+use Rattle.table_tree.proofs.page.Page.TheLaws.TheKnot as pages
 use Rattle.table_tree.specs.contracts.calls.TreeVersioned.TheImpl as tree_ghosts
-use Rattle.table_tree.specs.contracts.calls.NodesVersioned.TheImpl as nodes_ghosts
+use Rattle.table_nodes.specs.contracts.calls.NodesVersioned.TheImpl as nodes_ghosts
 use Rattle.table_steps.specs.contracts.seat.TableSeat as seat_row
 use Rattle.table_steps.specs.contracts.launching.Turn as turn_row
 use Rattle.table_steps.proofs.seat.TableSeat.TheSendSync as seat
@@ -18,10 +23,19 @@ use Rattle.table_steps.proofs.shared.SharedTable.TheSendSync as shared
 use Rattle.table_memory.specs.contracts.memory_table.MemoryTable as table
 
 pub nodes_send : IsSend nodes.the_row
-nodes_send = search (sendable, crosses, knot.send-Nodes, key.the_send, value.the_send, balance.the_send) depth 9
+nodes_send = search (sendable, crosses, knot.send-Nodes, key.the_send, value.the_send) depth 9
+
+node_send : IsSend (node.the_field).row
+node_send = search (sendable, crosses, knot.send-Node, nodes_send, key.the_send, value.the_send) depth 12
+
+entry_send : IsSend entry.the_row
+entry_send = search (sendable, crosses, front.the_send, node_send) depth 12
+
+page_send : IsSend page.the_row
+page_send = search (sendable, crosses, pages.send-Page, entry_send, families.the_send) depth 12
 
 pub tree_send : IsSend tree.the_row
-tree_send = search (sendable, crosses, knot.send-Subtree, key.the_send, value.the_send, balance.the_send) depth 12
+tree_send = search (sendable, crosses, page_send, nodes_send) depth 12
 
 pub seat_send : IsSend (seat_row.the_row tree.the_row nodes.the_row)
 seat_send = seat.the_send tree.the_row nodes.the_row tree_send nodes_send

@@ -1,7 +1,7 @@
 -- What a table in memory says of itself.
 use Rattle.std.specs.Prelude.{◌≡◌, ℕ, List}
-use Rattle.table_tree.specs.declared.node.Nodes.{Nodes}
-use Rattle.table_tree.specs.declared.parts.Parts.{Parts}
+use Rattle.table_nodes.specs.declared.node.Nodes.{Nodes}
+use Rattle.table_nodes.specs.declared.parts.Parts.{Parts}
 use Rattle.table_tree.specs.declared.tree.Tree.{Tree}
 use Rattle.table_rule.specs.declared.view.Opening.{Opening}
 use Rattle.table_rule.specs.Histories.{In}

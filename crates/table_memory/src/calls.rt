@@ -12,8 +12,9 @@ use std::alloc::Global;
 use std::rt;
 use std::sync::Wait;
 use table_calls::{Finished, Seats, Table};
+use table_nodes::{Nodes, Parts};
 use table_steps::{TableSeat, Turn};
-use table_tree::{Nodes, Parts, Tree};
+use table_tree::Tree;
 
 impl Table<Nodes, Parts> for MemoryTable {
     type Seat = TableSeat<Tree, Nodes>;

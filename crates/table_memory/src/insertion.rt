@@ -11,8 +11,9 @@ ghost use Rattle.table_memory.specs.Meaning.{opening_of, account_of, IsOurs};
 use crate::memory_table::MemoryTable;
 use std::sync::Wait;
 use std::{mem, rt};
+use table_nodes::Nodes;
 use table_steps::TableSeat;
-use table_tree::{Nodes, Tree};
+use table_tree::Tree;
 
 impl MemoryTable {
     /// Puts all nodes of the client's part into the trees. They go in in the order of their sequences, as the table's

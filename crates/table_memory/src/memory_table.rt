@@ -3,8 +3,9 @@
 ghost use Rattle.std.specs.Prelude.{◌<◌};
 ghost use Rattle.table_steps.specs.Accounts.{opening_of};
 
+use table_nodes::Nodes;
 use table_steps::SharedTable;
-use table_tree::{Nodes, Tree};
+use table_tree::Tree;
 
 /// A table of versions in memory, which are spread over its shards by their keys. Each shard is a tree under a lock of
 /// its own.

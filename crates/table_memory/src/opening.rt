@@ -12,9 +12,10 @@ use model_base::NoMemory;
 use std::alloc::Global;
 use std::marker::Brand;
 use table_calls::Seats;
+use table_nodes::{Node, Nodes};
 use table_rule::{Base, VersionPlan};
 use table_steps::{SharedTable, TableSeat, Turn};
-use table_tree::{Node, Nodes, Tree};
+use table_tree::Tree;
 
 /// Trees of no versions.
 fn empty_trees(alloc: Global, count: u32) -> Result<Vec<Tree>, NoMemory>

@@ -13,8 +13,9 @@ use model_base::NoMemory;
 use std::alloc::Global;
 use std::rt;
 use std::sync::Wait;
+use table_nodes::Nodes;
 use table_steps::TableSeat;
-use table_tree::{Nodes, Tree};
+use table_tree::Tree;
 
 /// The shard of a family's key among `shards`, by a checksum. If there is only one shard, it is every key's.
 pub(crate) fn shard_of(family: u32, key: &[u8], shards: u64) -> u64

@@ -13,8 +13,9 @@ use model_base::NoMemory;
 use std::alloc::Global;
 use std::rt;
 use std::sync::Wait;
+use table_nodes::Nodes;
 use table_steps::TableSeat;
-use table_tree::{Nodes, Tree};
+use table_tree::Tree;
 
 /// Rows of different keys, sorted in the byte order of the keys.
 fn in_byte_order(mut rows: Vec<(Bytes, Bytes)>) -> PairList

@@ -12,8 +12,8 @@ use Rattle.model_base.specs.Map.{Pairs, key_order, after_record, after_records, 
 use Rattle.table_rule.specs.declared.content.Version.{Version}
 use Rattle.table_rule.specs.Histories.{In, AreRising, IsOrderUpTo, record_of, map_of}
 use Rattle.table_tree.specs.Versions.{version_order, AreOrdered}
-use Rattle.table_tree.specs.Shapes.{Shape, versions_in}
-use Rattle.table_tree.specs.Newest.{is_seen, newest}
+use Rattle.table_nodes.specs.Newest.{is_seen, said}
+use Rattle.table_tree.specs.Newest.{newest_version}
 use Rattle.table_tree.proofs.Order.{sorted_past}
 use Rattle.table_rule.proofs.Keys.{key_total}
 use Rattle.table_tree.proofs.VersionOrder.{before_cases}
@@ -70,12 +70,12 @@ module _ (key : Key) where
     record IsNewestOf (l : List Version) (w : Version) : Type 0 where
       is_in : In w l
       seen : is_seen key at w ≡ true
-      says : newest key at l ≡ Some w.value
+      says : newest_version key at l ≡ Some w
       top : (u : Version) → In u l → is_seen key at u ≡ true → (u.sequence ≤ w.sequence) × (u.sequence ≡ w.sequence → u.value ≡ w.value)
 
     -- no version is of the key and up to the sequence
     record HasNone (l : List Version) : Type 0 where
-      says : newest key at l ≡ None
+      says : newest_version key at l ≡ None
       none : (u : Version) → In u l → is_seen key at u ≡ false
 
     eq_from : (o : Ordering) → is_eq o ≡ true → o ≡ Equal
@@ -84,7 +84,7 @@ module _ (key : Key) where
     eq_from Greater e = absurd (cc)
 
     -- of two versions of the key, the one that comes first is newer
-    newer : (v u : Version) → is_seen key at v ≡ true → is_seen key at u ≡ true → version_order v u ≡ Less → u.sequence < v.sequence
+    pub newer : (v u : Version) → is_seen key at v ≡ true → is_seen key at u ≡ true → version_order v u ≡ Less → u.sequence < v.sequence
     newer v u sv su p =
         let kv = eq_from (key_order key v.key) (and_parts _ _ sv).0 in
         let ku = eq_from (key_order key u.key) (and_parts _ _ su).0 in
@@ -101,7 +101,7 @@ module _ (key : Key) where
           record {
             is_in = inl refl;
             seen = y;
-            says = ap (λ b. cond b (Some v.value) (newest key at l)) y;
+            says = ap (λ b. cond b (Some v) (newest_version key at l)) y;
             top = λ u i su. elim i [
               | inl e ↦ (let s = ap (λ (x : Version). x.sequence) e in omega arith, λ _. sym (ap (λ (x : Version). x.value) e))
               | inr j ↦ let less = newer v u y su (all_at (λ x. version_order v x ≡ Less) l u (sorted_past version_order v l s).0 j) in (omega arith, λ same. absurd (omega arith))
@@ -113,7 +113,7 @@ module _ (key : Key) where
           record {
             is_in = inr found.is_in;
             seen = found.seen;
-            says = ap (λ b. cond b (Some v.value) (newest key at l)) y ∙ found.says;
+            says = ap (λ b. cond b (Some v) (newest_version key at l)) y ∙ found.says;
             top = λ u i su. elim i [
               | inl e ↦ absurd (false≢true (sym y ∙ subst (λ x. is_seen key at x ≡ true) (sym e) su))
               | inr j ↦ found.top u j su
@@ -121,19 +121,14 @@ module _ (key : Key) where
           },
         )
         go false y (inr none) = inr (record {
-          says = ap (λ b. cond b (Some v.value) (newest key at l)) y ∙ none.says;
+          says = ap (λ b. cond b (Some v) (newest_version key at l)) y ∙ none.says;
           none = λ u i. elim i [
             | inl e ↦ subst (λ x. is_seen key at x ≡ false) e y
             | inr j ↦ none.none u j
           ];
         })
 
--- the key's value, by what a version says: no version is like a deletion
-abbrev pub said : Option (Option (List ℕ)) → Option (List ℕ)
-said None = None
-said (Some o) = o
-
-pub value_is_newest : (key : Key) (at : ℕ) (versions history : List Version) → AreOrdered versions → IsOrderUpTo at versions history → value_at (map_of history) key ≡ said (newest key at versions)
+pub value_is_newest : (key : Key) (at : ℕ) (versions history : List Version) → AreOrdered versions → IsOrderUpTo at versions history → value_at (map_of history) key ≡ said (newest_version key at versions)
 unfolding IsStrictlySortedBy
 value_is_newest key at versions history s h =
     value_latest key history [] tt ∙ elim (find key at versions s) [
@@ -153,9 +148,3 @@ value_is_newest key at versions history s h =
         go : (b : Bool) → of_key key u ≡ b → b ≡ false
         go true y = absurd (false≢true (sym n ∙ and_from _ _ y (le-leb u.sequence at le)))
         go false y = refl
-
--- the newest version of a key in a tree says what the key has in the map
-pub tree_value : (key : Key) (at : ℕ) (s t : Shape) (history : List Version) → t ≡ s → AreOrdered (versions_in t) → IsOrderUpTo at (versions_in s) history
-    → (o : Option (Option (List ℕ))) → o ≡ newest key at (versions_in t) → said o ≡ value_at (map_of history) key
-tree_value key at s t history is ordered h o found =
-    ap said found ∙ sym (value_is_newest key at (versions_in t) history ordered (subst (λ x. IsOrderUpTo at (versions_in x) history) (sym is) h))

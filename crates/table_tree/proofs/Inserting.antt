@@ -1,33 +1,13 @@
--- What an insertion keeps: the balance, and the order of versions.
-use Rattle.std.proofs.Common.{◌≡◌, ◌≢◌, ◌+◌, ◌<◌, List, [], ◌∷◌, sym, subst, arith, Option, None, Some, Box}
-use Rattle.std.specs.declared.alloc.Global.{Global}
-use Rattle.table_tree.specs.declared.node.Balance.{Balance}
-use Rattle.table_tree.specs.declared.node.Balance.TheVariants.{Left, Even, Right}
-use Rattle.table_tree.specs.declared.node.Node.{Node}
-use Rattle.table_tree.specs.Nodes.{HasBalance, shape_of, IsKept}
+-- Versions that are new.
+use Rattle.std.proofs.Common.{◌≡◌, ◌≢◌, ◌+◌, ◌<◌, List, [], ◌∷◌, sym, arith}
 use Rattle.std.specs.declared.cmp.Ordering.{Ordering}
 use Rattle.std.specs.declared.cmp.Ordering.TheVariants.{Less, Equal, Greater}
 use Rattle.std.specs.Ordering.{nat_cmp, ordering_then}
 use Rattle.std.proofs.lemmas.Cmp.{ranked}
 use Rattle.model_base.specs.Map.{key_order}
 use Rattle.table_rule.specs.declared.content.Version.{Version}
-use Rattle.table_tree.specs.Versions.{version_order, AreOrdered, IsNew, AreBelow, insert_version}
-use Rattle.table_tree.specs.Shapes.{Shape, height, versions_in, IsBalanced}
-use Rattle.table_tree.proofs.Order.{all_mapped, all_inserted, sorted_inserted}
-use Rattle.table_tree.proofs.VersionOrder.{version_total}
-
--- what the nodes keep makes the tree balanced
-pub kept_balanced : (root : Option (Box Node Global)) → IsKept root → IsBalanced (shape_of root)
-kept_balanced None k = tt
-kept_balanced (Some n) k = go n.value.balance k.2
-  where
-    go : (b : Balance) → HasBalance b (height n.value.left) (height n.value.right) → IsBalanced (shape_of (Some n))
-    go Left e = (k.0, k.1, omega arith, omega arith)
-    go Even e = (k.0, k.1, omega arith, omega arith)
-    go Right e = (k.0, k.1, omega arith, omega arith)
-
-pub inserted_ordered : (s t : Shape) (v : Version) → AreOrdered (versions_in s) → versions_in t ≡ insert_version (versions_in s) v → AreOrdered (versions_in t)
-inserted_ordered s t v ordered is = subst AreOrdered (sym is) (sorted_inserted version_order version_total v (versions_in s) ordered)
+use Rattle.table_tree.specs.Versions.{version_order, IsNew, AreBelow, insert_version}
+use Rattle.table_tree.proofs.Order.{all_mapped, all_inserted}
 
 pub both_equal : (c d : Ordering) → ordering_then c d ≡ Equal → d ≡ Equal
 both_equal Less d e = absurd (cc)

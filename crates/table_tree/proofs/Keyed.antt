@@ -1,6 +1,6 @@
 -- Chains of distinct keys with one more version: the keys stay distinct, and the versions are those that there were,
 -- with the new one at its place.
-use Rattle.std.proofs.Common.{◌≡◌, ◌≢◌, ℕ, ◌≤◌, true, false, cond, leb, List, [], ◌∷◌, ◌++◌, refl, sym, ap, ◌∙◌, subst, arith}
+use Rattle.std.proofs.Common.{◌≡◌, ◌≢◌, ◌≤◌, true, false, cond, leb, List, [], ◌∷◌, ◌++◌, refl, sym, ap, ◌∙◌, subst, arith}
 use Rattle.std.proofs.lemmas.Bool.{le-leb}
 use Rattle.std.proofs.lemmas.Cmp.{ranked, tied_itself}
 use Rattle.std.specs.List.{AllByRecursion}
@@ -12,7 +12,7 @@ use Rattle.model_base.specs.declared.key.Key.{Key}
 use Rattle.model_base.specs.Map.{key_order}
 use Rattle.table_rule.specs.declared.content.Version.{Version}
 use Rattle.table_tree.specs.Versions.{version_order, IsNew, insert_version}
-use Rattle.table_tree.specs.Chains.{Chain, key_of, chain_versions, versions_of, HasOneKey, chain_order, AreSorted, AreKeyed, insert_older, with_version, alone, insert_in_chains}
+use Rattle.table_nodes.specs.Chains.{Chain, key_of, chain_versions, versions_of, HasOneKey, chain_order, AreSorted, AreKeyed, insert_older, with_version, alone, insert_in_chains}
 use Rattle.table_tree.proofs.Order.{all_mapped, all_both, all_front, all_back, insert_first, insert_behind, flip_greater}
 use Rattle.table_rule.proofs.Keys.{key_total, equal_keys}
 use Rattle.table_tree.proofs.VersionOrder.{version_total, leb_above}

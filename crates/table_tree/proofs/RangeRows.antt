@@ -15,81 +15,78 @@ use Rattle.model_base.specs.Map.{is_between as is_between_bytes}
 use Rattle.table_rule.specs.declared.content.Version.{Version}
 use Rattle.table_rule.specs.Histories.{IsOrderUpTo, record_of, map_of}
 use Rattle.table_tree.specs.Versions.{AreOrdered}
-use Rattle.table_tree.specs.Chains.{Chain, key_of, chain_versions, versions_of, chain_order, AreSorted, AreKeyed}
-use Rattle.table_tree.specs.Newest.{first_up_to, chain_at, says_at}
-use Rattle.table_tree.specs.Rows.{at_key, is_between, between, pair_of, pairs_at, rows_in}
+use Rattle.table_nodes.specs.Chains.{Chain, key_of, chain_versions, versions_of, chain_order, AreSorted, AreKeyed}
+use Rattle.table_nodes.specs.Newest.{first_up_to, said}
+use Rattle.table_tree.specs.Newest.{chain_at, newest_in}
+use Rattle.table_nodes.specs.Nodes.{at_key}
+use Rattle.table_tree.specs.Rows.{is_between, between, pair_of, pairs_at, rows_in}
 use Rattle.table_tree.proofs.Order.{all_mapped}
 use Rattle.table_rule.proofs.Keys.{key_total}
 use Rattle.table_tree.proofs.Keyed.{first_sorted}
 use Rattle.table_tree.proofs.Finding.{newest_chain}
 use Rattle.table_tree.proofs.Maps.{AreAscending, ascending_after, same_key, eq_from}
-use Rattle.table_tree.proofs.Folding.{said, value_is_newest}
+use Rattle.table_tree.proofs.Folding.{value_is_newest}
 use Rattle.table_tree.proofs.SamePairs.{none_above, same_pairs}
 
 -- what holds of a row's key, and of the keys of the rows after it, holds of all
-all_pair : (P : Key → Type 0) (k : Key) (o : Option (Option (List ℕ))) (rest : Pairs) → P k → AllByRecursion P (keys_of rest) → AllByRecursion P (keys_of (pair_of k o ++ rest))
+all_pair : (P : Key → Type 0) (k : Key) (o : Option (List ℕ)) (rest : Pairs) → P k → AllByRecursion P (keys_of rest) → AllByRecursion P (keys_of (pair_of k o ++ rest))
 all_pair P k None rest p a = a
-all_pair P k (Some None) rest p a = a
-all_pair P k (Some (Some x)) rest p a = (p, a)
+all_pair P k (Some x) rest p a = (p, a)
 
-ascending_pair : (k : Key) (o : Option (Option (List ℕ))) (rest : Pairs) → AllByRecursion (λ y. key_order k y ≡ Less) (keys_of rest) → AreAscending rest → AreAscending (pair_of k o ++ rest)
+ascending_pair : (k : Key) (o : Option (List ℕ)) (rest : Pairs) → AllByRecursion (λ y. key_order k y ≡ Less) (keys_of rest) → AreAscending rest → AreAscending (pair_of k o ++ rest)
 unfolding IsStrictlySortedBy
 ascending_pair k None rest a s = s
-ascending_pair k (Some None) rest a s = s
-ascending_pair k (Some (Some x)) rest a s = (a, s)
+ascending_pair k (Some x) rest a s = (a, s)
 
 module _ (at : ℕ) where
   all_pairs : (P : Key → Type 0) (cs : List Chain) → AllByRecursion (λ c. P (key_of c)) cs → AllByRecursion P (keys_of (pairs_at at cs))
   all_pairs P [] a = tt
-  all_pairs P (c ∷ cs) a = all_pair P (key_of c) (first_up_to at (chain_versions c)) (pairs_at at cs) a.0 (all_pairs P cs a.1)
+  all_pairs P (c ∷ cs) a = all_pair P (key_of c) (said (first_up_to at (chain_versions c))) (pairs_at at cs) a.0 (all_pairs P cs a.1)
 
   pairs_ascending : (cs : List Chain) → AreSorted cs → AreAscending (pairs_at at cs)
   unfolding IsStrictlySortedBy
   pairs_ascending [] s = tt
   pairs_ascending (c ∷ cs) s =
-      ascending_pair (key_of c) (first_up_to at (chain_versions c)) (pairs_at at cs) (all_pairs (λ y. key_order (key_of c) y ≡ Less) cs s.0) (pairs_ascending cs s.1)
+      ascending_pair (key_of c) (said (first_up_to at (chain_versions c))) (pairs_at at cs) (all_pairs (λ y. key_order (key_of c) y ≡ Less) cs s.0) (pairs_ascending cs s.1)
 
   module _ (q : Key) where
-    pair_other : (k : Key) (o : Option (Option (List ℕ))) (rest : Pairs) → same_key q k ≡ false → value_at (pair_of k o ++ rest) q ≡ value_at rest q
+    pair_other : (k : Key) (o : Option (List ℕ)) (rest : Pairs) → same_key q k ≡ false → value_at (pair_of k o ++ rest) q ≡ value_at rest q
     pair_other k None rest e = refl
-    pair_other k (Some None) rest e = refl
-    pair_other k (Some (Some x)) rest e = ap (λ b. cond b (Some x) (value_at rest q)) e
+    pair_other k (Some x) rest e = ap (λ b. cond b (Some x) (value_at rest q)) e
 
-    pair_same : (k : Key) (o : Option (Option (List ℕ))) (rest : Pairs) → same_key q k ≡ true → value_at rest q ≡ None → value_at (pair_of k o ++ rest) q ≡ said o
+    pair_same : (k : Key) (o : Option (List ℕ)) (rest : Pairs) → same_key q k ≡ true → value_at rest q ≡ None → value_at (pair_of k o ++ rest) q ≡ o
     pair_same k None rest e n = n
-    pair_same k (Some None) rest e n = n
-    pair_same k (Some (Some x)) rest e n = ap (λ b. cond b (Some x) (value_at rest q)) e
+    pair_same k (Some x) rest e n = ap (λ b. cond b (Some x) (value_at rest q)) e
 
     -- at a key the rows have what its chain says
-    pairs_value : (cs : List Chain) → AreSorted cs → value_at (pairs_at at cs) q ≡ said (says_at at (chain_at q cs))
+    pairs_value : (cs : List Chain) → AreSorted cs → value_at (pairs_at at cs) q ≡ said (newest_in at (chain_at q cs))
     pairs_value [] s = refl
     pairs_value (c ∷ cs) s = go (same_key q (key_of c)) refl (pairs_value cs (first_sorted c cs s).1)
       where
-        go : (b : Bool) → same_key q (key_of c) ≡ b → value_at (pairs_at at cs) q ≡ said (says_at at (chain_at q cs))
-            → value_at (pair_of (key_of c) (first_up_to at (chain_versions c)) ++ pairs_at at cs) q ≡ said (says_at at (cond b (Some c) (chain_at q cs)))
+        go : (b : Bool) → same_key q (key_of c) ≡ b → value_at (pairs_at at cs) q ≡ said (newest_in at (chain_at q cs))
+            → value_at (pair_of (key_of c) (said (first_up_to at (chain_versions c))) ++ pairs_at at cs) q ≡ said (newest_in at (cond b (Some c) (chain_at q cs)))
         go true e rest =
             let past = all_mapped (λ d. chain_order c d ≡ Less) (λ d. key_order q (key_of d) ≡ Less)
             (λ d p. key_total.congr q (key_of c) (key_of d) (eq_from (key_order q (key_of c)) e) ∙ p) cs (first_sorted c cs s).0 in
-            pair_same (key_of c) (first_up_to at (chain_versions c)) (pairs_at at cs) e (none_above q (pairs_at at cs) (all_pairs (λ y. key_order q y ≡ Less) cs past))
-        go false e rest = pair_other (key_of c) (first_up_to at (chain_versions c)) (pairs_at at cs) e ∙ rest
+            pair_same (key_of c) (said (first_up_to at (chain_versions c))) (pairs_at at cs) e (none_above q (pairs_at at cs) (all_pairs (λ y. key_order q y ≡ Less) cs past))
+        go false e rest = pair_other (key_of c) (said (first_up_to at (chain_versions c))) (pairs_at at cs) e ∙ rest
 
   module _ (lo hi : Key) where
     abbrev within : Pairs → Pairs
     within m = filter (λ p. is_between lo hi p.0) m
 
-    pair_within : (k : Key) (o : Option (Option (List ℕ))) (rest : Pairs) → within (pair_of k o ++ rest) ≡ cond (is_between lo hi k) (pair_of k o ++ within rest) (within rest)
+    pair_within : (k : Key) (o : Option (List ℕ)) (rest : Pairs) → within (pair_of k o ++ rest) ≡ cond (is_between lo hi k) (pair_of k o ++ within rest) (within rest)
     pair_within k None rest = elim (is_between lo hi k) as (λ b. within rest ≡ cond b (within rest) (within rest)) [ true ↦ refl | false ↦ refl ]
-    pair_within k (Some None) rest = elim (is_between lo hi k) as (λ b. within rest ≡ cond b (within rest) (within rest)) [ true ↦ refl | false ↦ refl ]
-    pair_within k (Some (Some x)) rest = refl
+    pair_within k (Some x) rest = refl
 
     -- the pairs of the chains in a range are the pairs in the range
     pairs_between : (cs : List Chain) → pairs_at at (between lo hi cs) ≡ within (pairs_at at cs)
     pairs_between [] = refl
-    pairs_between (c ∷ cs) = pushed (is_between lo hi (key_of c)) (pairs_between cs) ∙ sym (pair_within (key_of c) (first_up_to at (chain_versions c)) (pairs_at at cs))
+    pairs_between (c ∷ cs) = pushed (is_between lo hi (key_of c)) (pairs_between cs) ∙ sym (pair_within (key_of c) (said (first_up_to at (chain_versions c))) (pairs_at at cs))
       where
         pushed : (b : Bool) → pairs_at at (between lo hi cs) ≡ within (pairs_at at cs) → pairs_at at (cond b (c ∷ between lo hi cs) (between lo hi cs))
-            ≡ cond b (pair_of (key_of c) (first_up_to at (chain_versions c)) ++ within (pairs_at at cs)) (within (pairs_at at cs))
-        pushed true rest = ap (λ (t : Pairs). pair_of (key_of c) (first_up_to at (chain_versions c)) ++ t) rest
+            ≡ cond b (pair_of (key_of c) (said (first_up_to at (chain_versions c))) ++ within (pairs_at at cs)) (within (pairs_at at cs))
+        pushed true rest = ap (λ (t : Pairs). pair_of (key_of c) (said (first_up_to at (chain_versions c))) ++ t) rest
         pushed false rest = rest
 
 -- a key between two keys of one family is of this family, and between them in byte order

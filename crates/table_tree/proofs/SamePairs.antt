@@ -1,5 +1,5 @@
 -- Two maps with the same value at each key are equal.
-use Rattle.std.proofs.Common.{◌≡◌, List, ℕ, None}
+use Rattle.std.proofs.Common.{◌≡◌, None}
 use Rattle.std.specs.List.{AllByRecursion}
 use Rattle.std.specs.Map.{keys_of}
 use Rattle.std.specs.declared.cmp.Ordering.TheVariants.{Less}

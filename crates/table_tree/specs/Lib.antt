@@ -1,10 +1,9 @@
 pub mod Versions
-pub mod Chains
+pub mod Places
+pub mod Pages
+pub mod Splits
+pub mod Ways
 pub mod Shapes
-pub mod ShapeCode
-pub mod Values
-pub mod Nodes
 pub mod Newest
-pub mod Batches
 pub mod Rows
-pub mod Parts
+pub mod Ranges

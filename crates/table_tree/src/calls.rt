@@ -1,41 +1,24 @@
-//! The tree, the nodes and the parts as a table calls them.
+//! The tree as a table calls it.
 
-ghost use Rattle.std.specs.Prelude.{◌≡◌, ◌≢◌, ◌<◌, ◌^◌, ℕ, List, [], ◌∷◌, length, IfOk, MatchOption};
+ghost use Rattle.std.specs.Prelude.{◌≡◌, ◌≢◌, [], IfOk};
 ghost use Rattle.std.specs.Option.{option_copied};
 ghost use Rattle.model_base.specs.Map.{value_at, rows_within};
 ghost use Rattle.table_rule.specs.declared.content.Version.{Version};
 ghost use Rattle.table_rule.specs.Histories.{In, IsOrderUpTo, map_of};
 ghost use Rattle.table_rule.specs.Steps.{Adds};
 
-use crate::{Node, Nodes, Parts, Tree};
+use crate::Tree;
 use base_bytes::Rows;
 use model_base::NoMemory;
 use std::alloc::Global;
-use table_calls::{GroupParts, VersionNode, VersionNodes, VersionTree};
+use table_calls::VersionTree;
+use table_nodes::Node;
 use table_rule::Versioned;
 
 impl Versioned for Tree {
     ghost use Rattle.table_tree.specs.Shapes.{versions_in};
 
     ghost versions = { λ t. versions_in t };
-}
-
-impl Versioned for Nodes {
-    ghost versions = { λ n. n };
-}
-
-impl VersionNode for Node {
-    ghost use Rattle.table_tree.specs.Nodes.{version_of};
-
-    ghost version = { λ n. version_of n };
-}
-
-impl VersionNodes for Nodes {
-    type Node = Box<Node>;
-
-    fn pop(&mut self) -> Option<Box<Node>> {
-        self.pop()
-    }
 }
 
 impl VersionTree<Box<Node>> for Tree {
@@ -60,26 +43,5 @@ impl VersionTree<Box<Node>> for Tree {
         at: u64,
     ) -> Result<Rows, NoMemory> {
         self.range(alloc, family, lo, hi, at)
-    }
-}
-
-impl GroupParts<Nodes> for Parts {
-    ghost use Rattle.table_tree.specs.Parts.{group_of};
-
-    ghost parts = { λ p. group_of p.parts };
-
-    ghost room = { λ p. p.clients };
-
-    fn len(&self) -> usize {
-        self.len()
-    }
-
-    fn version_count(&self) -> u64 {
-        self.version_count()
-    }
-
-    fn pop(&mut self) -> Option<(u64, Nodes)> {
-        let part = self.pop()?;
-        Some((u64::from(part.member), part.nodes.into_nodes()))
     }
 }

@@ -1,105 +1,96 @@
 //! How a node is inserted.
 
-ghost use Rattle.std.specs.Prelude.{◌≡◌, ◌+◌, if◌then◌else◌};
-ghost use Rattle.table_tree.specs.Chains.{AreSorted, with_version, insert_in_chains};
-ghost use Rattle.table_tree.specs.Shapes.{height, chains_in, IsBalanced};
-ghost use Rattle.model_base.specs.Map.{key_order};
-ghost use Rattle.table_tree.specs.Nodes.{own_key, version_of, chain_of, shape_of, IsKept};
+ghost use Rattle.std.specs.Prelude.{◌≡◌, ◌<◌, ◌≤◌, ◌+◌, length, is_ok, IfErr, IfOk, if◌then◌else◌};
+ghost use Rattle.base_maps.specs.Fronts.{front_of};
+ghost use Rattle.table_nodes.specs.Chains.{AreSorted, insert_in_chains};
+ghost use Rattle.table_nodes.specs.Nodes.{own_key, version_of};
+ghost use Rattle.table_tree.specs.Pages.{IsDense, IsPage, woven, height_of};
+ghost use Rattle.table_tree.specs.Ways.{IsWay};
 
-use crate::node::{Node, Subtree};
-use std::cmp::Ordering;
-use std::mem;
+use crate::entry::{Entry, Families};
+use crate::front::Front;
+use crate::page::Page;
+use crate::places::place_of;
+use crate::splitting::{put, split_below};
+use model_base::NoMemory;
+use std::alloc::Global;
+use table_nodes::Node;
 
-impl Node {
-    /// How its key compares with another node's.
-    fn order(&self, other: &Node) -> Ordering
-        ensures { result ≡ key_order (own_key self.now) (own_key other.now) }
-    {
-        match self.family.cmp(&other.family) {
-            Ordering::Less => Ordering::Less,
-            Ordering::Equal => self.key.order(&other.key),
-            Ordering::Greater => Ordering::Greater,
-        }
+/// Where a node goes in a page that isn't full. If that is into a full page below, this is split, and then the place
+/// is sought once more. So whatever is below has room for one more entry, and one pass down is enough (Guibas and
+/// Sedgewick, 1978).
+fn way_of(
+    alloc: Global,
+    families: &mut Families,
+    entries: &mut Vec<Entry>,
+    below: &mut Vec<Page>,
+    node: &Node,
+    front: Front,
+) -> Result<Result<usize, usize>, NoMemory>
+    requires front { front ≡ front_of 16 (own_key node.now).bytes }
+    requires page { IsPage families.old entries.old below.old }
+    requires room { length entries.old.items < 31 }
+    requires sorted { AreSorted (woven below.old.items entries.old.items) }
+    ensures page { IsPage families.new entries.new below.new }
+    ensures same { woven below.new.items entries.new.items ≡ woven below.old.items entries.old.items }
+    ensures height { height_of below.new.items ≡ height_of below.old.items }
+    ensures grown { (length entries.old.items ≤ length entries.new.items)
+        × (length entries.new.items ≤ length entries.old.items + 1) }
+    ensures way { IfOk result (IsWay (own_key node.now) entries.new.items below.new.items) }
+{
+    let at = match place_of(entries, *families, node.family(), node.key(), front) {
+        Ok(at) => return Ok(Ok(at)),
+        Err(at) => at,
+    };
+    if at < below.len() && below[at].is_full() {
+        split_below(alloc, entries, below, at)?;
+        *families = families.with(entries[at].family());
+        return Ok(place_of(entries, *families, node.family(), node.key(), front));
     }
-
-    /// Puts another version of its key into its chain. One that is newer than the newest changes places with it, so
-    /// that the tree isn't touched.
-    fn add_version(&mut self, mut other: Box<Node>)
-        requires { own_key other.value ≡ own_key self.old }
-        ensures chain { chain_of self.new ≡ with_version (chain_of self.old) (version_of other.value) }
-        ensures left { self.new.left ≡ self.old.left }
-        ensures right { self.new.right ≡ self.old.right }
-        ensures balance { self.new.balance ≡ self.old.balance }
-    {
-        if other.sequence <= self.sequence {
-            self.next.insert_older(other);
-        } else {
-            mem::swap(&mut self.value, &mut other.value);
-            mem::swap(&mut self.sequence, &mut other.sequence);
-            self.next.push_front(other);
-        }
-    }
+    Ok(Err(at))
 }
 
-impl Node {
-    /// Inserts a node on its left side, and says whether that is higher now.
-    #[cycle(insertion)]
-    fn insert_left(&mut self, node: Box<Node>) -> bool
-        requires { AreSorted (chains_in self.old.left) }
-        ensures left { chains_in self.new.left ≡ insert_in_chains (chains_in self.old.left) (version_of node.value) }
-        ensures balanced { IsBalanced self.new.left }
-        ensures height { height self.new.left ≡ height self.old.left + (if result then 1 else 0) }
-        ensures others { self.new ≡ record self.old { left = self.new.left } }
+impl Page {
+    /// Inserts a node. Where there is no memory for a page that it needs, the node comes back.
+    pub(crate) fn insert(
+        &mut self,
+        alloc: Global,
+        node: Box<Node>,
+        front: Front,
+    ) -> Result<(), Box<Node>>
+        requires front { front ≡ front_of 16 (own_key node.value).bytes }
+        requires room { self.old.own < 31 }
+        requires sorted { AreSorted self.old.chains }
+        ensures chains { self.new.chains ≡ (if is_ok result
+            then insert_in_chains self.old.chains (version_of node.value)
+            else self.old.chains) }
+        ensures height { self.new.height ≡ self.old.height }
+        ensures own { (self.old.own ≤ self.new.own) × (self.new.own ≤ self.old.own + 1) }
+        ensures dense { IsDense self.new }
+        ensures back { IfErr result (λ back. back ≡ node) }
     {
-        self.left.insert(node)
-    }
-
-    /// Inserts a node on its right side, and says whether that is higher now.
-    #[cycle(insertion)]
-    fn insert_right(&mut self, node: Box<Node>) -> bool
-        requires { AreSorted (chains_in self.old.right) }
-        ensures right { chains_in self.new.right ≡ insert_in_chains (chains_in self.old.right) (version_of node.value) }
-        ensures balanced { IsBalanced self.new.right }
-        ensures height { height self.new.right ≡ height self.old.right + (if result then 1 else 0) }
-        ensures others { self.new ≡ record self.old { right = self.new.right } }
-    {
-        self.right.insert(node)
-    }
-}
-
-impl Subtree {
-    /// Inserts a node, and says whether the tree is higher now.
-    #[cycle(insertion)]
-    pub(crate) fn insert(&mut self, node: Box<Node>) -> bool
-        requires { AreSorted (chains_in self.old) }
-        ensures chains { chains_in self.new ≡ insert_in_chains (chains_in self.old) (version_of node.value) }
-        ensures balanced { IsBalanced self.new }
-        ensures height { height self.new ≡ height self.old + (if result then 1 else 0) }
-    {
-        Subtree::insert_below(&mut self.root, node)
-    }
-
-    /// Inserts a node below a root, and says whether the tree is higher now.
-    #[cycle(insertion)]
-    fn insert_below(root: &mut Option<Box<Node>>, node: Box<Node>) -> bool
-        requires kept { IsKept root.old }
-        requires sorted { AreSorted (chains_in (shape_of root.old)) }
-        ensures kept { IsKept root.new }
-        ensures chains { chains_in (shape_of root.new)
-            ≡ insert_in_chains (chains_in (shape_of root.old)) (version_of node.value) }
-        ensures height { height (shape_of root.new) ≡ height (shape_of root.old) + (if result then 1 else 0) }
-    {
-        let Some(top) = root else {
-            *root = Subtree::single(node).root;
-            return true;
+        let Ok(way) = way_of(
+            alloc,
+            &mut self.families,
+            &mut self.entries,
+            &mut self.below,
+            &node,
+            front,
+        ) else {
+            return Err(node);
         };
-        match node.order(top) {
-            Ordering::Less => top.insert_left(node) && Subtree::left_grown(root),
-            Ordering::Equal => {
-                top.add_version(node);
-                false
+        let at = match way {
+            Ok(at) => {
+                self.entries[at].add_version(node);
+                return Ok(());
             }
-            Ordering::Greater => top.insert_right(node) && Subtree::right_grown(root),
+            Err(at) => at,
+        };
+        if at < self.below.len() {
+            return self.below[at].insert(alloc, node, front);
         }
+        self.families = self.families.with(node.family());
+        put(&mut self.entries, at, Entry::of(node));
+        Ok(())
     }
 }

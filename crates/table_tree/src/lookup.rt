@@ -2,85 +2,77 @@
 
 ghost use Rattle.std.specs.Prelude.{◌≡◌};
 ghost use Rattle.std.specs.Option.{option_copied, option_map};
-ghost use Rattle.table_tree.specs.Chains.{AreKeyed, AreSorted, chain_versions};
-ghost use Rattle.table_tree.specs.Shapes.{chains_in, versions_in};
-ghost use Rattle.table_tree.specs.Nodes.{own_key, chain_of};
-ghost use Rattle.table_tree.specs.Newest.{newest, first_up_to, chain_at};
-ghost use Rattle.table_tree.specs.Rows.{at_key};
+ghost use Rattle.table_nodes.specs.Chains.{AreKeyed, AreSorted, versions_of};
+ghost use Rattle.table_nodes.specs.Nodes.{at_key, version_of, chain_of};
+ghost use Rattle.table_tree.specs.Newest.{newest_version, chain_at, newest_among};
+ghost use Rattle.table_tree.specs.Shapes.{chains_below};
 
-use crate::node::{Node, Nodes, Subtree};
-use crate::value::Value;
-use base_maps::Front;
-use std::cmp::Ordering;
+use crate::front::Front;
+use crate::page::Page;
+use crate::places::place_of;
+use table_nodes::{Node, Nodes};
 
-impl Subtree {
-    /// What the newest version of a family's key up to a sequence says, if there is one.
-    pub(crate) fn newest(&self, family: u32, key: &[u8], at: u64) -> Option<&Option<Value>>
-        requires { AreKeyed (chains_in self.now) }
-        ensures { option_copied result ≡ newest (at_key family key.now) at (versions_in self.now) }
-    {
-        self.find(family, key)?.said_at(at)
+/// The newest version of a family's key up to a sequence, if there is one below the root.
+pub(crate) fn newest_below<'t>(
+    root: &'t Option<Page>,
+    family: u32,
+    key: &[u8],
+    at: u64,
+) -> Option<&'t Node>
+    requires { AreKeyed (chains_below root.now) }
+    ensures { option_map version_of (option_copied result)
+        ≡ newest_version (at_key family key.now) at (versions_of (chains_below root.now)) }
+{
+    let Some(page) = root else {
+        return None;
+    };
+    match page.find(family, key) {
+        Some(node) => node.newest_up_to(at),
+        None => None,
     }
+}
 
+impl Page {
     /// The node of a family's key, if there is one.
     fn find(&self, family: u32, key: &[u8]) -> Option<&Node>
-        requires { AreSorted (chains_in self.now) }
-        ensures { option_map chain_of (option_copied result) ≡ chain_at (at_key family key.now) (chains_in self.now) }
+        requires { AreSorted self.now.chains }
+        ensures { option_map chain_of (option_copied result) ≡ chain_at (at_key family key.now) self.now.chains }
     {
         let front = Front::of(key);
-        let mut below = self;
-        // If the key has a node, it is in `below`.
-        while let Some(node) = &below.root {
-            match node.order_of(family, key, front) {
-                Ordering::Less => below = &node.left,
-                Ordering::Equal => return Some(node),
-                Ordering::Greater => below = &node.right,
+        let mut page = self;
+        // If the key has an entry, it is in `page` or below it.
+        loop {
+            let at = match place_of(&page.entries, page.families, family, key, front) {
+                Ok(at) => return Some(page.entries[at].as_node()),
+                Err(at) => at,
+            };
+            if at >= page.below.len() {
+                return None;
             }
+            page = &page.below[at];
         }
-        None
     }
 }
 
-impl Node {
-    ghost use Rattle.model_base.specs.Map.{key_order};
-    ghost use Rattle.base_maps.specs.Fronts.{front_of};
-
-    /// How a family's key compares with its own. The caller gives that key's front too.
-    fn order_of(&self, family: u32, key: &[u8], front: Front) -> Ordering
-        requires { front ≡ front_of 16 key.now }
-        ensures { result ≡ key_order (at_key family key.now) (own_key self.now) }
-    {
-        match family.cmp(&self.family) {
-            Ordering::Less => Ordering::Less,
-            Ordering::Equal => self.key.order_of(key, front),
-            Ordering::Greater => Ordering::Greater,
+/// The newest version of a family's key up to a sequence, of one that was found and of those of a list.
+pub(crate) fn newest_of<'t>(
+    late: &'t Nodes,
+    found: Option<&'t Node>,
+    family: u32,
+    key: &[u8],
+    at: u64,
+) -> Option<&'t Node>
+    ensures { option_map version_of (option_copied result)
+        ≡ newest_among (at_key family key.now) at (option_map version_of (option_copied found.entry)) late.now }
+{
+    let mut newest = found;
+    let mut rest = late;
+    // `newest` is that of the version that was found and of those before `rest`.
+    while let Some((node, others)) = rest.split_first() {
+        if node.is_newer(newest, family, key, at) {
+            newest = Some(node);
         }
+        rest = others;
     }
-
-    /// What the newest version in its chain up to a sequence says, if there is one.
-    pub(crate) fn said_at(&self, at: u64) -> Option<&Option<Value>>
-        ensures { option_copied result ≡ first_up_to at (chain_versions (chain_of self.now)) }
-    {
-        if self.sequence <= at {
-            return Some(&self.value);
-        }
-        self.next.said_at(at)
-    }
-}
-
-impl Nodes {
-    /// What the first node of the list that isn't above the sequence says, if there is one.
-    fn said_at(&self, at: u64) -> Option<&Option<Value>>
-        ensures { option_copied result ≡ first_up_to at self.now }
-    {
-        let mut rest = self;
-        // All nodes before `rest` are above the sequence.
-        while let Some(node) = &rest.first {
-            if node.sequence <= at {
-                return Some(&node.value);
-            }
-            rest = &node.next;
-        }
-        None
-    }
+    newest
 }

@@ -1,19 +1,22 @@
 //! How the rows of a range are gathered.
 
-ghost use Rattle.std.specs.Prelude.{◌≡◌, ◌++◌, ◌^◌, ◌<◌, length, IfOk};
-ghost use Rattle.std.specs.Ordering.{is_lt};
-ghost use Rattle.model_base.specs.Map.{key_order};
-ghost use Rattle.table_tree.specs.Chains.{AreSorted, chain_versions};
-ghost use Rattle.table_tree.specs.Shapes.{chains_in};
-ghost use Rattle.table_tree.specs.Nodes.{own_key, chain_of};
-ghost use Rattle.table_tree.specs.Newest.{first_up_to};
-ghost use Rattle.table_tree.specs.Rows.{at_key, between, pair_of, pairs_at, rows_in};
+ghost use Rattle.std.specs.Prelude.{◌≡◌, ◌++◌, IfOk};
+ghost use Rattle.std.specs.List.{AllByRecursion};
+ghost use Rattle.table_nodes.specs.Chains.{AreSorted, chain_versions, key_of};
+ghost use Rattle.table_nodes.specs.Newest.{first_up_to, said};
+ghost use Rattle.table_nodes.specs.Nodes.{at_key};
+ghost use Rattle.table_tree.specs.Places.{IsOfFamilies};
+ghost use Rattle.table_tree.specs.Ranges.{IsStart, page_at};
+ghost use Rattle.table_tree.specs.Rows.{between, pair_of, pairs_at, rows_in};
+ghost use Rattle.table_tree.specs.Shapes.{chains_below};
 
-use crate::node::{Node, Subtree};
+use crate::entry::{Entry, Families};
+use crate::front::Front;
+use crate::page::Page;
+use crate::places::place_of;
 use base_bytes::{Bytes, PairList};
 use model_base::NoMemory;
 use std::alloc::Global;
-use std::cmp::Ordering;
 
 /// Keys of a family from `lo` on and below `hi`, at a sequence.
 #[derive(Clone, Copy)]
@@ -24,77 +27,132 @@ pub(crate) struct Range<'r> {
     pub(crate) at: u64,
 }
 
-impl Node {
-    /// Whether its key comes before a family's key.
-    fn is_below(&self, family: u32, key: &[u8]) -> bool
-        ensures { result ≡ is_lt (key_order (own_key self.now) (at_key family key.now)) }
-    {
-        match self.family.cmp(&family) {
-            Ordering::Less => true,
-            Ordering::Equal => self.key.as_slice().cmp(key).is_lt(),
-            Ordering::Greater => false,
-        }
-    }
-
+impl Entry {
     /// Appends the row of its key to others, if the key has a value at the sequence.
     fn gather(&self, alloc: Global, at: u64, rows: &mut PairList) -> Result<(), NoMemory>
         ensures { IfOk result (λ _. rows.new ≡ rows.old
-            ++ rows_in (pair_of (own_key self.now) (first_up_to at (chain_versions (chain_of self.now))))) }
+            ++ rows_in (pair_of (key_of self.now) (said (first_up_to at (chain_versions self.now))))) }
     {
-        if let Some(Some(value)) = self.said_at(at) {
-            let value = Bytes::copy(alloc, value.as_slice())?;
-            rows.push(Bytes::copy(alloc, self.key.as_slice())?, value)?;
+        let node = self.as_node();
+        let Some(newest) = node.newest_up_to(at) else {
+            return Ok(());
+        };
+        let Some(value) = newest.value() else {
+            return Ok(());
+        };
+        let value = Bytes::copy(alloc, value)?;
+        rows.push(Bytes::copy(alloc, node.key())?, value)?;
+        Ok(())
+    }
+}
+
+/// Before which entry of a page a key is: all entries before that are below the key, and the others aren't.
+fn start_of(entries: &[Entry], families: Families, family: u32, key: &[u8]) -> usize
+    requires families { AllByRecursion (IsOfFamilies families.lowest families.greatest) entries.now }
+    requires sorted { AreSorted entries.now }
+    ensures { IsStart (at_key family key.now) entries.now result }
+{
+    match place_of(entries, families, family, key, Front::of(key)) {
+        Ok(at) => at,
+        Err(at) => at,
+    }
+}
+
+impl Page {
+    /// How many keys of a range it has. It is only how much room a list of rows gets at once, so no clause says it.
+    #[cycle(count)]
+    fn count_within(&self, range: Range<'_>) -> usize
+        requires { AreSorted self.now.chains }
+    {
+        let start = start_of(&self.entries, self.families, range.family, range.lo);
+        let stop = start_of(&self.entries, self.families, range.family, range.hi);
+        let mut count = self.count_below(start, range);
+        // `count` is that of the entries so far, and of the pages on their two sides.
+        for at in start..stop {
+            count = count
+                .saturating_add(1)
+                .saturating_add(self.count_below(at + 1, range));
+        }
+        count
+    }
+
+    /// The same of the page below at a place, if there is one.
+    #[cycle(count)]
+    fn count_below(&self, at: usize, range: Range<'_>) -> usize
+        requires { AreSorted self.now.chains }
+    {
+        if at < self.below.len() {
+            self.below[at].count_within(range)
+        } else {
+            0
+        }
+    }
+
+    /// Appends the rows of a range to others.
+    #[cycle(gather)]
+    fn gather(&self, alloc: Global, range: Range<'_>, rows: &mut PairList) -> Result<(), NoMemory>
+        requires { AreSorted self.now.chains }
+        ensures { IfOk result (λ _. rows.new ≡ rows.old
+            ++ rows_in (pairs_at range.entry.at (between (at_key range.entry.family range.entry.lo.now)
+            (at_key range.entry.family range.entry.hi.now) self.now.chains))) }
+    {
+        let start = start_of(&self.entries, self.families, range.family, range.lo);
+        let stop = start_of(&self.entries, self.families, range.family, range.hi);
+        gather_at(&self.below, start, alloc, range, rows)?;
+        // The rows are those of the entries before `at`, and of the pages on their two sides.
+        for at in start..stop {
+            self.entries[at].gather(alloc, range.at, rows)?;
+            gather_at(&self.below, at + 1, alloc, range, rows)?;
         }
         Ok(())
     }
 }
 
-impl Subtree {
-    /// How many keys of a range it has, if a `usize` can say so.
-    pub(crate) fn count_within(&self, range: Range<'_>) -> usize
-        requires { AreSorted (chains_in self.now) }
-        ensures { let chains = between (at_key range.entry.family range.entry.lo.now)
-            (at_key range.entry.family range.entry.hi.now) (chains_in self.now) in
-            length chains < 2 ^ 64 → result ≡ length chains }
-    {
-        let Some(node) = &self.root else {
-            return 0;
-        };
-        let Range { family, lo, hi, .. } = range;
-        if node.is_below(family, lo) {
-            return node.right.count_within(range);
-        }
-        if !node.is_below(family, hi) {
-            return node.left.count_within(range);
-        }
-        let left = node.left.count_within(range);
-        let right = node.right.count_within(range);
-        left.saturating_add(1).saturating_add(right)
+/// Appends the rows of the page at a place, if there is one.
+#[cycle(gather)]
+fn gather_at(
+    below: &[Page],
+    at: usize,
+    alloc: Global,
+    range: Range<'_>,
+    rows: &mut PairList,
+) -> Result<(), NoMemory>
+    requires { AreSorted (page_at below.now at) }
+    ensures { IfOk result (λ _. rows.new ≡ rows.old
+        ++ rows_in (pairs_at range.entry.at (between (at_key range.entry.family range.entry.lo.now)
+        (at_key range.entry.family range.entry.hi.now) (page_at below.now at)))) }
+{
+    if at < below.len() {
+        below[at].gather(alloc, range, rows)
+    } else {
+        Ok(())
     }
+}
 
-    /// Appends the rows of a range to others.
-    pub(crate) fn gather(
-        &self,
-        alloc: Global,
-        range: Range<'_>,
-        rows: &mut PairList,
-    ) -> Result<(), NoMemory>
-        requires { AreSorted (chains_in self.now) }
-        ensures { IfOk result (λ _. rows.new ≡ rows.old
-            ++ rows_in (pairs_at range.entry.at (between (at_key range.entry.family range.entry.lo.now)
-            (at_key range.entry.family range.entry.hi.now) (chains_in self.now)))) }
-    {
-        let Some(node) = &self.root else {
-            return Ok(());
-        };
-        if node.is_below(range.family, range.lo) {
-            return node.right.gather(alloc, range, rows);
-        }
-        if !node.is_below(range.family, range.hi) {
-            return node.left.gather(alloc, range, rows);
-        }
-        node.left.gather(alloc, range, rows)?;
-        node.gather(alloc, range.at, rows)?;
-        node.right.gather(alloc, range, rows)
+/// How many keys of a range are below a root.
+pub(crate) fn count_below(root: &Option<Page>, range: Range<'_>) -> usize
+    requires { AreSorted (chains_below root.now) }
+{
+    match root {
+        Some(page) => page.count_within(range),
+        None => 0,
+    }
+}
+
+/// Appends the rows of a range below a root to others.
+pub(crate) fn gather_below(
+    root: &Option<Page>,
+    alloc: Global,
+    range: Range<'_>,
+    rows: &mut PairList,
+) -> Result<(), NoMemory>
+    requires { AreSorted (chains_below root.now) }
+    ensures { IfOk result (λ _. rows.new ≡ rows.old
+        ++ rows_in (pairs_at range.entry.at (between (at_key range.entry.family range.entry.lo.now)
+        (at_key range.entry.family range.entry.hi.now) (chains_below root.now)))) }
+{
+    match root {
+        Some(page) => page.gather(alloc, range, rows),
+        None => Ok(()),
     }
 }

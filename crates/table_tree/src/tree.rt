@@ -6,61 +6,83 @@ ghost use Rattle.model_base.specs.Map.{value_at, rows_within};
 ghost use Rattle.table_rule.specs.declared.content.Version.{Version};
 ghost use Rattle.table_rule.specs.Histories.{IsOrderUpTo, map_of};
 ghost use Rattle.table_tree.specs.Versions.{IsNew, insert_version, AreOrdered};
-ghost use Rattle.table_tree.specs.Shapes.{leaf, chains_in, versions_in, IsBalanced};
-ghost use Rattle.table_tree.specs.Chains.{AreKeyed};
-ghost use Rattle.table_tree.specs.Nodes.{version_of};
-ghost use Rattle.table_tree.specs.Rows.{at_key};
+ghost use Rattle.table_tree.specs.Shapes.{leaf, chains_in, versions_in, IsLow};
+ghost use Rattle.table_nodes.specs.Chains.{AreKeyed};
+ghost use Rattle.table_nodes.specs.Nodes.{at_key, version_of};
 
-use crate::node::{Node, Subtree};
-use crate::range::Range;
+use crate::lookup::{newest_below, newest_of};
+use crate::page::Page;
+use crate::range::{Range, count_below, gather_below};
+use crate::root::insert_below;
 use base_bytes::{PairList, Rows};
 use model_base::NoMemory;
 use std::alloc::Global;
 use std::marker::Model;
+use table_nodes::{Node, Nodes};
 
-/// Versions of keys, in the order of the keys, and of one key the newer first. They are in a balanced tree with one
-/// node for each key. Contracts see the tree's shape.
+/// Versions of keys, in the order of the keys, and of one key the newer first. They are in a B-tree with one entry for
+/// each key. Contracts see the chains of the keys, the versions that are still to be put there, and how high the tree
+/// is.
 #[derive(Drop)]
 pub struct Tree {
-    pub(crate) root: Subtree,
+    root: Option<Page>,
+    /// Versions that came while there was no memory for a page that they needed, in the order in which they came.
+    late: Nodes,
 }
 
 impl Model for Tree {
-    ghost use Rattle.table_tree.specs.Shapes.{Shape, chains_in, versions_in};
-    ghost use Rattle.table_tree.specs.ShapeCode.{shape_code};
-    ghost use Rattle.table_tree.specs.Versions.{AreOrdered};
-    ghost use Rattle.table_tree.specs.Chains.{AreKeyed};
+    ghost use Rattle.table_tree.specs.Shapes.{Shape, shape_code};
 
     ghost Value = { Shape };
 
     ghost coded = { shape_code };
 
-    ghost view = { λ t. t.root };
+    ghost use Rattle.table_tree.specs.Shapes.{chains_below, height_below, IsKept};
 
-    ghost invariant = { λ t. AreOrdered (versions_in t.root) × AreKeyed (chains_in t.root) };
+    ghost view = { λ t. record { chains = chains_below t.root; late = t.late; height = height_below t.root } };
+
+    ghost invariant = { λ t. IsKept t.root t.late };
 }
 
 impl Tree {
-    /// No versions.
+    /// No versions. This takes no memory.
     pub fn new() -> Tree
         ensures { result ≡ leaf }
     {
         Tree {
-            root: Subtree::new(),
+            root: None,
+            late: Nodes::new(),
         }
     }
 
-    /// Inserts a version. Its key must have no other version of this sequence. This takes no memory.
+    /// Inserts a version. Its key must have no other version of this sequence. It never fails: where there is no memory
+    /// for a page that is needed, the version waits beside the tree until a later one is inserted.
     pub fn insert(&mut self, node: Box<Node>)
         requires { IsNew (version_of node.value) (versions_in self.old) }
         ensures versions { versions_in self.new ≡ insert_version (versions_in self.old) (version_of node.value) }
         ensures ordered { AreOrdered (versions_in self.new) }
-        // One node for each key, which has all its versions.
+        // One entry for each key, which has all its versions that don't wait.
         ensures keyed { AreKeyed (chains_in self.new) }
-        // The heights of the two sides of a node differ by at most one, so that a look-up takes few steps.
-        ensures balanced { IsBalanced self.new }
+        // A tree of few keys is low, so that a look-up takes few steps.
+        ensures low { IsLow self.new }
     {
-        self.root.insert(node);
+        self.late.push_back(node);
+        self.settle();
+        self.settle();
+    }
+
+    // Puts the first of the versions that wait into the tree, if there is one and there is memory. An insertion does so
+    // twice, so that those that wait become fewer once there is memory again.
+    fn settle(&mut self)
+        ensures versions { versions_in self.new ≡ versions_in self.old }
+        ensures kept { AreKeyed (chains_in self.new) × IsLow self.new }
+    {
+        let Some(node) = self.late.pop() else {
+            return;
+        };
+        if let Err(node) = insert_below(&mut self.root, node) {
+            self.late.push_front(node);
+        }
     }
 
     /// The value of a family's key at a sequence, if it has one there: what the key's newest version up to the
@@ -69,15 +91,15 @@ impl Tree {
         ensures { (history : List Version) → IsOrderUpTo at (versions_in self.now) history
             → option_copied result ≡ value_at (map_of history) (at_key family key.now) }
     {
-        match self.root.newest(family, key, at) {
-            Some(Some(value)) => Some(value.as_slice()),
-            Some(None) => None,
+        let found = newest_below(&self.root, family, key, at);
+        match newest_of(&self.late, found, family, key, at) {
+            Some(newest) => newest.value(),
             None => None,
         }
     }
 
     /// The keys of a family from `lo` on and below `hi` that have a value at a sequence, with that value, in the byte
-    /// order of the keys.
+    /// order of the keys. While versions wait for memory, there is none for the rows either.
     pub fn range(
         &self,
         alloc: Global,
@@ -90,11 +112,14 @@ impl Tree {
         ensures rows { IfOk result (λ rows. (history : List Version) → IsOrderUpTo at (versions_in self.now) history
             → rows.rows ≡ rows_within family lo.now hi.now (map_of history)) }
     {
+        if !self.late.is_empty() {
+            return Err(NoMemory);
+        }
         let range = Range { family, lo, hi, at };
         // Room for a row of each key at once.
-        let room = self.root.count_within(range);
+        let room = count_below(&self.root, range);
         let mut rows = PairList::from_vec(Vec::with_capacity(alloc, room)?);
-        self.root.gather(alloc, range, &mut rows)?;
+        gather_below(&self.root, alloc, range, &mut rows)?;
         Ok(Rows { at, rows })
     }
 }

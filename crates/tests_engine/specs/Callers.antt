@@ -2,7 +2,7 @@
 use Rattle.std.specs.Prelude.{◌≡◌, ℕ, ◌+◌, ◌<◌, List, length, slice_index_or}
 use Rattle.log_writer.specs.declared.group_log.GroupLog.{Ghosts}
 use Rattle.base_devices.specs.declared.stepped_clock.SteppedClock.{SteppedClock}
-use Rattle.table_tree.specs.declared.node.Nodes.{Nodes}
+use Rattle.table_nodes.specs.declared.node.Nodes.{Nodes}
 use Rattle.table_memory.specs.declared.memory_table.MemoryTable.{MemoryTable}
 use Rattle.table_memory.specs.Meaning.{Seat, Turn, memory_table}
 use Rattle.line_writers.specs.Seats.{clients_of}

@@ -1,7 +1,7 @@
 //! An example: which versions the records of batches become in the parts of a group.
 
 ghost use Rattle.std.specs.Prelude.{◌≡◌, [], ◌∷◌, ◌++◌};
-ghost use Rattle.table_tree.specs.Parts.{with_part, group_of};
+ghost use Rattle.table_nodes.specs.Parts.{with_part, group_of};
 ghost use Rattle.tests_table.specs.Examples.{versions_from, three_at, of_member};
 
 /// Each batch has a record of each kind, and one of these names a family. Log data makes no version, and a single

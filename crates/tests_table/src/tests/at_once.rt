@@ -3,7 +3,7 @@
 ghost use Rattle.std.specs.Prelude.{◌≡◌, ◌<◌, All, length};
 ghost use Rattle.table_rule.specs.declared.content.MemberVersions.{MemberVersions};
 ghost use Rattle.table_rule.specs.Histories.{In, Members, Runs, versions_in};
-ghost use Rattle.table_tree.specs.Parts.{group_of};
+ghost use Rattle.table_nodes.specs.Parts.{group_of};
 ghost use Rattle.table_memory.specs.Meaning.{account_of, IsOurs, IsTurnAtStart};
 ghost use Rattle.tests_table.specs.Clients.{IsIdle, IsForFour, MayPlay};
 
@@ -19,7 +19,7 @@ use std::thread::Threads;
 use std::{rt, thread};
 use table_calls::Table;
 use table_memory::MemoryTable;
-use table_tree::{Nodes, Parts};
+use table_nodes::{Nodes, Parts};
 
 // The published sequence when the table is opened, and the last sequence of the group.
 const BEFORE: u64 = 7;

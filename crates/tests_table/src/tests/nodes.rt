@@ -8,7 +8,7 @@ ghost use Rattle.table_rule.specs.Histories.{Runs};
 use log_batch::Batch;
 use std::alloc::Global;
 use std::process::Abort;
-use table_tree::Nodes;
+use table_nodes::Nodes;
 
 // A node with this sequence, which gives the family's key a value or deletes it.
 pub(super) fn node_of(

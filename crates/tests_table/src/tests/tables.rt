@@ -19,8 +19,9 @@ use std::sync::Wait;
 use std::test::Fail;
 use table_calls::{Finished, Seats, Table};
 use table_memory::MemoryTable;
+use table_nodes::{Nodes, Parts};
 use table_steps::{TableSeat, Turn};
-use table_tree::{Nodes, Parts, Tree};
+use table_tree::Tree;
 
 pub(super) type MemSeat = TableSeat<Tree, Nodes>;
 

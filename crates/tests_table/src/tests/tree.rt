@@ -1,7 +1,7 @@
 //! The tree, by hand and against a plain list, and a batch's nodes as parts of a group.
 //!
-//! That the tree stays low has no test: an insertion is proved to leave at each key two sides whose heights differ by
-//! at most one.
+//! That the tree is low for the keys in its pages is proved, and has no test. That versions go into the pages, and don't
+//! wait next to them while there is memory, is seen here: the ranges of these trees are answered.
 
 ghost use Rattle.std.specs.Prelude.{◌+◌, ◌<◌, ◌≤◌, ◌^◌, length};
 ghost use Rattle.table_tree.specs.Versions.{AreBelow};
@@ -13,7 +13,8 @@ use base_bytes::Rows;
 use log_batch::Batch;
 use std::alloc::Global;
 use std::process::Abort;
-use table_tree::{MemberNodes, Nodes, Parts, Tree};
+use table_nodes::{MemberNodes, Nodes, Parts};
+use table_tree::Tree;
 
 // How many keys the random versions have, and how many versions there are.
 const KEYS: u16 = 300;

@@ -1,8 +1,8 @@
 use Rattle.std.proofs.Common.{[], List}
 use Rattle.table_rule.specs.declared.content.MemberVersions.{MemberVersions}
 use Rattle.table_calls.specs.Account.{Account}
-use Rattle.table_tree.specs.Parts.{group_of}
-use Rattle.table_tree.specs.declared.parts.MemberNodes.{MemberNodes}
+use Rattle.table_nodes.specs.Parts.{group_of}
+use Rattle.table_nodes.specs.declared.parts.MemberNodes.{MemberNodes}
 use Rattle.engine_parts.proofs.Standing.{none_of}
 use Rattle.engine_memtable.proofs.Own.{own_part, has_launched}
 use Rattle.engine_groups.proofs.leading.publish_alone.Goals as goal

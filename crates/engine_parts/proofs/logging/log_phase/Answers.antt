@@ -4,7 +4,7 @@ use Rattle.engine_parts.specs.Logs.{fault_of}
 use Rattle.log_writer.specs.Adding.{call_of, count_of_fault}
 use Rattle.log_writer.specs.Groups.{counts_of, body_lens_of}
 use Rattle.table_rule.specs.declared.content.MemberVersions.{MemberVersions}
-use Rattle.table_tree.specs.Parts.{Members, group_of}
+use Rattle.table_nodes.specs.Parts.{Members, group_of}
 use Rattle.engine_parts.proofs.logging.log_phase.Goals as goal
 use Rattle.engine_parts.specs.declared.requests.Request.{Request}
 use Rattle.engine_parts.specs.declared.requests.Delay.{Delay}

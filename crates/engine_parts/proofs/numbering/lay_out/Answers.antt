@@ -2,7 +2,7 @@ use Rattle.std.proofs.Common.{rules, ◌≤◌, ◌+◌, ℕ, List, sym, ap, ◌
 use Rattle.std.proofs.lemmas.Bool.{true≢false}
 use Rattle.model_base.specs.Batch.{count_of}
 use Rattle.model_base.specs.History.{max_sequence}
-use Rattle.table_tree.specs.Parts.{group_of}
+use Rattle.table_nodes.specs.Parts.{group_of}
 use Rattle.engine_rule.specs.Parts.{members_of}
 use Rattle.engine_rule.specs.Plans.{versions_from}
 use Rattle.engine_parts.specs.declared.requests.Request.{Request}

@@ -1,6 +1,6 @@
 use Rattle.std.proofs.Common.{◌≡◌, ℕ, nat_lt, [], ◌∷◌, ◌++◌, length, ap, sym, ◌∙◌, subst, arith, append_assoc, length-append}
 use Rattle.engine_parts.specs.declared.requests.Request.{Request}
-use Rattle.table_tree.specs.Parts.{group_of}
+use Rattle.table_nodes.specs.Parts.{group_of}
 use Rattle.engine_parts.specs.Handled.{commit_request_of, commit_requests_of}
 use Rattle.engine_parts.specs.Numbering.{batch_at, batches_of, numbering_at, numberings_of}
 use Rattle.engine_parts.proofs.Apart.{grew, more_parts, noted_more, noted_most, still_left}

@@ -1,7 +1,7 @@
 -- What is laid out so far, together with what the rest will add, is the whole layout.
 use Rattle.std.proofs.Common.{◌≡◌, ◌+◌, ◌≤◌, ◌++◌, length, vec_capacity}
 use Rattle.model_base.specs.History.{max_sequence}
-use Rattle.table_tree.specs.Parts.{group_of}
+use Rattle.table_nodes.specs.Parts.{group_of}
 use Rattle.engine_parts.proofs.numbering.number_apart.Given as goal
 use Rattle.engine_parts.specs.Handled.{commit_requests_of}
 use Rattle.engine_parts.specs.Numbering.{batches_of, others_than, numberings_of}

@@ -1,7 +1,7 @@
 use Rattle.std.proofs.Common.{◌≤◌, ◌≡◌, ◌+◌, ℕ, List, [], ◌∷◌, ◌++◌, None, length, inr, refl, sym, ap, ◌∙◌, subst}
 use Rattle.table_rule.specs.Histories.{Runs, last_of, versions_in}
-use Rattle.table_tree.specs.Parts.{group_of}
-use Rattle.table_tree.specs.declared.parts.MemberNodes.{MemberNodes}
+use Rattle.table_nodes.specs.Parts.{group_of}
+use Rattle.table_nodes.specs.declared.parts.MemberNodes.{MemberNodes}
 use Rattle.engine_rule.specs.Parts.{HaveParts}
 use Rattle.line_rule.specs.Chain.{all_answers}
 use Rattle.line_rule.specs.Laws.{given_runs}

@@ -1,6 +1,6 @@
 use Rattle.std.proofs.Common.{ℕ, List}
 use Rattle.table_rule.specs.declared.content.Version.{Version}
-use Rattle.table_tree.specs.Nodes.{version_of}
+use Rattle.table_nodes.specs.Nodes.{version_of}
 use Rattle.table_memory.specs.Meaning.{opening_of}
 use Rattle.table_memory.proofs.Runs.{first_of, moved_more, run_more, some_taken}
 use Rattle.table_memory.proofs.memory_table.MemoryTable.take_run.Goals as goal

@@ -2,7 +2,7 @@
 use Rattle.std.proofs.Common.{sym, subst}
 use Rattle.table_rule.specs.Steps.{Adds}
 use Rattle.table_tree.specs.Shapes.{versions_in}
-use Rattle.table_tree.specs.Nodes.{version_of}
+use Rattle.table_nodes.specs.Nodes.{version_of}
 use Rattle.table_tree.proofs.Adding.{apart_new, insert_adds}
 use Rattle.table_tree.proofs.calls.TreeVersionTreeBoxNode.insert.Goals as goal
 

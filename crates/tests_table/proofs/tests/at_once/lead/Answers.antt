@@ -4,7 +4,7 @@ use Rattle.table_rule.specs.declared.content.MemberVersions.{MemberVersions}
 use Rattle.table_rule.specs.declared.view.Opening.{Opening}
 use Rattle.table_rule.specs.Histories.{Members, Runs, last_of, versions_in}
 use Rattle.table_rule.specs.Steps.{MayTake, launched_behind}
-use Rattle.table_tree.specs.Parts.{group_of}
+use Rattle.table_nodes.specs.Parts.{group_of}
 use Rattle.table_steps.specs.Accounts.{history_of}
 use Rattle.table_memory.specs.Meaning.{opening_of}
 use Rattle.tests_table.proofs.tests.at_once.lead.Goals as goal

@@ -5,7 +5,7 @@ use Rattle.table_rule.specs.declared.content.Version.{Version}
 use Rattle.table_rule.specs.declared.view.Opening.{Opening}
 use Rattle.table_rule.specs.Histories.{last_of, versions_in, Apart, Members, Runs}
 use Rattle.table_rule.proofs.Histories.{last_snoc}
-use Rattle.table_tree.specs.Parts.{group_of}
+use Rattle.table_nodes.specs.Parts.{group_of}
 use Rattle.table_rule.specs.Steps.{launched_behind}
 use Rattle.table_steps.specs.Accounts.{history_of}
 use Rattle.table_memory.specs.Meaning.{opening_of, account_of}

@@ -1,7 +1,7 @@
 -- The version's sequence is above all others in the tree.
 use Rattle.std.proofs.Common.{◌≡◌, ◌+◌, List, ◌∷◌, sym, subst, ap, ◌∙◌}
 use Rattle.table_rule.specs.declared.content.Version.{Version}
-use Rattle.table_tree.specs.Nodes.{version_of}
+use Rattle.table_nodes.specs.Nodes.{version_of}
 use Rattle.table_tree.specs.Shapes.{versions_in}
 use Rattle.table_tree.specs.Versions.{AreBelow, insert_version}
 use Rattle.table_tree.proofs.Inserting.{new_above, below_next}

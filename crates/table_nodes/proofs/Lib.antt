@@ -1,0 +1,4 @@
+pub mod Chains
+pub mod Numbering
+pub mod Members
+pub mod Seen
