@@ -123,12 +123,12 @@ keeps_all settings trace client p (c ∷ calls) q run =
 
 -- The calls, split at one of them
 
-record Split (settings : Settings) (trace : Trace) (client : ℕ) (start : Progress) (before : List Call) (c : Call) (end : Progress) : Type 0 where
-  at : Progress
-  next : Progress
-  run : Run settings trace client start before at
-  step : Step settings trace client at c.command c.reply next
-  mine : IsPrefix next.mine end.mine
+pub record Split (settings : Settings) (trace : Trace) (client : ℕ) (start : Progress) (before : List Call) (c : Call) (end : Progress) : Type 0 where
+  pub at : Progress
+  pub next : Progress
+  pub run : Run settings trace client start before at
+  pub step : Step settings trace client at c.command c.reply next
+  pub mine : IsPrefix next.mine end.mine
 
 split_at : (settings : Settings) (trace : Trace) (client : ℕ) (start : Progress) (before : List Call) (c : Call) (after : List Call) (end : Progress) → Run settings trace client start (before ++ c ∷ after) end
     → Split settings trace client start before c end
@@ -150,7 +150,7 @@ last_or_before (f ∷ front) (b ∷ before) after cut c e =
     ]
 
 -- a call that was answered `ok` isn't the one that found no memory
-split_of : (settings : Settings) (trace : Trace) (client : ℕ) (commands : List Command) (calls before after : List Call) (how : WriteOptions) (first last : ℕ) (records : List Record) (end : Progress)
+pub split_of : (settings : Settings) (trace : Trace) (client : ℕ) (commands : List Command) (calls before after : List Call) (how : WriteOptions) (first last : ℕ) (records : List Record) (end : Progress)
     → calls ≡ before ++ record { command = commit how; reply = accepted first last records } ∷ after → IsTranscript settings trace client commands calls end
     → Split settings trace client fresh before (record { command = commit how; reply = accepted first last records }) end
 split_of settings trace client commands calls before after how first last records end there (whole is run) =
@@ -206,7 +206,7 @@ knew_by_then settings trace fault client commands calls attempts first last reco
 -- The same of a client in a legal outcome
 
 -- where one list has an element, another one of its length has one too
-as_long : {X Y : Type 0} (xs : List X) (ys : List Y) (i : ℕ) (x : X) → length xs ≡ length ys → slice_get xs i ≡ Some x → (y : Y) × (slice_get ys i ≡ Some y)
+pub as_long : {X Y : Type 0} (xs : List X) (ys : List Y) (i : ℕ) (x : X) → length xs ≡ length ys → slice_get xs i ≡ Some x → (y : Y) × (slice_get ys i ≡ Some y)
 as_long [] ys i x same there = absurd (cc there)
 as_long (z ∷ xs) [] i x same there = absurd (omega (arith, same))
 as_long (z ∷ xs) (y ∷ ys) zero x same there = (y, refl)

@@ -8,4 +8,7 @@ pub mod Answered
 pub mod FoundAgain
 pub mod Whole
 pub mod Turns
+pub mod Logged
+pub mod Written
+pub mod Killed
 pub mod Wrong

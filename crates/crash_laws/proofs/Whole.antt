@@ -25,7 +25,7 @@ use Rattle.crash_laws.proofs.Batches.{map_of_log}
 use Rattle.crash_laws.proofs.Front.{map_before, last_before, kept, groups, all, own_all, spelled, bytes_of_all, own_next, at_least}
 
 module _ {D : Type 0} {disk : Ghosts D} (call : Call disk) where
-  counted : AreCounted (groups call)
+  pub counted : AreCounted (groups call)
   counted =
       let writes = (is_run call).writes in
       let legal = (is_run call).legal in
@@ -47,7 +47,7 @@ module _ {D : Type 0} {disk : Ghosts D} (call : Call disk) where
 covers : (t begun : List ℕ) → length begun ≤ length t → over t begun ≡ t
 covers t begun within = ap (λ (l : List ℕ). t ++ l) (drop_past (length t) begun within) ∙ append-nil t
 
-text_alone : (start : LogStart) (before : Before) (opened : Disk) (more : List ℕ) → IsAlone start → (start ≡ New → opened.content ≡ []) → over (before.kept ++ more) (begun_on start before opened.content) ≡ before.kept ++ more
+pub text_alone : (start : LogStart) (before : Before) (opened : Disk) (more : List ℕ) → IsAlone start → (start ≡ New → opened.content ≡ []) → over (before.kept ++ more) (begun_on start before opened.content) ≡ before.kept ++ more
 text_alone New before opened more alone empty = covers (before.kept ++ more) opened.content (omega (arith, ap length (empty refl)))
 text_alone (Over number) before opened more alone empty = absurd alone
 text_alone (Behind number) before opened more alone empty = covers (before.kept ++ more) before.kept (omega (arith, length-append before.kept more))
