@@ -1,0 +1,5 @@
+mod Told
+mod Recovering
+mod Showing
+mod Causes
+mod PlainState

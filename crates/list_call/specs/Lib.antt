@@ -1,0 +1,3 @@
+pub mod Statuses
+pub mod StateTexts
+pub mod Calls

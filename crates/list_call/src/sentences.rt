@@ -1,0 +1,188 @@
+//! What is said on standard error. It is for people, and may change: no clause says anything of it.
+
+use crate::around::say_around;
+use crate::status::{Answer, Status};
+use base_devices::{ReadAt, Sink, write_all};
+use itoa::Buffer;
+use log_scan::first_number;
+use model_base::{Damage, EndReason};
+
+/// Says a sentence. If that fails, there is nobody to say it to.
+pub fn say<E: Sink>(errors: &mut E, sentence: &str) {
+    put(errors, "wzlog: ");
+    put(errors, sentence);
+    put(errors, "\n");
+}
+
+/// Writes a part of a sentence.
+pub fn put<E: Sink>(errors: &mut E, part: &str) {
+    let _ = write_all(errors, part.as_bytes());
+}
+
+/// Writes a number.
+pub fn put_number<E: Sink>(errors: &mut E, number: u64) {
+    let mut digits = Buffer::new();
+    put(errors, digits.format(number));
+}
+
+/// Says with which number a log is read that none was said for.
+pub fn say_number<E: Sink>(errors: &mut E, number: u32) {
+    put(errors, "wzlog: the log's first header has the number ");
+    put_number(errors, u64::from(number));
+    put(errors, ", with which it is read\n");
+}
+
+/// Says the number of the log's first header, if it has one and none was given.
+pub fn say_first_number<R: ReadAt, E: Sink>(file: &mut R, errors: &mut E, given: Option<u32>)
+    ensures file { R.only_reads file.old file.new }
+{
+    if given.is_some() {
+        return;
+    }
+    if let Ok(Some(number)) = first_number(file) {
+        put(errors, "wzlog: this log has the number ");
+        put_number(errors, u64::from(number));
+        put(errors, " in its first header: --number ");
+        put_number(errors, u64::from(number));
+        put(errors, "\n");
+    }
+}
+
+/// Says it if reading ends at the log's start, since a number might be missing.
+fn say_first_number_at<R: ReadAt, E: Sink>(
+    file: &mut R,
+    errors: &mut E,
+    given: Option<u32>,
+    at: u64,
+)
+    ensures file { R.only_reads file.old file.new }
+{
+    if at == 0 {
+        say_first_number(file, errors, given);
+    }
+}
+
+/// Says what the end of a call may mean, with the bytes around it, if all was shown or the mode doesn't accept that
+/// end, unless it is that of a whole log. The file is read for it.
+pub fn say_after<R: ReadAt, E: Sink>(answer: Answer, file: &mut R, errors: &mut E)
+    ensures file { R.only_reads file.old file.new }
+{
+    if let (Status::Done | Status::Damage, Some(end)) = (answer.status, answer.end) {
+        say_end(file, errors, end.number, end.at, end.why);
+    }
+}
+
+fn say_end<R: ReadAt, E: Sink>(
+    file: &mut R,
+    errors: &mut E,
+    number: Option<u32>,
+    at: u64,
+    why: EndReason,
+)
+    ensures file { R.only_reads file.old file.new }
+{
+    match why {
+        EndReason::Clean => {}
+        EndReason::Broken(Damage::OldLog(other)) => say_old_log(errors, number, at, other),
+        _ => {
+            say_first_number_at(file, errors, number, at);
+            put(errors, "wzlog: reading ended at ");
+            put_number(errors, at);
+            put(errors, ": ");
+            put(errors, meaning_of(why));
+            put(errors, "\nwzlog: docs/RECOVERY.md, heading `");
+            put(errors, heading_of(why));
+            put(errors, "`, says what to do\n");
+            say_around(file, errors, at);
+        }
+    }
+}
+
+/// Says what it means that an older log's fragment follows, or a newer one's.
+fn say_old_log<E: Sink>(errors: &mut E, number: Option<u32>, at: u64, other: u32) {
+    if number.is_some_and(|number| other > number) {
+        put(errors, "wzlog: the fragment at ");
+        put_number(errors, at);
+        put(errors, " is of the log ");
+        put_number(errors, u64::from(other));
+        put(
+            errors,
+            ": the number is wrong, or another file has this name\n",
+        );
+    }
+}
+
+/// What an end may mean.
+fn meaning_of(why: EndReason) -> &'static str {
+    match why {
+        EndReason::Clean => "the file was read to its end",
+        EndReason::Broken(damage) => meaning_of_damage(damage),
+        EndReason::BadOrder =>
+            "a fragment is in a wrong place: a part of the log is lost, or is there twice",
+        EndReason::Unfinished =>
+            "the file ends inside the record that begins there: an incomplete write",
+        EndReason::Short => "the record that begins there ends too early to be a batch",
+        EndReason::BadVarint =>
+            "the record that begins there has a length or a family that isn't spelled right",
+        EndReason::Tag(_) =>
+            "the record that begins there has an operation that recovery doesn't apply; `wzlog list` shows it",
+        EndReason::Count { .. } =>
+            "the record that begins there says another number of operations than it has",
+        EndReason::Order { .. } =>
+            "the record that begins there has a sequence that was there already",
+        EndReason::High { .. } => "the record that begins there passes the greatest sequence",
+    }
+}
+
+/// The same of damage. The kinds are those of RocksDB's db/log_format.h.
+fn meaning_of_damage(damage: Damage) -> &'static str {
+    match damage {
+        Damage::ShortHeader => "fewer bytes than a header has: an incomplete or torn write",
+        Damage::Zeros =>
+            "only zeros where a header should be: the file is longer than what was written",
+        Damage::BadLength =>
+            "the header asks for more bytes than are left: an incomplete or torn write, or a damaged length",
+        Damage::BadType(5..=8) =>
+            "a fragment of a log with a number: --number N, the number of the file's name",
+        Damage::BadType(9) =>
+            "this log is compressed: RocksDB's `ldb dump_wal` reads it; what `wzlog scan` shows of it means nothing",
+        Damage::BadType(10 | 11) =>
+            "the sizes of user-defined timestamps, which aren't read; `wzlog scan` goes on after them",
+        Damage::BadType(130 | 131) =>
+            "a note on the log before this one, which isn't read; `wzlog scan` goes on after it",
+        Damage::BadType(_) => "a fragment of a kind that isn't read",
+        Damage::BadChecksum =>
+            "a checksum mismatch: damage, or a torn write; `wzlog scan` shows what follows",
+        Damage::BadTrailer =>
+            "bytes that aren't zero at the end of a block: damage, or a torn write",
+        Damage::OldLog(_) => "a fragment of another log",
+    }
+}
+
+/// The heading in docs/RECOVERY.md.
+fn heading_of(why: EndReason) -> &'static str {
+    match why {
+        EndReason::Clean => "clean",
+        EndReason::Broken(damage) => heading_of_damage(damage),
+        EndReason::BadOrder => "badorder",
+        EndReason::Unfinished => "unfinished",
+        EndReason::Short => "short",
+        EndReason::BadVarint => "badvarint",
+        EndReason::Tag(_) => "tag",
+        EndReason::Count { .. } => "count",
+        EndReason::Order { .. } => "order",
+        EndReason::High { .. } => "high",
+    }
+}
+
+fn heading_of_damage(damage: Damage) -> &'static str {
+    match damage {
+        Damage::ShortHeader => "shortheader",
+        Damage::Zeros => "zeros",
+        Damage::BadLength => "badlength",
+        Damage::BadType(_) => "badtype",
+        Damage::BadChecksum => "badchecksum",
+        Damage::BadTrailer => "badtrailer",
+        Damage::OldLog(_) => "oldlog",
+    }
+}

@@ -1,0 +1,38 @@
+-- One more operation, or the end of them.
+use Rattle.std.proofs.Common.{length, arith, ◌∙◌, ◌≤◌, ◌<◌, ap, sym, eqb-true}
+use Rattle.std.specs.Int.{from_bool}
+use Rattle.batch_operations.specs.Operations.{is_counted}
+use Rattle.batch_operations.specs.View.{operation_of}
+use Rattle.list_log.proofs.Bodies.{told_none, told_more, plus_one, at_most_one, shorter, tells_some, tells_all}
+use Rattle.list_log.proofs.lines.put_operations.Goals as goal
+
+pub loop-rest-init : goal.loop-rest-init
+loop-rest-init c = record { told = told_none c.args.settings.now c.args.body.now c.args.text.now; few = omega arith }
+
+pub loop-rest-preserved : goal.loop-rest-preserved
+loop-rest-preserved c =
+    let settings = c.args.settings.now in
+    let old = c.loop-rest.invariant in
+    let o = operation_of c.in-Ok.operation in
+    let rest = c.loop-rest.rest.now in
+    let behind = c.in-Ok.behind.now in
+    let plus = plus_one (is_counted o) c.from-found.result (c.from-found.ensures ∙ ap from_bool c.is_counted.ensures) in
+    let less : length behind < length rest = shorter o rest behind c.in-Ok.ensures.spelled in
+    let one : c.from-found.result ≤ 1 = at_most_one (is_counted o) c.from-found.result plus in
+    record {
+      told = told_more settings c.args.body.now rest behind c.args.text.now c.loop-rest.text c.put_if_wanted.new.text c.loop-rest.found c.from-found.result c.loop-rest.any c.in_ok-any-in-Ok.any o old.told
+          c.in-Ok.ensures.spelled c.in-Ok.ensures.is plus c.in_ok-any-in-Ok.ensures.any c.in_ok-any-in-Ok.ensures.text;
+      few = omega (arith, old.few, less, one);
+    }
+
+pub loop-rest-smaller : goal.loop-rest-smaller
+loop-rest-smaller c = shorter (operation_of c.in-Ok.operation) c.loop-rest.rest.now c.in-Ok.behind.now c.in-Ok.ensures.spelled
+
+pub returns-in-Err : goal.returns-in-Err
+returns-in-Err c =
+    tells_some c.args.settings.now c.args.said c.args.body.now c.loop-rest.rest.now c.args.text.now c.loop-rest.text c.loop-rest.found c.loop-rest.any c.in-Err.error c.loop-rest.invariant.told c.in-Err.ensures.err
+
+pub returns : goal.returns
+returns c =
+    tells_all c.args.settings.now c.args.said c.args.body.now c.loop-rest.rest.now c.args.text.now c.loop-rest.text c.loop-rest.found c.loop-rest.any c.count_fault.result c.loop-rest.invariant.told (eqb-true _ _ (sym c.is_empty.ensures ∙ c.loop-rest-test.false))
+    c.count_fault.ensures

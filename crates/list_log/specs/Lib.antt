@@ -1,0 +1,5 @@
+pub mod Wanted
+pub mod Texts
+pub mod Steps
+pub mod Showing
+pub mod Totals

@@ -1,0 +1,7 @@
+use Rattle.std.proofs.Common.{refl}
+use Rattle.hex.proofs.OnLiterals.{hex_on_literals}
+use Rattle.list_text.proofs.rows.given_keys.Goals as goal
+
+pub returns : goal.returns
+unfolding hex_on_literals
+returns c = record { digits = refl; upper_case = refl; nothing = refl; odd = refl; no_digit = refl; text = refl; escapes = refl; broken_escape = refl; other_escape = refl }

@@ -1,0 +1,5 @@
+pub mod Words
+pub mod Kinds
+pub mod Lines
+pub mod Keys
+pub mod Rows

@@ -1,0 +1,3 @@
+mod Additions
+mod Numbers
+mod Reading

@@ -1,0 +1,11 @@
+-- The help isn't part of a rule.
+use Rattle.std.proofs.Common.{◌∙◌, Some, ap}
+use Rattle.clap.specs.Words.{Rule, rule_of}
+use Rattle.clap.specs.declared.builder.arg.Arg.{Arg}
+use Rattle.list_words.proofs.definition.option.Goals as goal
+
+pub returns : goal.returns
+returns c = record {
+  rule = ap rule_of c.help.ensures ∙ ap rule_of c.long.ensures ∙ ap (λ (r : Rule). record r { long = Some c.args.name.now }) c.new.ensures.rule;
+  local = ap (λ (a : Arg). a.global) c.help.ensures ∙ ap (λ (a : Arg). a.global) c.long.ensures ∙ c.new.ensures.optional.1;
+}

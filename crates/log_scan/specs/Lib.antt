@@ -1,0 +1,4 @@
+pub mod Fronts
+pub mod Resuming
+pub mod Scanning
+pub mod Scanner

@@ -1,0 +1,4 @@
+pub mod SomeScan
+pub mod OneScan
+pub mod Leading
+pub mod WholeFound

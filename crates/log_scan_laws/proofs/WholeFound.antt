@@ -1,0 +1,372 @@
+-- A whole record on the way of the reader is found, whatever is damaged before it.
+use Rattle.std.proofs.Common.{◌≡◌, ◌⊎◌, inl, inr, ⊎_elim, ℕ, suc, ◌+◌, ◌*◌, ◌/◌, ◌<◌, ◌≤◌, Bool, true, false, cond, List, [], ◌∷◌, ◌++◌, length, take, drop, replicate, Option, Some, None, nat_lt, refl, sym, ◌∙◌, ap, subst, arith, append_assoc, length-append, length-take, length-drop}
+use Rattle.std.proofs.Math.ListN.{length-replicate}
+use Rattle.std.proofs.Math.Seq.{drop-append_seam}
+use Rattle.std.proofs.lemmas.Bool.{lt-ltb}
+use Rattle.std.proofs.lemmas.List.{drop-drop}
+use Rattle.std.specs.List.{AllByRecursion}
+use Rattle.model_base.specs.declared.log.Damage.{Damage}
+use Rattle.model_base.specs.declared.log.EndReason.{EndReason}
+use Rattle.model_base.specs.Log.{Kind, full, first, middle, last, Fragment, AreOneRecord, GoesToLast, kinds_of, record_of, header_len, fragments_text, fragment_bytes, room, trailer, next_place, FitFrom}
+use Rattle.model_base.specs.Reading.{Seen, Next, fragment, nothing, damage, seen_at, next_seen, behind_zeros, kind_of_code, type_field, length_field, AreBegun, HasFragments, end_of, ReadingEnds, clean, broken, bad_order, unfinished}
+use Rattle.log_laws.proofs.Placed.{behind, end_none, end_more, placed_append}
+use Rattle.log_laws.proofs.ReadSynced.{next_first, sees_first, stand_rest, stand_behind}
+use Rattle.log_recovery_laws.proofs.NextFragment.{next_begins}
+use Rattle.log_recovery_laws.proofs.SeenFragment.{fragment_is}
+use Rattle.log_recovery_laws.proofs.Reading.{stand_more}
+use Rattle.log_recovery_laws.proofs.OneReading.{one_record, no_end}
+use Rattle.log_scan.specs.declared.scanner.Lost.{Lost}
+use Rattle.log_scan.specs.Resuming.{fragment_len, begins_record, there, after_damage, after_misplaced}
+use Rattle.log_scan.specs.Scanning.{Item, whole, unread, Scan, IsScan, items_with, later_place}
+use Rattle.log_scan.proofs.Places.{some_header, seen_there, kind_there, length_in_front}
+use Rattle.log_scan.proofs.Later.{end_later}
+use Rattle.log_scan_laws.proofs.Leading.{Leads, arrives, past_fragment, past_damage, leads_up, lead_on, lead_over, start_of, at_start, first_of, leads_to_block}
+use Rattle.log_scan_laws.proofs.OneScan.{Runs, run_of}
+use Rattle.log_scan_laws.proofs.OneScan as run
+
+-- The record: its first fragment is at the place where it begins.
+module _ (number : Option ℕ) (file : List ℕ) (start : ℕ) (f : Fragment) (fs : List Fragment) (one : AreOneRecord (kinds_of (f ∷ fs)))
+    (stand : HasFragments number file start (f ∷ fs)) (starts : next_place number start ≡ start) where
+  pub target : Next
+  target = record { at = start; seen = fragment f }
+
+  abbrev LeadsTo : ℕ → Type 0
+  LeadsTo v = Leads number file target v
+
+  abbrev pub IsFound : List Item → Type 0
+  IsFound items = (front rest : List Item) × (items ≡ front ++ whole start (end_of number start (f ∷ fs)) (record_of (f ∷ fs)) ∷ rest)
+
+  inside : start < length file
+  inside = omega (arith, ap length stand.there, length-drop start file, length-append (fragments_text number start (f ∷ fs)) stand.rest, end_later number start f fs)
+
+  it_begins : begins_record (Some f.kind) ≡ true
+  it_begins = with_kind f.kind one
+    where
+      with_kind : (k : Kind) → AreOneRecord (k ∷ kinds_of fs) → begins_record (Some k) ≡ true
+      with_kind full is = refl
+      with_kind first is = refl
+      with_kind middle none = absurd none
+      with_kind last none = absurd none
+
+  -- The reader reads fragments: the record's first one is among them, or the way goes on after them.
+  record Among (v : ℕ) (gs : List Fragment) : Type 0 where
+    before : List Fragment
+    after : List Fragment
+    is : gs ≡ before ++ f ∷ after
+    place : next_place number (end_of number v before) ≡ start
+
+  through : (v : ℕ) (gs : List Fragment) → HasFragments number file v gs → LeadsTo v → Among v gs ⊎ LeadsTo (end_of number v gs)
+  unfolding target
+  through v [] has leads = inr (subst LeadsTo (sym (end_none number v)) leads)
+  through v (g ∷ gs) has leads = by_way (through (behind number v g) gs (stand_rest number file v g gs has)) leads
+    where
+      seen : next_seen number file v ≡ record { at = next_place number v; seen = fragment g }
+      seen = next_first number file v g gs has
+
+      on : Among (behind number v g) gs ⊎ LeadsTo (end_of number (behind number v g) gs) → Among v (g ∷ gs) ⊎ LeadsTo (end_of number v (g ∷ gs))
+      on later = ⊎_elim
+          (λ a. inl (record { before = g ∷ a.before; after = a.after; is = ap (λ (l : List Fragment). g ∷ l) a.is; place = ap (next_place number) (end_more number v g a.before) ∙ a.place }))
+          (λ l. inr (subst LeadsTo (sym (end_more number v g gs)) l))
+          later
+
+      by_way : (LeadsTo (behind number v g) → Among (behind number v g) gs ⊎ LeadsTo (end_of number (behind number v g) gs)) → LeadsTo v → Among v (g ∷ gs) ⊎ LeadsTo (end_of number v (g ∷ gs))
+      by_way rest (arrives e) =
+          let both = sym seen ∙ e in
+          let one_seen : fragment g ≡ fragment f = ap (λ (n : Next). n.seen) both in
+          let same : g ≡ f = cc in
+          inl (record { before = []; after = gs; is = ap (λ (x : Fragment). x ∷ gs) same; place = ap (next_place number) (end_none number v) ∙ ap (λ (n : Next). n.at) both })
+      by_way rest (past_fragment h e more) =
+          let one_seen : fragment h ≡ fragment g = ap (λ (n : Next). n.seen) (e ∙ seen) in
+          let same : h ≡ g = cc in
+          on (rest (subst (λ (x : Fragment). LeadsTo (behind number v x)) same more))
+      by_way rest (past_damage d e more) = let wrong : damage d ≡ fragment g = ap (λ (n : Next). n.seen) (e ∙ seen) in absurd (cc)
+
+  -- Among the fragments of one record, or of a begun one, it is the first.
+  module _ (v : ℕ) (gs : List Fragment) (has : HasFragments number file v gs) where
+    -- the fragments after the first one of these begin no record
+    middles_do_not : (before after : List Fragment) → AllByRecursion (λ k. k ≡ middle) (kinds_of (before ++ f ∷ after)) → ⊥
+    middles_do_not [] after all = let wrong : false ≡ true = sym (ap (λ (k : Kind). begins_record (Some k)) all.0) ∙ it_begins in cc
+    middles_do_not (b ∷ before) after all = middles_do_not before after all.1
+
+    rest_does_not : (before after : List Fragment) → GoesToLast (kinds_of (before ++ f ∷ after)) → ⊥
+    rest_does_not [] after goes = with_kind f.kind it_begins goes
+      where
+        with_kind : (k : Kind) → begins_record (Some k) ≡ true → GoesToLast (k ∷ kinds_of after) → ⊥
+        with_kind full e none = none
+        with_kind first e none = none
+        with_kind middle e goes = cc
+        with_kind last e goes = cc
+    rest_does_not (b ∷ before) after goes = with_kind (rest_does_not before after) b.kind goes
+      where
+        with_kind : (GoesToLast (kinds_of (before ++ f ∷ after)) → ⊥) → (k : Kind) → GoesToLast (k ∷ kinds_of (before ++ f ∷ after)) → ⊥
+        with_kind never middle on = never on
+        with_kind never last none = no_more before none
+          where
+            no_more : (l : List Fragment) → kinds_of (l ++ f ∷ after) ≡ [] → ⊥
+            no_more [] e = cc
+            no_more (x ∷ l) e = cc
+        with_kind never full none = none
+        with_kind never first none = none
+
+    only_first : (before after : List Fragment) → gs ≡ before ++ f ∷ after → AreBegun (kinds_of gs) ⊎ AreOneRecord (kinds_of gs) → before ≡ []
+    only_first [] after is either = refl
+    only_first (b ∷ before) after is either = absurd (⊎_elim
+        (λ begun. with_begun b.kind (subst (λ (l : List Fragment). AreBegun (kinds_of l)) is begun))
+        (λ whole. with_one b.kind (subst (λ (l : List Fragment). AreOneRecord (kinds_of l)) is whole)) either)
+      where
+        with_begun : (k : Kind) → AreBegun (k ∷ kinds_of (before ++ f ∷ after)) → ⊥
+        with_begun first all = middles_do_not before after all
+        with_begun full none = none
+        with_begun middle none = none
+        with_begun last none = none
+
+        with_one : (k : Kind) → AreOneRecord (k ∷ kinds_of (before ++ f ∷ after)) → ⊥
+        with_one first goes = rest_does_not before after goes
+        with_one full e = no_more before e
+          where
+            no_more : (l : List Fragment) → kinds_of (l ++ f ∷ after) ≡ [] → ⊥
+            no_more [] h = cc
+            no_more (x ∷ l) h = cc
+        with_one middle none = none
+        with_one last none = none
+
+    -- then the record's fragments are at this place, after the zeros that are due
+    it_is_here : Among v gs → AreBegun (kinds_of gs) ⊎ AreOneRecord (kinds_of gs) → (next_place number v ≡ start) × HasFragments number file v (f ∷ fs)
+    it_is_here a either =
+        let none : a.before ≡ [] = only_first a.before a.after a.is either in
+        let is : gs ≡ f ∷ a.after = a.is ∙ ap (λ (l : List Fragment). l ++ f ∷ a.after) none in
+        let place : next_place number v ≡ start = sym (ap (next_place number) (ap (end_of number v) none ∙ end_none number v)) ∙ a.place in
+        let at_v : HasFragments number file v (f ∷ a.after) = subst (HasFragments number file v) is has in
+        let one_there : HasFragments number file v (f ∷ []) = record {
+          rest = fragments_text number (behind number v f) a.after ++ at_v.rest;
+          there = at_v.there ∙ (ap (λ (l : List ℕ). l ++ at_v.rest) (placed_append number v (f ∷ []) a.after)
+              ∙ (append_assoc (fragments_text number v (f ∷ [])) (fragments_text number (end_of number v (f ∷ [])) a.after) at_v.rest
+              ∙ ap (λ (n : ℕ). fragments_text number v (f ∷ []) ++ (fragments_text number n a.after ++ at_v.rest)) (end_more number v f [] ∙ end_none number (behind number v f))));
+          fit = (at_v.fit.0, tt);
+        } in
+        let ends : behind number start f ≡ end_of number v (f ∷ []) = ap (λ (n : ℕ). n + header_len number + length f.part) (starts ∙ sym place) ∙ sym (end_more number v f [] ∙ end_none number (behind number v f)) in
+        (place, stand_more number file v (f ∷ []) fs one_there (subst (λ n. HasFragments number file n fs) ends (stand_rest number file start f fs stand)))
+
+  pub end_here : (v : ℕ) → next_place number v ≡ start → end_of number v (f ∷ fs) ≡ end_of number start (f ∷ fs)
+  end_here v place =
+      end_more number v f fs ∙ (ap (λ (n : ℕ). end_of number (n + header_len number + length f.part) fs) (place ∙ sym starts) ∙ sym (end_more number start f fs))
+
+  -- Reading that ended before is tried again on the way.
+  record Again (at : ℕ) (why : EndReason) : Type 0 where
+    next : ℕ
+    is : later_place number true file at why ≡ Some next
+    leads : LeadsTo next
+
+  there_is : (place : ℕ) → LeadsTo place → there file place ≡ Some place
+  unfolding target
+  there_is place leads = ap (λ (b : Bool). cond b (Some place) None) (lt-ltb place (length file) (omega (arith, inside, leads_up number file target place leads)))
+
+  not_nothing : (v at : ℕ) → LeadsTo v → record { at = at; seen = nothing } ≡ next_seen number file v → ⊥
+  unfolding target
+  not_nothing v at (arrives e) is = let wrong : nothing ≡ fragment f = ap (λ (n : Next). n.seen) (is ∙ e) in cc
+  not_nothing v at (past_fragment g e more) is = let wrong : nothing ≡ fragment g = ap (λ (n : Next). n.seen) (is ∙ sym e) in cc
+  not_nothing v at (past_damage d e more) is = let wrong : nothing ≡ damage d = ap (λ (n : Next). n.seen) (is ∙ sym e) in cc
+
+  after_broken : (v at : ℕ) (d : Damage) → LeadsTo v → record { at = at; seen = damage d } ≡ next_seen number file v → LeadsTo (after_damage number file at)
+  unfolding target
+  after_broken v at d (arrives e) is = let wrong : damage d ≡ fragment f = ap (λ (n : Next). n.seen) (is ∙ e) in absurd (cc)
+  after_broken v at d (past_fragment g e more) is = let wrong : damage d ≡ fragment g = ap (λ (n : Next). n.seen) (is ∙ sym e) in absurd (cc)
+  after_broken v at d (past_damage c e more) is = subst (λ (n : ℕ). LeadsTo (after_damage number file n)) (ap (λ (n : Next). n.at) (e ∙ sym is)) more
+
+  -- after a fragment in a wrong place
+  module _ (v at : ℕ) (z : Fragment) (is : record { at = at; seen = fragment z } ≡ next_seen number file v) where
+    seen_z : seen_at number file at ≡ fragment z
+    seen_z = seen_there number file v at z is
+
+    from_there : record { at = at; seen = fragment z } ≡ next_seen number file at
+    from_there = sym (ap (behind_zeros number file at) seen_z)
+
+    -- the fragment's end, as its header says
+    ends_there : at + fragment_len number (drop at file) ≡ behind number v z
+    ends_there =
+        let bytes = take (room at) (drop at file) in
+        let has = fragment_is number (room at) bytes z seen_z in
+        let field : length_field bytes ≡ length_field (drop at file) = length_in_front (room at) (drop at file) (omega (arith, has.room, some_header number)) in
+        let part : length z.part ≡ length_field bytes = omega (arith, ap length has.part_is, has.there, length-take (length_field bytes) (drop (header_len number) bytes), length-drop (header_len number) bytes) in
+        omega (arith, field, part, next_begins number file v at z is)
+
+    goes_on : LeadsTo v → LeadsTo (after_misplaced number file at)
+    unfolding target
+    goes_on leads = by_header (begins_record (kind_of_code number (type_field (drop at file)))) refl leads
+      where
+        begins_z : begins_record (kind_of_code number (type_field (drop at file))) ≡ begins_record (Some z.kind)
+        begins_z = ap begins_record (kind_there number file at z seen_z)
+
+        by_header : (b : Bool) → begins_record (kind_of_code number (type_field (drop at file))) ≡ b → LeadsTo v → LeadsTo (cond b at (at + fragment_len number (drop at file)))
+        by_header true e (arrives to) = arrives (sym from_there ∙ (is ∙ to))
+        by_header true e (past_fragment h to more) =
+            let one_seen : fragment h ≡ fragment z = ap (λ (n : Next). n.seen) (to ∙ sym is) in
+            let same : h ≡ z = cc in
+            let place : next_place number v ≡ next_place number at = sym (next_begins number file v at z is) ∙ next_begins number file at at z from_there in
+            past_fragment z from_there (subst (λ (n : ℕ). LeadsTo (n + header_len number + length z.part)) place (subst (λ (x : Fragment). LeadsTo (behind number v x)) same more))
+        by_header true e (past_damage d to more) = let wrong : damage d ≡ fragment z = ap (λ (n : Next). n.seen) (to ∙ sym is) in absurd (cc)
+        by_header false e (arrives to) =
+            let one_seen : fragment z ≡ fragment f = ap (λ (n : Next). n.seen) (is ∙ to) in
+            let same : z ≡ f = cc in
+            let wrong : false ≡ true = sym e ∙ (begins_z ∙ (ap (λ (x : Fragment). begins_record (Some x.kind)) same ∙ it_begins)) in
+            absurd (cc)
+        by_header false e (past_fragment h to more) =
+            let one_seen : fragment h ≡ fragment z = ap (λ (n : Next). n.seen) (to ∙ sym is) in
+            let same : h ≡ z = cc in
+            subst LeadsTo (sym ends_there) (subst (λ (x : Fragment). LeadsTo (behind number v x)) same more)
+        by_header false e (past_damage d to more) = let wrong : damage d ≡ fragment z = ap (λ (n : Next). n.seen) (to ∙ sym is) in absurd (cc)
+
+  again : (here at : ℕ) (why : EndReason) → LeadsTo here → ReadingEnds number file here at why → Again at why
+  again here at why leads end = by_end at why end
+    where
+      -- the record isn't where reading began, since reading ended there
+      on : (gs : List Fragment) → AreBegun (kinds_of gs) → HasFragments number file here gs → LeadsTo (end_of number here gs)
+      on gs begun has = ⊎_elim
+          (λ a. absurd (no_end number file here at why (f ∷ fs) one (it_is_here here gs has a (inl begun)).1 end))
+          (λ l. l)
+          (through here gs has leads)
+
+      by_end : (place : ℕ) (reason : EndReason) → ReadingEnds number file here place reason → Again place reason
+      by_end place reason (clean {at = p} c) = absurd (not_nothing (end_of number here []) p (on [] c.begun c.stand) c.is_next)
+      by_end place reason (unfinished {at = p} g gs c) = absurd (not_nothing (end_of number here (g ∷ gs)) p (on (g ∷ gs) c.begun c.stand) c.is_next)
+      by_end place reason (broken {d = d} gs c) =
+          let later = after_broken (end_of number here gs) place d (on gs c.begun c.stand) c.is_next in
+          record { next = after_damage number file place; is = there_is (after_damage number file place) later; leads = later }
+      by_end place reason (bad_order {f = z} gs c not_begun not_one) =
+          let later = goes_on (end_of number here gs) place z c.is_next (on gs c.begun c.stand) in
+          record { next = after_misplaced number file place; is = there_is (after_misplaced number file place) later; leads = later }
+
+  -- The record is among the items of a run that is on the way to it.
+  pub found_in : (place here at : ℕ) (why : EndReason) (lost : Option Lost) (items : List Item) → Runs number true file place here lost items at why → LeadsTo here → IsFound items
+  found_in place here at why lost items (run.ends end x none first_is) leads =
+      let on = again here end.at end.why leads x in
+      let wrong : None ≡ Some on.next = sym none ∙ on.is in
+      absurd (cc)
+  found_in place here at why lost items (run.skips {next = next} end x some rest) leads =
+      let on = again here end.at end.why leads x in
+      let both : Some on.next ≡ Some next = sym on.is ∙ some in
+      let same : on.next ≡ next = cc in
+      found_in place next at why _ items rest (subst LeadsTo same on.leads)
+  found_in place here at why lost _ (run.finds {start = s} {end = e} {bytes = bytes} {items = more_items} is more) leads = ⊎_elim
+      (λ a.
+      let it = it_is_here here is.fragments is.stand a (inr is.one) in
+      let same : is.fragments ≡ f ∷ fs = one_record number file here is.fragments (f ∷ fs) is.one one is.stand it.1 in
+      let start_is : s ≡ start = is.starts ∙ it.0 in
+      let end_is : e ≡ end_of number start (f ∷ fs) = is.ends ∙ (ap (end_of number here) same ∙ end_here here it.0) in
+      let bytes_is : bytes ≡ record_of (f ∷ fs) = is.bytes_are ∙ ap record_of same in
+      with_lost lost place s e bytes more_items start_is end_is bytes_is)
+      (λ l.
+      let found = found_in e e at why None more_items more (subst LeadsTo (sym is.ends) l) in
+      (items_with lost place s e bytes ++ found.0, found.1, ap (λ (l : List Item). items_with lost place s e bytes ++ l) found.2 ∙ sym (append_assoc (items_with lost place s e bytes) found.0 _)))
+      (through here is.fragments is.stand leads)
+    where
+      with_lost : (lost : Option Lost) (place s e : ℕ) (bytes : List ℕ) (more : List Item) → s ≡ start → e ≡ end_of number start (f ∷ fs) → bytes ≡ record_of (f ∷ fs) → IsFound (items_with lost place s e bytes ++ more)
+      with_lost None place s e bytes more start_is end_is bytes_is = ([], more, rw (start_is, end_is, bytes_is) refl)
+      with_lost (Some lost) place s e bytes more start_is end_is bytes_is =
+          (unread (record { from = place; to = s; at = lost.at; why = lost.why }) ∷ [], more, rw (start_is, end_is, bytes_is) refl)
+
+-- The next place is one where no zeros are due: it is this one, or a block's start.
+twice_is : (number : Option ℕ) (v : ℕ) → next_place number (next_place number v) ≡ next_place number v
+twice_is number v = by_test (nat_lt (room v) (header_len number)) refl
+  where
+    by_test : (b : Bool) → nat_lt (room v) (header_len number) ≡ b → next_place number (next_place number v) ≡ next_place number v
+    by_test true few =
+        let place : next_place number v ≡ start_of (suc (v / 32768)) = omega (arith, ap (λ (b : Bool). cond b (room v) 0) few) in
+        rw place (at_start number (suc (v / 32768)))
+    by_test false many =
+        let place : next_place number v ≡ v = omega (arith, ap (λ (b : Bool). cond b (room v) 0) many) in
+        ap (next_place number) place
+
+-- the fragments from there on are the same
+stand_at : (number : Option ℕ) (file : List ℕ) (v : ℕ) (f : Fragment) (fs : List Fragment) → HasFragments number file v (f ∷ fs) → HasFragments number file (next_place number v) (f ∷ fs)
+stand_at number file v f fs has =
+    let place = next_place number v in
+    let twice : next_place number place ≡ place = twice_is number v in
+    let none : trailer number place ≡ 0 = omega (arith, twice) in
+    let same : behind number place f ≡ behind number v f = ap (λ (n : ℕ). n + header_len number + length f.part) twice in
+    let zeros : List ℕ = replicate (trailer number v) 0 in
+    let own = fragment_bytes number f in
+    let later = fragments_text number (behind number v f) fs in
+    let text : List ℕ = own ++ (later ++ has.rest) in
+    let at_v : drop v file ≡ zeros ++ text = has.there ∙ (append_assoc (zeros ++ own) later has.rest ∙ append_assoc zeros own (later ++ has.rest)) in
+    let dropped : drop (trailer number v) (zeros ++ text) ≡ text = subst (λ (n : ℕ). drop n (zeros ++ text) ≡ text) (length-replicate {A = ℕ} (trailer number v) 0) (drop-append_seam zeros text) in
+    let at_place : drop place file ≡ text = sym (drop-drop (trailer number v) v file) ∙ (ap (drop (trailer number v)) at_v ∙ dropped) in
+    let spelled : fragments_text number place (f ∷ fs) ++ has.rest ≡ text =
+    ap (λ (n : ℕ). ((replicate n 0 ++ own) ++ fragments_text number (behind number place f) fs) ++ has.rest) none
+    ∙ (ap (λ (n : ℕ). (own ++ fragments_text number n fs) ++ has.rest) same ∙ append_assoc own later has.rest) in
+    record {
+      rest = has.rest;
+      there = at_place ∙ sym spelled;
+      fit = (
+        subst (λ (n : ℕ). header_len number + length f.part ≤ room n) (sym twice) has.fit.0,
+        subst (λ (n : ℕ). FitFrom number n fs) (sym same) has.fit.1,
+      );
+    }
+
+-- A record in the order of its block: from the block's start on these fragments follow one another, and the last of
+-- them are the record's.
+module _ (number : Option ℕ) (file : List ℕ) (block : ℕ) (before : List Fragment) (f : Fragment) (fs : List Fragment)
+    (stand : HasFragments number file (start_of block) (before ++ f ∷ fs)) where
+  pub end : ℕ
+  end = end_of number (start_of block) before
+
+  pub place : ℕ
+  place = next_place number end
+
+  pub its : Next
+  its = record { at = place; seen = fragment f }
+
+  at_end : HasFragments number file end (f ∷ fs)
+  unfolding end
+  at_end = stand_behind number file (start_of block) before (f ∷ fs) stand
+
+  seen_at_end : next_seen number file end ≡ its
+  unfolding its place
+  seen_at_end = next_first number file end f fs at_end
+
+  block_inside : start_of block < length file
+  unfolding end
+  block_inside = omega (arith, ap length at_end.there, length-drop end file, length-append (fragments_text number end (f ∷ fs)) at_end.rest, end_later number end f fs)
+
+  -- from where the reader sees what is at the block's start
+  from_block : (w : ℕ) → next_seen number file w ≡ first_of number file block → Leads number file its w
+  unfolding its place end
+  from_block w e = by_before before refl
+    where
+      by_before : (l : List Fragment) → before ≡ l → Leads number file its w
+      by_before [] none =
+          let here : end ≡ start_of block = ap (end_of number (start_of block)) none ∙ end_none number (start_of block) in
+          let at_place : place ≡ start_of block = ap (next_place number) here ∙ at_start number block in
+          let seen : seen_at number file (start_of block) ≡ fragment f = ap (seen_at number file) (sym at_place) ∙ sees_first number file end f fs at_end in
+          arrives (e ∙ (ap (λ (s : Seen). record { at = start_of block; seen = s }) seen ∙ ap (λ (n : ℕ). record { at = n; seen = fragment f }) (sym at_place)))
+      by_before (b ∷ bs) some =
+          let has : HasFragments number file (start_of block) (b ∷ (bs ++ f ∷ fs)) = subst (λ (l : List Fragment). HasFragments number file (start_of block) (l ++ f ∷ fs)) some stand in
+          let seen : seen_at number file (start_of block) ≡ fragment b = ap (seen_at number file) (sym (at_start number block)) ∙ sees_first number file (start_of block) b (bs ++ f ∷ fs) has in
+          let is : record { at = start_of block; seen = fragment b } ≡ next_seen number file w = sym (e ∙ ap (λ (s : Seen). record { at = start_of block; seen = s }) seen) in
+          let same : behind number (start_of block) b ≡ behind number w b = ap (λ (n : ℕ). n + header_len number + length b.part) (at_start number block ∙ next_begins number file w (start_of block) b is) in
+          let ends : end ≡ end_of number (behind number (start_of block) b) bs = ap (end_of number (start_of block)) some ∙ end_more number (start_of block) b bs in
+          past_fragment b is (subst (Leads number file its) same
+          (lead_over number file its (behind number (start_of block) b) bs (f ∷ fs) (stand_rest number file (start_of block) b (bs ++ f ∷ fs) has) (subst (Leads number file its) ends (arrives seen_at_end))))
+
+  pub found_there : (scan : Scan) → IsScan number true file scan → AreOneRecord (kinds_of (f ∷ fs))
+      → (front rest : List Item) × (scan.items ≡ front ++ whole place (end_of number (start_of block) (before ++ f ∷ fs)) (record_of (f ∷ fs)) ∷ rest)
+  unfolding its place end target
+  found_there scan is one =
+      let at_place : HasFragments number file place (f ∷ fs) = stand_at number file end f fs at_end in
+      let way : Leads number file its 0 = lead_on number file (first_of number file block) its 0 (leads_to_block number file block block_inside) from_block in
+      let found = found_in number file place f fs one at_place (twice_is number end) 0 0 scan.at scan.why None scan.items (run_of number true file scan is) way in
+      let joined : end_of number end (f ∷ fs) ≡ end_of number (start_of block) (before ++ f ∷ fs) = omega (
+        arith,
+        ap length (placed_append number (start_of block) before (f ∷ fs)),
+        length-append (fragments_text number (start_of block) before) (fragments_text number end (f ∷ fs)),
+      ) in
+      let ends : end_of number place (f ∷ fs) ≡ end_of number (start_of block) (before ++ f ∷ fs) =
+      sym (end_here number file place f fs one at_place (twice_is number end) end refl) ∙ joined in
+      (found.0, found.1, found.2 ∙ ap (λ (n : ℕ). found.0 ++ whole place n (record_of (f ∷ fs)) ∷ found.1) ends)
+
+pub whole_found : (number : Option ℕ) (file : List ℕ) (scan : Scan) (block : ℕ) (before fragments : List Fragment) → IsScan number true file scan
+    → HasFragments number file (32768 * block) (before ++ fragments) → AreOneRecord (kinds_of fragments)
+    → (front rest : List Item) × (scan.items ≡ front ++ whole (next_place number (end_of number (32768 * block) before)) (end_of number (32768 * block) (before ++ fragments)) (record_of fragments) ∷ rest)
+unfolding place end
+whole_found number file scan block before [] is stand one = absurd one
+whole_found number file scan block before (f ∷ fs) is stand one = found_there number file block before f fs stand scan is one
