@@ -218,9 +218,9 @@ pub trait Engine {
         ensures err { IfErr result
             (λ why. FailsFor (settings self.now) (account client.old) why (account client.new)) };
 
-    /// Takes the client's stop token. While any client holds one, all writes wait, except that those that may not
-    /// wait, and those of a client that holds one itself, are refused. Where the client already holds one, no call is
-    /// made.
+    /// Takes the client's stop token. While any client holds one, writes that may wait do, and those that may not are
+    /// refused. A client that holds one itself doesn't wait: all its writes are refused. Where the client already holds
+    /// one, no call is made. A write that had gone on before isn't stopped.
     fn stop<R: Wait + rt::Clock>(&self, rt: &R, client: &mut Self::Client) -> Result<(), Held>
         requires { belongs self.now client.old }
         ensures belongs { belongs self.now client.new }
@@ -240,7 +240,8 @@ pub trait Engine {
             × Keeps (account client.old) (account client.new)) };
 
     /// Takes the client's slow token, with a rate in bytes a second; a rate of 0 counts as 1. While any client holds
-    /// one, writes are slowed down. Where the client already holds one, no call is made.
+    /// one, a group of writes waits where its bytes are more than what the newest rate has let pass, and one that may
+    /// not wait is refused then. Where the client already holds one, no call is made.
     fn slow<R: Wait + rt::Clock>(
         &self,
         rt: &R,

@@ -37,10 +37,10 @@ use Rattle.engine_parts.specs.declared.requests.Answer.{Answer}
 use Rattle.model_accounts.specs.Accounts.{Account, IsRefused, IsRefusedLate, Keeps, KnowsOwnTokens, Refuses, Wrote}
 use Rattle.engine_groups.specs.Clients.{own_answers, own_commits, own_sights}
 use Rattle.engine_groups.proofs.Told.{answers_same, commit, commits_told, own_more, sight, sights_more, sights_told}
-use Rattle.engine_parts.specs.Handled.{AreHandled, ComesBack, HandsBack, IsDelayed, IsLate, ShowsDelay, answer_in, answer_of_refusal, first_of, has_run, held_up_with, noted_in, seen_for, sights_in, commits_in}
+use Rattle.engine_parts.specs.Handled.{AreHandled, ComesBack, HandsBack, IsDelayed, IsLate, ShowsDelay, answer_in, answer_of_refusal, first_of, has_run, held_up_with, noted_in, seen_for, went_for, sights_in, commits_in}
 use Rattle.engine_parts.specs.Runs.{IsAbove}
 use Rattle.engine_parts.proofs.Views.{some_holds}
-use Rattle.engine_rule.specs.Asked.{place_of}
+use Rattle.engine_rule.specs.Asked.{place_of, decided_of}
 use Rattle.engine_rule.specs.Commits.{Commit, accepted, commits_of, held_up}
 use Rattle.engine_rule.specs.Entries.{account_of, SeesMore, ShowsBatch}
 use Rattle.engine_rule.specs.LogSights.{LogSight, WrittenBatch, logged_by, written_if}
@@ -135,14 +135,17 @@ module _ {C D : Type 0} {ghosts : Ghosts D} (controller : Controller C) (opened 
   new_is : account_of start opening k (own_commits k mine ++ commit k q p ∷ []) (own_sights k mine ++ sight k q p ∷ []) (own_answers mine) now after ≡ new
   new_is = λ i. account_of start opening k (sym (own_more k mine q p writes) i) (sym (sights_more k mine q p writes) i) (sym (answers_same mine q p writes) i) now after
 
-  -- The client has seen the note of its reply, and with it the delay of its group. That delay comes after all that the
-  -- client had seen before the call.
+  -- The client has seen the note of its reply, and with it all that its leader had seen when the group went on or was
+  -- refused, and so the delay of its group. That delay comes after all that the client had seen before the call.
 
   shows : (by : ℕ) × ShowsDelay controller (record { by = by; asked = q; reply = p })
   shows = newest (ShowsDelay controller) k handled mine q p own kept.shown
 
+  all_heard : IsPrefix (went_for p) after
+  all_heard = let n = shows.1.noted writes in prefix_trans (went_for p) (seen_by_note n.0) after n.3 (some_holds (λ (m : Noted). IsPrefix (seen_by_note m) after) p.note n.0 n.1 sees_note)
+
   front : IsPrefix (seen_for p) after
-  front = let n = shows.1.noted writes in prefix_trans (seen_for p) (seen_by_note n.0) after n.3 (some_holds (λ (m : Noted). IsPrefix (seen_by_note m) after) p.note n.0 n.1 sees_note)
+  front = prefix_trans (seen_for p) (went_for p) after (shows.1.begins writes) all_heard
 
   -- what is later than all that the note showed is later than all that the client had seen
   later_known : (numbers : Look) (d : IsDelayed (noted_in q.note) (seen_for p) numbers) → IsLater after (length known) (length (seen_for p) - 1) (record { client = d.by; action = delay d.now d.bytes; told = Some numbers })
@@ -151,10 +154,12 @@ module _ {C D : Type 0} {ghosts : Ghosts D} (controller : Controller C) (opened 
       let low = prefix_length known (noted_in q.note) noted_known in let late = later.later in
       record { later = omega (arith, low, late); there = later.there }
 
-  within : IsWithinCall (length known) (length after) (place_of (commit k q p))
+  within : IsWithinCall (length known) (length after) (place_of (commit k q p)) (decided_of (commit k q p))
   within =
       let d = shows.1.delayed writes in let later = later_known d.0 d.1 in
-      (later.later, slice_get_within after (length (seen_for p) - 1) (record { client = d.1.by; action = delay d.1.now d.1.bytes; told = Some d.0 }) later.there)
+      let there = slice_get_within (seen_for p) (length (seen_for p) - 1) (record { client = d.1.by; action = delay d.1.now d.1.bytes; told = Some d.0 }) d.1.is_later.there in
+      let long = prefix_length (seen_for p) (went_for p) (shows.1.begins writes) in
+      (later.later, omega (arith, there, long), prefix_length (went_for p) after all_heard)
 
   -- the newest of the client's answers shows no less of the log than those before it
   in_order : (logged_by (own_sights k mine) ≤ (sight k q p).made) × ((sight k q p).made ≤ length kept.written.worked)

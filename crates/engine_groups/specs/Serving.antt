@@ -1,6 +1,8 @@
 -- A leader that has its group's requests, and one that has answered them.
-use Rattle.std.specs.Prelude.{◌≡◌, ℕ, ◌-◌, ◌≤◌, List, [], ◌∷◌, ◌++◌, length, vec_capacity}
+use Rattle.std.specs.Prelude.{◌≡◌, ℕ, ◌-◌, ◌≤◌, false, List, [], ◌∷◌, ◌++◌, length, vec_capacity}
 use Rattle.std.specs.List.{AllByRecursion}
+use mathlib.Core.List.{IsPrefix}
+use Rattle.base_devices.specs.Clocks.{HasPaused}
 use Rattle.log_writer.specs.declared.group_log.GroupLog.{Ghosts}
 use Rattle.table_calls.specs.Account.{IsReady}
 use Rattle.line_rule.specs.declared.view.QueuedWriter.{QueuedWriter}
@@ -15,14 +17,26 @@ use Rattle.engine_rule.specs.Entries.{SeesMore}
 use Rattle.engine_groups.specs.Meaning.{Meaning}
 use Rattle.engine_groups.specs.declared.engine.GroupEngine.{GroupEngine}
 use Rattle.engine_groups.specs.declared.engine.EngineClient.{EngineClient}
-use Rattle.model_base.specs.Controller.{ControllerCall}
+use Rattle.model_base.specs.Controller.{ControllerCall, Look}
 use Rattle.engine_parts.specs.declared.requests.Request.{Request}
 use Rattle.engine_parts.specs.declared.requests.Answer.{Answer}
-use Rattle.engine_parts.specs.Handled.{HandsBack, IsReplyAt, ShowsDelay, IsNoted, handled_with, InOrder}
+use Rattle.engine_parts.specs.Handled.{EndsInDelay, HandsBack, IsReplyAt, ShowsDelay, IsNoted, commit_requests_of, handled_with, InOrder}
 use Rattle.engine_parts.specs.Layout.{IsLaid, IsRoomy}
-use Rattle.engine_parts.specs.Led.{IsLedGroup, LeadsBy}
+use Rattle.engine_parts.specs.Led.{AreAlike, IsLedGroup, LeadsBy}
 use Rattle.engine_groups.specs.Clients.{IsEngine}
 use Rattle.engine_groups.specs.Stalling.{LeadsGroup, KeepsGroup}
+
+-- The leader's newest delay, of those that it has seen, was answered with these numbers. If its group may wait, it has
+-- waited as long as they say: from the one count to the other the clock was asked to let at least that time pass.
+pub record HasWaited (client : ℕ) (requests : List (ℕ × Request)) (seen : List ControllerCall) (before now : ℕ) : Type 0
+  where
+    pub known : List ControllerCall
+    pub numbers : Look
+    pub begins : IsPrefix known seen
+    pub delayed : EndsInDelay client numbers known
+    pub earlier : List ℕ
+    pub newest : delays_of client seen ≡ earlier ++ (length known - 1) ∷ []
+    pub waited : AreAlike false (commit_requests_of requests) → HasPaused before numbers.wait now
 
 module _ {Log Versions Time Watch Seat Turn Part : Type 0} {ghosts : Ghosts Log}
     (meaning : Meaning Versions Seat Turn Part) (e : GroupEngine Log Versions Time Watch Seat Turn Part ghosts)

@@ -238,6 +238,7 @@ impl<
         // No delay was asked for it. The answer has a place for one, which says nothing here.
         let delay = Delay {
             pass: Snapshot::of(&client.pass),
+            went: Snapshot::of(&client.pass),
             made: leadership.held.path.made,
         };
         read_phase(

@@ -20,7 +20,7 @@ ghost use Rattle.engine_parts.specs.Numbering.{AreHelpers, others_in};
 ghost use Rattle.engine_parts.specs.Staged.{IsStaged};
 ghost use Rattle.engine_parts.specs.Handled.{AreHandled, handled_with};
 ghost use Rattle.engine_groups.specs.Clients.{IsClientOf, IsIdle, IsSeated, IsAnswered, IsAnsweredInGroup, IsLeftOut, told_of, own_commits, opened_log};
-ghost use Rattle.engine_groups.specs.Serving.{IsToServe, IsServed};
+ghost use Rattle.engine_groups.specs.Serving.{IsToServe, IsServed, HasWaited};
 ghost use Rattle.engine_groups.specs.Leaving.{IsToEnd};
 
 use crate::engine::{EngineClient, GroupEngine};
@@ -278,6 +278,9 @@ impl<
             client.new.layout.parts.parts st.published
             (handled ++ handled_with client.old.lists.requests.list.items client.new.lists.replies.list.items) }
         ensures turn { result.0.turn ≡ leadership.turn }
+        // A group that may wait waits at least as long as its delay answered.
+        ensures waited { HasWaited client.old.number client.old.lists.requests.list.items (seen_by client.new.pass)
+            (Time.paused leadership.held.value.clock) (Time.paused result.0.held.value.clock) }
         ensures staged { IsStaged client.old.number (clients_of self.now.list) leadership.held.value.path.last
             result.0.held.value.path.last result.1
             client.new.layout.members.items client.new.layout.parts.parts client.new.lists.replies.list.items }
@@ -295,6 +298,7 @@ impl<
         let look = ask(rt, controller, pass, clock, asked, &mut requests.list);
         let mut delay = Delay {
             pass: Snapshot::of(pass),
+            went: Snapshot::of(pass),
             made,
         };
         let no_slowdown = requests.list[0].1.as_request().options.no_slowdown;
@@ -323,8 +327,9 @@ impl<
         let leader = client.number;
         let layout = &mut client.layout;
         let path = &mut leadership.held.path;
+        delay.went = Snapshot::of(pass);
         let end = log_phase(path, leader, apart, &mut delay, requests, layout, replies);
-        // Each member learns of the group's delay with its answer.
+        // Each member learns with its answer of the group's delay, and of the look after which the group went on.
         note_all(controller, pass, replies);
         (leadership, end)
     }

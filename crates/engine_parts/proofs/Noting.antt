@@ -18,7 +18,7 @@ use Rattle.engine_rule.specs.Reading.{AnsweredRead}
 use Rattle.engine_parts.specs.declared.log.OpenLog.{OpenLog}
 use Rattle.engine_parts.specs.declared.requests.Request.{Request}
 use Rattle.engine_parts.specs.declared.requests.Answer.{Answer}
-use Rattle.engine_parts.specs.Handled.{HandsBack, InOrder, IsNotedAs, IsReplyAt, NotesAll, answer_if, answer_in, commit_if, commit_of, commits_in, handled_with, read_by, reads_handled, reads_of, seen_for, sight_if, sight_of, sights_in}
+use Rattle.engine_parts.specs.Handled.{HandsBack, InOrder, IsNotedAs, IsReplyAt, NotesAll, answer_if, answer_in, commit_if, commit_of, commits_in, handled_with, read_by, reads_handled, reads_of, seen_for, went_for, sight_if, sight_of, sights_in}
 use Rattle.engine_parts.specs.LogLaw.{Covers}
 use Rattle.engine_parts.specs.Logs.{fault_of}
 use Rattle.engine_parts.specs.Staged.{HasNoRun, IsStaged}
@@ -128,13 +128,13 @@ module _ {C : Type 0} (controller : Controller C) (seen : List ControllerCall) w
   noted_staged leader clients last now None beside parts ys zs zip h = (h.0, h.1, noted_runs ys zs zip h.2)
   noted_staged leader clients last now (Some end) beside parts ys zs zip h = h
 
-  -- each noted reply shows its group's delay
-  pub notes_all : (y z : ℕ × Answer) → IsNotedAs controller seen y z → IsPrefix (seen_for y.1) seen → NotesAll controller (seen_for z.1) z.1
+  -- each noted reply shows all that its leader had seen when the group went on or was refused
+  pub notes_all : (y z : ℕ × Answer) → IsNotedAs controller seen y z → IsPrefix (went_for y.1) seen → NotesAll controller (went_for z.1) z.1
   notes_all y z n begins = (
     n.1,
     ap (λ (p : Answer). p.note) n.2,
     n.3,
-    subst (λ (w : List ControllerCall × List ControllerCall). IsPrefix w.0 w.1) (λ i. (sym (ap seen_for n.2) i, sym n.4 i)) begins,
+    subst (λ (w : List ControllerCall × List ControllerCall). IsPrefix w.0 w.1) (λ i. (sym (ap went_for n.2) i, sym n.4 i)) begins,
   )
 
   -- The law of log and table

@@ -13,7 +13,7 @@ use Rattle.line_rule.specs.declared.view.Handling.{Handling}
 use Rattle.engine_parts.proofs.Commits.{Writes, one_commit_in, one_sight_in}
 use Rattle.engine_parts.specs.declared.numbering.Numbering.TheVariants as numbered
 use Rattle.engine_parts.specs.declared.numbering.GroupFate.TheVariants.{Written, Faulted}
-use Rattle.engine_parts.specs.Handled.{ComesBack, HandsBack, IsReplyOf, accepted_reply, commit_of, commit_request_of, commit_requests_of, failures, handled_with, refused_reply, run_after, snapshot_of, replies_of, seen_at, commits_in, reply_at, sight_of, sights_in}
+use Rattle.engine_parts.specs.Handled.{ComesBack, HandsBack, IsReplyOf, accepted_reply, commit_of, commit_request_of, commit_requests_of, failures, handled_with, refused_reply, run_after, snapshot_of, replies_of, heard_at, commits_in, reply_at, sight_of, sights_in}
 use Rattle.engine_parts.specs.Numbering.{AreEnough, answers, batch_at, batches_of, numberings_of}
 use Rattle.engine_rule.specs.Commits.{accepted, failed, no_room}
 use Rattle.engine_rule.specs.LogSights.{WrittenBatch, written_if, sights_with, sights_without}
@@ -85,11 +85,11 @@ module _ (delay : Delay) where
   answers_faulted last n (x ∷ xs) = faulted_by last n x xs (nat_le (last + count_of x.1.batch.records) max_sequence) (λ m. answers_faulted m n xs)
 
   -- the commits
-  commit_by : (last end : ℕ) (x : ℕ × Request) (b : Bool) → commit_of (record { by = x.0; asked = x.1; reply = cond b (accepted_reply delay last end x.1) (refused_reply delay (SequenceFull last) x.1) }) ≡ commit_of_request (seen_at delay) (commit_request_of x) (cond b (accepted (last + 1) end) (no_room last))
+  commit_by : (last end : ℕ) (x : ℕ × Request) (b : Bool) → commit_of (record { by = x.0; asked = x.1; reply = cond b (accepted_reply delay last end x.1) (refused_reply delay (SequenceFull last) x.1) }) ≡ commit_of_request (heard_at delay) (commit_request_of x) (cond b (accepted (last + 1) end) (no_room last))
   commit_by last end x true = refl
   commit_by last end x false = refl
 
-  pub commits_planned : (last end : ℕ) (xs : List (ℕ × Request)) → AllByRecursion Writes xs → commits_in (handled_with xs (replies_of delay last end xs)) ≡ commits_of_plan (seen_at delay) last end (commit_requests_of xs)
+  pub commits_planned : (last end : ℕ) (xs : List (ℕ × Request)) → AllByRecursion Writes xs → commits_in (handled_with xs (replies_of delay last end xs)) ≡ commits_of_plan (heard_at delay) last end (commit_requests_of xs)
   commits_planned last end [] all = refl
   commits_planned last end (x ∷ xs) all =
       let next : ℕ = last_with last x.1.batch.records in
@@ -97,11 +97,11 @@ module _ (delay : Delay) where
       one_commit_in h (handled_with xs (replies_of delay next end xs)) all.0
       ∙ (λ i. commit_by last end x (nat_le (last + count_of x.1.batch.records) max_sequence) i ∷ commits_planned next end xs all.1 i)
 
-  pub commits_failed : (n : ℕ) (xs : List (ℕ × Request)) → AllByRecursion Writes xs → commits_in (handled_with xs (failures delay n xs)) ≡ all_failed (seen_at delay) n (commit_requests_of xs)
+  pub commits_failed : (n : ℕ) (xs : List (ℕ × Request)) → AllByRecursion Writes xs → commits_in (handled_with xs (failures delay n xs)) ≡ all_failed (heard_at delay) n (commit_requests_of xs)
   commits_failed n [] all = refl
   commits_failed n (x ∷ xs) all =
       one_commit_in (record { by = x.0; asked = x.1; reply = refused_reply delay (LogFault n) x.1 }) (handled_with xs (failures delay n xs)) all.0
-      ∙ ap (λ l. commit_of_request (seen_at delay) (commit_request_of x) (failed n) ∷ l) (commits_failed n xs all.1)
+      ∙ ap (λ l. commit_of_request (heard_at delay) (commit_request_of x) (failed n) ∷ l) (commits_failed n xs all.1)
 
   -- what they show of the log
   sight_by : (last end : ℕ) (x : ℕ × Request) (b : Bool) → sight_of (record { by = x.0; asked = x.1; reply = cond b (accepted_reply delay last end x.1) (refused_reply delay (SequenceFull last) x.1) })

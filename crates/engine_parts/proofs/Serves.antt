@@ -21,14 +21,14 @@ use Rattle.engine_rule.specs.Commits.{Commit, held_up}
 use Rattle.engine_rule.specs.Consistent.{AreConsistent}
 use Rattle.engine_rule.specs.Entries.{SeesMore}
 use Rattle.engine_rule.specs.LogCalls.{SyncsFor}
-use Rattle.engine_rule.specs.Plans.{CommitRequest, item_of_request, all_held_up, AreLawful, AreLogged, AreUnlogged, ComesAfter, IsAskedFor, IsWholeGroup, LetsProceed, MayNotWait, ProceedsWith}
+use Rattle.engine_rule.specs.Plans.{CommitRequest, item_of_request, up_to_delay, all_held_up, AreLawful, AreLogged, AreUnlogged, ComesAfter, IsAskedFor, IsWholeGroup, LetsProceed, MayNotWait, ProceedsWith}
 use Rattle.engine_rule.proofs.OneGroup.{prefix_trans}
 use Rattle.engine_rule.proofs.Steps.{consistent_held_up}
 use Rattle.engine_parts.specs.declared.requests.Delay.{Delay}
 use Rattle.engine_parts.specs.declared.requests.Request.{Request}
 use Rattle.engine_parts.specs.declared.requests.Answer.{Answer}
 use Rattle.engine_parts.specs.Asking.{HasAskedFor, OnlyLooks, all_seen}
-use Rattle.engine_parts.specs.Handled.{ComesBack, HandsBack, InOrder, IsDelayed, IsHeldUp, IsNotHeldUp, IsNotedAs, IsReplyOf, ShowsDelay, answer_in, commit_if, commit_of, commit_request_of, commit_requests_of, handled_with, noted_in, reads_handled, reads_of, seen_at, seen_for, commits_in, first_of, has_run, sight_if, sight_of, sights_in}
+use Rattle.engine_parts.specs.Handled.{ComesBack, HandsBack, InOrder, IsDelayed, IsHeldUp, IsNotHeldUp, IsNotedAs, IsReplyOf, ShowsDelay, answer_in, commit_if, commit_of, commit_request_of, commit_requests_of, handled_with, noted_in, reads_handled, reads_of, seen_at, seen_for, went_at, went_for, heard_at, commits_in, first_of, has_run, sight_if, sight_of, sights_in}
 use Rattle.engine_parts.specs.LogLaw.{Covers}
 use Rattle.log_updates.specs.declared.places.LogPlace.{LogPlace}
 use Rattle.engine_parts.specs.Led.{AreAlike, IsLedGroup, LeadsBy}
@@ -194,13 +194,15 @@ sights_unnoted (x ∷ requests) (y ∷ replies) = ap (λ (l : List LogSight). si
 
 -- A written group
 
-module _ {C : Type 0} (controller : Controller C) (d : Delay) (seen : List ControllerCall) (begins : IsPrefix (seen_at d) seen) where
+module _ {C : Type 0} (controller : Controller C) (d : Delay) (seen : List ControllerCall) (begins : IsPrefix (seen_at d) (went_at d)) (shows : IsPrefix (went_at d) seen) where
   reply_shown : (x : ℕ × Request) (y z : ℕ × Answer) → IsReplyOf d y → IsNotedAs controller seen y z → (x.1.since ≡ None → (numbers : Look) × IsDelayed (noted_in x.1.note) (seen_at d) numbers)
       → ShowsDelay controller (record { by = x.0; asked = x.1; reply = z.1 })
   reply_shown x y z r n delayed =
       let calls : seen_for z.1 ≡ seen_at d = ap seen_for n.2 ∙ ap seen_at r.0 in
+      let went : went_for z.1 ≡ went_at d = ap went_for n.2 ∙ ap went_at r.0 in
       record {
-        noted = λ writes. notes_all controller seen y z n (subst (λ (l : List ControllerCall). IsPrefix l seen) (sym (ap seen_at r.0)) begins);
+        noted = λ writes. notes_all controller seen y z n (subst (λ (l : List ControllerCall). IsPrefix l seen) (sym (ap went_at r.0)) shows);
+        begins = λ writes. subst (λ (w : List ControllerCall × List ControllerCall). IsPrefix w.0 w.1) (λ i. (sym calls i, sym went i)) begins;
         delayed = λ writes. (let t = delayed writes in (t.0, subst (λ (l : List ControllerCall). IsDelayed (noted_in x.1.note) l t.0) (sym calls) t.1));
         held_up = λ numbers e. absurd (subst IsNotHeldUp (sym (ap (λ (p : Answer). answer_in p.answer) n.2) ∙ e) r.2);
       }
@@ -220,6 +222,7 @@ reads_shown controller d (x ∷ requests) [] h reads = tt
 reads_shown controller d (x ∷ requests) (y ∷ replies) h reads = (
   record {
     noted = λ writes. absurd (none_read x.1.since reads.0.0 reads.0.1 writes);
+    begins = λ writes. absurd (none_read x.1.since reads.0.0 reads.0.1 writes);
     delayed = λ writes. absurd (none_read x.1.since reads.0.0 reads.0.1 writes);
     held_up = λ numbers e. absurd (subst IsNotHeldUp e h.0.2);
   },
@@ -259,14 +262,14 @@ module _ (d : Delay) (numbers : Look) where
   held_at known is (x ∷ requests) [] h = tt
   held_at known is (x ∷ requests) (y ∷ replies) h = (ap seen_at h.0.2 ∙ is, held_at known is requests replies h.1)
 
-  one_commit : (x : ℕ × Request) (y : ℕ × Answer) (known : List ControllerCall) → seen_at d ≡ known → IsHeldUp d numbers (unnoted x) y
-      → commit_of (record { by = x.0; asked = x.1; reply = y.1 }) ≡ record { client = x.0; records = x.1.batch.records; options = x.1.options; answer = held_up numbers; controller_calls = known }
+  one_commit : (x : ℕ × Request) (y : ℕ × Answer) (known : List ControllerCall) → heard_at d ≡ up_to_delay known → IsHeldUp d numbers (unnoted x) y
+      → commit_of (record { by = x.0; asked = x.1; reply = y.1 }) ≡ record { client = x.0; records = x.1.batch.records; options = x.1.options; answer = held_up numbers; heard = up_to_delay known }
   one_commit x y known is h =
       let answer : answer_in y.1.answer ≡ held_up numbers = ap answer_in h.1 in
-      let calls : seen_for y.1 ≡ known = ap seen_at h.2 ∙ is in
-      (λ i. record { client = x.0; records = x.1.batch.records; options = x.1.options; answer = answer i; controller_calls = calls i })
+      let heard : heard_at y.1.delay.value ≡ up_to_delay known = ap heard_at h.2 ∙ is in
+      (λ i. record { client = x.0; records = x.1.batch.records; options = x.1.options; answer = answer i; heard = heard i })
 
-  pub held_commits : (known : List ControllerCall) → seen_at d ≡ known → (requests : List (ℕ × Request)) (replies : List (ℕ × Answer)) → AllByRecursion Writes requests → AllZip (IsHeldUp d numbers) (all_seen requests) replies
+  pub held_commits : (known : List ControllerCall) → heard_at d ≡ up_to_delay known → (requests : List (ℕ × Request)) (replies : List (ℕ × Answer)) → AllByRecursion Writes requests → AllZip (IsHeldUp d numbers) (all_seen requests) replies
       → commits_in (handled_with requests replies) ≡ all_held_up known numbers (commit_requests_of requests)
   held_commits known is [] replies w h = refl
   held_commits known is (x ∷ requests) [] w h = absurd h
@@ -290,16 +293,18 @@ module _ (d : Delay) (numbers : Look) where
       ∙ (λ i. one i ∷ held_sights requests replies w.1 h.1 i)
 
 -- once the replies have their notes
-module _ {C : Type 0} (controller : Controller C) (d : Delay) (numbers : Look) (seen : List ControllerCall) (begins : IsPrefix (seen_at d) seen) (hold : HoldUp numbers) where
+module _ {C : Type 0} (controller : Controller C) (d : Delay) (numbers : Look) (seen : List ControllerCall) (begins : IsPrefix (seen_at d) (went_at d)) (shows : IsPrefix (went_at d) seen) (hold : HoldUp numbers) where
   one_shown : (x : ℕ × Request) (y z : ℕ × Answer) → IsHeldUp d numbers (unnoted x) y → IsNotedAs controller seen y z → x.1.options.no_slowdown ≡ true → IsDelayed (noted_in x.1.note) (seen_at d) numbers
       → ShowsDelay controller (record { by = x.0; asked = x.1; reply = z.1 })
   one_shown x y z h n may_not delayed =
       let was : seen_for y.1 ≡ seen_at d = ap seen_at h.2 in
       let calls : seen_for z.1 ≡ seen_at d = ap seen_for n.2 ∙ was in
+      let went : went_for z.1 ≡ went_at d = ap went_for n.2 ∙ ap went_at h.2 in
       let told : answer_in z.1.answer ≡ held_up numbers = ap (λ (p : Answer). answer_in p.answer) n.2 ∙ ap answer_in h.1 in
       let late : IsDelayed (noted_in x.1.note) (seen_for z.1) numbers = subst (λ (l : List ControllerCall). IsDelayed (noted_in x.1.note) l numbers) (sym calls) delayed in
       record {
-        noted = λ writes. notes_all controller seen y z n (subst (λ (l : List ControllerCall). IsPrefix l seen) (sym was) begins);
+        noted = λ writes. notes_all controller seen y z n (subst (λ (l : List ControllerCall). IsPrefix l seen) (sym (ap went_at h.2)) shows);
+        begins = λ writes. subst (λ (w : List ControllerCall × List ControllerCall). IsPrefix w.0 w.1) (λ i. (sym calls i, sym went i)) begins;
         delayed = λ writes. (numbers, late);
         held_up = λ other e.
             let same : numbers ≡ other = told_same numbers other (sym told ∙ e) in
@@ -356,7 +361,7 @@ module _ {D : Type 0} {ghosts : Ghosts D} {T U : Type 0} (our_turn : T → U →
 
   -- the law holds after the group is refused
   pub stands_held_up : (d : Delay) (numbers : Look) (table : T) (start clients group_bytes : ℕ) (asked known : List ControllerCall) (hs : List (Handling Request Answer)) (requests : List (ℕ × Request)) (replies : List (ℕ × Answer))
-      → AllZip (IsHeldUp d numbers) (all_seen requests) replies → seen_at d ≡ known → d.made ≡ made → IsLedGroup group_bytes clients requests → IsAskedFor (commit_requests_of requests) numbers known → ComesAfter asked known → HoldUp numbers
+      → AllZip (IsHeldUp d numbers) (all_seen requests) replies → heard_at d ≡ up_to_delay known → d.made ≡ made → IsLedGroup group_bytes clients requests → IsAskedFor (commit_requests_of requests) numbers known → ComesAfter asked known → HoldUp numbers
       → MayNotWait (commit_requests_of requests) → Covers our_turn history table opened start clients group_bytes asked log places turn last made hs
       → Covers our_turn history table opened start clients group_bytes known log places turn last made (hs ++ handled_with requests replies)
   stands_held_up d numbers table start clients group_bytes asked known hs requests replies zip is counts led is_asked comes hold may s =

@@ -14,7 +14,7 @@ use Rattle.line_rule.specs.declared.view.Handling.{Handling}
 use Rattle.engine_parts.specs.declared.requests.Request.{Request}
 use Rattle.engine_parts.specs.declared.requests.Delay.{Delay}
 use Rattle.engine_parts.specs.declared.requests.Answer.{Answer}
-use Rattle.engine_parts.specs.Handled.{commit_requests_of, failures, handled_with, replies_of, reads_handled, seen_at, sights_in, commits_in}
+use Rattle.engine_parts.specs.Handled.{commit_requests_of, failures, handled_with, replies_of, reads_handled, seen_at, went_at, sights_in, commits_in}
 use Rattle.engine_parts.specs.LogLaw.{Covers}
 use Rattle.engine_rule.specs.Commits.{Commit}
 use Rattle.engine_rule.specs.Consistent.{AreConsistent, Publishes}
@@ -56,7 +56,10 @@ module _ {D : Type 0} {ghosts : Ghosts D} {T U : Type 0} (our_turn : T → U →
     -- a whole group of writes, whose leader asked for its delay after the leaders before it, and which goes on with what the
     -- leader has seen
     module _ (xs : List (ℕ × Request)) (own : AllByRecursion Writes xs) (lawful : AreLawful clients (commit_requests_of xs)) (whole : IsWholeGroup group_bytes (commit_requests_of xs)) (delay : Delay) (numbers : Look)
-        (is_asked : IsAskedFor (commit_requests_of xs) numbers (seen_at delay)) (comes : ComesAfter asked (seen_at delay)) (went : List ControllerCall) (proceeds : ProceedsWith (commit_requests_of xs) numbers (seen_at delay) went) where
+        (is_asked : IsAskedFor (commit_requests_of xs) numbers (seen_at delay)) (comes : ComesAfter asked (seen_at delay)) (proceeds : ProceedsWith (commit_requests_of xs) numbers (seen_at delay) (went_at delay)) where
+      abbrev pub went : List ControllerCall
+      went = went_at delay
+
       -- no member got a run, and the answers show as many calls of the log as the ones before
       failed_shown : (n : ℕ) (calls : List GroupCall) → delay.made ≡ length (worked_in calls) → ShowTheLog (worked_in calls) (sights_in hs ++ sights_without (length (worked_in calls)) (commit_requests_of xs))
           → ShowTheLog (worked_in calls) (sights_in (hs ++ handled_with xs (failures delay n xs)))

@@ -22,7 +22,7 @@ use Rattle.std.specs.declared.snapshot.Snapshot.{Snapshot}
 use Rattle.engine_controller.specs.declared.controller.Controller.{Controller}
 use Rattle.engine_controller.specs.Noted.{Noted}
 use Rattle.engine_controller.specs.Passes.{seen_by, seen_by_note, IsNoteOf}
-use Rattle.engine_rule.specs.Commits.{Answer as CommitAnswer, accepted, held_up, failed, no_room, Commit, AreAnswered}
+use Rattle.engine_rule.specs.Commits.{Answer as CommitAnswer, accepted, held_up, failed, no_room, Heard, Commit, AreAnswered}
 use Rattle.engine_rule.specs.LogSights.{LogSight, ShowTheLog, written_if}
 use Rattle.engine_rule.specs.Plans.{CommitRequest, last_with}
 use Rattle.engine_parts.specs.declared.requests.Request.{Request}
@@ -55,8 +55,18 @@ answer_in (Err refused) = answer_of_refusal refused.why
 abbrev pub seen_at : Delay → List ControllerCall
 seen_at delay = seen_by delay.pass.value
 
+-- the history as the leader had seen it when it was decided whether the group goes on
+abbrev pub went_at : Delay → List ControllerCall
+went_at delay = seen_by delay.went.value
+
+abbrev pub heard_at : Delay → Heard
+heard_at delay = record { known = seen_at delay; went = went_at delay }
+
 abbrev pub seen_for : Answer → List ControllerCall
 seen_for p = seen_at p.delay.value
+
+abbrev pub went_for : Answer → List ControllerCall
+went_for p = went_at p.delay.value
 
 abbrev pub commit_of : Handling Request Answer → Commit
 commit_of h = record {
@@ -64,7 +74,7 @@ commit_of h = record {
   records = h.asked.batch.records;
   options = h.asked.options;
   answer = answer_in h.reply.answer;
-  controller_calls = seen_for h.reply;
+  heard = heard_at h.reply.delay.value;
 }
 
 -- a write is a commit, and a read of the log is none
@@ -176,11 +186,13 @@ abbrev pub NotesAll : {Time : Type 0} → Controller Time → List ControllerCal
 NotesAll controller seen p = (note : Noted) × (p.note ≡ Some note) × IsNoteOf controller note
     × IsPrefix seen (seen_by_note note)
 
--- The reply to a write has a note of the controller, which shows all that the leader had seen up to the group's delay.
--- That delay comes after all that the request's own note shows. A client that is refused because writes are held up may
--- not wait, and its answer has the numbers of that delay, which say that writes are held up.
+-- The reply to a write has a note of the controller, which shows all that the leader had seen when it was decided
+-- whether the group goes on, and so the group's delay. That delay comes after all that the request's own note shows. A
+-- client that is refused because writes are held up may not wait, and its answer has the numbers of that delay, which
+-- say that writes are held up.
 pub record ShowsDelay {Time : Type 0} (controller : Controller Time) (h : Handling Request Answer) : Type 0 where
-  pub noted : h.asked.since ≡ None → NotesAll controller (seen_for h.reply) h.reply
+  pub noted : h.asked.since ≡ None → NotesAll controller (went_for h.reply) h.reply
+  pub begins : h.asked.since ≡ None → IsPrefix (seen_for h.reply) (went_for h.reply)
   pub delayed : h.asked.since ≡ None
       → (numbers : Look) × IsDelayed (noted_in h.asked.note) (seen_for h.reply) numbers
   pub held_up : (numbers : Look) → answer_in h.reply.answer ≡ held_up numbers
@@ -201,8 +213,9 @@ pub record HasWritten {Log : Type 0} {ghosts : Ghosts Log} (opened : OpenLog Log
     pub parts : WroteParts (entries_of commits) worked
     pub shown : ShowTheLog worked sights
 
--- What holds of all that was handled, wherever the log is: the answers are right, hand the batches back, and show the
--- delay where writes are held up; and the log has what was accepted and should be logged.
+-- What holds of all that was handled, wherever the log is. The answers are right, and hand the batches back. Those to
+-- writes show the delays of their groups, and what the leaders had seen since. The log has what was accepted and should
+-- be logged.
 pub record AreHandled {Time Log : Type 0} {ghosts : Ghosts Log} (controller : Controller Time)
     (opened : OpenLog Log ghosts)
     (start : ℕ) (handled : List (Handling Request Answer)) : Type 0 where

@@ -31,8 +31,8 @@ LeadsBy number [] = ⊥
 LeadsBy number (x ∷ requests) = x.0 ≡ number
 
 -- A leader has this group in hand, has asked for its delay after all that the leaders before it had seen (`asked`), and
--- goes on with it. It has seen the controller's history up to the delay (`known`), and up to `went` when the group goes
--- on.
+-- goes on with it. It has seen the controller's history up to the delay (`known`), and up to `went` when it was decided
+-- that the group goes on.
 pub record GoesOnWith (group_bytes clients : ℕ) (asked : List ControllerCall) (requests : List (ℕ × Request))
     (known went : List ControllerCall) : Type 0 where
   pub led : IsLedGroup group_bytes clients requests

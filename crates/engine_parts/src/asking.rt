@@ -216,6 +216,7 @@ pub fn turn_away_if_stalled<Time: Clock, R: Wait>(
     // No delay was asked for it. The answer has a place for one, which says nothing here.
     let delay = Delay {
         pass: Snapshot::of(pass),
+        went: Snapshot::of(pass),
         made: 0,
     };
     let answer = Answer {

@@ -3,13 +3,12 @@
 ghost use Rattle.std.specs.Prelude.{◌≡◌, ◌≤◌, ◌<◌, ◌+◌, ◌-◌, ◌^◌, ℕ, List, [], ◌∷◌, ◌++◌, true, false, Ok, MatchOption, IfSome, length, vec_len, vec_capacity};
 ghost use Rattle.std.specs.List.{AllByRecursion};
 ghost use Rattle.model_base.specs.History.{max_sequence};
-ghost use Rattle.model_base.specs.Controller.{ControllerCall};
 ghost use Rattle.engine_parts.specs.declared.log.OpenLog.{OpenLog as Opened};
 ghost use Rattle.log_writer.specs.Groups.{counts_of, body_lens_of};
 ghost use Rattle.log_writer.specs.Adding.{call_of};
 ghost use Rattle.engine_parts.specs.Logs.{Adds};
 ghost use Rattle.table_nodes.specs.Parts.{group_of};
-ghost use Rattle.engine_parts.specs.Handled.{HandsBack, IsReplyOf, seen_at, handled_with, InOrder};
+ghost use Rattle.engine_parts.specs.Handled.{HandsBack, IsReplyOf, seen_at, went_at, handled_with, InOrder};
 ghost use Rattle.engine_parts.specs.Numbering.{AreHelpers, AreEnough, answers, others_in};
 ghost use Rattle.engine_parts.specs.Layout.{IsClear};
 ghost use Rattle.engine_parts.specs.LogLaw.{Past, StandsForPast, with_group};
@@ -88,12 +87,13 @@ pub fn log_phase<Log: GroupLog>(
         × (length requests.old.items ≤ vec_capacity layout.old.batches)
         × (length requests.old.items ≤ vec_capacity layout.old.members) }
     requires replies { (replies.old.items ≡ []) × (length requests.old.items ≤ vec_capacity replies.old) }
-    ensures path { (past : Past (Opened Log ⟦<Log as GroupLog>⟧)) (went : List ControllerCall)
-        → GoesOnWith past.group_bytes layout.old.parts.clients past.asked requests.old.items (seen_at delay.old) went
+    ensures path { (past : Past (Opened Log ⟦<Log as GroupLog>⟧))
+        → GoesOnWith past.group_bytes layout.old.parts.clients past.asked requests.old.items (seen_at delay.old)
+        (went_at delay.old)
         → StandsForPast layout.old.parts.clients past path.old.log path.old.places path.old.last path.old.made
-        → StandsForPast layout.old.parts.clients (with_group past went result layout.new.parts.parts
+        → StandsForPast layout.old.parts.clients (with_group past (went_at delay.old) result layout.new.parts.parts
         requests.old.items replies.new.items) path.new.log path.new.places path.new.last path.new.made }
-    ensures delay { delay.new.pass ≡ delay.old.pass }
+    ensures delay { (delay.new.pass ≡ delay.old.pass) × (delay.new.went ≡ delay.old.went) }
     ensures staged { IsStaged leader layout.old.parts.clients path.old.last path.new.last result
         layout.new.members.items layout.new.parts.parts replies.new.items }
     ensures beside { IfSome result (λ _. AreHelpers apart (others_in requests.old.items) layout.new.members.items) }

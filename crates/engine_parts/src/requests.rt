@@ -31,10 +31,12 @@ pub struct Request {
 }
 
 /// A delay that a leader asked for its group: what the leader's pass had seen then, with the delay itself as the last
-/// call; and how many calls of the log had worked when the group was answered. It is only there for the proofs.
+/// call; what it had seen when it was decided whether the group goes on; and how many calls of the log had worked when
+/// the group was answered. It is only there for the proofs.
 #[derive(Drop)]
 pub struct Delay {
     pub pass: Snapshot<Pass>,
+    pub went: Snapshot<Pass>,
     pub made: u64,
 }
 

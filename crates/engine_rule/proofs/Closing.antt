@@ -28,9 +28,9 @@ use Rattle.model_accounts.specs.Parts.{ends_in}
 use Rattle.model_runs.specs.Groups.{IsOfFirstLost, StaysDead, statuses_in}
 use Rattle.model_runs.specs.Parts.{AreParts}
 use Rattle.model_runs.specs.Written.{AreLost, IsLostCall, WritesLog}
-use Rattle.engine_rule.specs.Commits.{Answer, AreAnswered, AreOfClients, Commit, IsAnswer, accepted, held_up, commits_of, failed, fault_after, fault_after_all, last_after, last_after_all, no_room}
+use Rattle.engine_rule.specs.Commits.{Answer, AreAnswered, AreOfClients, Commit, Heard, IsAnswer, accepted, held_up, commits_of, failed, fault_after, fault_after_all, last_after, last_after_all, no_room}
 use Rattle.engine_rule.specs.Consistent.{AreConsistent}
-use Rattle.engine_rule.specs.Asked.{HasAsked, LedGroup, commits_in}
+use Rattle.engine_rule.specs.Asked.{HasAsked, LedGroup, commits_in, heard_by}
 use Rattle.engine_rule.specs.Entries.{AreCallsOf, HasPart, trace_of, attempt_of, ends_of, entries_after, entries_of, entry_after, entry_with, status_of}
 use Rattle.engine_rule.specs.LogCalls.{AreLostWrites, IsLostWrite, led_of, parts_after}
 use Rattle.engine_rule.specs.LogSights.{LogSight, sights_of, logged_by, batches_of, ShowTheLog}
@@ -123,29 +123,29 @@ handled_at (u ∷ before) c after = by (u.client == c.client) refl (handled_at b
     by true e h = rw e h
     by false e h = rw e h
 
-members_behind : List ControllerCall → List Commit → ℕ → List CommitRequest → List Member
-members_behind known before n [] = []
-members_behind known before n (a ∷ requests) = record { client = a.client; call = length (commits_of a.client before); item = item_of_request a } ∷ members_behind known (before ++ commit_of_request known a (failed n) ∷ []) n requests
+members_behind : Heard → List Commit → ℕ → List CommitRequest → List Member
+members_behind heard before n [] = []
+members_behind heard before n (a ∷ requests) = record { client = a.client; call = length (commits_of a.client before); item = item_of_request a } ∷ members_behind heard (before ++ commit_of_request heard a (failed n) ∷ []) n requests
 
-items_behind : (known : List ControllerCall) (before : List Commit) (n : ℕ) (requests : List CommitRequest) → items_of (members_behind known before n requests) ≡ map item_of_request requests
+items_behind : (heard : Heard) (before : List Commit) (n : ℕ) (requests : List CommitRequest) → items_of (members_behind heard before n requests) ≡ map item_of_request requests
 unfolding members_behind
-items_behind known before n [] = refl
-items_behind known before n (a ∷ requests) = ap (λ is. item_of_request a ∷ is) (items_behind known (before ++ commit_of_request known a (failed n) ∷ []) n requests)
+items_behind heard before n [] = refl
+items_behind heard before n (a ∷ requests) = ap (λ is. item_of_request a ∷ is) (items_behind heard (before ++ commit_of_request heard a (failed n) ∷ []) n requests)
 
-length_behind : (known : List ControllerCall) (before : List Commit) (n : ℕ) (requests : List CommitRequest) → length (members_behind known before n requests) ≡ length requests
+length_behind : (heard : Heard) (before : List Commit) (n : ℕ) (requests : List CommitRequest) → length (members_behind heard before n requests) ≡ length requests
 unfolding members_behind
-length_behind known before n [] = refl
-length_behind known before n (a ∷ requests) = ap suc (length_behind known (before ++ commit_of_request known a (failed n) ∷ []) n requests)
+length_behind heard before n [] = refl
+length_behind heard before n (a ∷ requests) = ap suc (length_behind heard (before ++ commit_of_request heard a (failed n) ∷ []) n requests)
 
-unlike_behind : (known : List ControllerCall) (client : ℕ) (before : List Commit) (n : ℕ) (requests : List CommitRequest) → AllByRecursion (λ (b : CommitRequest). client ≢ b.client) requests → AllByRecursion (λ (m : Member). client ≢ m.client) (members_behind known before n requests)
+unlike_behind : (heard : Heard) (client : ℕ) (before : List Commit) (n : ℕ) (requests : List CommitRequest) → AllByRecursion (λ (b : CommitRequest). client ≢ b.client) requests → AllByRecursion (λ (m : Member). client ≢ m.client) (members_behind heard before n requests)
 unfolding members_behind
-unlike_behind known client before n [] h = tt
-unlike_behind known client before n (a ∷ requests) h = (h.0, unlike_behind known client (before ++ commit_of_request known a (failed n) ∷ []) n requests h.1)
+unlike_behind heard client before n [] h = tt
+unlike_behind heard client before n (a ∷ requests) h = (h.0, unlike_behind heard client (before ++ commit_of_request heard a (failed n) ∷ []) n requests h.1)
 
-others_behind : (known : List ControllerCall) (before : List Commit) (n : ℕ) (requests : List CommitRequest) → HaveOwnClients requests → AreOfOthers (members_behind known before n requests)
+others_behind : (heard : Heard) (before : List Commit) (n : ℕ) (requests : List CommitRequest) → HaveOwnClients requests → AreOfOthers (members_behind heard before n requests)
 unfolding members_behind
-others_behind known before n [] h = tt
-others_behind known before n (a ∷ requests) h = (unlike_behind known a.client (before ++ commit_of_request known a (failed n) ∷ []) n requests h.0, others_behind known (before ++ commit_of_request known a (failed n) ∷ []) n requests h.1)
+others_behind heard before n [] h = tt
+others_behind heard before n (a ∷ requests) h = (unlike_behind heard a.client (before ++ commit_of_request heard a (failed n) ∷ []) n requests h.0, others_behind heard (before ++ commit_of_request heard a (failed n) ∷ []) n requests h.1)
 
 fitting_is : (last : ℕ) (requests : List CommitRequest) → batches_that_fit last (map (λ (a : CommitRequest). a.records) requests) ≡ batches_from last requests
 fitting_is last [] = refl
@@ -157,12 +157,12 @@ fitting_is last (a ∷ requests) = by (nat_le (last + count_of a.records) max_se
     by false e more = more last
 
 module _ (cs : List Commit) (accounts : List Account) (clients : ℕ) (all : length accounts ≡ clients) (are : (i : ℕ) (a : Account) → slice_get accounts i ≡ Some a → a.attempts ≡ map attempt_of (commits_of (i + 1) cs)) where
-  lost_members : (known : List ControllerCall) (n : ℕ) (before : List Commit) (requests : List CommitRequest) (after : List Commit) → cs ≡ before ++ (all_failed known n requests ++ after) → AreLogged requests → AreOfClients clients (all_failed known n requests)
-      → AllZip (IsLost (all_attempts accounts) n) (members_behind known before n requests) (map (λ (a : CommitRequest). a.records) requests)
+  lost_members : (heard : Heard) (n : ℕ) (before : List Commit) (requests : List CommitRequest) (after : List Commit) → cs ≡ before ++ (all_failed heard n requests ++ after) → AreLogged requests → AreOfClients clients (all_failed heard n requests)
+      → AllZip (IsLost (all_attempts accounts) n) (members_behind heard before n requests) (map (λ (a : CommitRequest). a.records) requests)
   unfolding members_behind
-  lost_members known n before [] after split h named = tt
-  lost_members known n before (a ∷ requests) after split h named =
-      let c : Commit = commit_of_request known a (failed n) in (
+  lost_members heard n before [] after split h named = tt
+  lost_members heard n before (a ∷ requests) after split h named =
+      let c : Commit = commit_of_request heard a (failed n) in (
         elim (slice_get_cases accounts (a.client - 1)).1 [
           | inl there ↦ (
               let number : a.client ≡ (a.client - 1) + 1 = (let low = named.0.0 in omega arith) in
@@ -175,7 +175,7 @@ module _ (cs : List Commit) (accounts : List Account) (clients : ℕ) (all : len
                   attempt = attempt_of c;
                   client = number;
                   of_client = of_client;
-                  there = ap (λ hs. slice_get hs (length (commits_of a.client before))) is ∙ (ap (λ l. slice_get (map attempt_of (commits_of a.client l)) (length (commits_of a.client before))) split ∙ handled_at before c (all_failed known n requests ++ after));
+                  there = ap (λ hs. slice_get hs (length (commits_of a.client before))) is ∙ (ap (λ l. slice_get (map attempt_of (commits_of a.client l)) (length (commits_of a.client before))) split ∙ handled_at before c (all_failed heard n requests ++ after));
                   item = refl;
                 };
                 records_are = refl;
@@ -184,7 +184,7 @@ module _ (cs : List Commit) (accounts : List Account) (clients : ℕ) (all : len
               })
           | inr gone ↦ (let low = named.0.0 in let high = named.0.1 in let none = gone.0 in absurd (omega arith))
         ],
-        lost_members known n (before ++ c ∷ []) requests after (split ∙ sym (append_assoc before (c ∷ []) (all_failed known n requests ++ after))) h.1 named.1,
+        lost_members heard n (before ++ c ∷ []) requests after (split ∙ sym (append_assoc before (c ∷ []) (all_failed heard n requests ++ after))) h.1 named.1,
       )
 
 all_front : {X : Type 0} (P : X → Type 0) (xs ys : List X) → AllByRecursion P (xs ++ ys) → AllByRecursion P xs
@@ -242,23 +242,23 @@ module _ (settings : Settings) (cs : List Commit) (last : ℕ) (fault : Option �
   lost_call : (n : ℕ) (c : GroupCall) → IsLostWrite settings.group_bytes k.in_groups.groups n last c → IsLostCall settings.group_bytes (all_attempts accounts) n (last_sequence settings.start (entries_of cs)) c
   lost_call n c g =
       let whole = g.is_group in
-      let known = g.group.known in
+      let heard = heard_by g.group in
       let front = commits_in g.before in
       let rest = commits_in g.after in
-      let split : cs ≡ front ++ (all_failed known n g.requests ++ rest) = sym k.in_groups.cut ∙ (ap commits_in g.among ∙ (flat_map-append (λ (h : LedGroup). h.commits) g.before (g.group ∷ g.after) ∙ ap (λ l. front ++ (l ++ rest)) g.answers)) in
-      let named : AreOfClients settings.clients (all_failed known n g.requests) = all_front (λ (c : Commit). (1 ≤ c.client) × (c.client ≤ settings.clients)) (all_failed known n g.requests) rest (all_back (λ (c : Commit). (1 ≤ c.client) × (c.client ≤ settings.clients)) front (all_failed known n g.requests ++ rest) (subst (AreOfClients settings.clients) split k.of_clients)) in
+      let split : cs ≡ front ++ (all_failed heard n g.requests ++ rest) = sym k.in_groups.cut ∙ (ap commits_in g.among ∙ (flat_map-append (λ (h : LedGroup). h.commits) g.before (g.group ∷ g.after) ∙ ap (λ l. front ++ (l ++ rest)) g.answers)) in
+      let named : AreOfClients settings.clients (all_failed heard n g.requests) = all_front (λ (c : Commit). (1 ≤ c.client) × (c.client ≤ settings.clients)) (all_failed heard n g.requests) rest (all_back (λ (c : Commit). (1 ≤ c.client) × (c.client ≤ settings.clients)) front (all_failed heard n g.requests ++ rest) (subst (AreOfClients settings.clients) split k.of_clients)) in
       record {
         failed = g.failed;
         first = g.writes.first ∙ ap (λ m. m + 1) last_is;
         batches = record {
-          members = members_behind known front n g.requests;
+          members = members_behind heard front n g.requests;
           is_group = record {
-            some = (let l = length_behind known front n g.requests in let s = whole.some in omega (arith, l, s));
-            whole = ap (λ is. group_len settings.group_bytes is) (items_behind known front n g.requests) ∙ (whole.whole ∙ sym (length_behind known front n g.requests));
-            of_others = others_behind known front n g.requests whole.of_others;
+            some = (let l = length_behind heard front n g.requests in let s = whole.some in omega (arith, l, s));
+            whole = ap (λ is. group_len settings.group_bytes is) (items_behind heard front n g.requests) ∙ (whole.whole ∙ sym (length_behind heard front n g.requests));
+            of_others = others_behind heard front n g.requests whole.of_others;
           };
           all = map (λ (a : CommitRequest). a.records) g.requests;
-          each = lost_members cs accounts settings.clients all (λ i a there. ap (λ b. b.attempts) (are i a there).is) known n front g.requests rest split g.writes.to_log named;
+          each = lost_members cs accounts settings.clients all (λ i a there. ap (λ b. b.attempts) (are i a there).is) heard n front g.requests rest split g.writes.to_log named;
           batches_are = g.writes.batches ∙ (sym (fitting_is last g.requests) ∙ ap (λ m. batches_that_fit m (map (λ (a : CommitRequest). a.records) g.requests)) last_is);
           some = g.writes.some;
         };

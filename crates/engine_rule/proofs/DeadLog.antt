@@ -4,15 +4,14 @@ use Rattle.std.specs.Prelude.{find}
 use Rattle.std.specs.List.{AllByRecursion, list_any}
 use Rattle.model_base.specs.Batch.{count_of}
 use Rattle.model_base.specs.Attempts.{Attempt, WriteStatus, is_faulted}
-use Rattle.model_base.specs.Controller.{ControllerCall}
 use Rattle.model_base.specs.Groups.{Group}
 use Rattle.model_base.specs.LogContents.{GroupCall}
 use Rattle.model_runs.specs.Groups as outcome
 use Rattle.model_runs.specs.Groups.{IsOfFirstLost, MeetsDeadLog, StaysDead, is_kept_out, is_lost, leader_syncs, statuses_in}
 use Rattle.model_runs.specs.Lost.{batches_that_fit}
 use Rattle.model_accounts.specs.Led.{Led, Taken, groups_after, members_after}
-use Rattle.engine_rule.specs.Commits.{Answer, AreAnswered, Commit, IsAnswer, accepted, held_up, failed, no_room, fault_after, fault_after_all, last_after, last_after_all}
-use Rattle.engine_rule.specs.Asked.{FailTogether, IsLedGroup, LedGroup, commits_in, is_failed, place_of}
+use Rattle.engine_rule.specs.Commits.{Answer, AreAnswered, Commit, Heard, IsAnswer, accepted, held_up, failed, no_room, fault_after, fault_after_all, last_after, last_after_all}
+use Rattle.engine_rule.specs.Asked.{FailTogether, IsLedGroup, LedGroup, commits_in, heard_by, is_failed, place_of}
 use Rattle.engine_rule.specs.Entries.{status_of}
 use Rattle.engine_rule.specs.LogCalls.{IsLostWrite, led_of, leader_asks_sync, outcome_groups, taken_of}
 use Rattle.engine_rule.specs.Plans.{AreLogged, CommitRequest, all_failed, batches_from}
@@ -166,34 +165,34 @@ module _ (attempts : List (List Attempt)) where
         more.2,
       )
 
-some_failed : (known : List ControllerCall) (n : ℕ) (requests : List CommitRequest) → 0 < length requests → list_any is_faulted (ended (all_failed known n requests)) ≡ true
-some_failed known n [] some = absurd (omega (arith, some))
-some_failed known n (q ∷ requests) some = refl
+some_failed : (heard : Heard) (n : ℕ) (requests : List CommitRequest) → 0 < length requests → list_any is_faulted (ended (all_failed heard n requests)) ≡ true
+some_failed heard n [] some = absurd (omega (arith, some))
+some_failed heard n (q ∷ requests) some = refl
 
-batches_failed : (known : List ControllerCall) (n : ℕ) (requests : List CommitRequest) → map (λ (h : Attempt). h.records) (attempts_taken_of (all_failed known n requests)) ≡ map (λ (q : CommitRequest). q.records) requests
-batches_failed known n [] = refl
-batches_failed known n (q ∷ requests) = ap (λ l. q.records ∷ l) (batches_failed known n requests)
+batches_failed : (heard : Heard) (n : ℕ) (requests : List CommitRequest) → map (λ (h : Attempt). h.records) (attempts_taken_of (all_failed heard n requests)) ≡ map (λ (q : CommitRequest). q.records) requests
+batches_failed heard n [] = refl
+batches_failed heard n (q ∷ requests) = ap (λ l. q.records ∷ l) (batches_failed heard n requests)
 
-sync_failed : (before : List Taken) (known : List ControllerCall) (n : ℕ) (requests : List CommitRequest) → leader_asks_sync requests ≡ leader_syncs (members_after before (map taken_of (all_failed known n requests)))
-sync_failed before known n [] = refl
-sync_failed before known n (q ∷ requests) = refl
+sync_failed : (before : List Taken) (heard : Heard) (n : ℕ) (requests : List CommitRequest) → leader_asks_sync requests ≡ leader_syncs (members_after before (map taken_of (all_failed heard n requests)))
+sync_failed before heard n [] = refl
+sync_failed before heard n (q ∷ requests) = refl
 
-kept_failed : (before : List Taken) (known : List ControllerCall) (n : ℕ) (requests : List CommitRequest) → AreLogged requests → is_kept_out (members_after before (map taken_of (all_failed known n requests))) ≡ false
-kept_failed before known n [] logged = refl
-kept_failed before known n (q ∷ requests) logged = logged.0
+kept_failed : (before : List Taken) (heard : Heard) (n : ℕ) (requests : List CommitRequest) → AreLogged requests → is_kept_out (members_after before (map taken_of (all_failed heard n requests))) ≡ false
+kept_failed before heard n [] logged = refl
+kept_failed before heard n (q ∷ requests) logged = logged.0
 
 pub of_first_lost : (attempts : List (List Attempt)) (group_bytes n last : ℕ) (groups : List LedGroup) (c : GroupCall) → AreOfGroups attempts (outcome_groups groups) groups
     → ((requests : List CommitRequest) → batches_that_fit last (map (λ (q : CommitRequest). q.records) requests) ≡ batches_from last requests) → IsLostWrite group_bytes groups n last c → IsOfFirstLost attempts (outcome_groups groups) last c
 of_first_lost attempts group_bytes n last groups c same fitting lost =
     let g = lost.group in
-    let failed_some : list_any is_faulted (ended g.commits) ≡ true = ap (λ cs. list_any is_faulted (ended cs)) lost.answers ∙ some_failed g.known n lost.requests lost.is_group.some in
+    let failed_some : list_any is_faulted (ended g.commits) ≡ true = ap (λ cs. list_any is_faulted (ended cs)) lost.answers ∙ some_failed (heard_by g) n lost.requests lost.is_group.some in
     let first = first_is attempts [] lost.before g lost.after (subst (λ gs. AreOfGroups attempts (outcome_groups gs) gs) lost.among same) lost.worked failed_some in
     let batches : outcome.batches_in attempts (group_at first.0 g) ≡ map (λ (q : CommitRequest). q.records) lost.requests =
-    ap (map (λ (h : Attempt). h.records)) (first.2 ∙ ap attempts_taken_of lost.answers) ∙ batches_failed g.known n lost.requests in
+    ap (map (λ (h : Attempt). h.records)) (first.2 ∙ ap attempts_taken_of lost.answers) ∙ batches_failed (heard_by g) n lost.requests in
     record {
       group = group_at first.0 g;
       first = ap (λ gs. find (is_lost attempts) (outcome_groups gs)) lost.among ∙ first.1;
-      to_log = ap (λ cs. is_kept_out (members_after first.0 (map taken_of cs))) lost.answers ∙ kept_failed first.0 g.known n lost.requests lost.writes.to_log;
+      to_log = ap (λ cs. is_kept_out (members_after first.0 (map taken_of cs))) lost.answers ∙ kept_failed first.0 (heard_by g) n lost.requests lost.writes.to_log;
       batches = lost.writes.batches ∙ (sym (fitting lost.requests) ∙ ap (batches_that_fit last) (sym batches));
-      sync = lost.writes.sync ∙ (sync_failed first.0 g.known n lost.requests ∙ ap (λ cs. leader_syncs (members_after first.0 (map taken_of cs))) (sym lost.answers));
+      sync = lost.writes.sync ∙ (sync_failed first.0 (heard_by g) n lost.requests ∙ ap (λ cs. leader_syncs (members_after first.0 (map taken_of cs))) (sym lost.answers));
     }

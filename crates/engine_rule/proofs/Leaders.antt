@@ -20,9 +20,9 @@ use Rattle.model_accounts.specs.Led.{AreLed, IsLed, Led, Taken, all_taken, attem
 use Rattle.engine_controller.specs.Delays.{delays_from, delays_of, place_if}
 use Rattle.engine_controller.proofs.Asked.{same_client}
 use Rattle.engine_controller.proofs.Totals.{all_back, all_map, get_behind}
-use Rattle.engine_rule.specs.Commits.{Answer, AreOfClients, Commit, accepted, commits_of, failed, held_up, no_room}
+use Rattle.engine_rule.specs.Commits.{Answer, AreOfClients, Commit, Heard, accepted, commits_of, failed, held_up, no_room}
 use Rattle.engine_rule.specs.Plans.{CommitRequest, HasLooked, HaveOwnClients, LetsProceed, item_of_request}
-use Rattle.engine_rule.specs.Asked.{AreInGroups, AreTogether, HasAsked, IsLedGroup, LedGroup, Rise, is_held_up, place_of, request_of}
+use Rattle.engine_rule.specs.Asked.{AreInGroups, AreTogether, HasAsked, IsLedGroup, LedGroup, Rise, heard_by, is_held_up, place_of, request_of}
 use Rattle.engine_rule.specs.Entries.{attempt_of, status_of}
 use Rattle.engine_rule.specs.LogCalls.{led_of, taken_of}
 
@@ -52,10 +52,14 @@ of_others : (cs : List Commit) → HaveOwnClients (map request_of cs) → leds.H
 of_others [] h = tt
 of_others (c ∷ cs) h = (unlike c.client cs h.0, of_others cs h.1)
 
--- the group's delay is that of each of its commits
-places_here : (known : List ControllerCall) (cs : List Commit) → AllByRecursion (λ (c : Commit). c.controller_calls ≡ known) cs → AllByRecursion (λ (t : Taken). t.attempt.place ≡ length known - 1) (map taken_of cs)
-places_here known [] h = tt
-places_here known (c ∷ cs) h = (ap (λ ts. length ts - 1) h.0, places_here known cs h.1)
+-- the group's delay is that of each of its commits, and its leader decided on all of them at once
+places_here : (heard : Heard) (cs : List Commit) → AllByRecursion (λ (c : Commit). c.heard ≡ heard) cs → AllByRecursion (λ (t : Taken). t.attempt.place ≡ length heard.known - 1) (map taken_of cs)
+places_here heard [] h = tt
+places_here heard (c ∷ cs) h = (ap (λ (x : Heard). length x.known - 1) h.0, places_here heard cs h.1)
+
+decided_here : (heard : Heard) (cs : List Commit) → AllByRecursion (λ (c : Commit). c.heard ≡ heard) cs → AllByRecursion (λ (t : Taken). t.attempt.decided ≡ length heard.went) (map taken_of cs)
+decided_here heard [] h = tt
+decided_here heard (c ∷ cs) h = (ap (λ (x : Heard). length x.went) h.0, decided_here heard cs h.1)
 
 -- the statuses in a group: all of it is held up, by the answer of its delay, or none of it is
 abbrev status_in : Taken → WriteStatus
@@ -140,7 +144,8 @@ module _ (start group_bytes : ℕ) (asked history : List ControllerCall) (cs : L
         some = (let s = h.is_group.some in omega (arith, n, s));
         whole = ap (group_len group_bytes) (items_are g.commits) ∙ (h.is_group.whole ∙ sym n);
         of_others = of_others g.commits h.is_group.of_others;
-        places = places_here g.known g.commits h.same;
+        places = places_here (heard_by g) g.commits h.same;
+        at_once = decided_here (heard_by g) g.commits h.same;
       }
 
   all_led : (groups : List LedGroup) → AllByRecursion (IsLedGroup group_bytes) groups → AllByRecursion (λ (g : LedGroup). IsPrefix g.went asked) groups → AllByRecursion (IsLed group_bytes history) (map led_of groups)
@@ -198,7 +203,7 @@ module _ (start group_bytes : ℕ) (asked history : List ControllerCall) (cs : L
   places_led = map (λ (g : Led). g.place) led
 
   -- the look that allows its leader to proceed is in the history
-  saw_no_stop : (g : LedGroup) → IsLedGroup group_bytes g → IsPrefix g.went asked → AllByRecursion (IsClear g) k.groups → (leader : ℕ) → HasLooked leader g.known g.went → SawNoStop history places_led leader (length g.known - 1)
+  saw_no_stop : (g : LedGroup) → IsLedGroup group_bytes g → IsPrefix g.went asked → AllByRecursion (IsClear g) k.groups → (leader : ℕ) → HasLooked leader g.known g.went → SawNoStop history places_led leader (length g.known - 1) (length g.went)
   saw_no_stop g h p clear leader l =
       let there = l.is_later.there in
       let later = l.is_later.later in
@@ -208,22 +213,23 @@ module _ (start group_bytes : ℕ) (asked history : List ControllerCall) (cs : L
         there = prefix_at g.went history (prefix_trans g.went asked history p within) l.place _ there;
         behind = omega (arith, later, some);
         before = before_others g l.place (slice_get_within g.went l.place _ there) some k.groups clear;
+        among = slice_get_within g.went l.place _ there;
         free = l.free;
       }
 
   may_proceed : (g : LedGroup) → IsLedGroup group_bytes g → IsPrefix g.went asked → AllByRecursion (IsClear g) k.groups → (leader : ℕ) (numbers : Look) (no_slowdown : Bool) → LetsProceed leader numbers g.known g.went no_slowdown
-      → MayProceed history places_led leader (length g.known - 1) numbers no_slowdown
+      → MayProceed history places_led leader (length g.known - 1) (length g.went) numbers no_slowdown
   may_proceed g h p clear leader numbers true lets = lets
   may_proceed g h p clear leader numbers false (inl free) = inl free
   may_proceed g h p clear leader numbers false (inr looked) = inr (saw_no_stop g h p clear leader looked)
 
   all_proceed : (g : LedGroup) → IsLedGroup group_bytes g → IsPrefix g.went asked → AllByRecursion (IsClear g) k.groups → (leader : ℕ) (numbers : Look) (ds : List Commit)
-      → AllByRecursion (λ (q : CommitRequest). LetsProceed leader numbers g.known g.went q.options.no_slowdown) (map request_of ds) → AllByRecursion (λ (i : Item). MayProceed history places_led leader (length g.known - 1) numbers i.options.no_slowdown) (items_in (map taken_of ds))
+      → AllByRecursion (λ (q : CommitRequest). LetsProceed leader numbers g.known g.went q.options.no_slowdown) (map request_of ds) → AllByRecursion (λ (i : Item). MayProceed history places_led leader (length g.known - 1) (length g.went) numbers i.options.no_slowdown) (items_in (map taken_of ds))
   all_proceed g h p clear leader numbers [] lets = tt
   all_proceed g h p clear leader numbers (d ∷ ds) lets = (may_proceed g h p clear leader numbers d.options.no_slowdown lets.0, all_proceed g h p clear leader numbers ds lets.1)
 
   abbrev IsTogether : LedGroup → Type 0
-  IsTogether g = HaveOneFate history places_led (length g.known - 1) (items_in (map taken_of g.commits)) (map status_in (map taken_of g.commits))
+  IsTogether g = HaveOneFate history places_led (length g.known - 1) (length g.went) (items_in (map taken_of g.commits)) (map status_in (map taken_of g.commits))
 
   stands : (g : LedGroup) → IsLedGroup group_bytes g → IsPrefix g.went asked → AllByRecursion (IsClear g) k.groups → IsTogether g
   stands g h p clear = by h.together
@@ -240,13 +246,13 @@ module _ (start group_bytes : ℕ) (asked history : List ControllerCall) (cs : L
               bytes = size_of (items_in (map taken_of g.commits));
               numbers = h.numbers;
               there = delay_there g h p;
-              each = subst (λ (q : CommitRequest). AllByRecursion (λ (i : Item). MayProceed history places_led q.client (length g.known - 1) h.numbers i.options.no_slowdown) (items_in (map taken_of g.commits))) leader_is
+              each = subst (λ (q : CommitRequest). AllByRecursion (λ (i : Item). MayProceed history places_led q.client (length g.known - 1) (length g.went) h.numbers i.options.no_slowdown) (items_in (map taken_of g.commits))) leader_is
                   (all_proceed g h p clear t.1.leader.client h.numbers g.commits t.1.each);
             },
           )
 
   all_stand : (groups : List LedGroup) → AllByRecursion (IsLedGroup group_bytes) groups → AllByRecursion (λ (g : LedGroup). IsPrefix g.went asked) groups → AllByRecursion (λ (g : LedGroup). AllByRecursion (IsClear g) k.groups) groups
-      → AllByRecursion (λ (g : Led). HaveOneFate history places_led g.place (items_in g.commits) (map status_in g.commits)) (map led_of groups)
+      → AllByRecursion (λ (g : Led). HaveOneFate history places_led g.place g.decided (items_in g.commits) (map status_in g.commits)) (map led_of groups)
   all_stand [] h p clear = tt
   all_stand (g ∷ groups) h p clear = (stands g h.0 p.0 clear.0, all_stand groups h.1 p.1 clear.1)
 
@@ -294,7 +300,7 @@ module _ (start group_bytes : ℕ) (asked history : List ControllerCall) (cs : L
         at = 0;
         group = record { place = length g.known - 1; members = leds.members_after before (map taken_of g.commits) };
         there = refl;
-        is = ap (λ ts. length ts - 1) (sym (of_in (λ (d : Commit). d.controller_calls ≡ g.known) g.commits c h.0.same p));
+        is = ap (λ (x : Heard). length x.known - 1) (sym (of_in (λ (d : Commit). d.heard ≡ heard_by g) g.commits c h.0.same p));
       })
       (λ (p : In c (flat_map (λ (d : LedGroup). d.commits) groups)). place_later (record { place = length g.known - 1; members = leds.members_after before (map taken_of g.commits) }) (groups_after (before ++ map taken_of g.commits) (map led_of groups)) (place_of c)
       (place_in (before ++ map taken_of g.commits) groups h.1 c p))

@@ -8,7 +8,7 @@ use Rattle.model_base.specs.Controller.{ControllerCall, HoldUp, Look}
 use Rattle.model_base.specs.History.{max_sequence}
 use Rattle.model_base.proofs.Prefixes.{prefix_length, prefix_self}
 pub use Rattle.model_base.proofs.Prefixes.{prefix_trans}
-use Rattle.engine_rule.specs.Commits.{Answer, Commit, NamesEnd, accepted, held_up, failed, no_room, last_after_all}
+use Rattle.engine_rule.specs.Commits.{Answer, Commit, Heard, NamesEnd, accepted, held_up, failed, no_room, last_after_all}
 use Rattle.engine_rule.specs.Plans.{ComesAfter, CommitRequest, IsAskedFor, IsWholeGroup, MayNotWait, ProceedsWith, all_failed, all_held_up, answer_with, commit_of_request, last_with, last_with_all, commits_of_plan}
 use Rattle.engine_rule.specs.Asked.{AreInGroups, AreTogether, FailTogether, IsHeldUp, IsLedGroup, LedGroup, NameEnds, Rise, is_failed, is_held_up, request_of}
 use Rattle.engine_rule.proofs.Chains.{end_append}
@@ -95,51 +95,54 @@ not_told : (numbers : Look) (cs : List Commit) → AllByRecursion (λ (c : Commi
 not_told numbers [] h = tt
 not_told numbers (c ∷ cs) h = ((λ told e. let is : true ≡ false = ap is_held_up (sym e) ∙ h.0 in absurd (cc)), not_told numbers cs h.1)
 
-module _ (known : List ControllerCall) where
-  planned_are : (last end : ℕ) (rs : List CommitRequest) → map request_of (commits_of_plan known last end rs) ≡ rs
+module _ (heard : Heard) where
+  planned_are : (last end : ℕ) (rs : List CommitRequest) → map request_of (commits_of_plan heard last end rs) ≡ rs
   planned_are last end [] = refl
   planned_are last end (q ∷ rs) = ap (λ l. q ∷ l) (planned_are (last_with last q.records) end rs)
 
-  planned_same : (last end : ℕ) (rs : List CommitRequest) → AllByRecursion (λ (c : Commit). c.controller_calls ≡ known) (commits_of_plan known last end rs)
+  planned_same : (last end : ℕ) (rs : List CommitRequest) → AllByRecursion (λ (c : Commit). c.heard ≡ heard) (commits_of_plan heard last end rs)
   planned_same last end [] = tt
   planned_same last end (q ∷ rs) = (refl, planned_same (last_with last q.records) end rs)
 
   planned_alike : (test : Answer → Bool) → ((first end : ℕ) → test (accepted first end) ≡ false) → ((at : ℕ) → test (no_room at) ≡ false) → (last end : ℕ) (rs : List CommitRequest)
-      → AllByRecursion (λ (c : Commit). test c.answer ≡ false) (commits_of_plan known last end rs)
+      → AllByRecursion (λ (c : Commit). test c.answer ≡ false) (commits_of_plan heard last end rs)
   planned_alike test given none last end [] = tt
   planned_alike test given none last end (q ∷ rs) = (planned_not test given none last end q.records, planned_alike test given none (last_with last q.records) end rs)
 
-  planned_named : (last end : ℕ) (rs : List CommitRequest) → NameEnd end (commits_of_plan known last end rs)
+  planned_named : (last end : ℕ) (rs : List CommitRequest) → NameEnd end (commits_of_plan heard last end rs)
   planned_named last end [] = tt
   planned_named last end (q ∷ rs) = (plan_named last end q.records, planned_named (last_with last q.records) end rs)
 
   -- commits that all have the same answer still have the requests that they were made of
-  alike_are : (v : Answer) (rs : List CommitRequest) → map request_of (map (λ (q : CommitRequest). commit_of_request known q v) rs) ≡ rs
+  alike_are : (v : Answer) (rs : List CommitRequest) → map request_of (map (λ (q : CommitRequest). commit_of_request heard q v) rs) ≡ rs
   alike_are v [] = refl
   alike_are v (q ∷ rs) = ap (λ l. q ∷ l) (alike_are v rs)
 
-  alike_same : (v : Answer) (rs : List CommitRequest) → AllByRecursion (λ (c : Commit). c.controller_calls ≡ known) (map (λ (q : CommitRequest). commit_of_request known q v) rs)
+  alike_same : (v : Answer) (rs : List CommitRequest) → AllByRecursion (λ (c : Commit). c.heard ≡ heard) (map (λ (q : CommitRequest). commit_of_request heard q v) rs)
   alike_same v [] = tt
   alike_same v (q ∷ rs) = (refl, alike_same v rs)
 
-  alike_answers : (test : Answer → Bool) (v : Answer) (b : Bool) → test v ≡ b → (rs : List CommitRequest) → AllByRecursion (λ (c : Commit). test c.answer ≡ b) (map (λ (q : CommitRequest). commit_of_request known q v) rs)
+  alike_answers : (test : Answer → Bool) (v : Answer) (b : Bool) → test v ≡ b → (rs : List CommitRequest) → AllByRecursion (λ (c : Commit). test c.answer ≡ b) (map (λ (q : CommitRequest). commit_of_request heard q v) rs)
   alike_answers test v b is [] = tt
   alike_answers test v b is (q ∷ rs) = (is, alike_answers test v b is rs)
 
-  alike_named : (v : Answer) (end : ℕ) → NamesEnd end v → (rs : List CommitRequest) → NameEnd end (map (λ (q : CommitRequest). commit_of_request known q v) rs)
+  alike_named : (v : Answer) (end : ℕ) → NamesEnd end v → (rs : List CommitRequest) → NameEnd end (map (λ (q : CommitRequest). commit_of_request heard q v) rs)
   alike_named v end named [] = tt
   alike_named v end named (q ∷ rs) = (named, alike_named v end named rs)
 
-  held_held : (numbers : Look) → HoldUp numbers → (rs : List CommitRequest) → MayNotWait rs → AllByRecursion (IsHeldUp numbers) (all_held_up known numbers rs)
-  held_held numbers hold [] may = tt
-  held_held numbers hold (q ∷ rs) may = ((λ told e. (cc (e), hold, may.0)), held_held numbers hold rs may.1)
+held_held : (known : List ControllerCall) (numbers : Look) → HoldUp numbers → (rs : List CommitRequest) → MayNotWait rs → AllByRecursion (IsHeldUp numbers) (all_held_up known numbers rs)
+held_held known numbers hold [] may = tt
+held_held known numbers hold (q ∷ rs) may = ((λ told e. (cc (e), hold, may.0)), held_held known numbers hold rs may.1)
 
 module _ (start group_bytes : ℕ) (cs : List Commit) (asked known : List ControllerCall) (numbers : Look) (k : AreInGroups start group_bytes asked cs) (requests : List CommitRequest) (whole : IsWholeGroup group_bytes requests)
     (is_asked : IsAskedFor requests numbers known) (comes : ComesAfter asked known) where
+  abbrev pub heard_with : List ControllerCall → Heard
+  heard_with went = record { known = known; went = went }
+
   abbrev pub with_these : List ControllerCall → List Commit → LedGroup
   with_these went new = record { known = known; went = went; commits = new }
 
-  with_group : (went : List ControllerCall) (new : List Commit) → map request_of new ≡ requests → AllByRecursion (λ (c : Commit). c.controller_calls ≡ known) new → AllByRecursion (IsHeldUp numbers) new
+  with_group : (went : List ControllerCall) (new : List Commit) → map request_of new ≡ requests → AllByRecursion (λ (c : Commit). c.heard ≡ heard_with went) new → AllByRecursion (IsHeldUp numbers) new
       → AreTogether (with_these went new) numbers → FailTogether new → IsPrefix known went → NameEnd (last_after_all (last_after_all start cs) new) new → OneMoreGroup start group_bytes cs k.groups (with_these went new)
   with_group went new are same held together fail goes named = group_more asked known went comes goes start group_bytes cs new k (record {
     numbers = numbers;
@@ -153,25 +156,25 @@ module _ (start group_bytes : ℕ) (cs : List Commit) (asked known : List Contro
   }) named
 
   -- a group that goes on, where no member is held up, is one more of the groups
-  going_on : (went : List ControllerCall) → ProceedsWith requests numbers known went → (new : List Commit) → map request_of new ≡ requests → AllByRecursion (λ (c : Commit). c.controller_calls ≡ known) new
+  going_on : (went : List ControllerCall) → ProceedsWith requests numbers known went → (new : List Commit) → map request_of new ≡ requests → AllByRecursion (λ (c : Commit). c.heard ≡ heard_with went) new
       → AllByRecursion (λ (c : Commit). is_held_up c.answer ≡ false) new → FailTogether new → NameEnd (last_after_all (last_after_all start cs) new) new → OneMoreGroup start group_bytes cs k.groups (with_these went new)
   going_on went proceeds new are same free fail named = with_group went new are same (not_told numbers new free) (inr (free, subst (λ rs. ProceedsWith rs numbers known went) (sym are) proceeds)) fail proceeds.begins named
 
-  pub in_groups_planned : (went : List ControllerCall) → ProceedsWith requests numbers known went → (last : ℕ) → last ≡ last_after_all start cs → OneMoreGroup start group_bytes cs k.groups (with_these went (commits_of_plan known last (last_with_all last requests) requests))
+  pub in_groups_planned : (went : List ControllerCall) → ProceedsWith requests numbers known went → (last : ℕ) → last ≡ last_after_all start cs → OneMoreGroup start group_bytes cs k.groups (with_these went (commits_of_plan (heard_with went) last (last_with_all last requests) requests))
   in_groups_planned went proceeds last is =
       let end = last_with_all last requests in
-      going_on went proceeds (commits_of_plan known last end requests) (planned_are known last end requests) (planned_same known last end requests)
-      (planned_alike known is_held_up (λ first ends. refl) (λ at. refl) last end requests) (inr (planned_alike known is_failed (λ first ends. refl) (λ at. refl) last end requests))
-      (subst (λ n. NameEnd n (commits_of_plan known last end requests)) (sym (planned_end known last end requests) ∙ ap (λ n. last_after_all n (commits_of_plan known last end requests)) is) (planned_named known last end requests))
+      going_on went proceeds (commits_of_plan (heard_with went) last end requests) (planned_are (heard_with went) last end requests) (planned_same (heard_with went) last end requests)
+      (planned_alike (heard_with went) is_held_up (λ first ends. refl) (λ at. refl) last end requests) (inr (planned_alike (heard_with went) is_failed (λ first ends. refl) (λ at. refl) last end requests))
+      (subst (λ n. NameEnd n (commits_of_plan (heard_with went) last end requests)) (sym (planned_end (heard_with went) last end requests) ∙ ap (λ n. last_after_all n (commits_of_plan (heard_with went) last end requests)) is) (planned_named (heard_with went) last end requests))
 
-  pub in_groups_failed : (went : List ControllerCall) → ProceedsWith requests numbers known went → (n : ℕ) → OneMoreGroup start group_bytes cs k.groups (with_these went (all_failed known n requests))
+  pub in_groups_failed : (went : List ControllerCall) → ProceedsWith requests numbers known went → (n : ℕ) → OneMoreGroup start group_bytes cs k.groups (with_these went (all_failed (heard_with went) n requests))
   in_groups_failed went proceeds n =
-      going_on went proceeds (all_failed known n requests) (alike_are known (failed n) requests) (alike_same known (failed n) requests) (alike_answers known is_held_up (failed n) false refl requests)
-      (inl (alike_answers known is_failed (failed n) true refl requests))
-      (alike_named known (failed n) (last_after_all (last_after_all start cs) (all_failed known n requests)) tt requests)
+      going_on went proceeds (all_failed (heard_with went) n requests) (alike_are (heard_with went) (failed n) requests) (alike_same (heard_with went) (failed n) requests) (alike_answers (heard_with went) is_held_up (failed n) false refl requests)
+      (inl (alike_answers (heard_with went) is_failed (failed n) true refl requests))
+      (alike_named (heard_with went) (failed n) (last_after_all (last_after_all start cs) (all_failed (heard_with went) n requests)) tt requests)
 
   pub in_groups_held_up : HoldUp numbers → MayNotWait requests → OneMoreGroup start group_bytes cs k.groups (with_these known (all_held_up known numbers requests))
   in_groups_held_up hold may =
-      with_group known (all_held_up known numbers requests) (alike_are known (held_up numbers) requests) (alike_same known (held_up numbers) requests) (held_held known numbers hold requests may)
-      (inl (alike_answers known is_held_up (held_up numbers) true refl requests)) (inr (alike_answers known is_failed (held_up numbers) false refl requests)) (prefix_self known)
-      (alike_named known (held_up numbers) (last_after_all (last_after_all start cs) (all_held_up known numbers requests)) tt requests)
+      with_group known (all_held_up known numbers requests) (alike_are (heard_with known) (held_up numbers) requests) (alike_same (heard_with known) (held_up numbers) requests) (held_held known numbers hold requests may)
+      (inl (alike_answers (heard_with known) is_held_up (held_up numbers) true refl requests)) (inr (alike_answers (heard_with known) is_failed (held_up numbers) false refl requests)) (prefix_self known)
+      (alike_named (heard_with known) (held_up numbers) (last_after_all (last_after_all start cs) (all_held_up known numbers requests)) tt requests)

@@ -23,7 +23,7 @@ use Rattle.table_rule.specs.Histories.{Begins, last_of as last_of_groups}
 use Rattle.model_accounts.specs.Accounts.{Account, IsLogged, IsRefused, Wrote}
 use Rattle.model_accounts.specs.Sights.{Sees}
 use Rattle.engine_rule.specs.Commits.{Answer, AreAnswered, Commit, IsAnswer, accepted, held_up, commits_of, failed, fault_after, fault_after_all, last_after, last_after_all, no_room}
-use Rattle.engine_rule.specs.Asked.{place_of}
+use Rattle.engine_rule.specs.Asked.{place_of, decided_of}
 use Rattle.engine_rule.specs.LogSights.{LogSight, logged_by, batch_with, batches_of}
 use Rattle.engine_rule.specs.Reading.{ReadAnswer}
 use Rattle.engine_rule.specs.Entries.{SeesMore, ShowsBatch, account_of, attempt_of, end_with, ends_of, entries_of, entry_with, mine_after, status_of}
@@ -178,8 +178,8 @@ handled_more [] c = refl
 handled_more (o ∷ old) c = ap (λ l. attempt_of o ∷ l) (handled_more old c)
 
 -- a client's attempts, with one more commit, which has this answer
-handled_as : (old : List Commit) (c : Commit) (v : Answer) → c.answer ≡ v → map attempt_of (old ++ c ∷ []) ≡ map attempt_of old ++ record { records = c.records; options = c.options; status = status_of v; place = place_of c } ∷ []
-handled_as old c v is = handled_more old c ∙ ap (λ w. map attempt_of old ++ record { records = c.records; options = c.options; status = status_of w; place = place_of c } ∷ []) is
+handled_as : (old : List Commit) (c : Commit) (v : Answer) → c.answer ≡ v → map attempt_of (old ++ c ∷ []) ≡ map attempt_of old ++ record { records = c.records; options = c.options; status = status_of v; place = place_of c; decided = decided_of c } ∷ []
+handled_as old c v is = handled_more old c ∙ ap (λ w. map attempt_of old ++ record { records = c.records; options = c.options; status = status_of w; place = place_of c; decided = decided_of c } ∷ []) is
 
 -- the ends of a client's groups, with one more commit, which has this answer
 ends_as : (old : List Commit) (c : Commit) (v : Answer) → c.answer ≡ v → ends_of (old ++ c ∷ []) ≡ ends_of old ++ end_with v
@@ -202,7 +202,7 @@ batches_more knew (t ∷ sights) s =
     ap (λ l. batch_with knew t.made t.batch ++ l) (batches_more t.made sights s) ∙ sym (append_assoc (batch_with knew t.made t.batch) (batches_of t.made sights) (batch_with (fold (λ n (u : LogSight). u.made) t.made sights) s.made s.batch))
 
 module _ (start : ℕ) (opening : Pairs) (k : ℕ) (old : List Commit) (sights : List LogSight) (answers : List ReadAnswer) (c : Commit) (s : LogSight) (before after : List (List MemberVersions)) (sees : Begins before after) (known now : List ControllerCall) (more : SeesMore k known now)
-    (free : holds_stop (tokens_of k known) ≡ false) (within : IsWithinCall (length known) (length now) (place_of c)) (logged : logged_by sights ≤ s.made) where
+    (free : holds_stop (tokens_of k known) ≡ false) (within : IsWithinCall (length known) (length now) (place_of c) (decided_of c)) (logged : logged_by sights ≤ s.made) where
   abbrev was : Account
   was = account_of start opening k old sights answers before known
 
@@ -224,7 +224,7 @@ module _ (start : ℕ) (opening : Pairs) (k : ℕ) (old : List Commit) (sights :
       → IsLater now (length known) (place_of c) (record { client = by; action = delay moment bytes; told = Some numbers })
       → IsRefused was c.records c.options (no.Incomplete numbers.stops numbers.delays numbers.wait) becomes
   refused_held_up numbers by moment bytes held_is impatient hold later = record {
-    fate = fate_at (place_of c) slowed;
+    fate = fate_at (place_of c) (decided_of c) slowed;
     may = (impatient, (by, moment, bytes, later, slice_get_within now (place_of c) (record { client = by; action = delay moment bytes; told = Some numbers }) later.there, hold, refl));
     kept_out = not_kept_out (tokens_of k known) _ free;
     within_call = within;
@@ -245,7 +245,7 @@ module _ (start : ℕ) (opening : Pairs) (k : ℕ) (old : List Commit) (sights :
 
   pub refused_failed : (n : ℕ) → c.answer ≡ failed n → IsRefused was c.records c.options (no.LogFault n) becomes
   refused_failed n failed_is = record {
-    fate = fate_at (place_of c) (faulted n);
+    fate = fate_at (place_of c) (decided_of c) (faulted n);
     may = refl;
     kept_out = not_kept_out (tokens_of k known) _ free;
     within_call = within;
@@ -270,6 +270,7 @@ module _ (start : ℕ) (opening : Pairs) (k : ℕ) (old : List Commit) (sights :
           ends = ends_as old c (accepted first end) given_is;
           asked = more.tokens;
           place = place_of c;
+          decided = decided_of c;
           attempts = handled_as old c (accepted first end) given_is;
           within_call = within;
           logged = λ to_log. in_log first (shows to_log);
@@ -290,7 +291,7 @@ module _ (start : ℕ) (opening : Pairs) (k : ℕ) (old : List Commit) (sights :
     refused_full l full_is low =
         let v = subst (IsAnswer (last_after_all start (at start k cs old c right is).front) (fault_after_all None (at start k cs old c right is).front) (count_of c.records)) full_is (answer start k cs old c right is).1 in
         record {
-          fate = fate_at (place_of c) (full l);
+          fate = fate_at (place_of c) (decided_of c) (full l);
           may = (
             refl,
             is_alive start k cs old c right is v.0,

@@ -4,12 +4,11 @@ use Rattle.std.proofs.lemmas.Bool.{leb-true, leb-false}
 use Rattle.std.proofs.lemmas.List.Sums.{sum_by-cons}
 use Rattle.model_base.specs.Batch.{Record, is_counted, count_of, value, deletion, single_deletion, log_data}
 use Rattle.model_base.specs.History.{Entry, max_sequence}
-use Rattle.model_base.specs.Controller.{ControllerCall}
 use Rattle.model_base.specs.Outcomes.{entries_of_client}
 use Rattle.table_rule.specs.declared.content.Version.{Version}
 use Rattle.table_rule.specs.Histories.{Runs, made_by}
 use Rattle.table_rule.specs.Batches.{new_versions, number_from}
-use Rattle.engine_rule.specs.Commits.{AreAnswered, AreOfClients, IsAnswer, accepted, fault_after, fault_after_all, last_after, last_after_all, no_room}
+use Rattle.engine_rule.specs.Commits.{AreAnswered, AreOfClients, Heard, IsAnswer, accepted, fault_after, fault_after_all, last_after, last_after_all, no_room}
 use Rattle.engine_rule.specs.Entries.{entries_after, entry_after, entry_with, versions_made, versions_with}
 use Rattle.engine_rule.specs.Plans.{AreLawful, CommitRequest, answer_with, commit_of_request, batch_with, batches_from, last_with, last_with_all, commits_of_plan, versions_at, versions_from}
 
@@ -57,39 +56,39 @@ right_verdict last end records some below = by (room last records)
     by (has fits e) = let n : last_with last records ≡ last + count_of records = rw e refl in rw e (refl, some, refl, fits, omega (arith, n, below))
     by (lacks full e) = rw e (refl, refl, full)
 
-pub planned_end : (known : List ControllerCall) (last end : ℕ) (requests : List CommitRequest) → last_after_all last (commits_of_plan known last end requests) ≡ last_with_all last requests
-planned_end known last end [] = refl
-planned_end known last end (a ∷ requests) = ap (λ n. last_after_all n (commits_of_plan known (last_with last a.records) end requests)) (after_verdict last end a.records) ∙ planned_end known (last_with last a.records) end requests
+pub planned_end : (heard : Heard) (last end : ℕ) (requests : List CommitRequest) → last_after_all last (commits_of_plan heard last end requests) ≡ last_with_all last requests
+planned_end heard last end [] = refl
+planned_end heard last end (a ∷ requests) = ap (λ n. last_after_all n (commits_of_plan heard (last_with last a.records) end requests)) (after_verdict last end a.records) ∙ planned_end heard (last_with last a.records) end requests
 
-pub planned_dead : (known : List ControllerCall) (last end : ℕ) (dead : Option ℕ) (requests : List CommitRequest) → fault_after_all dead (commits_of_plan known last end requests) ≡ dead
-planned_dead known last end dead [] = refl
-planned_dead known last end dead (a ∷ requests) = ap (λ d. fault_after_all d (commits_of_plan known (last_with last a.records) end requests)) (alive_after last end a.records dead) ∙ planned_dead known (last_with last a.records) end dead requests
+pub planned_dead : (heard : Heard) (last end : ℕ) (dead : Option ℕ) (requests : List CommitRequest) → fault_after_all dead (commits_of_plan heard last end requests) ≡ dead
+planned_dead heard last end dead [] = refl
+planned_dead heard last end dead (a ∷ requests) = ap (λ d. fault_after_all d (commits_of_plan heard (last_with last a.records) end requests)) (alive_after last end a.records dead) ∙ planned_dead heard (last_with last a.records) end dead requests
 
-pub planned_answered : (known : List ControllerCall) (clients last end : ℕ) (requests : List CommitRequest) → AreLawful clients requests → last_with_all last requests ≤ end → AreAnswered last None (commits_of_plan known last end requests)
-planned_answered known clients last end [] h below = tt
-planned_answered known clients last end (a ∷ requests) h below = (
+pub planned_answered : (heard : Heard) (clients last end : ℕ) (requests : List CommitRequest) → AreLawful clients requests → last_with_all last requests ≤ end → AreAnswered last None (commits_of_plan heard last end requests)
+planned_answered heard clients last end [] h below = tt
+planned_answered heard clients last end (a ∷ requests) h below = (
   right_verdict last end a.records h.0.0 (let r = rises (last_with last a.records) requests in omega (arith, r, below)),
-  subst (λ (z : ℕ × Option ℕ). AreAnswered z.0 z.1 (commits_of_plan known (last_with last a.records) end requests)) (λ i. (sym (after_verdict last end a.records) i, sym (alive_after last end a.records None) i)) (planned_answered known clients (last_with last a.records) end requests h.1 below),
+  subst (λ (z : ℕ × Option ℕ). AreAnswered z.0 z.1 (commits_of_plan heard (last_with last a.records) end requests)) (λ i. (sym (after_verdict last end a.records) i, sym (alive_after last end a.records None) i)) (planned_answered heard clients (last_with last a.records) end requests h.1 below),
 )
 
-pub planned_clients : (known : List ControllerCall) (clients last end : ℕ) (requests : List CommitRequest) → AreLawful clients requests → AreOfClients clients (commits_of_plan known last end requests)
-planned_clients known clients last end [] h = tt
-planned_clients known clients last end (a ∷ requests) h = ((h.0.1, h.0.2), planned_clients known clients (last_with last a.records) end requests h.1)
+pub planned_clients : (heard : Heard) (clients last end : ℕ) (requests : List CommitRequest) → AreLawful clients requests → AreOfClients clients (commits_of_plan heard last end requests)
+planned_clients heard clients last end [] h = tt
+planned_clients heard clients last end (a ∷ requests) h = ((h.0.1, h.0.2), planned_clients heard clients (last_with last a.records) end requests h.1)
 
-pub planned_versions : (known : List ControllerCall) (last end : ℕ) (requests : List CommitRequest) → made_by versions_made (commits_of_plan known last end requests) ≡ versions_from last requests
-planned_versions known last end [] = refl
-planned_versions known last end (a ∷ requests) = by (room last a.records) (planned_versions known (last_with last a.records) end requests)
+pub planned_versions : (heard : Heard) (last end : ℕ) (requests : List CommitRequest) → made_by versions_made (commits_of_plan heard last end requests) ≡ versions_from last requests
+planned_versions heard last end [] = refl
+planned_versions heard last end (a ∷ requests) = by (room last a.records) (planned_versions heard (last_with last a.records) end requests)
   where
-    by : Room last a.records → made_by versions_made (commits_of_plan known (last_with last a.records) end requests) ≡ versions_from (last_with last a.records) requests
-        → versions_with (commit_of_request known a (answer_with last end a.records)) (answer_with last end a.records) ++ made_by versions_made (commits_of_plan known (last_with last a.records) end requests) ≡ versions_at last a.records ++ versions_from (last_with last a.records) requests
+    by : Room last a.records → made_by versions_made (commits_of_plan heard (last_with last a.records) end requests) ≡ versions_from (last_with last a.records) requests
+        → versions_with (commit_of_request heard a (answer_with last end a.records)) (answer_with last end a.records) ++ made_by versions_made (commits_of_plan heard (last_with last a.records) end requests) ≡ versions_at last a.records ++ versions_from (last_with last a.records) requests
     by (has fits e) h =
         let v : answer_with last end a.records ≡ accepted (last + 1) end = rw e refl in
         let is : versions_at last a.records ≡ number_from (last + 1) (new_versions a.records) = rw e refl in
-        (λ i. versions_with (commit_of_request known a (answer_with last end a.records)) (v i) ++ h i) ∙ ap (λ vs. vs ++ versions_from (last_with last a.records) requests) (sym is)
+        (λ i. versions_with (commit_of_request heard a (answer_with last end a.records)) (v i) ++ h i) ∙ ap (λ vs. vs ++ versions_from (last_with last a.records) requests) (sym is)
     by (lacks full e) h =
         let v : answer_with last end a.records ≡ no_room last = rw e refl in
         let is : versions_at last a.records ≡ [] = rw e refl in
-        (λ i. versions_with (commit_of_request known a (answer_with last end a.records)) (v i) ++ h i) ∙ ap (λ vs. vs ++ versions_from (last_with last a.records) requests) (sym is)
+        (λ i. versions_with (commit_of_request heard a (answer_with last end a.records)) (v i) ++ h i) ∙ ap (λ vs. vs ++ versions_from (last_with last a.records) requests) (sym is)
 
 -- the versions of a group are one run
 abbrev counts : Record → ℕ
@@ -138,19 +137,19 @@ versions_runs last (a ∷ requests) = by (room last a.records) (versions_runs (l
         )
 
 -- the entries of a group: their batches, their first sequence, and their flags
-pub planned_batches : (known : List ControllerCall) (last end : ℕ) (before : List Entry) (requests : List CommitRequest) → map (λ (e : Entry). e.records) (entries_after before (commits_of_plan known last end requests)) ≡ batches_from last requests
-planned_batches known last end before [] = refl
-planned_batches known last end before (a ∷ requests) = by (room last a.records) (planned_batches known (last_with last a.records) end (before ++ entry_after before (commit_of_request known a (answer_with last end a.records))) requests)
+pub planned_batches : (heard : Heard) (last end : ℕ) (before : List Entry) (requests : List CommitRequest) → map (λ (e : Entry). e.records) (entries_after before (commits_of_plan heard last end requests)) ≡ batches_from last requests
+planned_batches heard last end before [] = refl
+planned_batches heard last end before (a ∷ requests) = by (room last a.records) (planned_batches heard (last_with last a.records) end (before ++ entry_after before (commit_of_request heard a (answer_with last end a.records))) requests)
   where
-    by : Room last a.records → map (λ (e : Entry). e.records) (entries_after (before ++ entry_after before (commit_of_request known a (answer_with last end a.records))) (commits_of_plan known (last_with last a.records) end requests)) ≡ batches_from (last_with last a.records) requests
-        → map (λ (e : Entry). e.records) (entry_after before (commit_of_request known a (answer_with last end a.records)) ++ entries_after (before ++ entry_after before (commit_of_request known a (answer_with last end a.records))) (commits_of_plan known (last_with last a.records) end requests)) ≡ batch_with last a.records ++ batches_from (last_with last a.records) requests
+    by : Room last a.records → map (λ (e : Entry). e.records) (entries_after (before ++ entry_after before (commit_of_request heard a (answer_with last end a.records))) (commits_of_plan heard (last_with last a.records) end requests)) ≡ batches_from (last_with last a.records) requests
+        → map (λ (e : Entry). e.records) (entry_after before (commit_of_request heard a (answer_with last end a.records)) ++ entries_after (before ++ entry_after before (commit_of_request heard a (answer_with last end a.records))) (commits_of_plan heard (last_with last a.records) end requests)) ≡ batch_with last a.records ++ batches_from (last_with last a.records) requests
     by (has fits e) h =
         let v : answer_with last end a.records ≡ accepted (last + 1) end = rw e refl in
         let is : batch_with last a.records ≡ a.records ∷ [] = rw e refl in
-        let rest = entries_after (before ++ entry_after before (commit_of_request known a (answer_with last end a.records))) (commits_of_plan known (last_with last a.records) end requests) in
-        ap (λ w. map (λ (e : Entry). e.records) (entry_with a.client (entries_of_client a.client before) (commit_of_request known a (answer_with last end a.records)) w ++ rest)) v ∙ (ap (λ l. a.records ∷ l) h ∙ ap (λ l. l ++ batches_from (last_with last a.records) requests) (sym is))
+        let rest = entries_after (before ++ entry_after before (commit_of_request heard a (answer_with last end a.records))) (commits_of_plan heard (last_with last a.records) end requests) in
+        ap (λ w. map (λ (e : Entry). e.records) (entry_with a.client (entries_of_client a.client before) (commit_of_request heard a (answer_with last end a.records)) w ++ rest)) v ∙ (ap (λ l. a.records ∷ l) h ∙ ap (λ l. l ++ batches_from (last_with last a.records) requests) (sym is))
     by (lacks full e) h =
         let v : answer_with last end a.records ≡ no_room last = rw e refl in
         let is : batch_with last a.records ≡ [] = rw e refl in
-        let rest = entries_after (before ++ entry_after before (commit_of_request known a (answer_with last end a.records))) (commits_of_plan known (last_with last a.records) end requests) in
-        ap (λ w. map (λ (e : Entry). e.records) (entry_with a.client (entries_of_client a.client before) (commit_of_request known a (answer_with last end a.records)) w ++ rest)) v ∙ (h ∙ ap (λ l. l ++ batches_from (last_with last a.records) requests) (sym is))
+        let rest = entries_after (before ++ entry_after before (commit_of_request heard a (answer_with last end a.records))) (commits_of_plan heard (last_with last a.records) end requests) in
+        ap (λ w. map (λ (e : Entry). e.records) (entry_with a.client (entries_of_client a.client before) (commit_of_request heard a (answer_with last end a.records)) w ++ rest)) v ∙ (h ∙ ap (λ l. l ++ batches_from (last_with last a.records) requests) (sym is))

@@ -19,7 +19,7 @@ use Rattle.engine_rule.proofs.Reaching.{versions_length}
 use Rattle.model_runs.specs.Groups.{has_entries, is_in_log, is_kept_out, leader_syncs}
 use Rattle.model_runs.specs.Written.{AreOfOwnClients, WroteEntries, first_of}
 use Rattle.model_accounts.specs.Led.{Taken, members_after}
-use Rattle.engine_rule.specs.Commits.{Answer, AreAnswered, AreOfClients, Commit, accepted, held_up, failed, fault_after_all, last_after, last_after_all, no_room}
+use Rattle.engine_rule.specs.Commits.{Answer, AreAnswered, AreOfClients, Commit, Heard, accepted, held_up, failed, fault_after_all, last_after, last_after_all, no_room}
 use Rattle.engine_rule.specs.Asked.{LedGroup, commits_in}
 use Rattle.engine_rule.specs.Consistent.{AreConsistent, EndsAreNamed, IsNamed, Publishes}
 use Rattle.engine_rule.specs.Entries.{entries_after, entries_of, entry_after, entry_with, versions_made, versions_with}
@@ -66,49 +66,49 @@ syncs_flag options e = by options.no_log options.sync e
     by false false e = absurd (cc)
 
 -- What holds of each request also holds of the entry that it makes
-module _ (known : List ControllerCall) (P : WriteOptions → Type 0) where
+module _ (heard : Heard) (P : WriteOptions → Type 0) where
   entry_at : (mine : List Entry) (a : CommitRequest) (rest : List Entry) (v : Answer) → P a.options → AllByRecursion (λ (e : Entry). (options : WriteOptions) × P options × (e.flag ≡ flag_of options)) rest
-      → AllByRecursion (λ (e : Entry). (options : WriteOptions) × P options × (e.flag ≡ flag_of options)) (entry_with a.client mine (commit_of_request known a v) v ++ rest)
+      → AllByRecursion (λ (e : Entry). (options : WriteOptions) × P options × (e.flag ≡ flag_of options)) (entry_with a.client mine (commit_of_request heard a v) v ++ rest)
   entry_at mine a rest (accepted first end) h more = ((a.options, h, refl), more)
   entry_at mine a rest (held_up numbers) h more = more
   entry_at mine a rest (failed n) h more = more
   entry_at mine a rest (no_room l) h more = more
 
-  flags_of : (last end : ℕ) (before : List Entry) (requests : List CommitRequest) → AllByRecursion (λ (a : CommitRequest). P a.options) requests → AllByRecursion (λ (e : Entry). (options : WriteOptions) × P options × (e.flag ≡ flag_of options)) (entries_after before (commits_of_plan known last end requests))
+  flags_of : (last end : ℕ) (before : List Entry) (requests : List CommitRequest) → AllByRecursion (λ (a : CommitRequest). P a.options) requests → AllByRecursion (λ (e : Entry). (options : WriteOptions) × P options × (e.flag ≡ flag_of options)) (entries_after before (commits_of_plan heard last end requests))
   flags_of last end before [] h = tt
   flags_of last end before (a ∷ requests) h =
-      let c = commit_of_request known a (answer_with last end a.records) in
-      entry_at (filter (λ (e : Entry). e.client == a.client) before) a (entries_after (before ++ entry_after before c) (commits_of_plan known (last_with last a.records) end requests)) (answer_with last end a.records) h.0
+      let c = commit_of_request heard a (answer_with last end a.records) in
+      entry_at (filter (λ (e : Entry). e.client == a.client) before) a (entries_after (before ++ entry_after before c) (commits_of_plan heard (last_with last a.records) end requests)) (answer_with last end a.records) h.0
       (flags_of (last_with last a.records) end (before ++ entry_after before c) requests h.1)
 
 -- No two entries of a group are of the same client
-module _ (known : List ControllerCall) where
+module _ (heard : Heard) where
   client_at : (P : ℕ → Type 0) (mine : List Entry) (a : CommitRequest) (rest : List Entry) (v : Answer) → P a.client → AllByRecursion (λ (e : Entry). P e.client) rest
-      → AllByRecursion (λ (e : Entry). P e.client) (entry_with a.client mine (commit_of_request known a v) v ++ rest)
+      → AllByRecursion (λ (e : Entry). P e.client) (entry_with a.client mine (commit_of_request heard a v) v ++ rest)
   client_at P mine a rest (accepted first end) h more = (h, more)
   client_at P mine a rest (held_up numbers) h more = more
   client_at P mine a rest (failed n) h more = more
   client_at P mine a rest (no_room l) h more = more
 
-  clients_of : (P : ℕ → Type 0) (last end : ℕ) (before : List Entry) (requests : List CommitRequest) → AllByRecursion (λ (a : CommitRequest). P a.client) requests → AllByRecursion (λ (e : Entry). P e.client) (entries_after before (commits_of_plan known last end requests))
+  clients_of : (P : ℕ → Type 0) (last end : ℕ) (before : List Entry) (requests : List CommitRequest) → AllByRecursion (λ (a : CommitRequest). P a.client) requests → AllByRecursion (λ (e : Entry). P e.client) (entries_after before (commits_of_plan heard last end requests))
   clients_of P last end before [] h = tt
   clients_of P last end before (a ∷ requests) h =
-      let c = commit_of_request known a (answer_with last end a.records) in
-      client_at P (filter (λ (e : Entry). e.client == a.client) before) a (entries_after (before ++ entry_after before c) (commits_of_plan known (last_with last a.records) end requests)) (answer_with last end a.records) h.0
+      let c = commit_of_request heard a (answer_with last end a.records) in
+      client_at P (filter (λ (e : Entry). e.client == a.client) before) a (entries_after (before ++ entry_after before c) (commits_of_plan heard (last_with last a.records) end requests)) (answer_with last end a.records) h.0
       (clients_of P (last_with last a.records) end (before ++ entry_after before c) requests h.1)
 
-  own_at : (mine : List Entry) (a : CommitRequest) (rest : List Entry) (v : Answer) → AllByRecursion (λ (e : Entry). a.client ≢ e.client) rest → AreOfOwnClients rest → AreOfOwnClients (entry_with a.client mine (commit_of_request known a v) v ++ rest)
+  own_at : (mine : List Entry) (a : CommitRequest) (rest : List Entry) (v : Answer) → AllByRecursion (λ (e : Entry). a.client ≢ e.client) rest → AreOfOwnClients rest → AreOfOwnClients (entry_with a.client mine (commit_of_request heard a v) v ++ rest)
   own_at mine a rest (accepted first end) others own = (others, own)
   own_at mine a rest (held_up numbers) others own = own
   own_at mine a rest (failed n) others own = own
   own_at mine a rest (no_room l) others own = own
 
-  own_clients : (last end : ℕ) (before : List Entry) (requests : List CommitRequest) → HaveOwnClients requests → AreOfOwnClients (entries_after before (commits_of_plan known last end requests))
+  own_clients : (last end : ℕ) (before : List Entry) (requests : List CommitRequest) → HaveOwnClients requests → AreOfOwnClients (entries_after before (commits_of_plan heard last end requests))
   own_clients last end before [] own = tt
   own_clients last end before (a ∷ requests) own =
-      let c = commit_of_request known a (answer_with last end a.records) in
+      let c = commit_of_request heard a (answer_with last end a.records) in
       let after = before ++ entry_after before c in
-      own_at (filter (λ (e : Entry). e.client == a.client) before) a (entries_after after (commits_of_plan known (last_with last a.records) end requests)) (answer_with last end a.records)
+      own_at (filter (λ (e : Entry). e.client == a.client) before) a (entries_after after (commits_of_plan heard (last_with last a.records) end requests)) (answer_with last end a.records)
       (clients_of (λ n. a.client ≢ n) (last_with last a.records) end after requests own.0) (own_clients (last_with last a.records) end after requests own.1)
 
 all_logged : (es : List Entry) → AllByRecursion (λ (e : Entry). (options : WriteOptions) × (options.no_log ≡ false) × (e.flag ≡ flag_of options)) es → logged_entries es ≡ es
@@ -198,9 +198,9 @@ module _ (start last : ℕ) (cs : List Commit) (groups : List LedGroup) (g : Led
 
 -- What a group's leader asked for
 
-module _ (known : List ControllerCall) (last end : ℕ) (before : List Taken) where
+module _ (heard : Heard) (last end : ℕ) (before : List Taken) where
   abbrev members : List CommitRequest → List Member
-  members requests = members_after before (map taken_of (commits_of_plan known last end requests))
+  members requests = members_after before (map taken_of (commits_of_plan heard last end requests))
 
   by_leader : (requests : List CommitRequest) → leader_asks_sync requests ≡ leader_syncs (members requests)
   by_leader [] = refl
@@ -263,17 +263,20 @@ shown_first start (g ∷ shown) b = absurd (let e : [] ≡ g ∷ (shown ++ b.0) 
 -- A group got runs
 module _ (start clients group_bytes : ℕ) (asked known went : List ControllerCall) (cs : List Commit) (last : ℕ) (published : List (List MemberVersions)) (calls : List GroupCall) (k : AreConsistent start clients group_bytes asked cs last None published calls) (requests : List CommitRequest) (lawful : AreLawful clients requests)
     (numbers : Look) (whole : IsWholeGroup group_bytes requests) (is_asked : IsAskedFor requests numbers known) (comes : ComesAfter asked known) (proceeds : ProceedsWith requests numbers known went) where
+  abbrev this_heard : Heard
+  this_heard = record { known = known; went = went }
+
   abbrev end : ℕ
   end = last_with_all last requests
 
   abbrev new : List Commit
-  new = commits_of_plan known last end requests
+  new = commits_of_plan this_heard last end requests
 
   new_entries : List Entry
   new_entries = entries_after (entries_of cs) new
 
   answered_new : AreAnswered last None new
-  answered_new = planned_answered known clients last end requests lawful (omega arith)
+  answered_new = planned_answered this_heard clients last end requests lawful (omega arith)
 
   history_new : IsHistory last new_entries
   unfolding new_entries
@@ -281,39 +284,39 @@ module _ (start clients group_bytes : ℕ) (asked known went : List ControllerCa
 
   batches_are : map (λ (e : Entry). e.records) new_entries ≡ batches_from last requests
   unfolding new_entries
-  batches_are = planned_batches known last end (entries_of cs) requests
+  batches_are = planned_batches this_heard last end (entries_of cs) requests
 
   -- an answer of the group that names an end names the group's end; and one does, where the group has versions
   named_by : (at l : ℕ) (b : Bool) (first : ℕ) → (if b then accepted (l + 1) end else no_room l) ≡ accepted first at → at ≡ end
   named_by at l true first e = cc
   named_by at l false first e = absurd (cc)
 
-  named_end : (at l : ℕ) (qs : List CommitRequest) → IsNamed (commits_of_plan known l end qs) at → at ≡ end
+  named_end : (at l : ℕ) (qs : List CommitRequest) → IsNamed (commits_of_plan this_heard l end qs) at → at ≡ end
   named_end at l [] n = absurd n.2
   named_end at l (a ∷ qs) n =
-      let c = commit_of_request known a (answer_with l end a.records) in
+      let c = commit_of_request this_heard a (answer_with l end a.records) in
       ⊎_elim
       (λ (e : c ≡ n.0). named_by at l (nat_le (l + count_of a.records) max_sequence) n.1 (ap (λ (x : Commit). x.answer) e ∙ n.3))
-      (λ (t : In n.0 (commits_of_plan known (last_with l a.records) end qs)). named_end at (last_with l a.records) qs (n.0, n.1, t, n.3))
+      (λ (t : In n.0 (commits_of_plan this_heard (last_with l a.records) end qs)). named_end at (last_with l a.records) qs (n.0, n.1, t, n.3))
       n.2
 
-  some_named : (l : ℕ) (qs : List CommitRequest) → (versions_from l qs ≡ []) ⊎ IsNamed (commits_of_plan known l end qs) end
+  some_named : (l : ℕ) (qs : List CommitRequest) → (versions_from l qs ≡ []) ⊎ IsNamed (commits_of_plan this_heard l end qs) end
   some_named l [] = inl refl
   some_named l (a ∷ qs) = by (nat_le (l + count_of a.records) max_sequence) refl (some_named (last_with l a.records) qs)
     where
-      by : (b : Bool) → nat_le (l + count_of a.records) max_sequence ≡ b → (versions_from (last_with l a.records) qs ≡ []) ⊎ IsNamed (commits_of_plan known (last_with l a.records) end qs) end
-          → (versions_from l (a ∷ qs) ≡ []) ⊎ IsNamed (commits_of_plan known l end (a ∷ qs)) end
-      by true e later = inr (commit_of_request known a (answer_with l end a.records), l + 1, inl refl, ap (λ (b : Bool). if b then accepted (l + 1) end else no_room l) e)
+      by : (b : Bool) → nat_le (l + count_of a.records) max_sequence ≡ b → (versions_from (last_with l a.records) qs ≡ []) ⊎ IsNamed (commits_of_plan this_heard (last_with l a.records) end qs) end
+          → (versions_from l (a ∷ qs) ≡ []) ⊎ IsNamed (commits_of_plan this_heard l end (a ∷ qs)) end
+      by true e later = inr (commit_of_request this_heard a (answer_with l end a.records), l + 1, inl refl, ap (λ (b : Bool). if b then accepted (l + 1) end else no_room l) e)
       by false e later =
           let none : versions_at l a.records ≡ [] = ap (λ (b : Bool). if b then number_from (l + 1) (new_versions a.records) else []) e in
           ⊎_elim
           (λ (t : versions_from (last_with l a.records) qs ≡ []). inl (λ i. none i ++ t i))
-          (λ (n : IsNamed (commits_of_plan known (last_with l a.records) end qs) end). inr (n.0, n.1, inr n.2, n.3))
+          (λ (n : IsNamed (commits_of_plan this_heard (last_with l a.records) end qs) end). inr (n.0, n.1, inr n.2, n.3))
           later
 
   -- the group's end is the last sequence given
   all_end : last_after_all start (cs ++ new) ≡ end
-  all_end = end_append start cs new ∙ (ap (λ n. last_after_all n new) (sym k.last_is) ∙ planned_end known last end requests)
+  all_end = end_append start cs new ∙ (ap (λ n. last_after_all n new) (sym k.last_is) ∙ planned_end this_heard last end requests)
 
   answered_all : AreAnswered start None (cs ++ new)
   answered_all = answered_append start None cs new k.answered (subst (λ (z : ℕ × Option ℕ). AreAnswered z.0 z.1 new) (λ i. (k.last_is i, k.fault_is i)) answered_new)
@@ -329,8 +332,8 @@ module _ (start clients group_bytes : ℕ) (asked known went : List ControllerCa
   unfolding new_entries
   no_call calls' same (inl u) old =
       subst (CutParts start cs (old_groups ++ this_group ∷ []) (entries_of cs ++ new_entries)) (sym same) (no_more_calls start cs old_groups this_group (entries_of cs) calls k.in_groups.cut
-      (λ before. left_out (group_at before this_group) new_entries (kept_out known last end before requests whole.some u))
-      (none_logged new_entries (flags_of known (λ options. options.no_log ≡ true) last end (entries_of cs) requests u)) old)
+      (λ before. left_out (group_at before this_group) new_entries (kept_out this_heard last end before requests whole.some u))
+      (none_logged new_entries (flags_of this_heard (λ options. options.no_log ≡ true) last end (entries_of cs) requests u)) old)
   no_call calls' same (inr u) old =
       let none : new_entries ≡ [] = none_of (λ (e : Entry). e.records) new_entries (batches_are ∙ u) in
       subst (CutParts start cs (old_groups ++ this_group ∷ []) (entries_of cs ++ new_entries)) (sym same) (no_more_calls start cs old_groups this_group (entries_of cs) calls k.in_groups.cut
@@ -343,10 +346,10 @@ module _ (start clients group_bytes : ℕ) (asked known went : List ControllerCa
       let same : c.batches ≡ map (λ (e : Entry). e.records) new_entries = writes.batches ∙ sym batches_are in
       let some : 0 < length new_entries = some_of (λ (e : Entry). e.records) new_entries (subst (λ l. 0 < length l) same writes.some) in
       subst (CutParts start cs (old_groups ++ this_group ∷ []) (entries_of cs ++ new_entries)) (sym one) (one_more_call start last cs old_groups this_group (entries_of cs) calls c k.in_groups.cut
-      (λ before. goes_in (group_at before this_group) new_entries (kept_in known last end before requests writes.to_log) (some_entries new_entries some))
-      (λ before. writes.sync ∙ by_leader known last end before requests)
-      history_new (all_logged new_entries (flags_of known (λ options. options.no_log ≡ false) last end (entries_of cs) requests writes.to_log)) some writes.first same
-      (all_synced c.sync new_entries (flags_of known (λ options. options.sync ≡ true → c.sync ≡ true) last end (entries_of cs) requests syncs)) ok (own_clients known last end (entries_of cs) requests whole.of_others) old)
+      (λ before. goes_in (group_at before this_group) new_entries (kept_in this_heard last end before requests writes.to_log) (some_entries new_entries some))
+      (λ before. writes.sync ∙ by_leader this_heard last end before requests)
+      history_new (all_logged new_entries (flags_of this_heard (λ options. options.no_log ≡ false) last end (entries_of cs) requests writes.to_log)) some writes.first same
+      (all_synced c.sync new_entries (flags_of this_heard (λ options. options.sync ≡ true → c.sync ≡ true) last end (entries_of cs) requests syncs)) ok (own_clients this_heard last end (entries_of cs) requests whole.of_others) old)
 
   written_new : (calls' : List GroupCall) → LogsGroup last requests calls calls' → WroteCut start group_bytes (old_groups ++ this_group ∷ []) (cs ++ new) None end calls'
   unfolding new_entries
@@ -393,8 +396,8 @@ module _ (start clients group_bytes : ℕ) (asked known went : List ControllerCa
 
   images_new : (published' : List (List MemberVersions)) → Publishes (versions_from last requests) published published' → Images versions_made (cs ++ new) published'
   images_new published' publishes = ⊎_elim
-      (λ (t : (versions_from last requests ≡ []) × (published' ≡ published)). subst (Images versions_made (cs ++ new)) (sym t.1) (images_none versions_made cs new published k.images (planned_versions known last end requests ∙ t.0)))
-      (λ (t : (g : List MemberVersions) × (published' ≡ published ++ g ∷ []) × (versions_in g ≡ versions_from last requests)). subst (Images versions_made (cs ++ new)) (sym t.1) (images_more versions_made cs new published t.0 k.images (planned_versions known last end requests ∙ sym t.2)))
+      (λ (t : (versions_from last requests ≡ []) × (published' ≡ published)). subst (Images versions_made (cs ++ new)) (sym t.1) (images_none versions_made cs new published k.images (planned_versions this_heard last end requests ∙ t.0)))
+      (λ (t : (g : List MemberVersions) × (published' ≡ published ++ g ∷ []) × (versions_in g ≡ versions_from last requests)). subst (Images versions_made (cs ++ new)) (sym t.1) (images_more versions_made cs new published t.0 k.images (planned_versions this_heard last end requests ∙ sym t.2)))
       publishes
 
   pub consistent_accepted : (published' : List (List MemberVersions)) (calls' : List GroupCall) → Publishes (versions_from last requests) published published' → LogsGroup last requests calls calls' → AreConsistent start clients group_bytes went (cs ++ new) end None published' calls'
@@ -403,9 +406,9 @@ module _ (start clients group_bytes : ℕ) (asked known went : List ControllerCa
       let more = in_groups_planned start group_bytes cs asked known numbers k.in_groups requests whole is_asked comes went proceeds last k.last_is in
       let w = subst (λ gs. WroteCut start group_bytes gs (cs ++ new) None end calls') (sym more.1) (written_new calls' logs) in record {
         answered = answered_all;
-        of_clients = all_append (λ (c : Commit). (1 ≤ c.client) × (c.client ≤ clients)) cs new k.of_clients (planned_clients known clients last end requests lawful);
+        of_clients = all_append (λ (c : Commit). (1 ≤ c.client) × (c.client ≤ clients)) cs new k.of_clients (planned_clients this_heard clients last end requests lawful);
         last_is = sym all_end;
-        fault_is = sym (dead_append None cs new ∙ (ap (λ d. fault_after_all d new) (sym k.fault_is) ∙ planned_dead known last end None requests));
+        fault_is = sym (dead_append None cs new ∙ (ap (λ d. fault_after_all d new) (sym k.fault_is) ∙ planned_dead this_heard last end None requests));
         in_groups = more.0;
         images = images;
         written = w.0;
@@ -415,11 +418,11 @@ module _ (start clients group_bytes : ℕ) (asked known went : List ControllerCa
 
 -- All members of a group got the same answer, and no runs
 
-abbrev alike : List ControllerCall → Answer → List CommitRequest → List Commit
-alike known v requests = map (λ (q : CommitRequest). commit_of_request known q v) requests
+abbrev alike : Heard → Answer → List CommitRequest → List Commit
+alike heard v requests = map (λ (q : CommitRequest). commit_of_request heard q v) requests
 
-abbrev led_alike : List ControllerCall → Answer → List ControllerCall → List CommitRequest → LedGroup
-led_alike known v went requests = record { known = known; went = went; commits = alike known v requests }
+abbrev led_alike : Heard → Answer → List CommitRequest → LedGroup
+led_alike heard v requests = record { known = heard.known; went = heard.went; commits = alike heard v requests }
 
 record GivesNoRun (v : Answer) : Type 0 where
   last : (n count : ℕ) → last_after n count v ≡ n
@@ -433,84 +436,84 @@ held_up_no_run numbers = record { last = λ n count. refl; entries = λ client m
 failed_no_run : (n : ℕ) → GivesNoRun (failed n)
 failed_no_run n = record { last = λ m count. refl; entries = λ client mine c. refl; versions = λ c. refl; names = λ first at e. absurd (cc) }
 
-module _ (known : List ControllerCall) (v : Answer) (none : GivesNoRun v) where
-  alike_end : (last : ℕ) (requests : List CommitRequest) → last_after_all last (alike known v requests) ≡ last
+module _ (heard : Heard) (v : Answer) (none : GivesNoRun v) where
+  alike_end : (last : ℕ) (requests : List CommitRequest) → last_after_all last (alike heard v requests) ≡ last
   alike_end last [] = refl
-  alike_end last (a ∷ requests) = ap (λ n. last_after_all n (alike known v requests)) (none.last last (count_of a.records)) ∙ alike_end last requests
+  alike_end last (a ∷ requests) = ap (λ n. last_after_all n (alike heard v requests)) (none.last last (count_of a.records)) ∙ alike_end last requests
 
-  alike_clients : (clients : ℕ) (requests : List CommitRequest) → AreLawful clients requests → AreOfClients clients (alike known v requests)
+  alike_clients : (clients : ℕ) (requests : List CommitRequest) → AreLawful clients requests → AreOfClients clients (alike heard v requests)
   alike_clients clients [] h = tt
   alike_clients clients (a ∷ requests) h = ((h.0.1, h.0.2), alike_clients clients requests h.1)
 
-  alike_entries : (before : List Entry) (requests : List CommitRequest) → entries_after before (alike known v requests) ≡ []
+  alike_entries : (before : List Entry) (requests : List CommitRequest) → entries_after before (alike heard v requests) ≡ []
   alike_entries before [] = refl
   alike_entries before (a ∷ requests) =
-      let c = commit_of_request known a v in
+      let c = commit_of_request heard a v in
       let now : entry_after before c ≡ [] = none.entries a.client (filter (λ (e : Entry). e.client == a.client) before) c in
       λ i. now i ++ alike_entries (before ++ entry_after before c) requests i
 
-  alike_versions : (requests : List CommitRequest) → made_by versions_made (alike known v requests) ≡ []
+  alike_versions : (requests : List CommitRequest) → made_by versions_made (alike heard v requests) ≡ []
   alike_versions [] = refl
-  alike_versions (a ∷ requests) = λ i. none.versions (commit_of_request known a v) i ++ alike_versions requests i
+  alike_versions (a ∷ requests) = λ i. none.versions (commit_of_request heard a v) i ++ alike_versions requests i
 
-  same_entries : (cs : List Commit) (requests : List CommitRequest) → entries_of (cs ++ alike known v requests) ≡ entries_of cs
-  same_entries cs requests = entries_more cs (alike known v requests) ∙ ((λ i. entries_of cs ++ alike_entries (entries_of cs) requests i) ∙ append-nil (entries_of cs))
+  same_entries : (cs : List Commit) (requests : List CommitRequest) → entries_of (cs ++ alike heard v requests) ≡ entries_of cs
+  same_entries cs requests = entries_more cs (alike heard v requests) ∙ ((λ i. entries_of cs ++ alike_entries (entries_of cs) requests i) ∙ append-nil (entries_of cs))
 
   -- they name no end
-  alike_unnamed : (at : ℕ) (requests : List CommitRequest) → IsNamed (alike known v requests) at → ⊥
+  alike_unnamed : (at : ℕ) (requests : List CommitRequest) → IsNamed (alike heard v requests) at → ⊥
   alike_unnamed at [] n = n.2
   alike_unnamed at (a ∷ requests) n = ⊎_elim
-      (λ (e : commit_of_request known a v ≡ n.0). none.names n.1 at (ap (λ (x : Commit). x.answer) e ∙ n.3))
-      (λ (t : In n.0 (alike known v requests)). alike_unnamed at requests (n.0, n.1, t, n.3))
+      (λ (e : commit_of_request heard a v ≡ n.0). none.names n.1 at (ap (λ (x : Commit). x.answer) e ∙ n.3))
+      (λ (t : In n.0 (alike heard v requests)). alike_unnamed at requests (n.0, n.1, t, n.3))
       n.2
 
-  named_alike : (cs : List Commit) (at : ℕ) (requests : List CommitRequest) → IsNamed (cs ++ alike known v requests) at → IsNamed cs at
-  named_alike cs at requests n = ⊎_elim (λ (a : IsNamed cs at). a) (λ (b : IsNamed (alike known v requests) at). absurd (alike_unnamed at requests b)) (named_in cs (alike known v requests) at n)
+  named_alike : (cs : List Commit) (at : ℕ) (requests : List CommitRequest) → IsNamed (cs ++ alike heard v requests) at → IsNamed cs at
+  named_alike cs at requests n = ⊎_elim (λ (a : IsNamed cs at). a) (λ (b : IsNamed (alike heard v requests) at). absurd (alike_unnamed at requests b)) (named_in cs (alike heard v requests) at n)
 
   -- the log's parts stay as they are
-  same_parts : (start : ℕ) (cs : List Commit) (groups : List LedGroup) (went : List ControllerCall) (requests : List CommitRequest) (calls : List GroupCall) → commits_in groups ≡ cs → CutParts start cs groups (entries_of cs) calls
-      → CutParts start (cs ++ alike known v requests) (groups ++ led_alike known v went requests ∷ []) (entries_of (cs ++ alike known v requests)) calls
-  same_parts start cs groups went requests calls cut k =
+  same_parts : (start : ℕ) (cs : List Commit) (groups : List LedGroup) (requests : List CommitRequest) (calls : List GroupCall) → commits_in groups ≡ cs → CutParts start cs groups (entries_of cs) calls
+      → CutParts start (cs ++ alike heard v requests) (groups ++ led_alike heard v requests ∷ []) (entries_of (cs ++ alike heard v requests)) calls
+  same_parts start cs groups requests calls cut k =
       let t = subst (λ es. CutParts start cs groups es calls) (sym (same_entries cs requests)) k in (
         t.0,
         (λ at is. t.1 at (named_alike cs at requests is)),
-        not_logged groups (led_alike known v went requests) cs cut t.0.parts calls t.2 (λ before. none_made (group_at before (led_alike known v went requests)) (made_after cs (led_alike known v went requests)) (alike_entries (entries_of cs) requests)),
+        not_logged groups (led_alike heard v requests) cs cut t.0.parts calls t.2 (λ before. none_made (group_at before (led_alike heard v requests)) (made_after cs (led_alike heard v requests)) (alike_entries (entries_of cs) requests)),
       )
 
-  consistent_alike : (start clients group_bytes : ℕ) (asked went : List ControllerCall) (cs : List Commit) (last : ℕ) (fault now : Option ℕ) (published : List (List MemberVersions)) (calls more : List GroupCall) (requests : List CommitRequest)
-      (k : AreConsistent start clients group_bytes asked cs last fault published calls) → AreLawful clients requests → AreAnswered last fault (alike known v requests) → fault_after_all fault (alike known v requests) ≡ now
-      → OneMoreGroup start group_bytes cs k.in_groups.groups (led_alike known v went requests)
-      → WroteCut start group_bytes (k.in_groups.groups ++ led_alike known v went requests ∷ []) (cs ++ alike known v requests) now last more
-      → AreConsistent start clients group_bytes went (cs ++ alike known v requests) last now published more
-  consistent_alike start clients group_bytes asked went cs last fault now published calls more requests k lawful right fault_now in_groups written =
-      let w = subst (λ gs. WroteCut start group_bytes gs (cs ++ alike known v requests) now last more) (sym in_groups.1) written in record {
-        answered = answered_append start None cs (alike known v requests) k.answered (subst (λ (z : ℕ × Option ℕ). AreAnswered z.0 z.1 (alike known v requests)) (λ i. (k.last_is i, k.fault_is i)) right);
-        of_clients = all_append (λ (c : Commit). (1 ≤ c.client) × (c.client ≤ clients)) cs (alike known v requests) k.of_clients (alike_clients clients requests lawful);
-        last_is = k.last_is ∙ sym (end_append start cs (alike known v requests) ∙ alike_end (last_after_all start cs) requests);
-        fault_is = sym (dead_append None cs (alike known v requests) ∙ (ap (λ d. fault_after_all d (alike known v requests)) (sym k.fault_is) ∙ fault_now));
+  consistent_alike : (start clients group_bytes : ℕ) (asked : List ControllerCall) (cs : List Commit) (last : ℕ) (fault now : Option ℕ) (published : List (List MemberVersions)) (calls more : List GroupCall) (requests : List CommitRequest)
+      (k : AreConsistent start clients group_bytes asked cs last fault published calls) → AreLawful clients requests → AreAnswered last fault (alike heard v requests) → fault_after_all fault (alike heard v requests) ≡ now
+      → OneMoreGroup start group_bytes cs k.in_groups.groups (led_alike heard v requests)
+      → WroteCut start group_bytes (k.in_groups.groups ++ led_alike heard v requests ∷ []) (cs ++ alike heard v requests) now last more
+      → AreConsistent start clients group_bytes heard.went (cs ++ alike heard v requests) last now published more
+  consistent_alike start clients group_bytes asked cs last fault now published calls more requests k lawful right fault_now in_groups written =
+      let w = subst (λ gs. WroteCut start group_bytes gs (cs ++ alike heard v requests) now last more) (sym in_groups.1) written in record {
+        answered = answered_append start None cs (alike heard v requests) k.answered (subst (λ (z : ℕ × Option ℕ). AreAnswered z.0 z.1 (alike heard v requests)) (λ i. (k.last_is i, k.fault_is i)) right);
+        of_clients = all_append (λ (c : Commit). (1 ≤ c.client) × (c.client ≤ clients)) cs (alike heard v requests) k.of_clients (alike_clients clients requests lawful);
+        last_is = k.last_is ∙ sym (end_append start cs (alike heard v requests) ∙ alike_end (last_after_all start cs) requests);
+        fault_is = sym (dead_append None cs (alike heard v requests) ∙ (ap (λ d. fault_after_all d (alike heard v requests)) (sym k.fault_is) ∙ fault_now));
         in_groups = in_groups.0;
-        images = images_none versions_made cs (alike known v requests) published k.images (alike_versions requests);
+        images = images_none versions_made cs (alike heard v requests) published k.images (alike_versions requests);
         written = w.0;
-        named = λ shown begins. ⊎_elim (λ (e : last_of start shown ≡ start). inl e) (λ (n : IsNamed cs (last_of start shown)). inr (named_more cs (alike known v requests) (last_of start shown) n)) (k.named shown begins);
+        named = λ shown begins. ⊎_elim (λ (e : last_of start shown ≡ start). inl e) (λ (n : IsNamed cs (last_of start shown)). inr (named_more cs (alike heard v requests) (last_of start shown) n)) (k.named shown begins);
         cuts = w.1;
       }
 
 -- the log's fault stays the same after members whose answer is this fault
-failed_dead_on : (known : List ControllerCall) (n : ℕ) (requests : List CommitRequest) → fault_after_all (Some n) (all_failed known n requests) ≡ Some n
-failed_dead_on known n [] = refl
-failed_dead_on known n (a ∷ requests) = failed_dead_on known n requests
+failed_dead_on : (heard : Heard) (n : ℕ) (requests : List CommitRequest) → fault_after_all (Some n) (all_failed heard n requests) ≡ Some n
+failed_dead_on heard n [] = refl
+failed_dead_on heard n (a ∷ requests) = failed_dead_on heard n requests
 
-failed_dead : (known : List ControllerCall) (n : ℕ) (dead : Option ℕ) (requests : List CommitRequest) → 0 < length requests → fault_after_all dead (all_failed known n requests) ≡ Some n
-failed_dead known n dead [] some = absurd (omega arith)
-failed_dead known n dead (a ∷ requests) some = failed_dead_on known n requests
+failed_dead : (heard : Heard) (n : ℕ) (dead : Option ℕ) (requests : List CommitRequest) → 0 < length requests → fault_after_all dead (all_failed heard n requests) ≡ Some n
+failed_dead heard n dead [] some = absurd (omega arith)
+failed_dead heard n dead (a ∷ requests) some = failed_dead_on heard n requests
 
-failed_answered_on : (known : List ControllerCall) (last n : ℕ) (requests : List CommitRequest) → AreAnswered last (Some n) (all_failed known n requests)
-failed_answered_on known last n [] = tt
-failed_answered_on known last n (a ∷ requests) = (refl, failed_answered_on known last n requests)
+failed_answered_on : (heard : Heard) (last n : ℕ) (requests : List CommitRequest) → AreAnswered last (Some n) (all_failed heard n requests)
+failed_answered_on heard last n [] = tt
+failed_answered_on heard last n (a ∷ requests) = (refl, failed_answered_on heard last n requests)
 
-failed_answered : (known : List ControllerCall) (last n : ℕ) (requests : List CommitRequest) → AreAnswered last None (all_failed known n requests)
-failed_answered known last n [] = tt
-failed_answered known last n (a ∷ requests) = (tt, failed_answered_on known last n requests)
+failed_answered : (heard : Heard) (last n : ℕ) (requests : List CommitRequest) → AreAnswered last None (all_failed heard n requests)
+failed_answered heard last n [] = tt
+failed_answered heard last n (a ∷ requests) = (tt, failed_answered_on heard last n requests)
 
 held_up_dead : (known : List ControllerCall) (numbers : Look) (fault : Option ℕ) (requests : List CommitRequest) → fault_after_all fault (all_held_up known numbers requests) ≡ fault
 held_up_dead known numbers fault [] = refl
@@ -555,38 +558,41 @@ wrote_as_before start group_bytes last cs more groups g fault calls w parts = (
 
 module _ (start clients group_bytes : ℕ) (cs : List Commit) (last : ℕ) (published : List (List MemberVersions)) (calls : List GroupCall) (requests : List CommitRequest) (asked known : List ControllerCall) (numbers : Look)
     (lawful : AreLawful clients requests) (whole : IsWholeGroup group_bytes requests) (is_asked : IsAskedFor requests numbers known) (comes : ComesAfter asked known) where
+  abbrev heard_with : List ControllerCall → Heard
+  heard_with went = record { known = known; went = went }
+
   -- the log was written as before, where all members get the same answer and no runs
   as_before : (v : Answer) → GivesNoRun v → (went : List ControllerCall) (fault : Option ℕ) (k : AreConsistent start clients group_bytes asked cs last fault published calls)
-      → WroteCut start group_bytes (k.in_groups.groups ++ led_alike known v went requests ∷ []) (cs ++ alike known v requests) fault last calls
+      → WroteCut start group_bytes (k.in_groups.groups ++ led_alike (heard_with went) v requests ∷ []) (cs ++ alike (heard_with went) v requests) fault last calls
   as_before v none went fault k =
       let w = k.written in
-      wrote_as_before start group_bytes last cs (alike known v requests) k.in_groups.groups (led_alike known v went requests) fault calls w
-      (same_parts known v none start cs k.in_groups.groups went requests w.worked k.in_groups.cut (w.parts, k.cuts, w.by_groups))
+      wrote_as_before start group_bytes last cs (alike (heard_with went) v requests) k.in_groups.groups (led_alike (heard_with went) v requests) fault calls w
+      (same_parts (heard_with went) v none start cs k.in_groups.groups requests w.worked k.in_groups.cut (w.parts, k.cuts, w.by_groups))
 
   -- writes are held up
   pub consistent_held_up : (fault : Option ℕ) → AreConsistent start clients group_bytes asked cs last fault published calls → HoldUp numbers → MayNotWait requests
       → AreConsistent start clients group_bytes known (cs ++ all_held_up known numbers requests) last fault published calls
   consistent_held_up fault k hold may =
       let none = held_up_no_run numbers in
-      consistent_alike known (held_up numbers) none start clients group_bytes asked known cs last fault fault published calls calls requests k lawful (held_up_answered known last numbers fault requests) (held_up_dead known numbers fault requests)
+      consistent_alike (heard_with known) (held_up numbers) none start clients group_bytes asked cs last fault fault published calls calls requests k lawful (held_up_answered known last numbers fault requests) (held_up_dead known numbers fault requests)
       (in_groups_held_up start group_bytes cs asked known numbers k.in_groups requests whole is_asked comes hold may)
       (as_before (held_up numbers) none known fault k)
 
   module _ (went : List ControllerCall) (proceeds : ProceedsWith requests numbers known went) where
     -- the log had failed before
-    pub consistent_after_fault : (n : ℕ) → AreConsistent start clients group_bytes asked cs last (Some n) published calls → AreConsistent start clients group_bytes went (cs ++ all_failed known n requests) last (Some n) published calls
+    pub consistent_after_fault : (n : ℕ) → AreConsistent start clients group_bytes asked cs last (Some n) published calls → AreConsistent start clients group_bytes went (cs ++ all_failed (heard_with went) n requests) last (Some n) published calls
     consistent_after_fault n k =
         let none = failed_no_run n in
-        consistent_alike known (failed n) none start clients group_bytes asked went cs last (Some n) (Some n) published calls calls requests k lawful (failed_answered_on known last n requests) (failed_dead_on known n requests)
+        consistent_alike (heard_with went) (failed n) none start clients group_bytes asked cs last (Some n) (Some n) published calls calls requests k lawful (failed_answered_on (heard_with went) last n requests) (failed_dead_on (heard_with went) n requests)
         (in_groups_failed start group_bytes cs asked known numbers k.in_groups requests whole is_asked comes went proceeds n)
         (as_before (failed n) none went (Some n) k)
 
     -- the log fails with this group
     pub consistent_with_fault : (n : ℕ) → AreConsistent start clients group_bytes asked cs last None published calls → (c : GroupCall) → WritesBatches last requests c → c.failed ≡ Some n
-        → AreConsistent start clients group_bytes went (cs ++ all_failed known n requests) last (Some n) published (calls ++ c ∷ [])
+        → AreConsistent start clients group_bytes went (cs ++ all_failed (heard_with went) n requests) last (Some n) published (calls ++ c ∷ [])
     consistent_with_fault n k c writes failed_is =
         let none = failed_no_run n in let w = k.written in
-        let groups = k.in_groups.groups in let g = led_alike known (failed n) went requests in
+        let groups = k.in_groups.groups in let g = led_alike (heard_with went) (failed n) requests in
         let all_good : calls ≡ w.worked = w.both ∙ ((λ i. w.worked ++ w.are_lost i) ∙ append-nil w.worked) in
         let lost : IsLostWrite group_bytes (groups ++ g ∷ []) n last c = record {
           before = groups;
@@ -600,9 +606,9 @@ module _ (start clients group_bytes : ℕ) (cs : List Commit) (last : ℕ) (publ
           writes = writes;
           failed = failed_is;
         } in
-        consistent_alike known (failed n) none start clients group_bytes asked went cs last None (Some n) published calls (calls ++ c ∷ []) requests k lawful (failed_answered known last n requests) (failed_dead known n None requests whole.some)
+        consistent_alike (heard_with went) (failed n) none start clients group_bytes asked cs last None (Some n) published calls (calls ++ c ∷ []) requests k lawful (failed_answered (heard_with went) last n requests) (failed_dead (heard_with went) n None requests whole.some)
         (in_groups_failed start group_bytes cs asked known numbers k.in_groups requests whole is_asked comes went proceeds n)
-        (let parts = same_parts known (failed n) none start cs groups went requests w.worked k.in_groups.cut (w.parts, k.cuts, w.by_groups) in (
+        (let parts = same_parts (heard_with went) (failed n) none start cs groups requests w.worked k.in_groups.cut (w.parts, k.cuts, w.by_groups) in (
           record {
             worked = w.worked;
             lost = c ∷ [];

@@ -6,22 +6,29 @@ use mathlib.Core.List.{IsPrefix}
 use Rattle.model_base.specs.Controller.{ControllerCall, Look, HoldUp}
 use Rattle.table_rule.specs.Histories.{In}
 use Rattle.engine_controller.specs.Delays.{delays_of}
-use Rattle.engine_rule.specs.Commits.{Answer, Commit, NamesEnd, accepted, held_up, failed, last_after_all, no_room}
+use Rattle.engine_rule.specs.Commits.{Answer, Heard, Commit, NamesEnd, accepted, held_up, failed, last_after_all, no_room}
 use Rattle.engine_rule.specs.Plans.{CommitRequest, IsWholeGroup, IsAskedFor, ProceedsWith}
 
 -- the place of the delay that was asked for a commit's group: it is the last call that the leader had seen then
 abbrev pub place_of : Commit → ℕ
-place_of c = length c.controller_calls - 1
+place_of c = length c.heard.known - 1
+
+-- how many calls of the controller its leader had seen when it decided whether the group goes on
+abbrev pub decided_of : Commit → ℕ
+decided_of c = length c.heard.went
 
 abbrev pub request_of : Commit → CommitRequest
 request_of c = record { client = c.client; records = c.records; options = c.options }
 
 -- a group as its leader answered it; `known` is the controller's history up to the delay that the leader asked for the
--- group, and `went` is the history as the leader had seen it when it answered
+-- group, and `went` is the history as the leader had seen it when it decided whether the group goes on
 pub record LedGroup : Type 0 where
   pub known : List ControllerCall
   pub went : List ControllerCall
   pub commits : List Commit
+
+abbrev pub heard_by : LedGroup → Heard
+heard_by g = record { known = g.known; went = g.went }
 
 abbrev pub commits_in : List LedGroup → List Commit
 commits_in groups = flat_map (λ (g : LedGroup). g.commits) groups
@@ -55,13 +62,13 @@ AreTogether g numbers = AllByRecursion (λ (c : Commit). is_held_up c.answer ≡
     ⊎ (AllByRecursion (λ (c : Commit). is_held_up c.answer ≡ false) g.commits
     × ProceedsWith (map request_of g.commits) numbers g.known g.went)
 
--- it is a whole group, its leader asked for its delay, its commits all have the history `known`, and all of them are
--- held up or all go on, and all are answered the log's fault or none is
+-- it is a whole group, its leader asked for its delay, its commits all have what the leader had seen, and all of them
+-- are held up or all go on, and all are answered the log's fault or none is
 pub record IsLedGroup (group_bytes : ℕ) (g : LedGroup) : Type 0 where
   pub numbers : Look
   pub asked : IsAskedFor (map request_of g.commits) numbers g.known
   pub is_group : IsWholeGroup group_bytes (map request_of g.commits)
-  pub same : AllByRecursion (λ (c : Commit). c.controller_calls ≡ g.known) g.commits
+  pub same : AllByRecursion (λ (c : Commit). c.heard ≡ heard_by g) g.commits
   pub are_held_up : AllByRecursion (IsHeldUp numbers) g.commits
   pub together : AreTogether g numbers
   pub fail : FailTogether g.commits

@@ -16,14 +16,19 @@ pub data Answer : Type 0 where
   -- after this sequence, the last one given, there was no room for the batch's run
   no_room : ℕ → Answer
 
--- a client's commit with its answer; `controller_calls` is the controller's history as the leader of its group had seen
--- it, up to the delay that the leader had asked for the group
+-- What the leader of a group had seen of the controller's history: up to the delay that it asked for the group
+-- (`known`), and when it was decided whether the group goes on (`went`).
+pub record Heard : Type 0 where
+  pub known : List ControllerCall
+  pub went : List ControllerCall
+
+-- a client's commit with its answer, and what the leader of its group had seen
 pub record Commit : Type 0 where
   pub client : ℕ
   pub records : List Record
   pub options : WriteOptions
   pub answer : Answer
-  pub controller_calls : List ControllerCall
+  pub heard : Heard
 
 -- the last sequence given, and the log's fault, after the answer to a batch with this count of records that take a
 -- sequence

@@ -17,7 +17,7 @@ use Rattle.engine_rule.specs.Entries.{entries_of, versions_made, HasPart}
 use Rattle.engine_rule.specs.Reading.{AnsweredRead, AreRight, IsCutAt, answers_in, faults_in, reads_in}
 use Rattle.engine_rule.specs.LogCalls.{WroteCommits}
 use Rattle.engine_rule.specs.LogSights.{LogSight}
-use Rattle.engine_rule.specs.Plans.{LeadersGroup, all_failed, commits_of_plan, last_with_all}
+use Rattle.engine_rule.specs.Plans.{LeadersGroup, heard_of, all_failed, commits_of_plan, last_with_all}
 
 -- some accepted answer names this sequence as the last one of its group
 abbrev pub IsNamed : List Commit → ℕ → Type 0
@@ -75,7 +75,7 @@ answered s seen commits = record s { asked = seen; commits = s.commits ++ commit
 -- these calls
 abbrev pub with_runs : Standing → LeadersGroup → List (List MemberVersions) → List GroupCall → Standing
 with_runs s g published calls = let end = last_with_all s.last g.requests in
-    record (answered s g.went (commits_of_plan g.known s.last end g.requests)) {
+    record (answered s g.went (commits_of_plan (heard_of g) s.last end g.requests)) {
       last = end;
       fault = None;
       published = published;
@@ -84,7 +84,7 @@ with_runs s g published calls = let end = last_with_all s.last g.requests in
 
 -- such a state, where all members get this fault of the log as their answer, and the log has these calls
 abbrev pub with_fault : Standing → LeadersGroup → ℕ → List GroupCall → Standing
-with_fault s g count calls = record (answered s g.went (all_failed g.known count g.requests)) {
+with_fault s g count calls = record (answered s g.went (all_failed (heard_of g) count g.requests)) {
   fault = Some count;
   calls = calls;
 }

@@ -23,7 +23,7 @@ use Rattle.table_rule.specs.Batches.{new_versions, number_from}
 use Rattle.model_accounts.specs.Accounts.{Account, IsRefused}
 use Rattle.engine_controller.specs.Passes.{GoesOn}
 use Rattle.engine_rule.specs.Commits.{Answer, accepted, held_up, failed, no_room, Commit, AreAnswered, commits_of}
-use Rattle.engine_rule.specs.Asked.{place_of, HasAsked}
+use Rattle.engine_rule.specs.Asked.{place_of, decided_of, HasAsked}
 use Rattle.engine_rule.specs.LogSights.{LogSight, sights_of, logged_by, batches_of}
 use Rattle.engine_rule.specs.Reading.{ReadAnswer, AnsweredRead, IsAtEnd, answers_of, faults_in, reads_in}
 
@@ -83,8 +83,13 @@ status_of (failed count) = faulted count
 status_of (no_room at) = full at
 
 abbrev pub attempt_of : Commit → Attempt
-attempt_of c =
-    record { records = c.records; options = c.options; status = status_of c.answer; place = place_of c }
+attempt_of c = record {
+  records = c.records;
+  options = c.options;
+  status = status_of c.answer;
+  place = place_of c;
+  decided = decided_of c;
+}
 
 -- a client's own entries, which its own commits make, where `mine` are its entries before those
 abbrev pub mine_after : ℕ → List Entry → List Commit → List Entry
@@ -188,9 +193,10 @@ IsFree k = holds_stop (tokens_of k.client k.known) ≡ false
 abbrev pub IsNewest : ClientCall → List Commit → Commit → Type 0
 IsNewest k commits c = AreAnswered k.start None commits × (commits_of k.client commits ≡ k.own ++ c ∷ [])
 
--- The delay of the commit's group is within the call. The answer shows this of the log, no less than those before it.
+-- The delay of the commit's group is within the call, and so is all by which its leader decided. The answer shows this
+-- of the log, no less than those before it.
 pub record IsWithin (k : ClientCall) (c : Commit) (s : LogSight) : Type 0 where
-  pub delay : IsWithinCall (length k.known) (length k.now) (place_of c)
+  pub delay : IsWithinCall (length k.known) (length k.now) (place_of c) (decided_of c)
   pub logged : logged_by k.sights ≤ s.made
 
 -- the commit was refused for this

@@ -8,7 +8,7 @@ use Rattle.model_runs.specs.Groups.{LogsGroups}
 use Rattle.model_runs.specs.Written.{WroteEntries}
 use Rattle.model_accounts.specs.Led.{Led, Taken, groups_of}
 use Rattle.engine_rule.specs.Commits.{Commit, fault_after_all}
-use Rattle.engine_rule.specs.Asked.{LedGroup, commits_in}
+use Rattle.engine_rule.specs.Asked.{LedGroup, commits_in, heard_by}
 use Rattle.engine_rule.specs.Entries.{attempt_of, entries_after, entries_of}
 use Rattle.engine_rule.specs.Plans.{CommitRequest, all_failed, batches_from, AreLogged, AreUnlogged, IsWholeGroup}
 
@@ -42,7 +42,7 @@ pub record IsLostWrite (group_bytes : ℕ) (groups : List LedGroup) (count last 
   pub among : groups ≡ before ++ group ∷ after
   pub worked : fault_after_all None (commits_in before) ≡ None
   pub requests : List CommitRequest
-  pub answers : group.commits ≡ all_failed group.known count requests
+  pub answers : group.commits ≡ all_failed (heard_by group) count requests
   pub is_group : IsWholeGroup group_bytes requests
   pub writes : WritesBatches last requests c
   pub failed : c.failed ≡ Some count
@@ -58,7 +58,7 @@ abbrev pub taken_of : Commit → Taken
 taken_of c = record { client = c.client; attempt = attempt_of c }
 
 abbrev pub led_of : LedGroup → Led
-led_of g = record { place = length g.known - 1; commits = map taken_of g.commits }
+led_of g = record { place = length g.known - 1; decided = length g.went; commits = map taken_of g.commits }
 
 abbrev pub outcome_groups : List LedGroup → List Group
 outcome_groups groups = groups_of (map led_of groups)

@@ -13,7 +13,7 @@ use Rattle.table_rule.specs.declared.content.Version.{Version}
 use Rattle.table_rule.specs.Batches.{new_versions, number_from}
 use Rattle.model_base.specs.Controller.{ControllerCall, Look, HoldUp, delay, look}
 use Rattle.model_base.specs.Replies.{IsLater}
-use Rattle.engine_rule.specs.Commits.{Answer, accepted, held_up, failed, no_room, Commit}
+use Rattle.engine_rule.specs.Commits.{Answer, accepted, held_up, failed, no_room, Heard, Commit}
 
 -- what a client wants to commit
 pub record CommitRequest : Type 0 where
@@ -21,15 +21,14 @@ pub record CommitRequest : Type 0 where
   pub records : List Record
   pub options : WriteOptions
 
--- the commit that a request makes with this answer, where the group's delay is the last call of this history of the
--- controller
-abbrev pub commit_of_request : List ControllerCall → CommitRequest → Answer → Commit
-commit_of_request known q answer = record {
+-- the commit that a request makes with this answer, where the group's leader had seen this
+abbrev pub commit_of_request : Heard → CommitRequest → Answer → Commit
+commit_of_request heard q answer = record {
   client = q.client;
   records = q.records;
   options = q.options;
   answer = answer;
-  controller_calls = known;
+  heard = heard;
 }
 
 -- Of a batch, where `last` was given last: what is given last after it (`last`, if its run doesn't fit); its answer, in
@@ -53,10 +52,10 @@ abbrev pub last_with_all : ℕ → List CommitRequest → ℕ
 last_with_all last [] = last
 last_with_all last (q ∷ requests) = last_with_all (last_with last q.records) requests
 
-abbrev pub commits_of_plan : List ControllerCall → ℕ → ℕ → List CommitRequest → List Commit
-commits_of_plan known last group_last [] = []
-commits_of_plan known last group_last (q ∷ requests) = commit_of_request known q (answer_with last group_last q.records)
-    ∷ commits_of_plan known (last_with last q.records) group_last requests
+abbrev pub commits_of_plan : Heard → ℕ → ℕ → List CommitRequest → List Commit
+commits_of_plan heard last group_last [] = []
+commits_of_plan heard last group_last (q ∷ requests) = commit_of_request heard q (answer_with last group_last q.records)
+    ∷ commits_of_plan heard (last_with last q.records) group_last requests
 
 abbrev pub batches_from : ℕ → List CommitRequest → List (List Record)
 batches_from last [] = []
@@ -67,12 +66,17 @@ versions_from last [] = []
 versions_from last (q ∷ requests) = versions_at last q.records ++ versions_from (last_with last q.records) requests
 
 -- all requests get the log's fault as their answer
-abbrev pub all_failed : List ControllerCall → ℕ → List CommitRequest → List Commit
-all_failed known count requests = map (λ (q : CommitRequest). commit_of_request known q (failed count)) requests
+abbrev pub all_failed : Heard → ℕ → List CommitRequest → List Commit
+all_failed heard count requests = map (λ (q : CommitRequest). commit_of_request heard q (failed count)) requests
 
--- all requests get the answer that writes are held up
+-- where nothing more was seen than the delay, which is the last of these calls
+abbrev pub up_to_delay : List ControllerCall → Heard
+up_to_delay known = record { known = known; went = known }
+
+-- all requests get the answer that writes are held up, as the delay has it
 abbrev pub all_held_up : List ControllerCall → Look → List CommitRequest → List Commit
-all_held_up known numbers requests = map (λ (q : CommitRequest). commit_of_request known q (held_up numbers)) requests
+all_held_up known numbers requests =
+    map (λ (q : CommitRequest). commit_of_request (up_to_delay known) q (held_up numbers)) requests
 
 -- each request has at least one record that takes a sequence, and a client's number
 abbrev pub AreLawful : ℕ → List CommitRequest → Type 0
@@ -158,6 +162,9 @@ pub record LeadersGroup : Type 0 where
   pub known : List ControllerCall
   pub numbers : Look
   pub went : List ControllerCall
+
+abbrev pub heard_of : LeadersGroup → Heard
+heard_of g = record { known = g.known; went = g.went }
 
 -- It is a whole group of lawful requests, and its leader asked for its delay after all that the leaders before it had
 -- seen (`asked`).

@@ -5,7 +5,7 @@ use Rattle.model_base.specs.LogContents.{GroupCall}
 use Rattle.table_rule.specs.declared.content.MemberVersions.{MemberVersions}
 use Rattle.table_rule.specs.Histories.{last_of, made_by, versions_in}
 use Rattle.table_rule.proofs.Images.{images_more, images_none, images_versions}
-use Rattle.engine_rule.specs.Commits.{Answer, AreAnswered, Commit, accepted, failed, held_up, last_after_all, no_room}
+use Rattle.engine_rule.specs.Commits.{Answer, AreAnswered, Commit, Heard, accepted, failed, held_up, last_after_all, no_room}
 use Rattle.engine_rule.specs.Consistent.{AreConsistent, EndsAreNamed, Publishes}
 use Rattle.engine_rule.specs.Entries.{versions_made, versions_with}
 use Rattle.engine_rule.specs.Plans.{CommitRequest, all_failed, all_held_up, commit_of_request, commits_of_plan, versions_from}
@@ -57,20 +57,20 @@ pub served_end : (start : ℕ) (fault : Option ℕ) (cs : List Commit) (publishe
 served_end start fault cs published commit_of_request ok = ap (λ vs. start + length vs) (sym (images_versions versions_made cs published (served_all cs published ok))) ∙ versions_length start fault cs commit_of_request
 
 -- a group that has runs was published
-pub served_more : (known : List ControllerCall) (last end : ℕ) (requests : List CommitRequest) (served : List Commit) (published now : List (List MemberVersions)) → AreServed served published → Publishes (versions_from last requests) published now
-    → AreServed (served ++ accepted_of (commits_of_plan known last end requests)) now
-served_more known last end requests served published now ok publishes =
-    let new = accepted_of (commits_of_plan known last end requests) in
-    let made_new : made_by versions_made new ≡ versions_from last requests = made_accepted (commits_of_plan known last end requests) ∙ planned_versions known last end requests in
+pub served_more : (heard : Heard) (last end : ℕ) (requests : List CommitRequest) (served : List Commit) (published now : List (List MemberVersions)) → AreServed served published → Publishes (versions_from last requests) published now
+    → AreServed (served ++ accepted_of (commits_of_plan heard last end requests)) now
+served_more heard last end requests served published now ok publishes =
+    let new = accepted_of (commits_of_plan heard last end requests) in
+    let made_new : made_by versions_made new ≡ versions_from last requests = made_accepted (commits_of_plan heard last end requests) ∙ planned_versions heard last end requests in
     ⊎_elim
     (λ (t : (versions_from last requests ≡ []) × (now ≡ published)). subst (AreServed (served ++ new)) (sym t.1) (images_none versions_made served new published ok (made_new ∙ t.0)))
     (λ (t : (g : List MemberVersions) × (now ≡ published ++ g ∷ []) × (versions_in g ≡ versions_from last requests)). subst (AreServed (served ++ new)) (sym t.1) (images_more versions_made served new published t.0 ok (made_new ∙ sym t.2)))
     publishes
 
 -- no refused commit has a run
-pub none_failed : (known : List ControllerCall) (count : ℕ) (requests : List CommitRequest) → accepted_of (all_failed known count requests) ≡ []
-none_failed known count [] = refl
-none_failed known count (q ∷ requests) = none_failed known count requests
+pub none_failed : (heard : Heard) (count : ℕ) (requests : List CommitRequest) → accepted_of (all_failed heard count requests) ≡ []
+none_failed heard count [] = refl
+none_failed heard count (q ∷ requests) = none_failed heard count requests
 
 pub none_held_up : (known : List ControllerCall) (numbers : Look) (requests : List CommitRequest) → accepted_of (all_held_up known numbers requests) ≡ []
 none_held_up known numbers [] = refl

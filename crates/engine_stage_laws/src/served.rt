@@ -6,7 +6,7 @@ ghost use Rattle.model_base.specs.Controller.{ControllerCall, Look};
 ghost use Rattle.model_base.specs.LogContents.{GroupCall};
 ghost use Rattle.table_rule.specs.declared.content.MemberVersions.{MemberVersions};
 ghost use Rattle.table_rule.specs.Histories.{Members, last_of, versions_in};
-ghost use Rattle.engine_rule.specs.Commits.{Commit, AreAnswered, last_after_all};
+ghost use Rattle.engine_rule.specs.Commits.{Commit, Heard, AreAnswered, last_after_all};
 ghost use Rattle.engine_rule.specs.Plans.{CommitRequest, commits_of_plan, versions_from, all_failed, all_held_up, AreLawful, HaveOwnClients};
 ghost use Rattle.engine_rule.specs.Consistent.{AreConsistent, EndsAreNamed, Publishes};
 ghost use Rattle.engine_stage_laws.specs.Served.{accepted_of, ArePublishedAtOnce, AreServed, parts_from};
@@ -37,12 +37,12 @@ pub fn groups_are_served()
         → AreAnswered start fault commits → AreServed (accepted_of commits) published
         → last_of start published ≡ last_after_all start commits }
     // What is published was made by exactly the commits that were given runs before, group by group in their order.
-    ensures written { (known : List ControllerCall) (last end : ℕ) (requests : List CommitRequest)
+    ensures written { (heard : Heard) (last end : ℕ) (requests : List CommitRequest)
         (commits : List Commit) (old new : List (List MemberVersions)) → AreServed (accepted_of commits) old
         → Publishes (versions_from last requests) old new
-        → AreServed (accepted_of (commits ++ commits_of_plan known last end requests)) new }
-    ensures failed { (known : List ControllerCall) (count : ℕ) (requests : List CommitRequest) (commits : List Commit)
-        → accepted_of (commits ++ all_failed known count requests) ≡ accepted_of commits }
+        → AreServed (accepted_of (commits ++ commits_of_plan heard last end requests)) new }
+    ensures failed { (heard : Heard) (count : ℕ) (requests : List CommitRequest) (commits : List Commit)
+        → accepted_of (commits ++ all_failed heard count requests) ≡ accepted_of commits }
     ensures held_up { (known : List ControllerCall) (numbers : Look) (requests : List CommitRequest)
         (commits : List Commit)
         → accepted_of (commits ++ all_held_up known numbers requests) ≡ accepted_of commits }

@@ -5,8 +5,9 @@ use Rattle.line_rule.specs.declared.view.Squad.{Squad}
 use Rattle.line_rule.specs.Events.{IsOfGroup}
 
 module _ {Request Reply : Type 0} (given : List (Handling Request Reply) → List (Handling Request Reply)) where
-  -- The group was handled at one time: `seen` is what was handled before it, and `made` are the handlings of its own
-  -- leader and members, in the order of their links. It begins and ends with those of them that were given runs.
+  -- The group was handled at one time. `seen` is what was handled before it, and `made` are the handlings of its own
+  -- leader and members, in the order of their links. What was given runs before the group is of `seen`, and what was
+  -- given runs with it is of `seen` and `made`.
   pub record IsMade (g : Squad Request Reply) : Type 0 where
     pub seen : List (Handling Request Reply)
     pub made : List (Handling Request Reply)

@@ -108,6 +108,7 @@ module _ (settings : Settings) (v : Account) (pending : List Record) where
           alive = wrote.alive;
           free = wrote.free;
           place = wrote.place;
+          decided = wrote.decided;
           asked = wrote.within_call;
           logged = λ to_log. logged_by v w pending how.sync first (wrote.logged to_log) trace saw;
           after = stands_by w [] (max shown last) _ _ _ wrote.mine wrote.asked wrote.attempts;

@@ -156,28 +156,31 @@ module _ (attempts : List (List Attempt)) (all : List Taken) (of_client : (i : �
     commits_after (before ++ t ∷ []) ts after (append_assoc before (t ∷ []) (ts ++ after) ∙ split) h.1,
   )
 
-  -- the members of a group whose delay is at this place
-  fates_of : (place : ℕ) (ms : List Member) (ts : List Taken) → AllZip (λ (m : Member) (t : Taken). (c : IsCommit attempts m) × IsTaken m c t) ms ts → AllByRecursion (λ (t : Taken). t.attempt.place ≡ place) ts
-      → AllZip (λ (m : Member) status. (c : IsCommit attempts m) × (c.attempt.status ≡ status) × (c.attempt.place ≡ place)) ms (map (λ (t : Taken). t.attempt.status) ts)
-  fates_of place [] [] zip same = tt
-  fates_of place [] (t ∷ ts) zip same = absurd zip
-  fates_of place (m ∷ ms) [] zip same = absurd zip
-  fates_of place (m ∷ ms) (t ∷ ts) zip same =
-      ((zip.0.0, ap (λ (h : Attempt). h.status) zip.0.1, ap (λ (h : Attempt). h.place) zip.0.1 ∙ same.0), fates_of place ms ts zip.1 same.1)
+  -- the members of a group whose delay is at this place, and on which was decided then
+  fates_of : (place decided : ℕ) (ms : List Member) (ts : List Taken) → AllZip (λ (m : Member) (t : Taken). (c : IsCommit attempts m) × IsTaken m c t) ms ts → AllByRecursion (λ (t : Taken). t.attempt.place ≡ place) ts → AllByRecursion (λ (t : Taken). t.attempt.decided ≡ decided) ts
+      → AllZip (λ (m : Member) status. (c : IsCommit attempts m) × (c.attempt.status ≡ status) × (c.attempt.place ≡ place) × (c.attempt.decided ≡ decided)) ms (map (λ (t : Taken). t.attempt.status) ts)
+  fates_of place decided [] [] zip same at_once = tt
+  fates_of place decided [] (t ∷ ts) zip same at_once = absurd zip
+  fates_of place decided (m ∷ ms) [] zip same at_once = absurd zip
+  fates_of place decided (m ∷ ms) (t ∷ ts) zip same at_once = (
+    (zip.0.0, ap (λ (h : Attempt). h.status) zip.0.1, ap (λ (h : Attempt). h.place) zip.0.1 ∙ same.0, ap (λ (h : Attempt). h.decided) zip.0.1 ∙ at_once.0),
+    fates_of place decided ms ts zip.1 same.1 at_once.1,
+  )
 
   -- each group goes on or is refused as a whole, by the statuses of its commits
   together_after : (controller_calls : List ControllerCall) (groups : List Group) (before : List Taken) (led : List Led) → before ++ all_taken led ≡ all → AreOfClients (all_taken led)
-      → AllByRecursion (λ (g : Led). AllByRecursion (λ (t : Taken). t.attempt.place ≡ g.place) g.commits) led
-      → AllByRecursion (λ (g : Led). HaveOneFate controller_calls (map (λ (h : Group). h.place) groups) g.place (items_in g.commits) (map (λ (t : Taken). t.attempt.status) g.commits)) led
+      → AllByRecursion (λ (g : Led). AllByRecursion (λ (t : Taken). t.attempt.place ≡ g.place) g.commits) led → AllByRecursion (λ (g : Led). AllByRecursion (λ (t : Taken). t.attempt.decided ≡ g.decided) g.commits) led
+      → AllByRecursion (λ (g : Led). HaveOneFate controller_calls (map (λ (h : Group). h.place) groups) g.place g.decided (items_in g.commits) (map (λ (t : Taken). t.attempt.status) g.commits)) led
       → AllByRecursion (HasOneFate controller_calls groups attempts) (groups_after before led)
-  together_after controller_calls groups before [] split clients places h = tt
-  together_after controller_calls groups before (g ∷ led) split clients places h = (
+  together_after controller_calls groups before [] split clients places at_once h = tt
+  together_after controller_calls groups before (g ∷ led) split clients places at_once h = (
     record {
+      decided = g.decided;
       statuses = map (λ (t : Taken). t.attempt.status) g.commits;
-      are = fates_of g.place (members_after before g.commits) g.commits (commits_after before g.commits (all_taken led) split (all_left _ g.commits (all_taken led) clients)) places.0;
+      are = fates_of g.place g.decided (members_after before g.commits) g.commits (commits_after before g.commits (all_taken led) split (all_left _ g.commits (all_taken led) clients)) places.0 at_once.0;
       together = rw (items_after before g.commits) h.0;
     },
-    together_after controller_calls groups (before ++ g.commits) led (append_assoc before g.commits (all_taken led) ∙ split) (all_right _ g.commits (all_taken led) clients) places.1 h.1,
+    together_after controller_calls groups (before ++ g.commits) led (append_assoc before g.commits (all_taken led) ∙ split) (all_right _ g.commits (all_taken led) clients) places.1 at_once.1 h.1,
   )
 
 -- A client's commits are in the groups, each in that of its own delay
@@ -328,7 +331,7 @@ module _ (group_bytes : ℕ) (controller_calls : List ControllerCall) (led : Lis
     commits = rw (members_of_groups [] led) (left_of_zip (IsCommit attempts) (IsTaken attempts all a.of_client) _ _ (commits_after attempts all a.of_client [] all [] (append-nil all) a.clients));
     apart = all_apart (members_of (groups_of led)) (led_in_turn led);
     none_else = holds;
-    together = together_after attempts all a.of_client controller_calls (groups_of led) [] led refl a.clients (all_places led a.each) (rw (same_places [] led) a.together);
+    together = together_after attempts all a.of_client controller_calls (groups_of led) [] led refl a.clients (all_places led a.each) (all_at_once led a.each) (rw (same_places [] led) a.together);
   }
     where
       all : List Taken
@@ -337,3 +340,7 @@ module _ (group_bytes : ℕ) (controller_calls : List ControllerCall) (led : Lis
       all_places : (led : List Led) → AllByRecursion (IsLed group_bytes controller_calls) led → AllByRecursion (λ (g : Led). AllByRecursion (λ (t : Taken). t.attempt.place ≡ g.place) g.commits) led
       all_places [] each = tt
       all_places (g ∷ led) each = (each.0.places, all_places led each.1)
+
+      all_at_once : (led : List Led) → AllByRecursion (IsLed group_bytes controller_calls) led → AllByRecursion (λ (g : Led). AllByRecursion (λ (t : Taken). t.attempt.decided ≡ g.decided) g.commits) led
+      all_at_once [] each = tt
+      all_at_once (g ∷ led) each = (each.0.at_once, all_at_once led each.1)

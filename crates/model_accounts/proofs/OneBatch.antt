@@ -55,7 +55,8 @@ wrote = record {
   read_faults = refl;
   seen = record { start = refl; opening = refl; published = (after.seen.published, refl); controller_calls = (after.seen.controller_calls, refl); log_reads = ([], refl); logged = lit≤ tt; batches = (after.seen.batches, refl) };
   place = 0;
-  within_call = (lit≤ tt, lit≤ tt);
+  decided = 1;
+  within_call = (lit≤ tt, lit≤ tt, lit≤ tt);
   logged = λ to_log. refl;
   tokens = refl;
   some = lit≤ tt;
@@ -106,8 +107,9 @@ are_groups = record {
   none_else = none_else;
   together = (
     record {
+      decided = 1;
       statuses = succeeded ∷ [];
-      are = ((one_commit, refl, refl), tt);
+      are = ((one_commit, refl, refl, refl), tt);
       together = inr ((refl, tt), record { by = 1; now = 0; bytes = size_of_batch two_records; numbers = record { stops = 0; delays = 0; wait = 0 }; there = refl; each = (inl refl, tt) });
     },
     tt,

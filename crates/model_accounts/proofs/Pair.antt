@@ -37,8 +37,9 @@ are_groups = record {
   none_else = none_else;
   together = (
     record {
+      decided = 1;
       statuses = succeeded ∷ succeeded ∷ [];
-      are = ((first_commit, refl, refl), ((second_commit, refl, refl), tt));
+      are = ((first_commit, refl, refl, refl), ((second_commit, refl, refl, refl), tt));
       together = inr (
         (refl, (refl, tt)),
         record {

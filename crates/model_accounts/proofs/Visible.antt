@@ -20,7 +20,7 @@ use Rattle.model_accounts.specs.Answered.{Tells, IsAmong}
 use Rattle.model_base.specs.Calls.{Command, add, clear, commit, get, many, scan, updates, stop, unstop, slow, unslow, Reply, quiet, accepted, refused, found, found_each, rows, updates_found, read_failed, done, held, not_held, Call}
 
 abbrev attempt : Progress → WriteOptions → Fate → Attempt
-attempt p how fate = record { records = p.pending; options = how; status = fate.status; place = fate.place }
+attempt p how fate = record { records = p.pending; options = how; status = fate.status; place = fate.place; decided = fate.decided }
 
 -- a step adds no attempt, or adds the step's own commit, with a reply that fits its status
 abbrev Hands : Progress → Command → Reply → Progress → Type 0
@@ -51,7 +51,7 @@ commit_moves : (trace : Trace) (client : ℕ) (p : Progress) (how : WriteOptions
     → MatchOption o (IsAttempted trace client p how r q) (λ why. (r ≡ refused why) × Stays p q) → Moves p (commit how) r q
 commit_moves trace client p how (accepted a b records) q None s = record {
   pending = ap (λ (x : Progress). x.pending) s.after;
-  hands = inr (how, record { status = succeeded; place = s.place }, refl, ap (λ (x : Progress). x.attempts) s.after, (a, b, ap (accepted a b) s.batch));
+  hands = inr (how, record { status = succeeded; place = s.place; decided = s.decided }, refl, ap (λ (x : Progress). x.attempts) s.after, (a, b, ap (accepted a b) s.batch));
 }
 commit_moves trace client p how (refused why) q None s = by_status s.0 s.1 s.2
   where

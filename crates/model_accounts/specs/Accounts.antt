@@ -66,8 +66,8 @@ pub record Keeps (v w : Account) : Type 0 where
   pub seen : Sees v.seen w.seen
   pub tokens : KnowsOwnTokens w
 
--- One more of the client's batches went into the log. Which call of the log writer wrote it shows at the closing, as with
--- all that a client has seen.
+-- One more of the client's batches went into the log. Which call of the log writer wrote it shows at the closing, as
+-- with all that a client has seen.
 abbrev pub IsLogged : Account → Account → List Record → Bool → ℕ → Type 0
 IsLogged v w records sync first = w.seen.batches ≡ v.seen.batches
     ++ record {
@@ -80,9 +80,9 @@ IsLogged v w records sync first = w.seen.batches ≡ v.seen.batches
 
 -- A batch was accepted: one entry more. It had passed the early checks, and the client held no stop token and didn't
 -- know of a fault of the log. Its run is above all that the client had seen published, and above each sequence after
--- which there was no room for an earlier batch of this client. The delay of its group is within the call. A batch that
--- goes into the log was written by a call of the log writer that has returned. The client has now seen the batch's group
--- published, up to the group's end.
+-- which there was no room for an earlier batch of this client. The delay of its group is within the call, and so is all
+-- by which its leader decided that the group goes on. A batch that goes into the log was written by a call of the log
+-- writer that has returned. The client has now seen the batch's group published, up to the group's end.
 pub record Wrote (settings : Settings) (v : Account) (records : List Record) (how : WriteOptions) (first group_last : ℕ)
     (w : Account) : Type 0 where
   pub number : w.number ≡ v.number
@@ -90,8 +90,9 @@ pub record Wrote (settings : Settings) (v : Account) (records : List Record) (ho
   pub ends : w.ends ≡ v.ends ++ group_last ∷ []
   pub asked : w.asked ≡ v.asked
   pub place : ℕ
-  pub attempts : w.attempts ≡ with_attempt v.attempts records how (fate_at place succeeded)
-  pub within_call : IsWithinCall (length v.seen.controller_calls) (length w.seen.controller_calls) place
+  pub decided : ℕ
+  pub attempts : w.attempts ≡ with_attempt v.attempts records how (fate_at place decided succeeded)
+  pub within_call : IsWithinCall (length v.seen.controller_calls) (length w.seen.controller_calls) place decided
   pub logged : how.no_log ≡ false → IsLogged v w records how.sync first
   pub read_faults : w.read_faults ≡ v.read_faults
   pub seen : Sees v.seen w.seen
@@ -106,8 +107,8 @@ pub record Wrote (settings : Settings) (v : Account) (records : List Record) (ho
   pub reached : group_last ≤ last_seen w.seen
 
 -- A commit that passed the early checks was refused, and its batch has no run. Where the client held a stop token it
--- was in no group. Any other commit was in no group only if it met a stall. If it was in one, the delay of that group is
--- within the call.
+-- was in no group. Any other commit was in no group only if it met a stall. If it was in a group, the delay of that
+-- group is within the call, and so is all by which its leader decided.
 pub record IsRefused (v : Account) (records : List Record) (how : WriteOptions) (why : Refusal)
     (w : Account) : Type 0 where
   pub fate : Option Fate
@@ -116,7 +117,7 @@ pub record IsRefused (v : Account) (records : List Record) (how : WriteOptions) 
       how why fate
   pub kept_out : IsKeptOut v.asked fate
   pub within_call : IfSome fate (λ fate. IsWithinCall (length v.seen.controller_calls)
-      (length w.seen.controller_calls) fate.place)
+      (length w.seen.controller_calls) fate.place fate.decided)
   pub number : w.number ≡ v.number
   pub mine : w.mine ≡ v.mine
   pub ends : w.ends ≡ v.ends
@@ -140,8 +141,8 @@ pub record Reads (at : ℕ) (answers : Pairs → Type 0) (w : Account) : Type 0 
   pub at_is : at ≡ last_seen w.seen
   pub answer : answers (map_seen w.seen)
 
--- A read of the log from the sequence s on: it is at the last sequence that the client has now seen published, and these
--- are its records. Whether they are right shows at the closing, as with all that a client has seen.
+-- A read of the log from the sequence s on: it is at the last sequence that the client has now seen published, and
+-- these are its records. Whether they are right shows at the closing, as with all that a client has seen.
 pub record ReadsLog (v : Account) (s at : ℕ) (records : List (List ℕ)) (w : Account) : Type 0 where
   pub number : w.number ≡ v.number
   pub mine : w.mine ≡ v.mine

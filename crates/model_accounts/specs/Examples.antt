@@ -64,7 +64,7 @@ one_batch = record {
 
 -- the commit, and its group
 abbrev pub one_attempt : Attempt
-one_attempt = record { records = two_records; options = plain; status = succeeded; place = 0 }
+one_attempt = record { records = two_records; options = plain; status = succeeded; place = 0; decided = 1 }
 
 abbrev pub one_group : Group
 one_group = record { place = 0; members = record { client = 1; call = 0; item = item_of one_attempt } ∷ [] }
@@ -131,7 +131,8 @@ entry_with client first records =
     record { client = client; ordinal = 1; first = first; count = 1; flag = Log; records = records }
 
 abbrev pub attempt_with : List Record → Attempt
-attempt_with records = record { records = records; options = plain; status = succeeded; place = 0 }
+attempt_with records =
+    record { records = records; options = plain; status = succeeded; place = 0; decided = 1 }
 
 abbrev pub pair_delay : ControllerCall
 pair_delay = record {
@@ -199,7 +200,9 @@ pair_accounts group_last =
 -- A client whose second commit of three was refused, and groups of one commit each
 
 abbrev pub three_attempts : List Attempt
-three_attempts = one_attempt ∷ record one_attempt { status = slowed; place = 1 } ∷ record one_attempt { place = 2 } ∷ []
+three_attempts =
+    one_attempt ∷ record one_attempt { status = slowed; place = 1; decided = 2 }
+    ∷ record one_attempt { place = 2; decided = 3 } ∷ []
 
 abbrev pub group_of_call : ℕ → Group
 group_of_call call =

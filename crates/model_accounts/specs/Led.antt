@@ -1,5 +1,6 @@
 -- What the current holder of the log knows: the groups that leaders took, one after another, each with the place of its
--- delay. At the closing the groups of an outcome are made from this.
+-- delay, and how many calls of the controller its leader had seen when it decided whether the group goes on. At the
+-- closing the groups of an outcome are made from this.
 use Rattle.std.specs.Prelude.{◌≡◌, ◌≢◌, ℕ, ◌+◌, ◌≤◌, ⊤, Bool, List, [], ◌∷◌, ◌++◌, length, map, filter, flat_map, slice_get, ◌==◌, Option, Some}
 use Rattle.std.specs.List.{AllByRecursion}
 use Rattle.model_base.specs.declared.group.Item.{Item}
@@ -15,6 +16,7 @@ pub record Taken : Type 0 where
 
 pub record Led : Type 0 where
   pub place : ℕ
+  pub decided : ℕ
   pub commits : List Taken
 
 -- what grouping sees of these commits
@@ -54,7 +56,8 @@ abbrev pub HaveOwnClients : List Taken → Type 0
 HaveOwnClients [] = ⊤
 HaveOwnClients (t ∷ ts) = AllByRecursion (λ (u : Taken). t.client ≢ u.client) ts × HaveOwnClients ts
 
--- A leader took a whole group, and asked for a delay for the sum of its sizes: that is the delay of each of its commits.
+-- A leader took a whole group, and asked for a delay for the sum of its sizes. That is the delay of each of its
+-- commits, and the leader decided on all of them at once.
 pub record IsLed (group_bytes : ℕ) (controller_calls : List ControllerCall) (g : Led) : Type 0 where
   pub by : ℕ
   pub now : ℕ
@@ -65,6 +68,7 @@ pub record IsLed (group_bytes : ℕ) (controller_calls : List ControllerCall) (g
   pub whole : group_len group_bytes (items_in g.commits) ≡ length g.commits
   pub of_others : HaveOwnClients g.commits
   pub places : AllByRecursion (λ (t : Taken). t.attempt.place ≡ g.place) g.commits
+  pub at_once : AllByRecursion (λ (t : Taken). t.attempt.decided ≡ g.decided) g.commits
 
 -- These are all groups that leaders took. Each goes on or is refused as a whole, and together they have all the
 -- clients' attempts.
@@ -75,6 +79,6 @@ pub record AreLed (group_bytes : ℕ) (controller_calls : List ControllerCall) (
   pub all : AreAsked (groups_of led) 0 controller_calls
   pub clients : AllByRecursion (λ (t : Taken). (1 ≤ t.client) × (t.client ≤ length attempts)) (all_taken led)
   pub together : AllByRecursion (λ (g : Led). HaveOneFate controller_calls (map (λ (h : Led). h.place) led) g.place
-      (items_in g.commits) (map (λ (t : Taken). t.attempt.status) g.commits)) led
+      g.decided (items_in g.commits) (map (λ (t : Taken). t.attempt.status) g.commits)) led
   pub of_client : (i : ℕ) (own : List Attempt) → slice_get attempts i ≡ Some own
       → own ≡ attempts_of (i + 1) (all_taken led)

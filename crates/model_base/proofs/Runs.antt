@@ -81,6 +81,7 @@ module _ (v w : Trace) (b : Begins v w) where
     alive = s.alive;
     free = s.free;
     place = s.place;
+    decided = s.decided;
     asked = s.asked;
     logged = λ to_log. logged_in v.log_calls w.log_calls b.log_calls p.logged q.logged x p.pending how.sync (s.logged to_log);
     after = s.after;

@@ -14,14 +14,16 @@ pub data WriteStatus : Type 0 where
   -- after this sequence there was no room for its run
   full : ℕ → WriteStatus
 
--- how a commit ended in its group, and the place (from 0) in the controller's history of the delay that was asked for
--- that group
+-- How a commit ended in its group; the place (from 0) in the controller's history of the delay that was asked for that
+-- group; and how many calls of that history, from the first one on, the group's leader had seen when it decided whether
+-- the group goes on.
 pub record Fate : Type 0 where
   pub status : WriteStatus
   pub place : ℕ
+  pub decided : ℕ
 
-abbrev pub fate_at : ℕ → WriteStatus → Option Fate
-fate_at place status = Some (record { status = status; place = place })
+abbrev pub fate_at : ℕ → ℕ → WriteStatus → Option Fate
+fate_at place decided status = Some (record { status = status; place = place; decided = decided })
 
 -- the status, where a leader took the commit into a group
 abbrev pub status_in : Option Fate → Option WriteStatus
@@ -34,6 +36,8 @@ pub record Attempt : Type 0 where
   pub status : WriteStatus
   -- the place of its group's delay
   pub place : ℕ
+  -- how many of the controller's calls its leader had seen when it decided
+  pub decided : ℕ
 
 -- what grouping sees of a commit
 abbrev pub item_of : Attempt → Item
@@ -42,8 +46,14 @@ item_of h = record { size = size_of_batch h.records; options = h.options; alone 
 -- a client's commits, with one more if a leader took it into a group, where it had this fate
 abbrev pub with_attempt : List Attempt → List Record → WriteOptions → Option Fate → List Attempt
 with_attempt attempts records how None = attempts
-with_attempt attempts records how (Some fate) =
-    attempts ++ record { records = records; options = how; status = fate.status; place = fate.place } ∷ []
+with_attempt attempts records how (Some fate) = attempts
+    ++ record {
+      records = records;
+      options = how;
+      status = fate.status;
+      place = fate.place;
+      decided = fate.decided;
+    } ∷ []
 
 abbrev pub is_faulted : WriteStatus → Bool
 is_faulted (faulted count) = true

@@ -103,26 +103,30 @@ pub record Holds (groups : List Group) (place client call : ℕ) : Type 0 where
   pub client_is : member.client ≡ client
   pub call_is : member.call ≡ call
 
--- This client looked and saw no stop. The look comes after the delay at this place, and before each of these delays
--- that is later than that one.
-pub record SawNoStop (controller_calls : List ControllerCall) (delays : List ℕ) (client place : ℕ) : Type 0 where
-  pub at : ℕ
-  pub numbers : Look
-  pub there : slice_get controller_calls at ≡ Some (record { client = client; action = look; told = Some numbers })
-  pub behind : place < at
-  pub before : AllByRecursion (λ (delay : ℕ). place < delay → at < delay) delays
-  pub free : numbers.stops ≡ 0
+-- This client looked and saw no stop. The look comes after the delay at this place, before each of these delays that is
+-- later than that one, and before its client decided whether the group goes on: it is one of the first `decided` calls.
+pub record SawNoStop (controller_calls : List ControllerCall) (delays : List ℕ) (client place decided : ℕ) : Type 0
+  where
+    pub at : ℕ
+    pub numbers : Look
+    pub there : slice_get controller_calls at ≡ Some (record { client = client; action = look; told = Some numbers })
+    pub behind : place < at
+    pub before : AllByRecursion (λ (delay : ℕ). place < delay → at < delay) delays
+    pub among : at < decided
+    pub free : numbers.stops ≡ 0
 
 -- A commit may be written, by what its group's delay answered (`numbers`). With `no_slowdown`, the last argument, it
 -- may unless writes were held up. Without it, it may if no stop was seen, by the delay or by a later look of the client
--- that asked for it.
-abbrev pub MayProceed : List ControllerCall → List ℕ → ℕ → ℕ → Look → Bool → Type 0
-MayProceed controller_calls delays client place numbers true = HoldUp numbers → ⊥
-MayProceed controller_calls delays client place numbers false =
-    (numbers.stops ≡ 0) ⊎ SawNoStop controller_calls delays client place
+-- that asked for it, among the calls that this client had seen when it decided (`decided`).
+abbrev pub MayProceed : List ControllerCall → List ℕ → ℕ → ℕ → ℕ → Look → Bool → Type 0
+MayProceed controller_calls delays client place decided numbers true = HoldUp numbers → ⊥
+MayProceed controller_calls delays client place decided numbers false =
+    (numbers.stops ≡ 0) ⊎ SawNoStop controller_calls delays client place decided
 
--- this holds for each item of the group whose delay is at this place
-pub record Proceeds (controller_calls : List ControllerCall) (delays : List ℕ) (place : ℕ) (items : List Item) : Type 0
+-- this holds for each item of the group whose delay is at this place, where its leader decided when it had seen this
+-- many calls
+pub record Proceeds (controller_calls : List ControllerCall) (delays : List ℕ) (place decided : ℕ)
+    (items : List Item) : Type 0
   where
     pub by : ℕ
     pub now : ℕ
@@ -131,7 +135,7 @@ pub record Proceeds (controller_calls : List ControllerCall) (delays : List ℕ)
     pub there : slice_get controller_calls place
         ≡ Some (record { client = by; action = delay now bytes; told = Some numbers })
     pub each : AllByRecursion
-        (λ (i : Item). MayProceed controller_calls delays by place numbers i.options.no_slowdown) items
+        (λ (i : Item). MayProceed controller_calls delays by place decided numbers i.options.no_slowdown) items
 
 abbrev pub is_slowed : WriteStatus → Bool
 is_slowed slowed = true
@@ -140,19 +144,21 @@ is_slowed (faulted count) = false
 is_slowed (full last) = false
 
 -- Either each of these statuses says that writes were held up, or none says so and the group may go on.
-abbrev pub HaveOneFate : List ControllerCall → List ℕ → ℕ → List Item → List WriteStatus → Type 0
-HaveOneFate controller_calls delays place items statuses = AllByRecursion (λ status. status ≡ slowed) statuses
-    ⊎ (AllByRecursion (λ status. is_slowed status ≡ false) statuses × Proceeds controller_calls delays place items)
+abbrev pub HaveOneFate : List ControllerCall → List ℕ → ℕ → ℕ → List Item → List WriteStatus → Type 0
+HaveOneFate controller_calls delays place decided items statuses = AllByRecursion (λ status. status ≡ slowed) statuses
+    ⊎ (AllByRecursion (λ status. is_slowed status ≡ false) statuses
+    × Proceeds controller_calls delays place decided items)
 
--- The members are commits whose delay is the group's. The group is refused as a whole because writes were held up, or
--- goes on as a whole.
+-- The members are commits whose delay is the group's, and its leader decided on all of them at once. The group is
+-- refused as a whole because writes were held up, or goes on as a whole.
 pub record HasOneFate (controller_calls : List ControllerCall) (groups : List Group)
     (attempts : List (List Attempt)) (g : Group) : Type 0 where
+  pub decided : ℕ
   pub statuses : List WriteStatus
   pub are : AllZip (λ (m : Member) status. (c : IsCommit attempts m) × (c.attempt.status ≡ status)
-      × (c.attempt.place ≡ g.place)) g.members statuses
-  pub together : HaveOneFate controller_calls (map (λ (h : Group). h.place) groups) g.place (items_of g.members)
-      statuses
+      × (c.attempt.place ≡ g.place) × (c.attempt.decided ≡ decided)) g.members statuses
+  pub together : HaveOneFate controller_calls (map (λ (h : Group). h.place) groups) g.place decided
+      (items_of g.members) statuses
 
 -- The controller's history has one delay for each of these groups, and no other. Each commit is in just one of the
 -- groups, that of its own delay.

@@ -105,10 +105,11 @@ MayRefuse controller_calls client p knows how no.NoMemory fate = ⊥
 abbrev pub IsKeptOut : List Action → Option Fate → Type 0
 IsKeptOut asked fate = holds_stop asked ≡ true → fate ≡ None
 
--- The delay of a commit's group is within the commit's call: it comes after all that the client knew before (`knew`),
--- and the client knows of it once the commit returns (`knows`).
-abbrev pub IsWithinCall : ℕ → ℕ → ℕ → Type 0
-IsWithinCall knew knows place = (knew ≤ place) × (place < knows)
+-- The delay of a commit's group is within the commit's call, and so is all by which its leader decided whether the
+-- group goes on. The delay comes after all that the client knew before (`knew`). It is among the calls that the leader
+-- had seen when it decided (`decided`), and once the commit returns the client knows of all of these (`knows`).
+abbrev pub IsWithinCall : ℕ → ℕ → ℕ → ℕ → Type 0
+IsWithinCall knew knows place decided = (knew ≤ place) × (place < decided) × (decided ≤ knows)
 
 -- Each command
 
@@ -126,8 +127,9 @@ Clears p other q = ⊥
 
 -- The batch got the run that was replied, and is the client's next entry. The run is above all that the client was
 -- shown, and above each sequence after which there was no room for an earlier batch of this client. The client doesn't
--- know of a fault of the log, and holds no stop token. The delay of its group is within the call. A batch that goes into
--- the log was written by a call of the log writer that had returned when the client was answered.
+-- know of a fault of the log, and holds no stop token. The delay of its group is within the call, and so is the look
+-- after which the group went on, if it waited for one. A batch that goes into the log was written by a call of the log
+-- writer that had returned when the client was answered.
 pub record IsAccepted (log_calls : List GroupCall) (client : ℕ) (p : Progress) (how : WriteOptions) (first last : ℕ)
     (records : List Record) (q : Progress) : Type 0 where
   pub batch : records ≡ p.pending
@@ -137,12 +139,13 @@ pub record IsAccepted (log_calls : List GroupCall) (client : ℕ) (p : Progress)
   pub alive : knows_log_failed p.attempts ≡ false
   pub free : holds_stop p.asked ≡ false
   pub place : ℕ
-  pub asked : IsWithinCall p.known q.known place
+  pub decided : ℕ
+  pub asked : IsWithinCall p.known q.known place decided
   pub logged : how.no_log ≡ false → IsLoggedBy log_calls p.logged q.logged first p.pending how.sync
   pub after : q ≡ record p {
     pending = [];
     mine = p.mine ++ next_entry client p.mine how first p.pending ∷ [];
-    attempts = with_attempt p.attempts p.pending how (fate_at place succeeded);
+    attempts = with_attempt p.attempts p.pending how (fate_at place decided succeeded);
     seen_up_to = max p.seen_up_to last;
     known = q.known;
     logged = q.logged;
@@ -155,7 +158,8 @@ IsAttempted trace client p how (accepted first last records) q =
 IsAttempted trace client p how (refused why) q =
     (fate : Option Fate) × MayRefuse trace.controller_calls client p q.known how why fate
     × (q ≡ record p { attempts = with_attempt p.attempts p.pending how fate; known = q.known; logged = q.logged })
-    × IsKeptOut p.asked fate × IfSome fate (λ fate. IsWithinCall p.known q.known fate.place)
+    × IsKeptOut p.asked fate
+    × IfSome fate (λ fate. IsWithinCall p.known q.known fate.place fate.decided)
 IsAttempted trace client p how other q = ⊥
 
 abbrev pub Commits : Settings → Trace → ℕ → Progress → WriteOptions → Reply → Progress → Type 0
@@ -188,9 +192,9 @@ abbrev pub Scans : Trace → Progress → ℕ → List ℕ → List ℕ → Repl
 Scans trace p family lo hi (rows at pairs) q = ReadsAt trace p at (λ m. pairs ≡ rows_within family lo hi m) q
 Scans trace p family lo hi other q = ⊥
 
--- A read of the log was right: it was at a boundary, the log's first groups have all logged entries up to there and no
--- other, and it gave those records up to there that begin or go on at its sequence or a later one. That is said where it
--- is known which batches the log had kept.
+-- A read of the log was right. It was at a boundary, and the log's first groups have all logged entries up to there,
+-- and no others. It gave those records up to there that begin at its sequence or a later one, or go on there. That is
+-- said where it is known which batches the log had kept.
 pub record IsLogRead (trace : Trace) (r : LogRead) : Type 0 where
   pub front : List Entry
   pub is_front : IsUpTo trace.start trace.entries r.at front

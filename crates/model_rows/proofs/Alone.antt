@@ -1,6 +1,6 @@
 -- Outcomes of one client.
 use Rattle.std.proofs.Common.{◌≡◌, ℕ, zero, suc, ◌+◌, ◌≤◌, false, Option, Some, None, List, [], ◌∷◌, ◌++◌, length, max, slice_get, take, refl, ap, subst, arith}
-use Rattle.std.specs.List.{AllByRecursion}
+use Rattle.std.specs.List.{AllByRecursion, AllZip}
 use Rattle.model_base.specs.Batch.{Record}
 use Rattle.model_base.specs.Trace.{Trace, Settings}
 use Rattle.model_base.specs.Tokens.{tokens_of}
@@ -21,6 +21,13 @@ pub all_at : {A : Type 0} (P : A → Type 0) (xs : List A) (i : ℕ) (x : A) →
 all_at P [] i x a there = absurd (cc)
 all_at P (y ∷ xs) zero x a there = subst P (some_same there) a.0
 all_at P (y ∷ xs) (suc i) x a there = all_at P xs i x a.1 there
+
+-- what holds of two lists, element by element, holds of what is at this place
+pub zip_at : {A B : Type 0} (R : A → B → Type 0) (xs : List A) (ys : List B) (i : ℕ) (x : A) → AllZip R xs ys → slice_get xs i ≡ Some x → (y : B) × (slice_get ys i ≡ Some y) × R x y
+zip_at R [] ys i x zip there = absurd (cc)
+zip_at R (a ∷ xs) [] i x zip there = absurd zip
+zip_at R (a ∷ xs) (y ∷ ys) zero x zip there = (y, refl, subst (λ z. R z y) (some_same there) zip.0)
+zip_at R (a ∷ xs) (y ∷ ys) (suc i) x zip there = zip_at R xs ys i x zip.1 there
 
 -- a list of one element has it at the place 0, and nothing elsewhere
 first_only : {A : Type 0} (x y : A) (i : ℕ) → slice_get (x ∷ []) i ≡ Some y → (i ≡ 0) × (x ≡ y)
@@ -59,25 +66,28 @@ logged_alone calls knew place first records there later = record {
   wrote = record { before = []; after = []; among = refl; run = omega arith; synced = λ sync. cc; ok = refl };
 }
 
--- The client's progress after each kind of call. The delay of a commit's group is at `place`, and is the last call of
--- the controller that the client then knows of.
+-- The client's progress after each kind of call. The delay of a commit's group is at `place`. The client then knows of
+-- those calls of the controller by which its leader decided (`decided`); mostly the delay is the last one of these.
 
 abbrev pub added : Record → Progress → Progress
 added r p = record p { pending = p.pending ++ r ∷ [] }
 
-abbrev pub took : ℕ → ℕ → ℕ → Progress → Progress
-took first last place p = record p {
+abbrev pub took_by : ℕ → ℕ → ℕ → ℕ → Progress → Progress
+took_by first last place decided p = record p {
   pending = [];
   mine = p.mine ++ next_entry 1 p.mine plain first p.pending ∷ [];
-  attempts = with_attempt p.attempts p.pending plain (fate_at place succeeded);
+  attempts = with_attempt p.attempts p.pending plain (fate_at place decided succeeded);
   seen_up_to = max p.seen_up_to last;
-  known = place + 1;
+  known = decided;
   logged = p.logged + 1;
 }
 
+abbrev pub took : ℕ → ℕ → ℕ → Progress → Progress
+took first last place p = took_by first last place (place + 1) p
+
 abbrev pub fell : WriteStatus → ℕ → Progress → Progress
 fell status place p =
-    record p { attempts = with_attempt p.attempts p.pending plain (fate_at place status); known = place + 1 }
+    record p { attempts = with_attempt p.attempts p.pending plain (fate_at place (place + 1) status); known = place + 1 }
 
 abbrev pub shown : ℕ → Progress → Progress
 shown at p = record p { seen_up_to = at }

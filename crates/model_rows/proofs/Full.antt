@@ -21,16 +21,16 @@ unfolding varint_within
 passes = refl
 
 -- a commit that was refused for want of sequences is then the client's last attempt
-told_full : (trace : Trace) (p q : Progress) (last : ℕ) → p.pending ≡ put_a1 ∷ put_b2 ∷ [] → p.asked ≡ [] → Commits nearly_full trace 1 p plain (refused (no.SequenceFull last)) q → (place : ℕ) × (q.attempts ≡ with_attempt p.attempts p.pending plain (fate_at place (full last)))
+told_full : (trace : Trace) (p q : Progress) (last : ℕ) → p.pending ≡ put_a1 ∷ put_b2 ∷ [] → p.asked ≡ [] → Commits nearly_full trace 1 p plain (refused (no.SequenceFull last)) q → (place : ℕ) × (decided : ℕ) × (q.attempts ≡ with_attempt p.attempts p.pending plain (fate_at place decided (full last)))
 told_full trace p q last pending asked s =
     let refusal = is_attempted nearly_full trace 1 p plain (refused (no.SequenceFull last)) q (rw (pending, asked) passes) s in
     let fate = fate_with refusal.0 (full last) refusal.1.0 in
-    (fate.0, ap (λ (x : Progress). x.attempts) refusal.2 ∙ ap (with_attempt p.attempts p.pending plain) fate.1)
+    (fate.0, fate.1, ap (λ (x : Progress). x.attempts) refusal.2 ∙ ap (with_attempt p.attempts p.pending plain) fate.2)
 
 -- and a later run is above that sequence
-above_full : (attempts : List Attempt) (records : List Record) (place last first : ℕ) → AreFullBelow first (with_attempt attempts records plain (fate_at place (full last))) → last < first
-above_full [] records place last first s = s.0
-above_full (h ∷ attempts) records place last first s = above_full attempts records place last first s.1
+above_full : (attempts : List Attempt) (records : List Record) (place decided last first : ℕ) → AreFullBelow first (with_attempt attempts records plain (fate_at place decided (full last))) → last < first
+above_full [] records place decided last first s = s.0
+above_full (h ∷ attempts) records place decided last first s = above_full attempts records place decided last first s.1
 
 -- so no commit at or below it is accepted
 no_run : (trace : Trace) (last first : ℕ) (end : Progress) → first ≤ last
@@ -42,8 +42,8 @@ no_run trace last first end low run =
     let told = told_full trace two run.2.2.0 last pending asked run.2.2.1.replies in
     let kept : begun.attempts ≡ run.2.2.0.attempts = ap (λ (x : Progress). x.attempts) run.2.2.2.2.1.replies ∙ ap (λ (x : Progress). x.attempts) run.2.2.2.1.replies in
     let accepted_at = is_accepted nearly_full trace 1 begun plain first first (put_a1 ∷ []) run.2.2.2.2.2.0 run.2.2.2.2.2.1.replies in
-    let behind = subst (AreFullBelow first) told.1 (subst (AreFullBelow first) kept accepted_at.behind) in
-    absurd (omega (arith, low, above_full two.attempts two.pending told.0 last first behind))
+    let behind = subst (AreFullBelow first) told.2 (subst (AreFullBelow first) kept accepted_at.behind) in
+    absurd (omega (arith, low, above_full two.attempts two.pending told.0 told.1 last first behind))
 
 pub not_lower : (ended : ℕ) → IsLegal nearly_full ended filling_script lower_than_full → ⊥
 not_lower ended legal =

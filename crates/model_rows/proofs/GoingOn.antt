@@ -16,7 +16,7 @@ use Rattle.model_rows.proofs.OwnGroups.{delays_of, groups_of, one_alone}
 use Rattle.model_rows.proofs.Steps.{run_of}
 
 abbrev attempt : Attempt
-attempt = record { records = put_b2 ∷ []; options = plain; status = succeeded; place = 0 }
+attempt = record { records = put_b2 ∷ []; options = plain; status = succeeded; place = 0; decided = 1 }
 
 -- the trace of the one batch after what was recovered
 abbrev behind : Trace
@@ -45,7 +45,7 @@ transcript = record {
       steps begun_before behind seen_before _ _ begun refl (lit≤ tt) (lit≤ tt) refl (lit≤ tt) (lit≤ tt),
       (
         taken,
-        steps begun_before behind begun _ _ taken (record { batch = refl; run = refl; above = lit≤ tt; behind = tt; alive = refl; free = refl; place = 0; asked = (lit≤ tt, lit≤ tt); logged = λ to_log. logged_alone _ 0 0 2 (put_b2 ∷ []) refl (lit≤ tt); after = refl }) (lit≤ tt) (lit≤ tt) refl (lit≤ tt) (lit≤ tt),
+        steps begun_before behind begun _ _ taken (record { batch = refl; run = refl; above = lit≤ tt; behind = tt; alive = refl; free = refl; place = 0; decided = 1; asked = (lit≤ tt, lit≤ tt, lit≤ tt); logged = λ to_log. logged_alone _ 0 0 2 (put_b2 ∷ []) refl (lit≤ tt); after = refl }) (lit≤ tt) (lit≤ tt) refl (lit≤ tt) (lit≤ tt),
         refl,
       ),
     ),

@@ -16,7 +16,7 @@ use Rattle.model_rows.proofs.OwnGroups.{delays_of, groups_of, one_alone}
 use Rattle.model_rows.proofs.Steps.{run_of}
 
 abbrev the_attempt : Attempt
-the_attempt = record { records = both_families; options = plain; status = succeeded; place = 0 }
+the_attempt = record { records = both_families; options = plain; status = succeeded; place = 0; decided = 1 }
 
 abbrev the_entry : Entry
 the_entry = record (entry_at 1 1 put_a1) { count = 2; records = both_families }
@@ -51,7 +51,7 @@ transcript = record {
       steps two_families one_batch (added put_a1 fresh) _ _ begun refl (lit≤ tt) (lit≤ tt) refl (lit≤ tt) (lit≤ tt),
       (
         taken,
-        steps two_families one_batch begun _ _ taken (record { batch = refl; run = refl; above = lit≤ tt; behind = tt; alive = refl; free = refl; place = 0; asked = (lit≤ tt, lit≤ tt); logged = λ to_log. logged_alone _ 0 0 1 both_families refl (lit≤ tt); after = refl }) (lit≤ tt) (lit≤ tt) refl (lit≤ tt) (lit≤ tt),
+        steps two_families one_batch begun _ _ taken (record { batch = refl; run = refl; above = lit≤ tt; behind = tt; alive = refl; free = refl; place = 0; decided = 1; asked = (lit≤ tt, lit≤ tt, lit≤ tt); logged = λ to_log. logged_alone _ 0 0 1 both_families refl (lit≤ tt); after = refl }) (lit≤ tt) (lit≤ tt) refl (lit≤ tt) (lit≤ tt),
         (
           seen,
           steps two_families one_batch taken _ _ seen (record { front = the_entry ∷ []; is_front = record { rest = []; split = refl; ends = refl }; not_below = lit≤ tt; answer = refl; after = refl }) (lit≤ tt) (lit≤ tt) refl (lit≤ tt) (lit≤ tt),

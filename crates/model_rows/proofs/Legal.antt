@@ -1,5 +1,5 @@
 -- The legal outcomes.
-use Rattle.std.proofs.Common.{ℕ, List, [], ◌∷◌, refl, Some, None}
+use Rattle.std.proofs.Common.{ℕ, ◌+◌, List, [], ◌∷◌, refl, Some, None}
 use Rattle.std.proofs.Math.Dec.{lit≤}
 use Rattle.model_base.specs.Batch.{Record}
 use Rattle.model_base.specs.Varint.{varint_within}
@@ -15,9 +15,9 @@ use Rattle.model_rows.specs.Runs.{entry_at, one_client, one_script, one_calls, o
 use Rattle.model_rows.proofs.Alone.{each_one, steps, writes, logged_alone, added, took, fell, shown}
 use Rattle.model_rows.proofs.OwnGroups.{delays_of, groups_of, one_alone, three_delays, three_groups, three_alone}
 
--- a plain commit of one record, whose group's delay is at this place
+-- a plain commit of one record, whose group's delay is at this place and let it go on
 abbrev attempt_of : Record → WriteStatus → ℕ → Attempt
-attempt_of r status place = record { records = r ∷ []; options = plain; status = status; place = place }
+attempt_of r status place = record { records = r ∷ []; options = plain; status = status; place = place; decided = place + 1 }
 
 abbrev pub first_attempt : Attempt
 first_attempt = attempt_of put_a1 succeeded 0
@@ -65,7 +65,7 @@ accepted_transcript = record {
     steps one_client one_batch fresh _ _ begun refl (lit≤ tt) (lit≤ tt) refl (lit≤ tt) (lit≤ tt),
     (
       taken_once,
-      steps one_client one_batch begun _ _ taken_once (record { batch = refl; run = refl; above = lit≤ tt; behind = tt; alive = refl; free = refl; place = 0; asked = (lit≤ tt, lit≤ tt); logged = λ to_log. logged_alone _ 0 0 1 (put_a1 ∷ []) refl (lit≤ tt); after = refl }) (lit≤ tt) (lit≤ tt) refl (lit≤ tt) (lit≤ tt),
+      steps one_client one_batch begun _ _ taken_once (record { batch = refl; run = refl; above = lit≤ tt; behind = tt; alive = refl; free = refl; place = 0; decided = 1; asked = (lit≤ tt, lit≤ tt, lit≤ tt); logged = λ to_log. logged_alone _ 0 0 1 (put_a1 ∷ []) refl (lit≤ tt); after = refl }) (lit≤ tt) (lit≤ tt) refl (lit≤ tt) (lit≤ tt),
       (
         seen_once,
         steps one_client one_batch taken_once _ _ seen_once (record { front = entry_at 1 1 put_a1 ∷ []; is_front = record { rest = []; split = refl; ends = refl }; not_below = lit≤ tt; answer = refl; after = refl }) (lit≤ tt) (lit≤ tt) refl (lit≤ tt) (lit≤ tt),
@@ -123,7 +123,7 @@ refused_transcript = record {
     steps one_client no_batch fresh _ _ begun refl (lit≤ tt) (lit≤ tt) refl (lit≤ tt) (lit≤ tt),
     (
       fell_first,
-      steps one_client no_batch begun _ _ fell_first (fate_at 0 (faulted 1), refl, refl, not_kept_out [] _ refl, (lit≤ tt, lit≤ tt)) (lit≤ tt) (lit≤ tt) refl (lit≤ tt) (lit≤ tt),
+      steps one_client no_batch begun _ _ fell_first (fate_at 0 1 (faulted 1), refl, refl, not_kept_out [] _ refl, (lit≤ tt, lit≤ tt, lit≤ tt)) (lit≤ tt) (lit≤ tt) refl (lit≤ tt) (lit≤ tt),
       (
         fell_first,
         steps one_client no_batch fell_first _ _ fell_first (record { front = []; is_front = record { rest = []; split = refl; ends = refl }; not_below = lit≤ tt; answer = refl; after = refl }) (lit≤ tt) (lit≤ tt) refl (lit≤ tt) (lit≤ tt),
@@ -190,16 +190,16 @@ failing_transcript = record {
     steps one_client one_of_three fresh _ _ begun refl (lit≤ tt) (lit≤ tt) refl (lit≤ tt) (lit≤ tt),
     (
       taken_once,
-      steps one_client one_of_three begun _ _ taken_once (record { batch = refl; run = refl; above = lit≤ tt; behind = tt; alive = refl; free = refl; place = 0; asked = (lit≤ tt, lit≤ tt); logged = λ to_log. logged_alone _ 0 0 1 (put_a1 ∷ []) refl (lit≤ tt); after = refl }) (lit≤ tt) (lit≤ tt) refl (lit≤ tt) (lit≤ tt),
+      steps one_client one_of_three begun _ _ taken_once (record { batch = refl; run = refl; above = lit≤ tt; behind = tt; alive = refl; free = refl; place = 0; decided = 1; asked = (lit≤ tt, lit≤ tt, lit≤ tt); logged = λ to_log. logged_alone _ 0 0 1 (put_a1 ∷ []) refl (lit≤ tt); after = refl }) (lit≤ tt) (lit≤ tt) refl (lit≤ tt) (lit≤ tt),
       (
         begun_again,
         steps one_client one_of_three taken_once _ _ begun_again refl (lit≤ tt) (lit≤ tt) refl (lit≤ tt) (lit≤ tt),
         (
           fell_once,
-          steps one_client one_of_three begun_again _ _ fell_once (fate_at 1 (faulted 1), refl, refl, not_kept_out [] _ refl, (lit≤ tt, lit≤ tt)) (lit≤ tt) (lit≤ tt) refl (lit≤ tt) (lit≤ tt),
+          steps one_client one_of_three begun_again _ _ fell_once (fate_at 1 2 (faulted 1), refl, refl, not_kept_out [] _ refl, (lit≤ tt, lit≤ tt, lit≤ tt)) (lit≤ tt) (lit≤ tt) refl (lit≤ tt) (lit≤ tt),
           (
             fell_twice,
-            steps one_client one_of_three fell_once _ _ fell_twice (fate_at 2 (faulted 1), refl, refl, not_kept_out [] _ refl, (lit≤ tt, lit≤ tt)) (lit≤ tt) (lit≤ tt) refl (lit≤ tt) (lit≤ tt),
+            steps one_client one_of_three fell_once _ _ fell_twice (fate_at 2 3 (faulted 1), refl, refl, not_kept_out [] _ refl, (lit≤ tt, lit≤ tt, lit≤ tt)) (lit≤ tt) (lit≤ tt) refl (lit≤ tt) (lit≤ tt),
             (
               seen_at_last,
               steps one_client one_of_three fell_twice _ _ seen_at_last (record { front = entry_at 1 1 put_a1 ∷ []; is_front = record { rest = []; split = refl; ends = refl }; not_below = lit≤ tt; answer = refl; after = refl }) (lit≤ tt) (lit≤ tt) refl (lit≤ tt) (lit≤ tt),

@@ -10,6 +10,7 @@ pub mod OwnStop
 pub mod Stale
 pub mod Steps
 pub mod OwnSlowdown
+pub mod OthersStop
 pub mod Unwritten
 pub mod Waits
 pub mod WholeLogs

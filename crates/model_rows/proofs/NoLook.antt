@@ -1,6 +1,5 @@
 -- A commit that was accepted though its group's delay reported a stop and nobody looked again.
 use Rattle.std.proofs.Common.{◌≡◌, ℕ, zero, suc, Bool, true, false, Some, List, [], ◌∷◌, map, slice_get, refl, sym, arith, ap, ◌∙◌, subst, inl, inr}
-use Rattle.std.specs.List.{AllZip}
 use Rattle.std.specs.Prelude.{option_map}
 use Rattle.std.proofs.lemmas.Option.{slice_get-map}
 use Rattle.model_base.specs.declared.group.Item.{Item}
@@ -14,7 +13,7 @@ use Rattle.model_base.specs.Runs.{Run}
 use Rattle.model_base.specs.Outcomes.{IsLegalIn}
 use Rattle.model_rows.specs.Examples.{put_a1, plain}
 use Rattle.model_rows.specs.Runs.{two_clients, waiting_script, waiting_calls, waited_out, told_of_a_stop}
-use Rattle.model_rows.proofs.Alone.{some_same, all_at}
+use Rattle.model_rows.proofs.Alone.{some_same, all_at, zip_at}
 use Rattle.model_rows.proofs.Steps.{run_of, is_accepted}
 
 action_same : {t u : ControllerCall} → Some t ≡ Some u → t.action ≡ u.action
@@ -34,17 +33,11 @@ no_look (suc (suc zero)) by numbers there = let other = action_same there in cc
 no_look (suc (suc (suc at))) by numbers there = cc
 
 -- so a commit that may wait can't go on
-may_not : (delays : List ℕ) (by place now bytes : ℕ) (numbers : Look) (no_slowdown : Bool) → no_slowdown ≡ false → slice_get told_of_a_stop place ≡ Some (record { client = by; action = controller.delay now bytes; told = Some numbers })
-    → MayProceed told_of_a_stop delays by place numbers no_slowdown → ⊥
-may_not delays by place now bytes numbers true waits there may = cc
-may_not delays by place now bytes numbers false waits there (inl none) = let one = one_stop place by now bytes numbers there in omega (arith, none, one)
-may_not delays by place now bytes numbers false waits there (inr saw) = no_look saw.at by saw.numbers saw.there
-
-zip_at : {A B : Type 0} (R : A → B → Type 0) (xs : List A) (ys : List B) (i : ℕ) (x : A) → AllZip R xs ys → slice_get xs i ≡ Some x → (y : B) × (slice_get ys i ≡ Some y) × R x y
-zip_at R [] ys i x zip there = absurd (cc)
-zip_at R (a ∷ xs) [] i x zip there = absurd zip
-zip_at R (a ∷ xs) (y ∷ ys) zero x zip there = (y, refl, subst (λ z. R z y) (some_same there) zip.0)
-zip_at R (a ∷ xs) (y ∷ ys) (suc i) x zip there = zip_at R xs ys i x zip.1 there
+may_not : (delays : List ℕ) (by place decided now bytes : ℕ) (numbers : Look) (no_slowdown : Bool) → no_slowdown ≡ false → slice_get told_of_a_stop place ≡ Some (record { client = by; action = controller.delay now bytes; told = Some numbers })
+    → MayProceed told_of_a_stop delays by place decided numbers no_slowdown → ⊥
+may_not delays by place decided now bytes numbers true waits there may = cc
+may_not delays by place decided now bytes numbers false waits there (inl none) = let one = one_stop place by now bytes numbers there in omega (arith, none, one)
+may_not delays by place decided now bytes numbers false waits there (inr saw) = no_look saw.at by saw.numbers saw.there
 
 module _ (groups : List Group) (attempts : List (List Attempt)) (are_groups : AreGroups 1048576 told_of_a_stop groups attempts) (own : Attempt) (there : slice_get attempts 0 ≡ Some (own ∷ [])) (waits : own.options.no_slowdown ≡ false) (written : own.status ≡ succeeded) where
   -- the commit that is a member of the group
@@ -65,7 +58,7 @@ module _ (groups : List Group) (attempts : List (List Attempt)) (are_groups : Ar
             let p = on.1 in
             let item = slice_get-map (λ (n : Member). n.item) g.members among ∙ ap (option_map (λ (n : Member). n.item)) at in
             let no_wait : m.item.options.no_slowdown ≡ false = ap (λ (i : Item). i.options.no_slowdown) one.2.0.item ∙ ap (λ (h : Attempt). h.options.no_slowdown) is ∙ waits in
-            may_not (map (λ (h : Group). h.place) groups) p.by g.place p.now p.bytes p.numbers m.item.options.no_slowdown no_wait p.there (all_at _ _ among m.item p.each item))
+            may_not (map (λ (h : Group). h.place) groups) p.by g.place s.decided p.now p.bytes p.numbers m.item.options.no_slowdown no_wait p.there (all_at _ _ among m.item p.each item))
       ]
 
   pub never_written : ⊥
@@ -74,15 +67,15 @@ module _ (groups : List Group) (attempts : List (List Attempt)) (are_groups : Ar
       stands h.group h.member h.among h.there h.client_is h.call_is (all_at (HasOneFate told_of_a_stop groups attempts) groups h.at h.group are_groups.together h.of_place)
 
 -- the commit was written
-attempted : (trace : Trace) (end : Progress) → Run two_clients trace 1 fresh waiting_calls end → (records : _) × (place : ℕ) × (end.attempts ≡ record { records = records; options = plain; status = succeeded; place = place } ∷ [])
+attempted : (trace : Trace) (end : Progress) → Run two_clients trace 1 fresh waiting_calls end → (records : _) × (place : ℕ) × (decided : ℕ) × (end.attempts ≡ record { records = records; options = plain; status = succeeded; place = place; decided = decided } ∷ [])
 attempted trace end run =
     let first = ap (λ (x : Progress). x.attempts) run.1.replies in let begun = run.0 in
     let a = is_accepted two_clients trace 1 begun plain 1 1 (put_a1 ∷ []) run.2.0 run.2.1.replies in
-    (begun.pending, a.place, ap (λ (x : Progress). x.attempts) run.2.2 ∙ ap (λ (x : Progress). x.attempts) a.after ∙ ap (λ attempts. with_attempt attempts begun.pending plain (fate_at a.place succeeded)) first)
+    (begun.pending, a.place, a.decided, ap (λ (x : Progress). x.attempts) run.2.2 ∙ ap (λ (x : Progress). x.attempts) a.after ∙ ap (λ attempts. with_attempt attempts begun.pending plain (fate_at a.place a.decided succeeded)) first)
 
 pub not_written : (ended : ℕ) (trace : Trace) (attempts : List (List Attempt)) → trace.controller_calls ≡ told_of_a_stop → IsLegalIn two_clients ended waiting_script trace attempts waited_out → ⊥
 not_written ended trace attempts same l =
     let one = l.each 0 _ _ refl refl in let right = one.2 in
     let own = attempted trace right.end (run_of two_clients trace 1 _ waiting_calls right.end (λ e. cc) right.is_transcript) in
-    never_written l.groups attempts (subst (λ calls. AreGroups 1048576 calls l.groups attempts) same l.are_groups) (record { records = own.0; options = plain; status = succeeded; place = own.1 })
-    (one.1 ∙ ap (λ h. Some h) (right.commits ∙ own.2)) refl refl
+    never_written l.groups attempts (subst (λ calls. AreGroups 1048576 calls l.groups attempts) same l.are_groups) (record { records = own.0; options = plain; status = succeeded; place = own.1; decided = own.2 })
+    (one.1 ∙ ap (λ h. Some h) (right.commits ∙ own.3)) refl refl

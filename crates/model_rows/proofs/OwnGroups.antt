@@ -54,12 +54,13 @@ module _ (controller_calls : List ControllerCall) (groups : List Group) (place c
 
     -- it wasn't refused because writes were held up, and may go on
     pub stands_together : (numbers : Look) → h.place ≡ place → slice_get controller_calls place ≡ Some (delay_of h numbers) → is_slowed h.status ≡ false
-        → MayProceed controller_calls (map (λ (g : Group). g.place) groups) 1 place numbers h.options.no_slowdown
+        → MayProceed controller_calls (map (λ (g : Group). g.place) groups) 1 place h.decided numbers h.options.no_slowdown
         → HasOneFate controller_calls groups (commits ∷ others) (own place call h)
     unfolding is_commit
     stands_together numbers at there written may = record {
+      decided = h.decided;
       statuses = h.status ∷ [];
-      are = ((is_commit, refl, at), tt);
+      are = ((is_commit, refl, at, refl), tt);
       together = inr ((written, tt), record { by = 1; now = 0; bytes = size_of (item_of h ∷ []); numbers = numbers; there = there; each = (may, tt) });
     }
 

@@ -1,7 +1,7 @@
 -- A commit of a client that slows writes itself: its group's delay says that writes are held up.
 use Rattle.std.proofs.Common.{◌≡◌, ℕ, zero, suc, ◌+◌, ◌-◌, ◌*◌, ◌^◌, ◌<◌, ◌≤◌, min, max, Bool, true, false, IsTrue, cond, ◌==◌, nat_le, ◌&&◌, None, Some, List, [], ◌∷◌, ◌++◌, length, map, sum_by, take, slice_get, refl, sym, ap, ◌∙◌, subst, inl, inr, arith}
 use Rattle.std.specs.Int.{div_ceil}
-use Rattle.std.specs.List.{AllByRecursion, AllZip}
+use Rattle.std.specs.List.{AllByRecursion}
 use Rattle.std.proofs.lemmas.Bool.{cond-true, cond-false, lt-leb, cases_Bool}
 use Rattle.std.proofs.lemmas.Bool.Decides.{nat_tests}
 use Rattle.std.proofs.lemmas.List.Sums.{sum_by-cons}
@@ -23,7 +23,7 @@ use Rattle.model_base.specs.Outcomes.{IsClient, IsLegal, IsLegalIn, IsLegalTrans
 use Rattle.model_rows.specs.Examples.{put_a1, noslow}
 use Rattle.model_rows.specs.Runs.{one_client}
 use Rattle.model_rows.specs.Ignored.{says_done, slow_commands, slow_calls, slow_script, slow_ignored, kept_slow_ignored}
-use Rattle.model_rows.proofs.Alone.{some_same, all_at}
+use Rattle.model_rows.proofs.Alone.{some_same, all_at, zip_at}
 use Rattle.model_rows.proofs.Steps.{run_of, is_accepted}
 
 -- The equations: where writes are slowed to a byte a second, and nothing was paid yet, two bytes or more have to wait,
@@ -151,12 +151,6 @@ told_after (t ∷ calls) (suc n) (suc slow_at) (suc place) later before history 
 
 -- The groups: the one commit has one delay, and goes on only where that says that writes aren't held up
 
-zip_at : {A B : Type 0} (R : A → B → Type 0) (xs : List A) (ys : List B) (i : ℕ) (x : A) → AllZip R xs ys → slice_get xs i ≡ Some x → (y : B) × (slice_get ys i ≡ Some y) × R x y
-zip_at R [] ys i x zip there = absurd (cc)
-zip_at R (a ∷ xs) [] i x zip there = absurd zip
-zip_at R (a ∷ xs) (y ∷ ys) zero x zip there = (y, refl, subst (λ z. R z y) (some_same there) zip.0)
-zip_at R (a ∷ xs) (y ∷ ys) (suc i) x zip there = zip_at R xs ys i x zip.1 there
-
 first_there : {A : Type 0} (xs : List A) → 0 < length xs → (x : A) × (slice_get xs 0 ≡ Some x)
 first_there [] some = absurd (omega (arith, some))
 first_there (x ∷ xs) some = (x, refl)
@@ -236,7 +230,7 @@ module _ (calls : List ControllerCall) (groups : List Group) (attempts : List (L
             let same : Some (record { client = p.by; action = controller.delay p.now p.bytes; told = Some p.numbers }) ≡ Some (record { client = asked.by; action = controller.delay asked.now (size_of (items_of h.group.members)); told = asked.told })
             = sym p.there ∙ asked.there in
             let bytes : p.bytes ≡ size_of (items_of h.group.members) = same_bytes p.now asked.now p.bytes (size_of (items_of h.group.members)) (ap (λ (t : ControllerCall). t.action) (some_same same)) in
-            let may : MayProceed calls (map (λ (g : Group). g.place) groups) p.by h.group.place p.numbers f.member.item.options.no_slowdown = first_may (λ (i : Item). MayProceed calls (map (λ (g : Group). g.place) groups) p.by h.group.place p.numbers i.options.no_slowdown) h.group.members f.member f.in_group p.each in
+            let may : MayProceed calls (map (λ (g : Group). g.place) groups) p.by h.group.place f.fate.decided p.numbers f.member.item.options.no_slowdown = first_may (λ (i : Item). MayProceed calls (map (λ (g : Group). g.place) groups) p.by h.group.place f.fate.decided p.numbers i.options.no_slowdown) h.group.members f.member f.in_group p.each in
             let sure : f.member.item.options.no_slowdown ≡ true = ap (λ (i : Item). i.options.no_slowdown) item ∙ hasty in
             let size = ap (λ (i : Item). i.size) item in
             let large = first_size h.group.members f.member f.in_group in
@@ -246,7 +240,7 @@ module _ (calls : List ControllerCall) (groups : List Group) (attempts : List (L
               bytes = p.bytes;
               numbers = p.numbers;
               at_place = ap (slice_get calls) here ∙ p.there;
-              free = subst (λ b. MayProceed calls (map (λ (g : Group). g.place) groups) p.by h.group.place p.numbers b) sure may;
+              free = subst (λ b. MayProceed calls (map (λ (g : Group). g.place) groups) p.by h.group.place f.fate.decided p.numbers b) sure may;
               many = omega (arith, size, large, bytes);
             })
       ]
@@ -264,18 +258,19 @@ module _ (calls : List ControllerCall) (groups : List Group) (attempts : List (L
 
 -- The client's calls
 
-abbrev the_commit : ℕ → Attempt
-the_commit place = record { records = put_a1 ∷ []; options = noslow; status = succeeded; place = place }
+abbrev the_commit : ℕ → ℕ → Attempt
+the_commit place decided = record { records = put_a1 ∷ []; options = noslow; status = succeeded; place = place; decided = decided }
 
 -- after these calls the client may make any others that don't commit
 record Slowed (trace : Trace) (q : Progress) : Type 0 where
   slow_at : ℕ
   is_slow : slice_get trace.controller_calls slow_at ≡ Some the_slow
   place : ℕ
+  decided : ℕ
   later : slow_at < place
   before : place < q.known
   tokens : tokens_of 1 (take q.known trace.controller_calls) ≡ controller.slow 1 ∷ []
-  attempts : q.attempts ≡ the_commit place ∷ []
+  attempts : q.attempts ≡ the_commit place decided ∷ []
 
 slowed_by : (trace : Trace) (q end : Progress) (more : List Call) (run : Run one_client trace 1 fresh (slow_calls ++ more) end) → q ≡ run.2.2.0 → Slowed trace q
 slowed_by trace q end more run is =
@@ -290,10 +285,11 @@ slowed_by trace q end more run is =
       slow_at = taken.place;
       is_slow = taken.is_later.there;
       place = a.place;
+      decided = a.decided;
       later = omega (arith, knew, rises, low);
-      before = a.asked.1;
+      before = (let seen = a.asked.1 in let heard = a.asked.2 in omega (arith, seen, heard));
       tokens = run.2.2.1.tokens ∙ ap (λ (x : Progress). x.asked) a.after ∙ asked;
-      attempts = ap (λ (x : Progress). x.attempts) a.after ∙ ap (λ records. with_attempt begun.attempts records noslow (fate_at a.place succeeded)) pending ∙ ap (λ hs. with_attempt hs (put_a1 ∷ []) noslow (fate_at a.place succeeded)) none;
+      attempts = ap (λ (x : Progress). x.attempts) a.after ∙ ap (λ records. with_attempt begun.attempts records noslow (fate_at a.place a.decided succeeded)) pending ∙ ap (λ hs. with_attempt hs (put_a1 ∷ []) noslow (fate_at a.place a.decided succeeded)) none;
     })
 
 two_bytes : 1 < size_of_batch (put_a1 ∷ [])
@@ -303,7 +299,7 @@ two_bytes = omega arith
 never_slowed : (ended : ℕ) (script : _) (trace : Trace) (attempts : List (List Attempt)) (o : Outcome) (l : IsLegalIn one_client ended script trace attempts o) → length script ≡ 1 → (q : Progress) → Slowed trace q
     → slice_get attempts 0 ≡ Some q.attempts → ⊥
 never_slowed ended script trace attempts o l one q s mine =
-    let own = the_commit s.place in
+    let own = the_commit s.place s.decided in
     let there : slice_get attempts 0 ≡ Some (own ∷ []) = mine ∙ ap (λ h. Some h) s.attempts in
     let alone : length attempts ≡ 1 = l.count_attempts ∙ one in
     let on = goes_on trace.controller_calls l.groups attempts l.are_groups own alone there refl refl in

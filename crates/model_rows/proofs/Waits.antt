@@ -13,7 +13,7 @@ use Rattle.model_base.specs.Runs.{whole, commands_of}
 use Rattle.model_base.specs.Outcomes.{IsLegal, IsLegalTranscript}
 use Rattle.model_rows.specs.Examples.{put_a1}
 use Rattle.model_rows.specs.Runs.{entry_at, two_clients, waiting_script, waiting_calls, stopping_calls, waited_out, told_of_a_stop}
-use Rattle.model_rows.proofs.Alone.{some_same, writes, logged_alone, added, took}
+use Rattle.model_rows.proofs.Alone.{some_same, writes, logged_alone, added, took_by}
 use Rattle.model_rows.proofs.OwnGroups.{calm, own, asked_for, has_place, holds, is_commit, stands_together, none_else_by}
 use Rattle.model_rows.proofs.Legal.{first_attempt}
 
@@ -32,9 +32,9 @@ waited_trace = record {
   log_calls = writes 1 (put_a1 ∷ []) ∷ [];
 }
 
--- the commit, whose group's delay comes after the stop
+-- the commit, whose group's delay comes after the stop, and whose leader decided after the look
 abbrev the_attempt : Attempt
-the_attempt = record first_attempt { place = 1 }
+the_attempt = record first_attempt { place = 1; decided = 4 }
 
 abbrev its_group : List Group
 its_group = own 1 0 the_attempt ∷ []
@@ -55,7 +55,7 @@ group_goes_on = record {
   none_else = none_else_by its_group (the_attempt ∷ []) ([] ∷ []) (refl, tt) held;
   together = (
     stands_together waited_trace.controller_calls its_group 1 0 the_attempt (the_attempt ∷ []) ([] ∷ []) refl one_stop refl refl refl
-        (inr (record { at = 3; numbers = calm; there = refl; behind = lit≤ tt; before = ((λ behind. absurd (omega arith)), tt); free = refl })),
+        (inr (record { at = 3; numbers = calm; there = refl; behind = lit≤ tt; before = ((λ behind. absurd (omega arith)), tt); among = lit≤ tt; free = refl })),
     tt,
   );
 }
@@ -66,13 +66,13 @@ begun = added put_a1 fresh
 waiting_transcript : IsLegalTranscript two_clients waited_trace None 1 (commands_of waiting_calls) waiting_calls (the_attempt ∷ [])
 unfolding varint_within
 waiting_transcript = record {
-  end = took 1 1 1 begun;
+  end = took_by 1 1 1 4 begun;
   is_transcript = whole refl (
     begun,
     record { replies = refl; rises = lit≤ tt; within = lit≤ tt; tokens = refl; logs_rise = lit≤ tt; logs_within = lit≤ tt },
     (
-      took 1 1 1 begun,
-      record { replies = record { batch = refl; run = refl; above = lit≤ tt; behind = tt; alive = refl; free = refl; place = 1; asked = (lit≤ tt, lit≤ tt); logged = λ to_log. logged_alone _ 0 0 1 (put_a1 ∷ []) refl (lit≤ tt); after = refl }; rises = lit≤ tt; within = lit≤ tt; tokens = refl; logs_rise = lit≤ tt; logs_within = lit≤ tt },
+      took_by 1 1 1 4 begun,
+      record { replies = record { batch = refl; run = refl; above = lit≤ tt; behind = tt; alive = refl; free = refl; place = 1; decided = 4; asked = (lit≤ tt, lit≤ tt, lit≤ tt); logged = λ to_log. logged_alone _ 0 0 1 (put_a1 ∷ []) refl (lit≤ tt); after = refl }; rises = lit≤ tt; within = lit≤ tt; tokens = refl; logs_rise = lit≤ tt; logs_within = lit≤ tt },
       refl,
     ),
   );

@@ -1,7 +1,8 @@
--- Runs in which a client's own token isn't heeded, or a batch is acknowledged that the log hasn't.
+-- Runs in which a token isn't heeded, or a batch is acknowledged that the log hasn't.
 use Rattle.std.specs.Prelude.{ℕ, codes, false, List, [], ◌∷◌, None}
 use Rattle.model_base.specs.Batch.{Record}
-use Rattle.model_base.specs.Calls.{Command, add, commit, slow, unslow, accepted, done, Call, Outcome}
+use Rattle.model_base.specs.declared.write.Refusal.TheVariants as no
+use Rattle.model_base.specs.Calls.{Command, add, commit, stop, slow, unslow, accepted, refused, done, Call, Outcome}
 use Rattle.model_base.specs.LogContents.{GroupCall}
 use Rattle.model_rows.specs.Examples.{put_a1, put_b2, plain, noslow, key_a, key_b}
 use Rattle.model_rows.specs.Runs.{entry_at, adds, commits, one_commit}
@@ -33,6 +34,22 @@ slow_ignored = record one_commit {
 -- or the token is given back at the client's end
 abbrev pub kept_slow_ignored : Outcome
 kept_slow_ignored = record one_commit { transcripts = slow_calls ∷ [] }
+
+-- a commit that may not wait is refused, since there are this many stop tokens
+abbrev pub meets_stops : ℕ → Call
+meets_stops stops = record { command = commit noslow; reply = refused (no.Incomplete stops 0 0) }
+
+-- client 1: `put a 1`, `commit noslow`, `commit`, `stop`, `put b 2`, `commit noslow`; client 2: `stop`
+abbrev pub stopped_script : List (List Command)
+stopped_script =
+    (add put_a1 ∷ commit noslow ∷ commit plain ∷ stop ∷ add put_b2 ∷ commit noslow ∷ []) ∷ (stop ∷ []) ∷ []
+
+-- Client 1 learns of a stop, then its commit that may wait is accepted, and in a stop of its own it learns of two.
+abbrev pub stopped_calls : List Call
+stopped_calls = adds put_a1 ∷ meets_stops 1 ∷ commits 1 put_a1 ∷ says_done stop ∷ adds put_b2 ∷ meets_stops 2 ∷ []
+
+abbrev pub others_stop_ignored : Outcome
+others_stop_ignored = record one_commit { transcripts = stopped_calls ∷ (says_done stop ∷ []) ∷ [] }
 
 -- `put a 1`, `commit`, `put b 2`, `commit`: both are accepted
 abbrev pub two_script : List (List Command)

@@ -39,9 +39,9 @@ pub use one_family::{
 };
 pub use outcomes::{
     acknowledged_once_written, committed_in_its_own_stop, failed_write, in_both_families,
-    lower_than_full, one_commit, own_slowdown_ignored, read_ahead, refused_by_a_later_stop,
-    refused_commit, run_below_what_was_read, stale_read, torn_read, waited_out, went_on,
-    written_while_stopped,
+    lower_than_full, one_commit, others_stop_ignored, own_slowdown_ignored, read_ahead,
+    refused_by_a_later_stop, refused_commit, run_below_what_was_read, stale_read, torn_read,
+    waited_out, went_on, written_while_stopped,
 };
 pub use recoveries::{empty_log_recovered, two_batches_recovered, two_logs_recovered};
 pub use scripts::{

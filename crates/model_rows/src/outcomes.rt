@@ -4,7 +4,7 @@ ghost use Rattle.std.specs.Prelude.{◌≡◌, ℕ, List, [], ◌∷◌};
 ghost use Rattle.model_base.specs.Attempts.{Attempt};
 ghost use Rattle.model_base.specs.Trace.{Trace};
 ghost use Rattle.model_base.specs.Outcomes.{IsLegal, IsLegalIn};
-ghost use Rattle.model_rows.specs.Ignored.{slow_commands, slow_script, slow_ignored, kept_slow_ignored, two_script, two_commits, written_at_once};
+ghost use Rattle.model_rows.specs.Ignored.{slow_commands, slow_script, slow_ignored, kept_slow_ignored, stopped_script, others_stop_ignored, two_script, two_commits, written_at_once};
 ghost use Rattle.model_rows.specs.Runs.{one_client, two_clients, nearly_full, used_up, one_script, one_commit, refused_commit, failing_script, failed_write, stale_script, stale_read, early_script, read_ahead, crossing_script, run_below_what_was_read, later_stop_script, refused_by_a_later_stop, own_stop_script, refused_in_its_own_stop, accepted_in_its_own_stop, failed_in_its_own_stop, full_in_its_own_stop, filling_script, lower_than_full, begun_before, going_on_script, went_on, waiting_script, waited_out, told_of_a_stop, two_families, families_script, in_both_families, torn_script, torn_read};
 
 /// A batch is accepted and then read.
@@ -94,6 +94,13 @@ pub fn written_while_stopped()
 pub fn own_slowdown_ignored()
     ensures not_legal { (ended : ℕ) → IsLegal one_client ended slow_script slow_ignored → ⊥ }
     ensures not_kept { (ended : ℕ) → IsLegal one_client ended (slow_commands ∷ []) kept_slow_ignored → ⊥ }
+{}
+
+/// A client learns that another one stops writes. Then its commit that may wait is accepted, and after that, in a stop
+/// of its own, it learns of two stops. But the other client takes one stop token only. That is legal in no trace: the
+/// delay or the look that let the commit go on is within its call, and showed no stop.
+pub fn others_stop_ignored()
+    ensures not_legal { (ended : ℕ) → IsLegal two_clients ended stopped_script others_stop_ignored → ⊥ }
 {}
 
 /// A batch that goes into the log is accepted once a call of the log writer that wrote it has returned. So an outcome

@@ -130,9 +130,9 @@ pub record IsRun (settings : Settings) (ended : ℕ) (script : List (List Comman
   pub writes : WritesLog settings.group_bytes wrote trace attempts legal.groups o.fault
   pub length_is : o.log_lens ≡ length (text_after b (records_of writes.parts)) ∷ []
 
--- What the log of a run holds, and what a crash leaves of it. A batch that was to be synced is safe from the moment on at
--- which its client was told `ok`: the calls that it then knew of had returned, and once these have, each image begins
--- with the text up to the end of the batch's group.
+-- What the log of a run holds, and what a crash leaves of it. A batch that was to be synced is safe from the moment on
+-- at which its client got its `ok`. The client then knew of calls that had returned, and once these have, each image
+-- begins with the text up to the end of the batch's group.
 pub record IsSafe {settings : Settings} {ended : ℕ} {script : List (List Command)} {b : Beginning}
     {wrote : List GroupCall → Type 0} {o : Outcome} (run : IsRun settings ended script b wrote o)
     (begun content : List ℕ) (place reached : ℕ) (any : List ℕ → Type 0)

@@ -15,7 +15,8 @@ plain = record { sync = false; no_log = false; no_slowdown = false }
 
 -- a commit that ended so
 abbrev pub ended : WriteStatus → WriteOptions → List Record → Attempt
-ended status options records = record { records = records; options = options; status = status; place = 0 }
+ended status options records =
+    record { records = records; options = options; status = status; place = 0; decided = 1 }
 
 -- this commit as a member: it is the one with this number of this client (a member doesn't show how the commit ended)
 abbrev pub member_of : ℕ → ℕ → Attempt → Member

@@ -99,9 +99,9 @@ module _ (group_bytes : ℕ) (attempts : List (List Attempt)) (o : Outcome) (log
         → LeaveFront (failed_record lost) (since (take n made) (drop n made)) (HaveSynced (take n all_groups))
     pub at_end : LeaveFrontPrefix now (HaveSynced all_groups)
 
--- What the logs of a run hold, and what a crash leaves of them. A batch that was to be synced is safe from the moment on
--- at which its client was told `ok`: once the calls that it then knew of have returned, the batch's group is among the
--- records that are there for certain.
+-- What the logs of a run hold, and what a crash leaves of them. A batch that was to be synced is safe from the moment
+-- on at which its client got its `ok`. The client then knew of calls that had returned, and once these have, the batch's
+-- group is among the records that are there for certain.
 pub record AreSafe {settings : Settings} {ended : ℕ} {script : List (List Command)} {limit disks : ℕ}
     {wrote : List GroupCall → List ℕ → Type 0} {o : Outcome}
     (run : IsRunOverLogs settings ended script limit disks wrote o) (held : List Held) (reached : List ℕ)

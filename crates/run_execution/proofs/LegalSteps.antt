@@ -100,12 +100,12 @@ none_faulted trace (h ∷ attempts) are = (status_without_fault trace h.status a
 
 earlier : (attempts : List Attempt) (records : List Record) (how : WriteOptions) (fate : Option Fate) → NoneFaulted (with_attempt attempts records how fate) → NoneFaulted attempts
 earlier attempts records how None none = none
-earlier attempts records how (Some fate) none = all_front (λ (h : Attempt). is_faulted h.status ≡ false) attempts (record { records = records; options = how; status = fate.status; place = fate.place } ∷ []) none
+earlier attempts records how (Some fate) none = all_front (λ (h : Attempt). is_faulted h.status ≡ false) attempts (record { records = records; options = how; status = fate.status; place = fate.place; decided = fate.decided } ∷ []) none
 
 last_faulted : (attempts : List Attempt) (records : List Record) (how : WriteOptions) (count : ℕ) (fate : Option Fate) → status_in fate ≡ Some (faulted count) → NoneFaulted (with_attempt attempts records how fate) → ⊥
 last_faulted attempts records how count None is none = cc is
 last_faulted attempts records how count (Some fate) is none =
-    let last : is_faulted fate.status ≡ false = (all_back (λ (h : Attempt). is_faulted h.status ≡ false) attempts (record { records = records; options = how; status = fate.status; place = fate.place } ∷ []) none).0 in
+    let last : is_faulted fate.status ≡ false = (all_back (λ (h : Attempt). is_faulted h.status ≡ false) attempts (record { records = records; options = how; status = fate.status; place = fate.place; decided = fate.decided } ∷ []) none).0 in
     let same : fate.status ≡ faulted count = cc is in cc (sym last ∙ ap is_faulted same)
 
 for_itself : (controller_calls : List ControllerCall) (client : ℕ) (p : Progress) (knows : ℕ) (how : WriteOptions) (why : Refusal) (fate : Option Fate)
@@ -165,7 +165,7 @@ module _ (settings : Settings) (trace : Trace) (client : ℕ) where
   attempted p how (accepted first last records) q fits s = record {
     small = λ are. subst (AreSmall settings.families settings.batch_bytes) (sym (ap (λ (x : Progress). x.mine) s.after))
         (all_append (λ (e : Entry). IsAllowed settings.families settings.batch_bytes e.records) p.mine (next_entry client p.mine how first p.pending ∷ []) are (fits, tt));
-    told = λ none. (earlier p.attempts p.pending how (fate_at s.place succeeded) (subst NoneFaulted (ap (λ (x : Progress). x.attempts) s.after) none), λ why e. absurd (cc e));
+    told = λ none. (earlier p.attempts p.pending how (fate_at s.place s.decided succeeded) (subst NoneFaulted (ap (λ (x : Progress). x.attempts) s.after) none), λ why e. absurd (cc e));
   }
   attempted p how (refused why) q fits s = record {
     small = λ are. subst (AreSmall settings.families settings.batch_bytes) (sym (ap (λ (x : Progress). x.mine) s.2)) are;

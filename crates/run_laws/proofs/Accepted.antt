@@ -61,10 +61,10 @@ module _ (settings : Settings) (ended : ℕ) (script : Script) (o : Outcome) (cl
   never_refused p knows (no.Incomplete stops delays wait) fate room (inr quiet) s may =
       not_held_up trace.controller_calls legal.legal.is_trace.controller_calls (history.calm settings ended script o legal quiet) (holds_stop p.asked) (client + 1) p.known knows _ fate may.1
   never_refused p knows (no.LogFault count) fate room freed s may =
-      let f = fate_with fate (faulted count) may in sound_last most p.attempts p.pending how f.0 (faulted count) (subst (λ x. AreSound most (with_attempt p.attempts p.pending how x)) f.1 s)
+      let f = fate_with fate (faulted count) may in sound_last most p.attempts p.pending how f.0 f.1 (faulted count) (subst (λ x. AreSound most (with_attempt p.attempts p.pending how x)) f.2 s)
   never_refused p knows (no.SequenceFull last) fate room freed s may =
       let f = fate_with fate (full last) may.0 in
-      let within : last ≤ most = sound_last most p.attempts p.pending how f.0 (full last) (subst (λ x. AreSound most (with_attempt p.attempts p.pending how x)) f.1 s) in
+      let within : last ≤ most = sound_last most p.attempts p.pending how f.0 f.1 (full last) (subst (λ x. AreSound most (with_attempt p.attempts p.pending how x)) f.2 s) in
       let past = may.5 in omega (arith, room, within, past)
   never_refused p knows no.Empty fate room freed s may = may
   never_refused p knows (no.TooLarge size) fate room freed s may = may

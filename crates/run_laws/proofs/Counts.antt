@@ -73,7 +73,7 @@ weighs : (client : ℕ) (p : Progress) (command : Command) (q : Progress) → Mo
 weighs client p command q (stays e f g) = omega (arith, weight_at q _ _ e f)
 weighs client p command q (adds r is e f g) = let one = ap adds_one is in omega (arith, one, weight_at q _ _ e f, length-append p.pending (r ∷ []))
 weighs client p command q (clears e f g) = omega (arith, weight_at q _ _ e f)
-weighs client p command q (accepts how first place e f g) =
+weighs client p command q (accepts how first place decided e f g) =
     omega (arith, weight_at q _ _ e f, sum_by_push (λ (e : Entry). e.count) p.mine (next_entry client p.mine how first p.pending), count_by-le-length is_counted p.pending)
 weighs client p command q (refuses how fate e f g) = omega (arith, weight_at q _ _ e f)
 

@@ -78,14 +78,14 @@ sound_before : (most : ℕ) (attempts : List Attempt) (records : List Record) (h
 sound_before most attempts records how None a = a
 sound_before most attempts records how (Some fate) a = all_front (λ (h : Attempt). IsSound most h.status) attempts _ a
 
-sound_last : (most : ℕ) (attempts : List Attempt) (records : List Record) (how : WriteOptions) (place : ℕ) (status : WriteStatus) → AreSound most (with_attempt attempts records how (fate_at place status)) → IsSound most status
-sound_last most attempts records how place status a = (all_back (λ (h : Attempt). IsSound most h.status) attempts _ a).0
+sound_last : (most : ℕ) (attempts : List Attempt) (records : List Record) (how : WriteOptions) (place decided : ℕ) (status : WriteStatus) → AreSound most (with_attempt attempts records how (fate_at place decided status)) → IsSound most status
+sound_last most attempts records how place decided status a = (all_back (λ (h : Attempt). IsSound most h.status) attempts _ a).0
 
 sound_step : (most client : ℕ) (p : Progress) (command : Command) (q : Progress) → Moves client p command q → AreSound most q.attempts → AreSound most p.attempts
 sound_step most client p command q (stays e f g) a = subst (AreSound most) g a
 sound_step most client p command q (adds r is e f g) a = subst (AreSound most) g a
 sound_step most client p command q (clears e f g) a = subst (AreSound most) g a
-sound_step most client p command q (accepts how first place e f g) a = sound_before most p.attempts p.pending how (fate_at place succeeded) (subst (AreSound most) g a)
+sound_step most client p command q (accepts how first place decided e f g) a = sound_before most p.attempts p.pending how (fate_at place decided succeeded) (subst (AreSound most) g a)
 sound_step most client p command q (refuses how fate e f g) a = sound_before most p.attempts p.pending how fate (subst (AreSound most) g a)
 
 sound_run : (most : ℕ) (settings : Settings) (trace : Trace) (client : ℕ) (p : Progress) (calls : List Call) (q : Progress) → Run settings trace client p calls q → AreSound most q.attempts → AreSound most p.attempts
@@ -131,10 +131,10 @@ module _ (most : ℕ) (small : most + 4 ≤ max_sequence) (settings : Settings) 
       → AreSound most (with_attempt p.attempts p.pending how fate) → MayRefuse trace.controller_calls client p knows how why fate → ⊥
   never_refused n p knows how (no.Incomplete stops delays wait) fate is few s a may = let no_wait : how.no_slowdown ≡ false = ap (λ (x : WriteOptions). x.no_slowdown) is in let yes = may.0 in cc
   never_refused n p knows how (no.LogFault count) fate is few s a may =
-      let f = fate_with fate (faulted count) may in sound_last most p.attempts p.pending how f.0 (faulted count) (subst (λ x. AreSound most (with_attempt p.attempts p.pending how x)) f.1 a)
+      let f = fate_with fate (faulted count) may in sound_last most p.attempts p.pending how f.0 f.1 (faulted count) (subst (λ x. AreSound most (with_attempt p.attempts p.pending how x)) f.2 a)
   never_refused n p knows how (no.SequenceFull last) fate is few s a may =
       let f = fate_with fate (full last) may.0 in
-      let within : last ≤ most = sound_last most p.attempts p.pending how f.0 (full last) (subst (λ x. AreSound most (with_attempt p.attempts p.pending how x)) f.1 a) in
+      let within : last ≤ most = sound_last most p.attempts p.pending how f.0 f.1 (full last) (subst (λ x. AreSound most (with_attempt p.attempts p.pending how x)) f.2 a) in
       let past = may.5 in let count = short_count p.pending s.short in let long = s.long in omega (arith, small, within, past, count, long, few)
   never_refused n p knows how no.Empty fate is few s a may = may
   never_refused n p knows how (no.TooLarge size) fate is few s a may = may

@@ -23,8 +23,8 @@ pub data Moves (client : ℕ) (p : Progress) (command : Command) (q : Progress) 
   stays : q.pending ≡ p.pending → q.mine ≡ p.mine → q.attempts ≡ p.attempts → Moves client p command q
   adds : (r : Record) → command ≡ add r → q.pending ≡ p.pending ++ r ∷ [] → q.mine ≡ p.mine → q.attempts ≡ p.attempts → Moves client p command q
   clears : q.pending ≡ [] → q.mine ≡ p.mine → q.attempts ≡ p.attempts → Moves client p command q
-  accepts : (how : WriteOptions) (first place : ℕ) → q.pending ≡ [] → q.mine ≡ p.mine ++ next_entry client p.mine how first p.pending ∷ []
-      → q.attempts ≡ with_attempt p.attempts p.pending how (fate_at place succeeded) → Moves client p command q
+  accepts : (how : WriteOptions) (first place decided : ℕ) → q.pending ≡ [] → q.mine ≡ p.mine ++ next_entry client p.mine how first p.pending ∷ []
+      → q.attempts ≡ with_attempt p.attempts p.pending how (fate_at place decided succeeded) → Moves client p command q
   refuses : (how : WriteOptions) (fate : Option Fate) → q.pending ≡ p.pending → q.mine ≡ p.mine
       → q.attempts ≡ with_attempt p.attempts p.pending how fate → Moves client p command q
 
@@ -42,7 +42,7 @@ module _ (client : ℕ) (p : Progress) (command : Command) (q : Progress) where
 
   by_attempt : (trace : Trace) (how : WriteOptions) (reply : Reply) → IsAttempted trace client p how reply q → Moves client p command q
   by_attempt trace how (accepted first last records) a =
-      let e = a.after in accepts how first a.place (ap (λ (x : Progress). x.pending) e) (ap (λ (x : Progress). x.mine) e) (ap (λ (x : Progress). x.attempts) e)
+      let e = a.after in accepts how first a.place a.decided (ap (λ (x : Progress). x.pending) e) (ap (λ (x : Progress). x.mine) e) (ap (λ (x : Progress). x.attempts) e)
   by_attempt trace how (refused why) a =
       let e = a.2 in refuses how a.0 (ap (λ (x : Progress). x.pending) e) (ap (λ (x : Progress). x.mine) e) (ap (λ (x : Progress). x.attempts) e)
   by_attempt trace how other a = absurd a
@@ -144,7 +144,7 @@ module _ (P : ℕ → Record → Type 0) where
   kept client p command q only k (stays e f g) = kept_at client q _ _ e f k.0 k.1
   kept client p command q only k (adds r is e f g) = kept_at client q _ _ e f (all_both (P client) p.pending (r ∷ []) k.0 (added_only client command r is only, tt)) k.1
   kept client p command q only k (clears e f g) = kept_at client q _ _ e f tt k.1
-  kept client p command q only k (accepts how first place e f g) = kept_at client q _ _ e f tt (all_both HasOnly p.mine (next_entry client p.mine how first p.pending ∷ []) k.1 (k.0, tt))
+  kept client p command q only k (accepts how first place decided e f g) = kept_at client q _ _ e f tt (all_both HasOnly p.mine (next_entry client p.mine how first p.pending ∷ []) k.1 (k.0, tt))
   kept client p command q only k (refuses how fate e f g) = kept_at client q _ _ e f k.0 k.1
 
   pub kept_by_run : (settings : Settings) (trace : Trace) (client : ℕ) (p : Progress) (calls : List Call) (q : Progress) → AllByRecursion (AddsOnly client) (commands_of calls) → Keeps client p → Run settings trace client p calls q → Keeps client q

@@ -16,14 +16,14 @@ module _ (most : ℕ) where
   sound_before attempts records how None a = a
   sound_before attempts records how (Some fate) a = all_front (λ (h : Attempt). IsSound most h.status) attempts _ a
 
-  pub sound_last : (attempts : List Attempt) (records : List Record) (how : WriteOptions) (place : ℕ) (status : WriteStatus) → AreSound most (with_attempt attempts records how (fate_at place status)) → IsSound most status
-  sound_last attempts records how place status a = (all_back (λ (h : Attempt). IsSound most h.status) attempts _ a).0
+  pub sound_last : (attempts : List Attempt) (records : List Record) (how : WriteOptions) (place decided : ℕ) (status : WriteStatus) → AreSound most (with_attempt attempts records how (fate_at place decided status)) → IsSound most status
+  sound_last attempts records how place decided status a = (all_back (λ (h : Attempt). IsSound most h.status) attempts _ a).0
 
   sound_step : (client : ℕ) (p : Progress) (command : Command) (q : Progress) → Moves client p command q → AreSound most q.attempts → AreSound most p.attempts
   sound_step client p command q (stays e f g) a = subst (AreSound most) g a
   sound_step client p command q (adds r is e f g) a = subst (AreSound most) g a
   sound_step client p command q (clears e f g) a = subst (AreSound most) g a
-  sound_step client p command q (accepts how first place e f g) a = sound_before p.attempts p.pending how (fate_at place succeeded) (subst (AreSound most) g a)
+  sound_step client p command q (accepts how first place decided e f g) a = sound_before p.attempts p.pending how (fate_at place decided succeeded) (subst (AreSound most) g a)
   sound_step client p command q (refuses how fate e f g) a = sound_before p.attempts p.pending how fate (subst (AreSound most) g a)
 
   pub sound_run : (settings : Settings) (trace : Trace) (client : ℕ) (p : Progress) (calls : List Call) (q : Progress) → Run settings trace client p calls q → AreSound most q.attempts → AreSound most p.attempts

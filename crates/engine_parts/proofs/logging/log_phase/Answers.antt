@@ -8,7 +8,7 @@ use Rattle.table_nodes.specs.Parts.{Members, group_of}
 use Rattle.engine_parts.proofs.logging.log_phase.Goals as goal
 use Rattle.engine_parts.specs.declared.requests.Request.{Request}
 use Rattle.engine_parts.specs.declared.requests.Delay.{Delay}
-use Rattle.engine_parts.specs.Handled.{commit_requests_of, handled_with, replies_of}
+use Rattle.engine_parts.specs.Handled.{commit_requests_of, handled_with, replies_of, went_at}
 use Rattle.engine_parts.specs.Numbering.{AreHelpers, batches_of, others_in}
 use Rattle.engine_parts.specs.Staged.{MayLaunch}
 use Rattle.engine_rule.specs.Plans.{batches_from, versions_from}
@@ -31,12 +31,13 @@ abbrev counted : Delay → ℕ → Delay
 counted delay made = record delay { made = made }
 
 pub returns-in-Some-clause-path : goal.returns-in-Some-clause-path
-returns-in-Some-clause-path g c past went goes s =
+returns-in-Some-clause-path g c past goes s =
+    let went = went_at c.args.delay.now in
     let opened = past.opened in let start = past.start in let gb = past.group_bytes in let asked = past.asked in let published = past.published in let hs = past.handled in
     let led = goes.led in let numbers = goes.numbers in let comes = goes.comes_after in let is_asked = goes.asked_for in let proceeds = goes.proceeds in
     let xs = c.args.requests.now.items in let h = c.args.path.now in let clients = c.args.layout.now.parts.clients in
     subst (λ ys. Stands our_log as_is tt opened start clients gb went h.log h.places published h.last h.made (hs ++ handled_with xs ys)) (sym c.refuse_all.ensures.replies)
-    (stands_dead our_log as_is tt opened start clients gb asked h.log h.places published h.last h.made hs s xs led.writes led.lawful led.whole (counted c.args.delay.now c.args.path.now.made) numbers is_asked comes went proceeds c.in-Some.count (sym c.fault.ensures ∙ c.in-Some.is) refl)
+    (stands_dead our_log as_is tt opened start clients gb asked h.log h.places published h.last h.made hs s xs led.writes led.lawful led.whole (counted c.args.delay.now c.args.path.now.made) numbers is_asked comes proceeds c.in-Some.count (sym c.fault.ensures ∙ c.in-Some.is) refl)
 
 pub returns-in-Some-clause-replies : goal.returns-in-Some-clause-replies
 returns-in-Some-clause-replies g c = pays_faulted (counted c.args.delay.now c.args.path.now.made) c.in-Some.count c.args.requests.now.items c.refuse_all.new.replies.items c.refuse_all.ensures.replies
@@ -52,7 +53,8 @@ answer_layout-requires-clause-room g c =
     layout_room c.args.path.now.last (vec_capacity c.args.replies.now) c.args.requests.now.items c.drop_parts.new.self.numberings.items (ap (λ v. v.items) d.0 ∙ n.numberings) c.requires.replies.1
 
 pub returns-then-is_empty-clause-path : goal.returns-then-is_empty-clause-path
-returns-then-is_empty-clause-path g c past went goes s =
+returns-then-is_empty-clause-path g c past goes s =
+    let went = went_at c.args.delay.now in
     let opened = past.opened in let start = past.start in let gb = past.group_bytes in let asked = past.asked in let published = past.published in let hs = past.handled in
     let led = goes.led in let numbers = goes.numbers in let comes = goes.comes_after in let is_asked = goes.asked_for in let proceeds = goes.proceeds in
     let xs = c.args.requests.now.items in let h = c.args.path.now in let clients = c.args.layout.now.parts.clients in let n = c.lay_out-end.ensures in
@@ -62,7 +64,7 @@ returns-then-is_empty-clause-path g c past went goes s =
     let alive : fault_of h.log ≡ None = sym c.fault.ensures ∙ none_is c.fault.result c.in_default.not-Some in
     let replies = c.answer_layout.ensures.replies ∙ layout_written (counted c.args.delay.now c.args.path.now.made) h.last c.lay_out-end.result xs c.drop_parts.new.self.numberings.items c.drop_parts.new.self.batches.items (ap (λ v. v.items) d.0 ∙ n.numberings) (ap (λ v. v.items) d.1 ∙ n.batches) in
     subst (λ (z : ℕ × List _). Stands our_log as_is tt opened start clients gb went h.log h.places published z.0 h.made (hs ++ handled_with xs z.1)) (λ i. (sym n.reached i, sym (replies ∙ ap (λ m. replies_of (counted c.args.delay.now c.args.path.now.made) h.last m xs) n.reached) i))
-    (stands_written our_log as_is tt opened start clients gb asked h.log h.places published h.last h.made hs s xs led.writes led.lawful led.whole (counted c.args.delay.now c.args.path.now.made) numbers is_asked comes went proceeds c.places_stay.ensures.stay alive h.log published h.made s.our refl (inl (refl, inr no_batches, refl)) (inl (no_versions h.last (commit_requests_of xs) no_batches, refl)))
+    (stands_written our_log as_is tt opened start clients gb asked h.log h.places published h.last h.made hs s xs led.writes led.lawful led.whole (counted c.args.delay.now c.args.path.now.made) numbers is_asked comes proceeds c.places_stay.ensures.stay alive h.log published h.made s.our refl (inl (refl, inr no_batches, refl)) (inl (no_versions h.last (commit_requests_of xs) no_batches, refl)))
 
 pub returns-then-is_empty-clause-replies : goal.returns-then-is_empty-clause-replies
 returns-then-is_empty-clause-replies g c =
@@ -96,7 +98,8 @@ answer_layout-requires-in-Err-clause-room g c =
     layout_room c.args.path.now.last (vec_capacity c.args.replies.now) c.args.requests.now.items c.drop_parts-in-Err.new.self.numberings.items (ap (λ v. v.items) d.0 ∙ n.numberings) c.requires.replies.1
 
 pub returns-in-Err-clause-path : goal.returns-in-Err-clause-path
-returns-in-Err-clause-path g c past went goes s =
+returns-in-Err-clause-path g c past goes s =
+    let went = went_at c.args.delay.now in
     let opened = past.opened in let start = past.start in let gb = past.group_bytes in let asked = past.asked in let published = past.published in let hs = past.handled in
     let led = goes.led in let numbers = goes.numbers in let comes = goes.comes_after in let is_asked = goes.asked_for in let proceeds = goes.proceeds in
     let xs = c.args.requests.now.items in let h = c.args.path.now in let clients = c.args.layout.now.parts.clients in let n = c.lay_out-end.ensures in
@@ -110,7 +113,7 @@ returns-in-Err-clause-path g c past went goes s =
     let w = writes gb clients h.last xs led c.as_request.result.now.options same c.as_slice.result.now are some h.log c.log_group.new.log c.log_group.result c.log_group.ensures.skipped c.log_group.ensures.adds off in
     let replies = c.answer_layout-in-Err.ensures.replies ∙ layout_faulted (counted c.args.delay.now c.args.path.now.made) h.last c.in-Err.field-0.count xs c.drop_parts-in-Err.new.self.numberings.items c.drop_parts-in-Err.new.self.batches.items (ap (λ v. v.items) d.0 ∙ n.numberings) (ap (λ v. v.items) d.1 ∙ n.batches) in
     subst (λ ys. Stands our_log as_is tt opened start clients gb went c.log_group.new.log h.places published h.last h.made (hs ++ handled_with xs ys)) (sym replies)
-    (stands_failed our_log as_is tt opened start clients gb asked h.log h.places published h.last h.made hs s xs led.writes led.lawful led.whole (counted c.args.delay.now c.args.path.now.made) numbers is_asked comes went proceeds c.places_stay.ensures.stay alive c.in-Err.field-0.count (call_of (h.last + 1) c.as_slice.result.now c.as_request.result.now.options.sync c.log_group.result) c.log_group.new.log (c.log_group.ensures.adds off) w (ap count_of_fault c.in-Err.is ∙ search rules) refl)
+    (stands_failed our_log as_is tt opened start clients gb asked h.log h.places published h.last h.made hs s xs led.writes led.lawful led.whole (counted c.args.delay.now c.args.path.now.made) numbers is_asked comes proceeds c.places_stay.ensures.stay alive c.in-Err.field-0.count (call_of (h.last + 1) c.as_slice.result.now c.as_request.result.now.options.sync c.log_group.result) c.log_group.new.log (c.log_group.ensures.adds off) w (ap count_of_fault c.in-Err.is ∙ search rules) refl)
 
 pub returns-in-Err-clause-replies : goal.returns-in-Err-clause-replies
 returns-in-Err-clause-replies g c =
@@ -126,7 +129,8 @@ pub answer_layout-requires-2-clause-room : goal.answer_layout-requires-2-clause-
 answer_layout-requires-2-clause-room g c = layout_room c.args.path.now.last (vec_capacity c.args.replies.now) c.args.requests.now.items c.lay_out-end.new.numberings.items c.lay_out-end.ensures.numberings c.requires.replies.1
 
 pub returns-clause-path : goal.returns-clause-path
-returns-clause-path g c past went goes s =
+returns-clause-path g c past goes s =
+    let went = went_at c.args.delay.now in
     let opened = past.opened in let start = past.start in let gb = past.group_bytes in let asked = past.asked in let published = past.published in let hs = past.handled in
     let led = goes.led in let numbers = goes.numbers in let comes = goes.comes_after in let is_asked = goes.asked_for in let proceeds = goes.proceeds in
     let xs = c.args.requests.now.items in let h = c.args.path.now in let clients = c.args.layout.now.parts.clients in let n = c.lay_out-end.ensures in
@@ -143,7 +147,7 @@ returns-clause-path g c past went goes s =
     let are_parts = n.parts.0 in let same_parts = c.answer_layout-2.ensures.taken.2 in
     let replies = c.answer_layout-2.ensures.replies ∙ layout_written (counted c.args.delay.now c.made_with-path.result) h.last c.lay_out-end.result xs c.lay_out-end.new.numberings.items c.lay_out-end.new.batches.items n.numberings n.batches in
     subst (λ (z : ℕ × List _ × Members). Stands our_log as_is tt opened start clients gb went c.log_group.new.log h.places (published ++ group_of z.2.parts ∷ []) z.0 c.made_with-path.result (hs ++ handled_with xs z.1)) (λ i. (sym n.reached i, sym (replies ∙ ap (λ m. replies_of (counted c.args.delay.now c.made_with-path.result) h.last m xs) n.reached) i, sym same_parts i))
-    (stands_written our_log as_is tt opened start clients gb asked h.log h.places published h.last h.made hs s xs led.writes led.lawful led.whole (counted c.args.delay.now c.made_with-path.result) numbers is_asked comes went proceeds c.places_stay.ensures.stay alive c.log_group.new.log (published ++ group_of c.lay_out-end.new.parts.parts ∷ []) c.made_with-path.result tt refl on (inr (group_of c.lay_out-end.new.parts.parts, refl, are_parts.versions_are)))
+    (stands_written our_log as_is tt opened start clients gb asked h.log h.places published h.last h.made hs s xs led.writes led.lawful led.whole (counted c.args.delay.now c.made_with-path.result) numbers is_asked comes proceeds c.places_stay.ensures.stay alive c.log_group.new.log (published ++ group_of c.lay_out-end.new.parts.parts ∷ []) c.made_with-path.result tt refl on (inr (group_of c.lay_out-end.new.parts.parts, refl, are_parts.versions_are)))
 
 pub returns-clause-replies : goal.returns-clause-replies
 returns-clause-replies g c =

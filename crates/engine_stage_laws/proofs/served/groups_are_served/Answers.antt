@@ -8,8 +8,8 @@ pub returns : goal.returns
 returns c = record {
   first = refl;
   ends = served_end;
-  written = λ known last end requests commits old new ok publishes. subst (λ l. AreServed l new) (sym (accepted_append commits (commits_of_plan known last end requests))) (served_more known last end requests (accepted_of commits) old new ok publishes);
-  failed = λ known count requests commits. accepted_append commits (all_failed known count requests) ∙ (ap (λ l. accepted_of commits ++ l) (none_failed known count requests) ∙ append-nil (accepted_of commits));
+  written = λ heard last end requests commits old new ok publishes. subst (λ l. AreServed l new) (sym (accepted_append commits (commits_of_plan heard last end requests))) (served_more heard last end requests (accepted_of commits) old new ok publishes);
+  failed = λ heard count requests commits. accepted_append commits (all_failed heard count requests) ∙ (ap (λ l. accepted_of commits ++ l) (none_failed heard count requests) ∙ append-nil (accepted_of commits));
   held_up = λ known numbers requests commits. accepted_append commits (all_held_up known numbers requests) ∙ (ap (λ l. accepted_of commits ++ l) (none_held_up known numbers requests) ∙ append-nil (accepted_of commits));
   closing = consistent_served;
 }

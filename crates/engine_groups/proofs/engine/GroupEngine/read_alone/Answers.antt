@@ -68,7 +68,7 @@ returns-clause-leaves g c =
     let at = c.await_end-at in let R = c.read_phase in let H = R.ensures in
     let xs : List (ℕ × Request) = c.group.new.requests.list.items in let ys : List (ℕ × Answer) = R.new.replies.items in
     let one : IsOneRead n xs = subst (IsOneRead n) (sym G.3) (read_of c.codes_stand_for_items.ensures (λ q code h. h.0) (bound_of e.list) n own G.0 G.1 L.3.0 L.3.1 G.2.4 low high) in
-    let d : Delay = record { pass = c.of.result; made = c.deref-2.result.now.path.made } in
+    let d : Delay = record { pass = c.of.result; went = c.of-2.result; made = c.deref-2.result.now.path.made } in
     let old = c.args.leadership in let p = R.new.path in
     let leadership = record old { held = record old.held { value = record old.held.value { path = p } } } in
     let past : Past _ = record { opened = about.opened.value; start = about.start; group_bytes = about.group_bytes; asked = seen_by_note old.asked; published = st.published; handled = L.1 } in

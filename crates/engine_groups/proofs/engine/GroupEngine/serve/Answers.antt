@@ -1,7 +1,8 @@
-use Rattle.std.proofs.Common.{◌≡◌, ◌≤◌, ◌<◌, ◌-◌, ℕ, Bool, IfSome, List, [], ◌∷◌, ◌++◌, length, refl, sym, ap, ◌∙◌, subst, take, drop, vec_capacity, arith}
+use Rattle.std.proofs.Common.{◌≡◌, ◌≤◌, ◌<◌, ◌-◌, ℕ, Bool, false, IfSome, List, [], ◌∷◌, ◌++◌, length, refl, sym, ap, ◌∙◌, subst, take, drop, vec_capacity, arith}
 use Rattle.std.specs.List.{AllByRecursion, AllZip}
 use Rattle.std.specs.declared.snapshot.Snapshot.{Snapshot}
 use mathlib.Core.List.{IsPrefix}
+use Rattle.base_devices.specs.Clocks.{HasPaused}
 use Rattle.engine_controller.specs.declared.pass.Pass.{Pass}
 use Rattle.model_base.specs.Controller.{ControllerCall, Look}
 use Rattle.model_base.specs.History.{max_sequence}
@@ -12,12 +13,12 @@ use Rattle.engine_controller.specs.Looks.{look_of}
 use Rattle.engine_controller.specs.Passes.{client_of, seen_by, seen_by_note, IsNoteOf}
 use Rattle.table_rule.specs.declared.content.MemberVersions.{MemberVersions}
 use Rattle.engine_rule.specs.Entries.{SeesMore}
-use Rattle.engine_rule.specs.Plans.{CommitRequest, ComesAfter, IsAskedFor, LetsProceed, MayNotWait, ProceedsWith}
+use Rattle.engine_rule.specs.Plans.{CommitRequest, ComesAfter, up_to_delay, IsAskedFor, LetsProceed, MayNotWait, ProceedsWith}
 use Rattle.engine_parts.specs.declared.requests.Delay.{Delay}
 use Rattle.engine_parts.specs.declared.requests.Request.{Request}
 use Rattle.engine_parts.specs.declared.requests.Answer.{Answer}
 use Rattle.engine_parts.specs.Asking.{HasAskedFor, OnlyLooks, all_seen}
-use Rattle.engine_parts.specs.Handled.{EndsInDelay, HandsBack, InOrder, IsDelayed, IsHeldUp, IsNoted, IsNotedAs, commit_requests_of, handled_with, noted_in, seen_at}
+use Rattle.engine_parts.specs.Handled.{EndsInDelay, HandsBack, InOrder, IsDelayed, IsHeldUp, IsNoted, IsNotedAs, commit_requests_of, handled_with, noted_in, seen_at, went_at, heard_at}
 use Rattle.engine_parts.specs.LogLaw.{LogCovers, Past}
 use Rattle.engine_parts.specs.Led.{AreAlike, GoesOnWith, IsLedGroup, LeadsBy}
 use Rattle.engine_parts.specs.Numbering.{AreHelpers, others_in}
@@ -175,8 +176,9 @@ returns-then-not-proceeds-clause-served g c =
     let h : HasAskedFor k was asked xs n known = subst (λ (z : ℕ × List (ℕ × Request)). HasAskedFor z.0 was asked z.1 n known) (λ i. (q.pass_number i, same i)) A.asked in
     let left : List (ℕ × Request) = take L.len (new ++ drop (length new) L.items) in
     let left_is : left ≡ all_seen xs = put_back xs new L.len L.ok.0 (A.requests ∙ ap all_seen same) in
-    let d : Delay = record { pass = c.of.result; made = c.deref.result.now.path.made } in
+    let d : Delay = record { pass = c.of.result; went = c.of-2.result; made = c.deref.result.now.path.made } in
     let is : seen_at d ≡ known = ap seen_by c.of.ensures in
+    let went_is : went_at d ≡ known = ap seen_by c.of-2.ensures in
     let ys : List (ℕ × Answer) = c.refuse_held_up.new.replies.items in
     let zip : AllZip (IsHeldUp d n) (all_seen xs) ys = subst (λ l. AllZip (IsHeldUp d n) l ys) left_is R.replies in
     let may : MayNotWait (commit_requests_of xs) = subst (λ (b : Bool). AreAlike b (commit_requests_of xs)) (ap (λ o. o.no_slowdown) (first_flag (bound_of e.list) (clients_of e.list) xs S.led left c.index.result.now left_is c.index.ensures ∙ ap (λ (r : Request). r.options) (sym c.as_request.ensures)) ∙ no.0) S.led.slowdown in
@@ -186,7 +188,8 @@ returns-then-not-proceeds-clause-served g c =
     let zs : List (ℕ × Answer) = take room.len (c.note_all.new.replies ++ drop (length c.note_all.new.replies) ys) in
     let with_notes : AllZip (IsNotedAs e.controller went) ys zs = subst (AllZip (IsNotedAs e.controller went) ys) (sym (put_noted e.controller went ys c.note_all.new.replies room.len room.ok.0 noted)) noted in
     let same_now : seen_by c.note_all.new.pass ≡ known = c.note_all.ensures.pass.2 ∙ still in
-    let begins : IsPrefix (seen_at d) went = subst (IsPrefix (seen_at d)) (is ∙ sym still) (prefix_same (seen_at d)) in
+    let begins : IsPrefix (seen_at d) (went_at d) = subst (IsPrefix (seen_at d)) (is ∙ sym went_is) (prefix_same (seen_at d)) in
+    let shows : IsPrefix (went_at d) went = subst (IsPrefix (went_at d)) (went_is ∙ sym still) (prefix_same (went_at d)) in
     let late : (x : ℕ × Request) → Saw h.before x → IsDelayed (noted_in x.1.note) (seen_at d) n = λ x saw. subst (λ (l : List ControllerCall). IsDelayed (noted_in x.1.note) l n) (sym is) (asked_shown k was asked known xs n h x saw) in
     record {
       seats = record {
@@ -207,7 +210,7 @@ returns-then-not-proceeds-clause-served g c =
       walk_room = c.may_go_on-proceeds.ensures.leads.1;
       in_order = noted_order e.controller went xs ys zs with_notes (held_order d n xs ys zip);
       handed_back = noted_back e.controller went xs ys zs with_notes (held_back d n xs ys zip);
-      shown = held_shown e.controller d n went begins no.1 h.before late xs ys zs zip with_notes may h.members;
+      shown = held_shown e.controller d n went begins shows no.1 h.before late xs ys zs zip with_notes may h.members;
       taken = R.taken;
       requests_room = R.room.0;
       replies_room = R.room.1;
@@ -228,8 +231,10 @@ returns-then-not-proceeds-clause-leadership g c hs st =
     let h : HasAskedFor k was asked xs n known = subst (λ (z : ℕ × List (ℕ × Request)). HasAskedFor z.0 was asked z.1 n known) (λ i. (q.pass_number i, same i)) A.asked in
     let left : List (ℕ × Request) = take L.len (new ++ drop (length new) L.items) in
     let left_is : left ≡ all_seen xs = put_back xs new L.len L.ok.0 (A.requests ∙ ap all_seen same) in
-    let d : Delay = record { pass = c.of.result; made = c.deref.result.now.path.made } in
+    let d : Delay = record { pass = c.of.result; went = c.of-2.result; made = c.deref.result.now.path.made } in
     let is : seen_at d ≡ known = ap seen_by c.of.ensures in
+    let went_is : went_at d ≡ known = ap seen_by c.of-2.ensures in
+    let heard_is : heard_at d ≡ up_to_delay known = λ i. record { known = is i; went = went_is i } in
     let ys : List (ℕ × Answer) = c.refuse_held_up.new.replies.items in
     let zip : AllZip (IsHeldUp d n) (all_seen xs) ys = subst (λ l. AllZip (IsHeldUp d n) l ys) left_is R.replies in
     let may : MayNotWait (commit_requests_of xs) = subst (λ (b : Bool). AreAlike b (commit_requests_of xs)) (ap (λ o. o.no_slowdown) (first_flag (bound_of e.list) (clients_of e.list) xs S.led left c.index.result.now left_is c.index.ensures ∙ ap (λ (r : Request). r.options) (sym c.as_request.ensures)) ∙ no.0) S.led.slowdown in
@@ -245,7 +250,7 @@ returns-then-not-proceeds-clause-leadership g c hs st =
       path = subst (λ (h : Held _ _ _). LogCovers about.opened.value about.start about.clients about.group_bytes (seen_by_note c.note.result) h.path.log h.path.places st.published h.path.last h.path.made (hs ++ handled_with xs zs)) (sym c.deref_mut.ensures.value)
           (stands_by our_log as_is about.opened.value path.log path.places st.published path.last path.made tt tt about.start about.start about.clients about.clients about.group_bytes about.group_bytes known (seen_by_note c.note.result) (hs ++ handled_with xs zs) refl refl refl refl (sym (N.note.1 ∙ no.2))
           (noted_stands e.controller went our_log as_is about.opened.value path.log path.places st.published path.last path.made tt about.start about.clients about.group_bytes known hs xs ys zs with_notes
-          (stands_held_up our_log as_is about.opened.value path.log path.places st.published path.last path.made d n tt about.start about.clients about.group_bytes asked known hs xs ys zip is (ap (λ (h : Held _ _ _). h.path.made) c.deref.ensures) led (asked_is k was asked known xs n h about.group_bytes about.clients led S.leads) (asked_after k was asked known xs n h) no.1 may st.path)));
+          (stands_held_up our_log as_is about.opened.value path.log path.places st.published path.last path.made d n tt about.start about.clients about.group_bytes asked known hs xs ys zip heard_is (ap (λ (h : Held _ _ _). h.path.made) c.deref.ensures) led (asked_is k was asked known xs n h about.group_bytes about.clients led S.leads) (asked_after k was asked known xs n h) no.1 may st.path)));
     }
 
 pub refuse_held_up-requires-clause-room : goal.refuse_held_up-requires-clause-room
@@ -266,7 +271,7 @@ returns-then-not-proceeds-clause-staged g c =
     let L = v.lists.requests.list in let new : List (ℕ × Request) = c.ask-look.new.requests in
     let left : List (ℕ × Request) = take L.len (new ++ drop (length new) L.items) in
     let left_is : left ≡ all_seen xs = put_back xs new L.len L.ok.0 (c.ask-look.ensures.requests ∙ ap all_seen same) in
-    let d : Delay = record { pass = c.of.result; made = c.deref.result.now.path.made } in
+    let d : Delay = record { pass = c.of.result; went = c.of-2.result; made = c.deref.result.now.path.made } in
     let ys : List (ℕ × Answer) = c.refuse_held_up.new.replies.items in
     let zip : AllZip (IsHeldUp d n) (all_seen xs) ys = subst (λ l. AllZip (IsHeldUp d n) l ys) left_is c.refuse_held_up.ensures.replies in
     let went : List ControllerCall = seen_by c.note.new.pass in let room = c.refuse_held_up.new.replies in
@@ -304,18 +309,20 @@ returns-clause-served g c =
     let h : HasAskedFor k was asked xs n known = subst (λ (z : ℕ × List (ℕ × Request)). HasAskedFor z.0 was asked z.1 n known) (λ i. (q.pass_number i, same i)) A.asked in
     let left : List (ℕ × Request) = take L.len (new ++ drop (length new) L.items) in
     let left_is : left ≡ all_seen xs = put_back xs new L.len L.ok.0 (A.requests ∙ ap all_seen same) in
-    let d : Delay = record { pass = c.of.result; made = c.deref.result.now.path.made } in
+    let d : Delay = record { pass = c.of.result; went = c.of-3.result; made = c.deref.result.now.path.made } in
     let is : seen_at d ≡ known = ap seen_by c.of.ensures in
     let went : List ControllerCall = seen_by c.note.new.pass in let ys : List (ℕ × Answer) = c.log_phase-end.new.replies.items in let room = c.log_phase-end.new.replies in
     let noted : AllZip (IsNotedAs e.controller went) ys c.note_all-2.new.replies = subst (λ l. AllZip (IsNotedAs e.controller went) l c.note_all-2.new.replies) c.deref_mut-4.ensures.value c.note_all-2.ensures.replies in
     let zs : List (ℕ × Answer) = take room.len (c.note_all-2.new.replies ++ drop (length c.note_all-2.new.replies) ys) in
     let with_notes : AllZip (IsNotedAs e.controller went) ys zs = subst (AllZip (IsNotedAs e.controller went) ys) (sym (put_noted e.controller went ys c.note_all-2.new.replies room.len room.ok.0 noted)) noted in
     let later : Delay = c.log_phase-end.new.delay in
-    let later_is : seen_at later ≡ known = ap (λ (p : Snapshot Pass). seen_by p.value) H.delay ∙ is in
+    let later_is : seen_at later ≡ known = ap (λ (p : Snapshot Pass). seen_by p.value) H.delay.0 ∙ is in
+    let later_went : went_at later ≡ went = ap (λ (p : Snapshot Pass). seen_by p.value) H.delay.1 ∙ ap seen_by c.of-3.ensures in
     let own : client_of c.ask-look.new.pass ≡ k = A.pass.1 ∙ q.pass_number in
     let looks : OnlyLooks k known (seen_by c.note.new.pass) = subst (λ (z : ℕ × List ControllerCall). OnlyLooks z.0 known z.1) (λ i. (own i, sym N.seen i)) P.looks in
     let same_now : seen_by c.note_all-2.new.pass ≡ seen_by c.note.new.pass = c.note_all-2.ensures.pass.2 in
-    let begins : IsPrefix (seen_at later) went = subst (λ (l : List ControllerCall). IsPrefix l went) (sym later_is) looks.begins in
+    let begins : IsPrefix (seen_at later) (went_at later) = subst (λ (z : List ControllerCall × List ControllerCall). IsPrefix z.0 z.1) (λ i. (sym later_is i, sym later_went i)) looks.begins in
+    let shows : IsPrefix (went_at later) went = subst (IsPrefix (went_at later)) later_went (prefix_same (went_at later)) in
     let late : (x : ℕ × Request) → Saw h.before x → IsDelayed (noted_in x.1.note) (seen_at later) n = λ x saw. subst (λ (l : List ControllerCall). IsDelayed (noted_in x.1.note) l n) (sym later_is) (asked_shown k was asked known xs n h x saw) in
     record {
       seats = record {
@@ -343,7 +350,7 @@ returns-clause-served g c =
       walk_room = c.may_go_on-proceeds.ensures.leads.1;
       in_order = noted_order e.controller went xs ys zs with_notes (order_unnoted xs ys (subst (λ l. InOrder l ys) left_is H.replies.0));
       handed_back = noted_back e.controller went xs ys zs with_notes (back_unnoted xs ys (subst (λ l. AllByRecursion HandsBack (handled_with l ys)) left_is H.replies.1));
-      shown = replies_shown e.controller later went begins xs ys zs H.replies.2 with_notes (delayed_all h.before (seen_at later) n late xs h.members);
+      shown = replies_shown e.controller later went begins shows xs ys zs H.replies.2 with_notes (delayed_all h.before (seen_at later) n late xs h.members);
       taken = H.taken.0;
       requests_room = H.room.0;
       replies_room = H.room.3;
@@ -364,7 +371,7 @@ returns-clause-leadership g c hs st =
     let h : HasAskedFor k was asked xs n known = subst (λ (z : ℕ × List (ℕ × Request)). HasAskedFor z.0 was asked z.1 n known) (λ i. (q.pass_number i, same i)) A.asked in
     let left : List (ℕ × Request) = take L.len (new ++ drop (length new) L.items) in
     let left_is : left ≡ all_seen xs = put_back xs new L.len L.ok.0 (A.requests ∙ ap all_seen same) in
-    let d : Delay = record { pass = c.of.result; made = c.deref.result.now.path.made } in
+    let d : Delay = record { pass = c.of.result; went = c.of-3.result; made = c.deref.result.now.path.made } in
     let is : seen_at d ≡ known = ap seen_by c.of.ensures in
     let told : List ControllerCall = seen_by c.note.new.pass in let ys : List (ℕ × Answer) = c.log_phase-end.new.replies.items in let room = c.log_phase-end.new.replies in
     let noted : AllZip (IsNotedAs e.controller told) ys c.note_all-2.new.replies = subst (λ l. AllZip (IsNotedAs e.controller told) l c.note_all-2.new.replies) c.deref_mut-4.ensures.value c.note_all-2.ensures.replies in
@@ -375,11 +382,13 @@ returns-clause-leadership g c hs st =
     let comes : ComesAfter asked (seen_at d) = subst (ComesAfter asked) (sym is) (asked_after k was asked known xs n h) in
     let alike : commit_requests_of left ≡ commit_requests_of xs = ap commit_requests_of left_is ∙ unseen_commits xs in
     let is_for : IsAskedFor (commit_requests_of left) n (seen_at d) = subst (λ (z : List CommitRequest × List ControllerCall). IsAskedFor z.0 n z.1) (λ i. (sym alike i, sym is i)) (asked_is k was asked known xs n h (bound_of e.list) (clients_of e.list) S.led S.leads) in
-    let went : List ControllerCall = seen_by c.may_go_on-proceeds.new.pass in
+    let saw : List ControllerCall = seen_by c.may_go_on-proceeds.new.pass in
+    let went : List ControllerCall = went_at d in
+    let went_is : went ≡ saw = ap seen_by c.of-3.ensures ∙ N.seen in
     let own : client_of c.ask-look.new.pass ≡ k = A.pass.1 ∙ q.pass_number in
     let flag = ap (λ o. o.no_slowdown) (first_flag (bound_of e.list) (clients_of e.list) xs S.led left c.index.result.now left_is c.index.ensures ∙ ap (λ (r : Request). r.options) (sym c.as_request.ensures)) in
-    let lets : LetsProceed k n known went S.led.first.1.options.no_slowdown = subst (λ (z : ℕ × Bool). LetsProceed z.0 n known went z.1) (λ i. (own i, sym flag i)) (P.proceeds c.if-not-proceeds.false) in
-    let on : ProceedsWith (commit_requests_of left) n (seen_at d) went = subst (λ (z : List CommitRequest × List ControllerCall). ProceedsWith z.0 n z.1 went) (λ i. (sym alike i, sym is i)) (proceeds k n known went (bound_of e.list) (clients_of e.list) xs S.led S.leads P.looks.begins lets) in
+    let lets : LetsProceed k n known saw S.led.first.1.options.no_slowdown = subst (λ (z : ℕ × Bool). LetsProceed z.0 n known saw z.1) (λ i. (own i, sym flag i)) (P.proceeds c.if-not-proceeds.false) in
+    let on : ProceedsWith (commit_requests_of left) n (seen_at d) went = subst (λ (z : List CommitRequest × List ControllerCall × List ControllerCall). ProceedsWith z.0 n z.1 z.2) (λ i. (sym alike i, sym is i, sym went_is i)) (proceeds k n known saw (bound_of e.list) (clients_of e.list) xs S.led S.leads P.looks.begins lets) in
     let clients_are : about.clients ≡ many = E.about_clients ∙ sym S.layout.clear.3 in
     let before : LogCovers about.opened.value about.start many about.group_bytes asked path.log path.places st.published path.last path.made hs = stands_by our_log as_is about.opened.value path.log path.places st.published path.last path.made tt tt about.start about.start about.clients many about.group_bytes about.group_bytes asked asked hs refl refl clients_are refl refl st.path in
     let p = c.log_phase-end.new.path in
@@ -394,14 +403,67 @@ returns-clause-leadership g c hs st =
     } in
     let goes_on : GoesOnWith about.group_bytes many asked left (seen_at d) went = record { led = led; numbers = n; comes_after = comes; asked_for = is_for; proceeds = on } in
     let path_is = ap (λ (h : Held _ _ _). h.path) c.deref_mut-3.ensures.value ∙ ap (λ (h : Held _ _ _). h.path) c.deref_mut.ensures.value in
-    let after = H.path past went goes_on (subst (λ (p : LogPath _ _). LogCovers about.opened.value about.start many about.group_bytes asked p.log p.places st.published p.last p.made hs) (sym path_is) before) in
+    let after = H.path past goes_on (subst (λ (p : LogPath _ _). LogCovers about.opened.value about.start many about.group_bytes asked p.log p.places st.published p.last p.made hs) (sym path_is) before) in
     let unnoted = subst (λ l. LogCovers about.opened.value about.start many about.group_bytes went p.log p.places now p.last p.made (hs ++ handled_with l ys)) left_is after in
     let as_was = noted_stands e.controller told our_log as_is about.opened.value p.log p.places now p.last p.made tt about.start many about.group_bytes went hs xs ys zs with_notes
     (stands_noted our_log as_is about.opened.value p.log p.places now p.last p.made tt about.start many about.group_bytes went hs xs ys unnoted) in
     record {
       note = subst (λ ctl. IsNoteOf ctl c.note.result) (sym E.controller) N.note.0;
-      path = stands_by our_log as_is about.opened.value p.log p.places now p.last p.made tt tt about.start about.start many about.clients about.group_bytes about.group_bytes went (seen_by_note c.note.result) (hs ++ handled_with xs zs) refl refl (sym clients_are) refl (sym N.note.1) as_was;
+      path = stands_by our_log as_is about.opened.value p.log p.places now p.last p.made tt tt about.start about.start many about.clients about.group_bytes about.group_bytes went (seen_by_note c.note.result) (hs ++ handled_with xs zs) refl refl (sym clients_are) refl (went_is ∙ sym N.note.1) as_was;
       turn = st.turn;
+    }
+
+pub returns-clause-waited : goal.returns-clause-waited
+returns-clause-waited g c =
+    let S = c.requires.served in let q = S.seats in let e = c.args.self.now in let v = c.args.client.now in
+    let xs : List (ℕ × Request) = v.lists.requests.list.items in let k : ℕ = v.number in let was : List ControllerCall = seen_by v.pass in
+    let asked : List ControllerCall = seen_by_note c.args.leadership.asked in
+    let A = c.ask-look.ensures in let P = c.may_go_on-proceeds.ensures in let N = c.note.ensures in
+    let n : Look = look_of c.ask-look.result in let known : List ControllerCall = seen_by c.ask-look.new.pass in
+    let L = v.lists.requests.list in let new : List (ℕ × Request) = c.ask-look.new.requests in let same = c.deref_mut-2.ensures.value in
+    let h : HasAskedFor k was asked xs n known = subst (λ (z : ℕ × List (ℕ × Request)). HasAskedFor z.0 was asked z.1 n known) (λ i. (q.pass_number i, same i)) A.asked in
+    let left : List (ℕ × Request) = take L.len (new ++ drop (length new) L.items) in
+    let left_is : left ≡ all_seen xs = put_back xs new L.len L.ok.0 (A.requests ∙ ap all_seen same) in
+    let flag = ap (λ o. o.no_slowdown) (first_flag (bound_of e.list) (clients_of e.list) xs S.led left c.index.result.now left_is c.index.ensures ∙ ap (λ (r : Request). r.options) (sym c.as_request.ensures)) in
+    let first_alike : AreAlike false (commit_requests_of xs) → S.led.first.1.options.no_slowdown ≡ false = λ alike. (subst (λ (l : List (ℕ × Request)). AreAlike false (commit_requests_of l)) S.led.leads alike).0 in
+    let own : client_of c.ask-look.new.pass ≡ k = A.pass.1 ∙ q.pass_number in
+    let looks : OnlyLooks k known (seen_by c.note.new.pass) = subst (λ (z : ℕ × List ControllerCall). OnlyLooks z.0 known z.1) (λ i. (own i, sym N.seen i)) P.looks in
+    let same_now : seen_by c.note_all-2.new.pass ≡ seen_by c.note.new.pass = c.note_all-2.ensures.pass.2 in
+    let clock_was : g.Time.Clock.paused c.ask-look.new.clock ≡ g.Time.Clock.paused c.args.leadership.held.value.clock = A.pauses_none ∙ ap (λ (h : Held _ _ _). g.Time.Clock.paused h.clock) c.deref_mut.ensures.value in
+    let clock_is : g.Time.Clock.paused c.may_go_on-proceeds.new.clock ≡ g.Time.Clock.paused c.deref_mut-3.result.now.clock = sym (ap (λ (h : Held _ _ _). g.Time.Clock.paused h.clock) c.deref_mut-3.ensures.value) in
+    record {
+      known = known;
+      numbers = n;
+      begins = subst (IsPrefix known) (sym same_now) looks.begins;
+      delayed = (h.before, h.now, _, h.is);
+      earlier = delays_of k was;
+      newest = ap (delays_of k) same_now ∙ (looks.delays ∙ asked_delays k was asked known xs n h);
+      waited = λ alike. subst (λ (z : ℕ × ℕ). HasPaused z.0 n.wait z.1) (λ i. (clock_was i, clock_is i)) (P.waited (sym flag ∙ first_alike alike));
+    }
+
+pub returns-then-not-proceeds-clause-waited : goal.returns-then-not-proceeds-clause-waited
+returns-then-not-proceeds-clause-waited g c =
+    let S = c.requires.served in let q = S.seats in let e = c.args.self.now in let v = c.args.client.now in
+    let xs : List (ℕ × Request) = v.lists.requests.list.items in let k : ℕ = v.number in let was : List ControllerCall = seen_by v.pass in
+    let asked : List ControllerCall = seen_by_note c.args.leadership.asked in
+    let A = c.ask-look.ensures in let P = c.may_go_on-proceeds.ensures in let N = c.note.ensures in
+    let n : Look = look_of c.ask-look.result in let known : List ControllerCall = seen_by c.ask-look.new.pass in
+    let L = v.lists.requests.list in let new : List (ℕ × Request) = c.ask-look.new.requests in let same = c.deref_mut-2.ensures.value in
+    let h : HasAskedFor k was asked xs n known = subst (λ (z : ℕ × List (ℕ × Request)). HasAskedFor z.0 was asked z.1 n known) (λ i. (q.pass_number i, same i)) A.asked in
+    let left : List (ℕ × Request) = take L.len (new ++ drop (length new) L.items) in
+    let left_is : left ≡ all_seen xs = put_back xs new L.len L.ok.0 (A.requests ∙ ap all_seen same) in
+    let flag = ap (λ o. o.no_slowdown) (first_flag (bound_of e.list) (clients_of e.list) xs S.led left c.index.result.now left_is c.index.ensures ∙ ap (λ (r : Request). r.options) (sym c.as_request.ensures)) in
+    let first_alike : AreAlike false (commit_requests_of xs) → S.led.first.1.options.no_slowdown ≡ false = λ alike. (subst (λ (l : List (ℕ × Request)). AreAlike false (commit_requests_of l)) S.led.leads alike).0 in
+    let no = P.refused c.if-not-proceeds.true in
+    let same_now : seen_by c.note_all.new.pass ≡ known = c.note_all.ensures.pass.2 ∙ (N.seen ∙ no.2) in
+    record {
+      known = known;
+      numbers = n;
+      begins = subst (IsPrefix known) (sym same_now) (prefix_same known);
+      delayed = (h.before, h.now, _, h.is);
+      earlier = delays_of k was;
+      newest = ap (delays_of k) same_now ∙ asked_delays k was asked known xs n h;
+      waited = λ alike. (let may = sym flag ∙ first_alike alike in let hasty = no.0 in absurd (cc (may, hasty)));
     }
 
 pub returns-clause-beside : goal.returns-clause-beside
