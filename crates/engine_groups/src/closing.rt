@@ -119,7 +119,6 @@ impl<
             alloc: _,
             families: _,
             batch_bytes: _,
-            yields: _,
         } = self;
         let Clients {
             mut clients,

@@ -1,7 +1,6 @@
 //! The engine and its clients.
 
 use crate::leader::{Leadership, Right};
-use base_waiting::Bell;
 use engine_controller::{Controller, Others, Pass};
 use engine_parts::{Envelope, Layout, SealedAnswer, SealedRequest};
 use line_writers::{Lists, Writer, WriterList};
@@ -26,8 +25,6 @@ pub struct GroupEngine<Log: GroupLog, Versions: Table<Nodes, Parts>, Time, Watch
     /// There are the column families with the numbers below this one.
     pub(crate) families: u32,
     pub(crate) batch_bytes: u64,
-    /// It learns whether yields are slow that a leader makes before its group is synced. Nobody sleeps on it.
-    pub(crate) yields: Bell,
 }
 
 /// A client of the engine.

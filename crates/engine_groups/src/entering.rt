@@ -14,7 +14,6 @@ ghost use Rattle.engine_groups.specs.Law.{law_in};
 
 use crate::engine::{EngineClient, GroupEngine};
 use base_devices::Clock;
-use crossbeam_utils::Backoff;
 use engine_calls::Gate;
 use engine_parts::{SealedAnswer, SealedRequest, turn_away_if_stalled};
 use log_writer::GroupLog;
@@ -63,7 +62,7 @@ impl<
             list.link(rt, &mut client.writer, item, request);
             return Ok(());
         }
-        let backoff = Backoff::new();
+        let pauses = list.pauses();
         // The request is in no list, and its note shows all that the client has seen.
         for _ in rt.forever() {
             let Err(back) = list.try_link(rt, &mut client.writer, item, request) else {
@@ -74,7 +73,7 @@ impl<
                 Err(back) => request = back,
             }
             request.put_note(controller.note(&mut client.pass));
-            backoff.snooze();
+            pauses.retry(rt);
         }
         unreachable!()
     }

@@ -21,7 +21,6 @@ use crate::engine::{ClosingRoom, EngineClient, GroupEngine};
 use crate::laws;
 use crate::leader::{EngineAtOpening, Held, Leadership, Right, one_turn};
 use base_devices::Clock;
-use base_waiting::Bell;
 use engine_calls::{Clients, Gate};
 use engine_controller::{Controller, Note, Pass, Passes};
 use engine_parts::{Envelope, Layout, LogPath, OpenLog, SealedAnswer, SealedRequest};
@@ -335,7 +334,6 @@ impl<
                     alloc,
                     families: options.families,
                     batch_bytes: options.batch_bytes,
-                    yields: Bell::new(),
                 };
                 engine.gate.opened(engine.table.locks());
                 let clients = engine.seat_all(

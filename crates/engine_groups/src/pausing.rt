@@ -5,7 +5,7 @@ ghost use Rattle.line_writers.specs.Seats.{Belongs, IsUnchanged};
 use crate::engine::GroupEngine;
 use crate::leader::{Leadership, Right};
 use base_devices::Clock;
-use base_waiting::{Bell, Pauses};
+use base_waiting::Pauses;
 use engine_calls::Gate;
 use engine_parts::{SealedAnswer, SealedRequest};
 use line_writers::Writer;
@@ -18,27 +18,15 @@ use table_nodes::{Nodes, Parts};
 /// How many times a leader yields before it closes a group that must be synced.
 const YIELDS: u32 = 5;
 
-/// How many pauses of a wait on a bell go up to its first yield; the others spin.
-const PAUSES_TO_YIELD: u32 = 8;
-
 /// How many times at most a leader pauses while groups before its own are on their way into the table.
 const PAUSES_BEHIND: u32 = 30;
 
 /// Spins and yields `YIELDS` times. Where other programs want the processors a yield may take as long as many syncs:
-/// then the bell learns so, and there are no yields for a while.
-fn pause_for_sync<R: Wait + rt::Clock>(rt: &R, yields: &Bell) {
+/// then all that wait in the line know of it, and there are no yields for a while.
+fn pause_for_sync<R: Wait + rt::Clock>(rt: &R, pauses: &Pauses<'_>) {
     // A pause changes nothing.
     for _ in 0..YIELDS {
-        spin_and_yield(rt, yields);
-    }
-}
-
-/// Spins, and yields where yields are quick, as far as the bell has learned.
-fn spin_and_yield<R: Wait + rt::Clock>(rt: &R, yields: &Bell) {
-    let pauses = Pauses::new();
-    // A pause changes nothing.
-    for _ in 0..PAUSES_TO_YIELD {
-        yields.pause(rt, &pauses);
+        pauses.spin_and_yield(rt);
     }
 }
 
@@ -68,7 +56,8 @@ impl<
         ensures { IsUnchanged writer.new writer.old }
     {
         if sync {
-            pause_for_sync(rt, &self.yields);
+            let pauses = self.list.pauses();
+            pause_for_sync(rt, &pauses);
         }
         if staged {
             self.pause_behind(rt, writer);
@@ -89,12 +78,13 @@ impl<
         requires { Belongs self.now.list writer.old }
         ensures { IsUnchanged writer.new writer.old }
     {
+        let pauses = self.list.pauses();
         // A look changes nothing: the writer is where it was.
         for _ in 0..PAUSES_BEHIND {
             if !self.list.has_groups(writer) {
                 return;
             }
-            spin_and_yield(rt, &self.yields);
+            pauses.spin_and_yield(rt);
         }
     }
 }

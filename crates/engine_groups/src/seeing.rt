@@ -9,7 +9,7 @@ ghost use Rattle.engine_parts.specs.Runs.{IsAbove};
 
 use crate::engine::{EngineClient, GroupEngine};
 use base_devices::Clock;
-use crossbeam_utils::Backoff;
+use base_waiting::Pauses;
 use engine_calls::{Gate, Receipt, Refused};
 use engine_controller::Note;
 use log_writer::GroupLog;
@@ -28,18 +28,18 @@ use table_nodes::{Nodes, Parts};
 /// that answer.
 pub(crate) fn await_above<R: Wait + rt::Clock>(
     rt: &R,
+    pauses: &Pauses<'_>,
     shown: u64,
     answer: &Result<Receipt, Refused>,
 )
     ensures { IsAbove shown answer.now }
 {
-    let backoff = Backoff::new();
     // A pause changes neither `shown` nor the answer.
     for _ in rt.forever() {
         if is_above(shown, answer) {
             return;
         }
-        backoff.snooze();
+        pauses.retry(rt);
     }
     unreachable!()
 }

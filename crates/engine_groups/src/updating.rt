@@ -23,7 +23,6 @@ use crate::engine::{EngineClient, GroupEngine};
 use crate::laws;
 use crate::leader::{Leadership, Right};
 use base_devices::Clock;
-use crossbeam_utils::Backoff;
 use engine_calls::{Gate, Since, SinceRefused};
 use engine_parts::{Answer, Delay, Request, SealedAnswer, SealedRequest, read_phase};
 use line_writers::{Role, Writer};
@@ -160,10 +159,10 @@ impl<
         match self.await_own_role(rt, writer, seat) {
             Role::LogLeader(leadership) => leadership,
             Role::Done(_) => {
-                let backoff = Backoff::new();
+                let pauses = self.list.pauses();
                 // A pause changes nothing.
                 for _ in rt.forever() {
-                    backoff.snooze();
+                    pauses.retry(rt);
                 }
                 unreachable!()
             }
@@ -261,14 +260,14 @@ impl<
         ensures end { result ≡ last_of (Versions.opening self.now.table).start (Versions.account seat.new).seen }
         ensures low { result ≤ last }
     {
-        let backoff = Backoff::new();
+        let pauses = self.list.pauses();
         // The seat has seen no less.
         for _ in rt.forever() {
             let at = self.table.last(seat);
             if at <= last {
                 return at;
             }
-            backoff.snooze();
+            pauses.retry(rt);
         }
         unreachable!()
     }

@@ -127,7 +127,8 @@ impl<
             note,
             read: _,
         } = told;
-        await_above(rt, shown, &answer);
+        let pauses = self.list.pauses();
+        await_above(rt, &pauses, shown, &answer);
         // The client gets its answer only once its own reads see the whole group.
         self.see(rt, client, &answer, note);
         answer

@@ -7,7 +7,6 @@ use denote.Param.Send.{IsSend, IsSync, AllSend, AllSync, struct_send, struct_syn
 use Rattle.std.proofs.Crossing.{crosses, Vec-send}
 use Rattle.std.specs.contracts.result.Result as result_row
 use Rattle.std.proofs.alloc.Global.TheSendSync as heap
-use Rattle.base_waiting.proofs.bell.Bell.TheSendSync as bell
 use Rattle.log_writer.specs.declared.group_log.GroupLog.{Ghosts}
 use Rattle.engine_calls.proofs.answers.Receipt.TheSendSync as receipt
 use Rattle.engine_calls.proofs.answers.Refused.TheSendSync as refused
@@ -119,5 +118,5 @@ module _ (D C G : RattleType) (ghosts : Ghosts (RattleType.Denot D)) (log_send :
   pub engine_sync : IsSync G → IsSync (engine.the_row D table.the_row C G S U nodes.the_row ghosts table_ghosts.ghosts)
   engine_sync gate_sync =
       let K = engine.the_type D table.the_row C G S U nodes.the_row ghosts table_ghosts.ghosts in
-      let all : AllSync (fields K) = (list.the_field_sync sealed_request.the_row sealed_answer.the_row H M (about_row.the_row D table.the_row C ghosts) itemized.ghosts given.ghosts (ledger.ghosts D table.the_row C S U nodes.the_row ghosts ledger.no_dict table_ghosts.ghosts ledger.no_dict) sealed_request_send sealed_answer_send leader_send right_send, (table_sync, (controller.the_field_sync C, (gate_sync, (heap.the_field_sync, (search sendable, (search sendable, (bell.the_field_sync, tt)))))))) in
+      let all : AllSync (fields K) = (list.the_field_sync sealed_request.the_row sealed_answer.the_row H M (about_row.the_row D table.the_row C ghosts) itemized.ghosts given.ghosts (ledger.ghosts D table.the_row C S U nodes.the_row ghosts ledger.no_dict table_ghosts.ghosts ledger.no_dict) sealed_request_send sealed_answer_send leader_send right_send, (table_sync, (controller.the_field_sync C, (gate_sync, (heap.the_field_sync, (search sendable, (search sendable, tt))))))) in
       recorded_sync (engine.the_field D table.the_row C G S U nodes.the_row ghosts table_ghosts.ghosts).row K.D K.to K.to_one (struct_sync (shape K) all)

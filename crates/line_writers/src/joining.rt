@@ -19,7 +19,6 @@ ghost use Rattle.line_writers.specs.Groups.{Queue, Answers, Members, all_handled
 use crate::line_writers::WriterList;
 use crate::room::{Replies, Room};
 use crate::writer::{Task, Writer};
-use crossbeam_utils::Backoff;
 use line_rule::{
     AimSecond, GivesRun, HasGroupingItem, JoinSecond, LogOfGroups, Older, PickedGiven, PickedRight,
     ReadNewest, ReadOlder, older_word,
@@ -197,7 +196,7 @@ impl<
             mine g writer.old.seat.me writer.new.seat.me }
     {
         let shared = &self.table.shared;
-        let backoff = Backoff::new();
+        let pauses = self.pauses();
         // Until the exchange succeeds, the group is cut off from the first list, and not in the second.
         for _ in rt.forever() {
             let older = shared.load::<ReadNewest>(&mut writer.seat, 1);
@@ -206,7 +205,7 @@ impl<
             if found == older {
                 return older == 0;
             }
-            backoff.snooze();
+            pauses.retry(rt);
         }
         unreachable!()
     }

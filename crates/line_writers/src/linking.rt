@@ -12,8 +12,6 @@ ghost use Rattle.line_writers.specs.Groups.{Answers};
 
 use crate::line_writers::WriterList;
 use crate::writer::{Task, Writer};
-use base_waiting::Pauses;
-use crossbeam_utils::Backoff;
 use line_rule::{
     Begin, GivesRun, HasGroupingItem, LineSlot, Link, LogOfGroups, NameOlder, Older, PickedAbout,
     ReadNewest, STALL, STATE_IN_LIST, Withdraw, code_of, older_word, state_word,
@@ -57,14 +55,14 @@ impl<
             × IsIn (law_of Reply.run_of Log.LogOfGroups self.now) request (answers_told writer.old) writer.new }
     {
         self.enter(writer, request);
-        let backoff = Backoff::new();
-        let pauses = Pauses::new();
+        let missed = self.pauses();
+        let stalled = self.pauses();
         // Until a try links the writer, the request is in its slot, and no other client sees the writer.
         for _ in rt.forever() {
             match self.poll_link(writer, item) {
                 Linking::Linked => return,
-                Linking::Missed => backoff.snooze(),
-                Linking::Stalled => self.bells.pause(rt, &pauses, writer.client as u64),
+                Linking::Missed => missed.retry(rt),
+                Linking::Stalled => self.bells.pause(rt, &stalled, writer.client as u64),
             }
         }
         unreachable!()
@@ -89,12 +87,12 @@ impl<
             × (answers_told writer.new ≡ answers_told writer.old)) }
     {
         self.enter(writer, request);
-        let backoff = Backoff::new();
+        let missed = self.pauses();
         // Until a try links the writer, the request is in its slot, and no other client sees the writer.
         for _ in rt.forever() {
             match self.poll_link(writer, item) {
                 Linking::Linked => return Ok(()),
-                Linking::Missed => backoff.snooze(),
+                Linking::Missed => missed.retry(rt),
                 Linking::Stalled => return Err(self.withdraw(writer)),
             }
         }

@@ -8,7 +8,6 @@ ghost use Rattle.line_writers.specs.Groups.{Handled, Answers};
 
 use crate::line_writers::WriterList;
 use crate::writer::{Task, Writer};
-use base_waiting::Pauses;
 use line_rule::{GivesRun, HasGroupingItem, LogOfGroups, ReadNewest};
 use std::marker::Brand;
 use std::rt;
@@ -60,7 +59,7 @@ impl<
             → IsSent (Log.serves (about_of self.now)) (clients_of self.now) d from to mine writer.old
             → GetsRight (Log.serves (about_of self.now)) (clients_of self.now) d from to mine result writer.new }
     {
-        let pauses = Pauses::new();
+        let pauses = self.pauses();
         // Until a look shows a role, the writer is as it was.
         for _ in rt.forever() {
             if let Some(role) = self.poll_pipelined_role(writer) {

@@ -20,7 +20,6 @@ ghost use Rattle.line_writers.specs.Stalled.{NoneHasty, ListsRest, EndsWith, End
 use crate::line_writers::WriterList;
 use crate::room::{Requests, Room};
 use crate::writer::Writer;
-use crossbeam_utils::Backoff;
 use line_rule::{
     AimStall, Dismiss, GiveBack, GivesRun, HasGroupingItem, Hold, LineSlot, LogOfGroups, Older,
     PassBy, PassFirst, PickedAbout, PutStall, ReadNewest, Resume, STALL, STATE_DONE, item_of,
@@ -211,7 +210,7 @@ impl<
             → Stops (table_of self.now).slots result writer.old.client lead mine writer.old.seat.me writer.new.seat.me }
     {
         let shared = &self.table.shared;
-        let backoff = Backoff::new();
+        let pauses = self.pauses();
         // Until the exchange succeeds the leader leads as before, and others link.
         for _ in rt.forever() {
             let newest = shared.load::<ReadNewest>(&mut writer.seat, 0);
@@ -224,7 +223,7 @@ impl<
             if found == newest {
                 return newest;
             }
-            backoff.snooze();
+            pauses.retry(rt);
         }
         unreachable!()
     }

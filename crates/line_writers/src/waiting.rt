@@ -29,6 +29,11 @@ impl<
     Log: LogOfGroups<Request, Reply, Right>,
     Right,
 > WriterList<Request, Reply, Log, Right> {
+    /// The pauses of a wait that begins. What one wait in the list learns of yields all others know.
+    pub fn pauses(&self) -> Pauses<'_> {
+        self.bells.pauses()
+    }
+
     /// Waits until the writer, which is in the list, either leads, or has its request done, or has left the queue with
     /// a reply while writes were stalled.
     pub fn await_role<R: Wait + rt::Clock>(
@@ -103,7 +108,7 @@ impl<
             writer.old.client writer.new.task q mine result writer.new.seat.me }
         ensures parallel { result ≡ Parallel → writer.new.task ≡ Helps }
     {
-        let pauses = Pauses::new();
+        let pauses = self.pauses();
         // Until a look shows a role, the writer is as it was.
         for _ in rt.forever() {
             if let Some(role) = self.poll_from::<About>(writer) {
@@ -173,7 +178,7 @@ impl<
             → At writer.old.client (Helping q) mine writer.old.seat.me → writer.old.seat.me.1 ≡ []
             → HasReply (kept_picked Log.kept About.about) writer.old.client q mine result writer.new.seat.me }
     {
-        let pauses = Pauses::new();
+        let pauses = self.pauses();
         // Until a look shows the reply, the member is as it was.
         for _ in rt.forever() {
             if let Some(reply) = self.poll_reply::<About>(writer) {

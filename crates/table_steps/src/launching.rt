@@ -9,7 +9,6 @@ ghost use Rattle.table_rule.specs.Steps.{IsAt, IsNext, stage_after_launch, launc
 
 use crate::shared::{Client, SharedTable};
 use atomic_table::Seat;
-use base_waiting::Pauses;
 use std::marker::Brand;
 use std::rt;
 use std::sync::Wait;
@@ -154,7 +153,7 @@ impl<ShardTree: VersionTree<NodeList::Node>, NodeList: VersionNodes> SharedTable
             → IsAt 0 self.now.table.shared.key seen Free (Handing g []) turn.old.seat.me
             → IsAt 0 self.now.table.shared.key (seen ++ g ∷ []) Free Resting turn.new.seat.me }
     {
-        let pauses = Pauses::new();
+        let pauses = self.handed.pauses();
         // No look so far has found the group published.
         for _ in rt.forever() {
             if self.is_published(turn, last) {

@@ -15,7 +15,6 @@ ghost use Rattle.table_steps.specs.Accounts.{account, opening_of, IsOurs};
 
 use crate::seat::TableSeat;
 use crate::shared::{Client, SharedTable};
-use base_waiting::Pauses;
 use std::rt;
 use std::sync::Wait;
 use table_calls::{Finished, VersionNodes, VersionTree};
@@ -104,7 +103,7 @@ impl<ShardTree: VersionTree<NodeList::Node> + Drop, NodeList: VersionNodes + Dro
         ensures taken { Takes (opening_of table.now) (account self.old) (NodeList.versions result)
             (account self.new) }
     {
-        let pauses = Pauses::new();
+        let pauses = table.handed.pauses();
         // The seat is as it was: nothing has been handed out yet.
         for _ in rt.forever() {
             if let Some(nodes) = self.try_take(table) {

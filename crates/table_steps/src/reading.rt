@@ -10,8 +10,6 @@ ghost use Rattle.table_steps.specs.Accounts.{account, opening_of, IsOurs};
 use crate::seat::TableSeat;
 use crate::shared::SharedTable;
 use base_bytes::{Bytes, Found, Rows};
-use base_waiting::Pauses;
-use crossbeam_utils::Backoff;
 use model_base::NoMemory;
 use std::alloc::Global;
 use std::rt;
@@ -64,7 +62,7 @@ impl<ShardTree: VersionTree<NodeList::Node> + Drop, NodeList: VersionNodes + Dro
         ensures seen { Learns (opening_of table.now).start (account self.old) (account self.new) }
         ensures reached { at_least ≤ last_of (opening_of table.now).start (account self.new).seen }
     {
-        let pauses = Pauses::new();
+        let pauses = table.handed.pauses();
         // If anything has changed, the client has seen more of what is published.
         for _ in rt.forever() {
             let found = self.last(table);
@@ -98,13 +96,13 @@ impl<ShardTree: VersionTree<NodeList::Node> + Drop, NodeList: VersionNodes + Dro
             (standing (opening_of table.now).base (account self.old).seen)))
             (record { family = family; bytes = key.now })) }
     {
-        let backoff = Backoff::new();
+        let pauses = table.handed.pauses();
         // Somebody had the shard's lock at each try so far, and the seat is as it was.
         for _ in rt.forever() {
             if let Some(found) = self.try_find(table, alloc, shard, family, key, at) {
                 return found;
             }
-            backoff.snooze();
+            pauses.retry(rt);
         }
         unreachable!()
     }
@@ -162,13 +160,13 @@ impl<ShardTree: VersionTree<NodeList::Node> + Drop, NodeList: VersionNodes + Dro
             (map_of (of_shard (opening_of table.now).shards shard
             (standing (opening_of table.now).base (account self.old).seen)))) }
     {
-        let backoff = Backoff::new();
+        let pauses = table.handed.pauses();
         // Somebody had the shard's lock at each try so far, and the seat is as it was.
         for _ in rt.forever() {
             if let Some(rows) = self.try_find_rows(table, alloc, shard, family, lo, hi, at) {
                 return rows;
             }
-            backoff.snooze();
+            pauses.retry(rt);
         }
         unreachable!()
     }

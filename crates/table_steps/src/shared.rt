@@ -13,7 +13,6 @@ ghost use Rattle.table_steps.specs.Sizes.{sizes_of};
 use crate::sizes::Sizes;
 use atomic_table::{Seat, Table};
 use base_waiting::{Bell, Bells};
-use crossbeam_utils::Backoff;
 use std::alloc::Global;
 use std::rt;
 use std::sync::Wait;
@@ -25,7 +24,8 @@ use table_rule::{Content, LockShard, Opening, TableLaw, TableView, UnlockShard, 
 pub struct SharedTable<ShardTree: Versioned, NodeList: Versioned> {
     pub(crate) table: Table<Content<ShardTree, NodeList>, TableView, Opening, TableLaw, Global>,
     pub(crate) sizes: Sizes,
-    /// The bells on which members sleep until their nodes are handed out.
+    /// The bells on which members sleep until their nodes are handed out, with what is known of yields where threads
+    /// wait for the table.
     pub(crate) handed: Bells,
     /// The bell on which clients sleep until a group is published.
     pub(crate) published: Bell,
@@ -45,7 +45,7 @@ impl<ShardTree: VersionTree<NodeList::Node>, NodeList: VersionNodes> SharedTable
     ShardTree,
     NodeList,
 > {
-    /// Waits for a shard's lock, and takes its tree. It spins a few turns, and then yields.
+    /// Waits for a shard's lock, and takes its tree. It spins a few turns, and then yields or sleeps.
     pub(crate) fn lock<R: Wait + rt::Clock>(
         &self,
         rt: &R,
@@ -62,13 +62,13 @@ impl<ShardTree: VersionTree<NodeList::Node>, NodeList: VersionNodes> SharedTable
             → Locked who.old.number self.now.table.shared.key shard seen stage
             (ShardTree.versions result) who.old.seat.me who.new.seat.me }
     {
-        let backoff = Backoff::new();
+        let pauses = self.handed.pauses();
         // Somebody had the lock at each try so far, and the seat is as it was.
         for _ in rt.forever() {
             if let Some(tree) = self.try_lock(who, shard) {
                 return tree;
             }
-            backoff.snooze();
+            pauses.retry(rt);
         }
         unreachable!()
     }

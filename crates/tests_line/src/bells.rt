@@ -1,6 +1,6 @@
 //! Bells that nobody rings, and a bell that another thread rings.
 
-use base_waiting::{Bells, Pauses};
+use base_waiting::Bells;
 use std::sync::Wait;
 use std::sync::atomic::AtomicU64;
 use std::sync::atomic::Ordering::SeqCst;
@@ -13,7 +13,7 @@ fn change(bells: &Bells, changed: &AtomicU64) {
 }
 
 fn await_change<R: Wait + rt::Clock>(rt: &R, bells: &Bells, changed: &AtomicU64) {
-    let pauses = Pauses::new();
+    let pauses = bells.pauses();
     for _ in rt.forever() {
         if changed.load(SeqCst) == 1 {
             return;
@@ -26,7 +26,7 @@ fn await_change<R: Wait + rt::Clock>(rt: &R, bells: &Bells, changed: &AtomicU64)
 #[test]
 fn nobody_rings(rt: HostRuntime) -> Result<(), Fail> {
     let bells = Bells::for_clients(rt.alloc(), 2)?;
-    let pauses = Pauses::new();
+    let pauses = bells.pauses();
     for turn in 0..20 {
         bells.pause(&rt, &pauses, 2);
     }
