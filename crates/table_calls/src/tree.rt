@@ -39,7 +39,7 @@ pub trait VersionTree<Node: VersionNode>: Versioned {
     fn new() -> Self
         ensures { Self.versions result ≡ [] };
 
-    /// Puts in a node whose sequence no other version of its key has. This takes no memory.
+    /// Puts in a node whose sequence no other version of its key has. It never fails, also where there is no memory.
     fn insert(&mut self, node: Node)
         requires { (v : Version) → In v (Self.versions self.old) → v.key ≡ (Node.version node).key
             → v.sequence ≢ (Node.version node).sequence }

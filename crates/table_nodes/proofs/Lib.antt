@@ -2,3 +2,4 @@ pub mod Chains
 pub mod Numbering
 pub mod Members
 pub mod Seen
+pub mod Forests

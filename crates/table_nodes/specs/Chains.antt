@@ -1,6 +1,6 @@
 -- The versions of keys in chains, one chain for each key: first its newest version, then the older ones, the newer
 -- first.
-use Rattle.std.specs.Prelude.{◌≡◌, nat_le, List, [], ◌∷◌, ◌++◌, if◌then◌else◌}
+use Rattle.std.specs.Prelude.{◌≡◌, ◌<◌, nat_le, List, [], ◌∷◌, ◌++◌, if◌then◌else◌}
 use Rattle.std.specs.List.{AllByRecursion}
 use Rattle.std.specs.List.Sorted.{IsStrictlySortedBy}
 use Rattle.std.specs.Ordering.{match_ordering}
@@ -26,6 +26,15 @@ versions_of (chain ∷ chains) = chain.newest ∷ (chain.older ++ versions_of ch
 
 abbrev pub HasOneKey : Chain → Type 0
 HasOneKey chain = AllByRecursion (λ (v : Version). v.key ≡ key_of chain) chain.older
+
+-- each version is newer than all later ones
+abbrev pub Falls : List Version → Type 0
+Falls [] = Unit {0}
+Falls (v ∷ versions) = AllByRecursion (λ (w : Version). w.sequence < v.sequence) versions × Falls versions
+
+-- the older versions of each chain, the newer first
+abbrev pub AreFalling : List Chain → Type 0
+AreFalling chains = AllByRecursion (λ (chain : Chain). Falls chain.older) chains
 
 -- chains in the order of their keys
 abbrev pub chain_order : Chain → Chain → Ordering

@@ -1,5 +1,5 @@
 -- The newest version of a key up to a sequence.
-use Rattle.std.specs.Prelude.{ℕ, Bool, nat_le, nat_lt, ◌&&◌, List, [], ◌∷◌, Option, Some, None, if◌then◌else◌}
+use Rattle.std.specs.Prelude.{ℕ, Bool, nat_le, nat_lt, ◌&&◌, List, [], ◌∷◌, fold, Option, Some, None, if◌then◌else◌}
 use Rattle.std.specs.BTreeMap.{is_at}
 use Rattle.model_base.specs.declared.key.Key.{Key}
 use Rattle.model_base.specs.Map.{key_order}
@@ -27,3 +27,7 @@ newer_of (Some w) v = if nat_lt w.sequence v.sequence then Some v else Some w
 -- one more version is looked at
 abbrev pub newest_with : Key → ℕ → Option Version → Version → Option Version
 newest_with key at found v = if is_seen key at v then newer_of found v else found
+
+-- the newest of a version that was found and of others
+abbrev pub newest_among : Key → ℕ → Option Version → List Version → Option Version
+newest_among key at found versions = fold (newest_with key at) found versions

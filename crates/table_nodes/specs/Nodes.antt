@@ -1,5 +1,5 @@
 -- What contracts see of the nodes.
-use Rattle.std.specs.Prelude.{ℕ, List, [], ◌∷◌, Option, Some, None, Box}
+use Rattle.std.specs.Prelude.{ℕ, List, [], ◌∷◌, ◌++◌, Option, Some, None, Box}
 use Rattle.std.specs.declared.alloc.Global.{Global}
 use Rattle.model_base.specs.declared.key.Key.{Key}
 use Rattle.table_rule.specs.declared.content.Version.{Version}
@@ -17,11 +17,11 @@ own_key n = at_key n.family n.key
 abbrev pub version_of : Node → Version
 version_of n = record { key = own_key n; value = n.value; sequence = n.sequence }
 
--- its versions, while it is in a tree: its own is the newest, and its list has the older ones
+-- its versions, while it is in a tree of keys: its own is the newest, and its list has the older ones
 abbrev pub chain_of : Node → Chain
 chain_of n = record { newest = version_of n; older = n.next }
 
 -- the versions of a list of nodes, from its first node on
 abbrev pub versions_from : Option (Box Node Global) → List Version
 versions_from None = []
-versions_from (Some n) = version_of n.value ∷ n.value.next
+versions_from (Some n) = version_of n.value ∷ (n.value.children ++ n.value.next)

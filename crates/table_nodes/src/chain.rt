@@ -1,10 +1,10 @@
-//! The versions of one key: its newest one's node has the older ones in its list.
+//! The versions of one key: its newest one's node has the older ones in its list, as trees that a search passes.
 
 ghost use Rattle.std.specs.Prelude.{◌≡◌, ◌++◌, ◌∷◌, reverse, Some, if◌then◌else◌};
 ghost use Rattle.std.specs.Option.{option_copied, option_map};
 ghost use Rattle.table_rule.specs.declared.content.Version.{Version};
-ghost use Rattle.table_nodes.specs.Chains.{alone, insert_older, with_version, chain_versions};
-ghost use Rattle.table_nodes.specs.Newest.{first_up_to, newest_with};
+ghost use Rattle.table_nodes.specs.Chains.{Falls, alone, insert_older, with_version, chain_versions};
+ghost use Rattle.table_nodes.specs.Newest.{first_up_to, newest_with, newest_among};
 ghost use Rattle.table_nodes.specs.Nodes.{at_key, own_key, version_of, chain_of};
 
 use crate::node::{Node, Nodes};
@@ -29,12 +29,13 @@ impl Node {
         } else {
             mem::swap(&mut self.value, &mut other.value);
             mem::swap(&mut self.sequence, &mut other.sequence);
-            self.next.push_front(other);
+            self.next.push_newest(other);
         }
     }
 
     /// The newest version in its chain up to a sequence, if there is one.
     pub fn newest_up_to(&self, at: u64) -> Option<&Node>
+        requires { Falls (chain_of self.now).older }
         ensures { option_map version_of (option_copied result) ≡ first_up_to at (chain_versions (chain_of self.now)) }
     {
         if self.sequence <= at {
@@ -63,19 +64,94 @@ impl Node {
 }
 
 impl Nodes {
-    /// The first node of the list that isn't above the sequence, if there is one.
+    /// The first node of the list that isn't above the sequence, if there is one. Where the list was made by
+    /// `push_newest`, this takes at most two steps for each time that the length can be halved.
     fn newest_up_to(&self, at: u64) -> Option<&Node>
+        requires { Falls self.now }
         ensures { option_map version_of (option_copied result) ≡ first_up_to at self.now }
     {
         let mut rest = self;
-        // All nodes before `rest` are above the sequence.
+        let mut best: Option<&Node> = None;
+        // The answer is the first node from `rest` on that isn't above the sequence, or else `best`.
         while let Some(node) = &rest.first {
             if node.sequence <= at {
                 return Some(node);
             }
+            match &node.next.first {
+                None => rest = &node.children,
+                Some(next) => {
+                    // The children are newer than the next one. If it is above the sequence, so are they.
+                    if next.sequence > at {
+                        rest = &node.next;
+                    } else {
+                        best = Some(next);
+                        rest = &node.children;
+                    }
+                }
+            }
+        }
+        best
+    }
+
+    /// The newest version of a family's key up to a sequence, of one that was found and of those of the list.
+    pub fn newest_among<'t>(
+        &'t self,
+        found: Option<&'t Node>,
+        family: u32,
+        key: &[u8],
+        at: u64,
+    ) -> Option<&'t Node>
+        ensures { option_map version_of (option_copied result)
+            ≡ newest_among (at_key family key.now) at (option_map version_of (option_copied found.entry)) self.now }
+    {
+        let mut newest = found;
+        let mut rest = self;
+        // `newest` is that of the version that was found and of those before `rest`.
+        while let Some(node) = &rest.first {
+            if node.is_newer(newest, family, key, at) {
+                newest = Some(node);
+            }
+            newest = node.children.newest_among(newest, family, key, at);
             rest = &node.next;
         }
-        None
+        newest
+    }
+
+    /// Puts a node in front of a list that is searched. Where the first two trees are equally high, they become its
+    /// children, so that the trees are perfect, and at most as many as the binary digits of the list's length.
+    fn push_newest(&mut self, mut node: Box<Node>)
+        ensures { self.new ≡ version_of node.value ∷ self.old }
+    {
+        let (rank, children, next) = mem::replace(self, Nodes::new()).twins();
+        node.rank = rank;
+        node.children = children;
+        node.next = next;
+        self.first = Some(node);
+    }
+
+    /// The first two trees, if they are equally high, with the rank that a tree over them has, and the others.
+    fn twins(mut self) -> (u32, Nodes, Nodes)
+        ensures { result.1 ++ result.2 ≡ self }
+    {
+        let Some(mut first) = self.first.take() else {
+            return (0, Nodes::new(), Nodes::new());
+        };
+        let mut others = mem::replace(&mut first.next, Nodes::new());
+        let Some(mut second) = others.first.take() else {
+            return (0, Nodes::new(), Nodes { first: Some(first) });
+        };
+        if first.rank != second.rank {
+            first.next = Nodes {
+                first: Some(second),
+            };
+            return (0, Nodes::new(), Nodes { first: Some(first) });
+        }
+        let rest = mem::replace(&mut second.next, Nodes::new());
+        let rank = first.rank.saturating_add(1);
+        first.next = Nodes {
+            first: Some(second),
+        };
+        (rank, Nodes { first: Some(first) }, rest)
     }
 
     /// Inserts a node after those that are newer.
@@ -83,8 +159,18 @@ impl Nodes {
         ensures { self.new ≡ insert_older self.old (version_of node.value) }
     {
         let newer = self.take_newer(node.sequence);
-        self.push_front(node);
-        self.push_all_front(newer);
+        self.push_newest(node);
+        self.push_all_newest(newer);
+    }
+
+    /// Puts other nodes before these, in reverse order, in a list that is searched.
+    fn push_all_newest(&mut self, mut turned: Nodes)
+        ensures { self.new ≡ reverse turned ++ self.old }
+    {
+        // The nodes popped from `turned` are in front, the last one popped first.
+        while let Some(node) = turned.pop() {
+            self.push_newest(node);
+        }
     }
 
     /// Takes out the nodes at the front that are newer than a sequence, and returns them with the last one first.
@@ -96,7 +182,7 @@ impl Nodes {
         // `newer` has the nodes popped so far, all of them newer, the last one popped first.
         while let Some(node) = self.pop() {
             if node.sequence <= sequence {
-                self.push_front(node);
+                self.push_newest(node);
                 return newer;
             }
             newer.push_front(node);

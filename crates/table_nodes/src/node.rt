@@ -12,25 +12,33 @@ use std::mem::size_of;
 
 /// A version of a key of a column family: the value that it gets, or none where it is deleted, and the sequence.
 ///
-/// It has in it the link of a list, so that it takes no memory to put it into a list. A key of at most 16 bytes and a
+/// It has in it the links of a list, so that it takes no memory to put it into a list. A key of at most 16 bytes and a
 /// value of at most 23 are in the node itself, so that such a version is one allocation.
 #[cycle(nodes)]
 #[derive(Drop)]
 pub struct Node {
     pub(crate) key: ByteKey,
     pub(crate) family: u32,
+    /// How high the tree of its children is, in a list that is searched. It is for speed alone.
+    pub(crate) rank: u32,
     pub(crate) sequence: u64,
     pub(crate) value: Option<Value>,
-    /// The nodes after it: in a tree the older versions of its key, in a list the nodes that follow.
+    /// The nodes right after it, which a search passes at once: two trees or none, in a list that is searched.
+    pub(crate) children: Nodes,
+    /// The nodes after those: in a tree of keys the older versions of its key, in a list the nodes that follow.
     pub(crate) next: Nodes,
     /// With what it was made, for the pages of the tree that it is put in. It has no bytes.
     pub(crate) alloc: Global,
 }
 
 // One byte more would cost 16 in an allocator that gives out multiples of 16 and takes eight bytes for itself.
-const _: () = prove!(size_of::<Node>() <= 120);
+const _: () = prove!(size_of::<Node>() <= 136);
 
 /// A list of nodes: those that a batch makes, or the older versions of a key. Contracts see their versions in order.
+///
+/// A node's children come after the node, and its next ones after those. A batch's nodes have no children. The older
+/// versions of a key are trees of 1, 3, 7, .. versions (skew binary lists: Okasaki, Purely Functional Data Structures,
+/// 9.3), so that a search passes a whole tree at once.
 #[cycle(nodes)]
 pub struct Nodes {
     pub(crate) first: Option<Box<Node>>,
@@ -51,13 +59,14 @@ impl Model for Nodes {
 
     ghost size = { length };
 
-    ghost use Rattle.std.proofs.Common.{arith};
+    ghost use Rattle.std.proofs.Common.{arith, length-append};
 
-    ghost size_decreases = { λ n h. Prim.grind arith };
+    ghost size_decreases = { λ n h. Prim.grind (arith, length-append) };
 }
 
 impl Drop for Nodes {
-    // The nodes are dropped one after another, since a list may be long.
+    // The nodes are dropped one after another, since a list may be long. A node's children are dropped with it, so that
+    // this calls itself as often as a tree is high.
     fn drop(mut self) {
         // What is left of the list is `self`.
         loop {

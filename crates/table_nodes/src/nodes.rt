@@ -56,8 +56,26 @@ impl Nodes {
             (λ node. self.old ≡ version_of node.value ∷ self.new) }
     {
         let mut node = self.first.take()?;
-        *self = mem::replace(&mut node.next, Nodes::new());
+        // The list is empty here, and takes over the nodes after it. To put new ones in place of old ones would look
+        // for nodes to drop, though there are none.
+        mem::swap(self, &mut node.next);
+        if !node.children.is_empty() {
+            node.children.append(self);
+            mem::swap(self, &mut node.children);
+        }
         Some(node)
+    }
+
+    /// Moves other nodes to the end of these. It is for a node's children, which are two trees, so that it takes few
+    /// steps.
+    fn append(&mut self, other: &mut Nodes)
+        ensures all { self.new ≡ self.old ++ other.old }
+        ensures none { other.new ≡ [] }
+    {
+        match &mut self.first {
+            None => mem::swap(self, other),
+            Some(node) => node.next.append(other),
+        }
     }
 
     /// The family and the key of the first node.
@@ -80,7 +98,7 @@ impl Nodes {
         let mut rest = self;
         // `count` is how many nodes come before `rest`.
         while let Some(node) = &rest.first {
-            count += 1;
+            count += 1 + node.children.len();
             rest = &node.next;
         }
         count
@@ -107,7 +125,11 @@ impl Nodes {
     pub fn push_front(&mut self, mut node: Box<Node>)
         ensures { self.new ≡ version_of node.value ∷ self.old }
     {
-        node.next = mem::replace(self, Nodes::new());
+        if !node.children.is_empty() {
+            node.children = Nodes::new();
+        }
+        mem::swap(&mut node.next, self);
+        // What the node had after it is dropped here.
         self.first = Some(node);
     }
 
@@ -125,16 +147,6 @@ impl Nodes {
         ensures { result ≡ (length self.now == 0) }
     {
         self.first.is_none()
-    }
-
-    /// The first node, and the others.
-    pub fn split_first(&self) -> Option<(&Node, &Nodes)>
-        ensures { MatchOption result (self.now ≡ []) (λ parts. self.now ≡ version_of parts.0.now ∷ parts.1.now) }
-    {
-        match &self.first {
-            Some(node) => Some((node, &node.next)),
-            None => None,
-        }
     }
 
     /// The nodes in reverse order.
@@ -167,8 +179,10 @@ impl Node {
             Node {
                 key: ByteKey::copy(alloc, key)?,
                 family,
+                rank: 0,
                 sequence: 0,
                 value,
+                children: Nodes::new(),
                 next: Nodes::new(),
                 alloc,
             },

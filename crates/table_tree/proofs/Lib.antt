@@ -16,6 +16,7 @@ pub mod Ways
 pub mod Going
 pub mod Absent
 pub mod Inserting
+pub mod Falling
 pub mod Finding
 pub mod Maps
 pub mod Folding

@@ -1,5 +1,5 @@
 -- What contracts see of the whole tree.
-use Rattle.std.specs.Prelude.{ℕ, ◌+◌, ◌^◌, ◌≤◌, List, [], ◌∷◌, fold, length, Option, Some, None, refl}
+use Rattle.std.specs.Prelude.{◌≡◌, ℕ, ◌+◌, ◌^◌, ◌≤◌, ◌<◌, Bool, true, false, List, [], ◌∷◌, drop, fold, length, Option, Some, None, refl}
 use Rattle.std.specs.Coded.{Coded, code_by, coded×, coded_ℕ, coded_list}
 use Rattle.table_rule.specs.declared.content.Version.{Version}
 use Rattle.table_nodes.specs.Chains.{Chain, versions_of, AreKeyed}
@@ -38,6 +38,16 @@ AreNew versions (v ∷ late) = IsNew v versions × AreNew (insert_version versio
 -- a tree that is h pages high below its root has at least 16 ^ h - 1 keys
 abbrev pub IsLow : Shape → Type 0
 IsLow shape = 16 ^ shape.height ≤ length shape.chains + 1
+
+-- Which versions wait after an insertion, of those that waited with the new one after them. The first two go into the
+-- tree if there is memory for the pages that they need, and otherwise one of them or none.
+abbrev pub AreLeft : Bool → List Version → List Version → Type 0
+AreLeft true waited left = left ≡ drop 2 waited
+AreLeft false waited left = (settled : ℕ) × (settled ≤ 1) × (left ≡ drop settled waited)
+
+-- a tree that is one leaf, which has room
+abbrev pub IsOpenLeaf : ℕ → List Chain → Type 0
+IsOpenLeaf height chains = (height ≡ 0) × ((0 < length chains) × (length chains < 31))
 
 -- what is in the root and below it, and how high that is
 abbrev pub chains_below : Option Branch → List Chain

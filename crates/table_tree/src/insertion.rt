@@ -1,6 +1,6 @@
 //! How a node is inserted.
 
-ghost use Rattle.std.specs.Prelude.{◌≡◌, ◌<◌, ◌≤◌, ◌+◌, length, is_ok, IfErr, IfOk, if◌then◌else◌};
+ghost use Rattle.std.specs.Prelude.{◌≡◌, ◌<◌, ◌≤◌, ◌+◌, length, true, is_ok, IfErr, IfOk, if◌then◌else◌};
 ghost use Rattle.base_maps.specs.Fronts.{front_of};
 ghost use Rattle.table_nodes.specs.Chains.{AreSorted, insert_in_chains};
 ghost use Rattle.table_nodes.specs.Nodes.{own_key, version_of};
@@ -37,6 +37,7 @@ fn way_of(
     ensures grown { (length entries.old.items ≤ length entries.new.items)
         × (length entries.new.items ≤ length entries.old.items + 1) }
     ensures way { IfOk result (IsWay (own_key node.now) entries.new.items below.new.items) }
+    ensures at_once { height_of below.old.items ≡ 0 → is_ok result ≡ true }
 {
     let at = match place_of(entries, *families, node.family(), node.key(), front) {
         Ok(at) => return Ok(Ok(at)),
@@ -68,6 +69,8 @@ impl Page {
         ensures own { (self.old.own ≤ self.new.own) × (self.new.own ≤ self.old.own + 1) }
         ensures dense { IsDense self.new }
         ensures back { IfErr result (λ back. back ≡ node) }
+        // A leaf that isn't full needs no page.
+        ensures at_once { self.old.height ≡ 0 → is_ok result ≡ true }
     {
         let Ok(way) = way_of(
             alloc,

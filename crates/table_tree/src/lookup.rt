@@ -2,15 +2,15 @@
 
 ghost use Rattle.std.specs.Prelude.{◌≡◌};
 ghost use Rattle.std.specs.Option.{option_copied, option_map};
-ghost use Rattle.table_nodes.specs.Chains.{AreKeyed, AreSorted, versions_of};
+ghost use Rattle.table_nodes.specs.Chains.{AreFalling, AreKeyed, AreSorted, versions_of};
 ghost use Rattle.table_nodes.specs.Nodes.{at_key, version_of, chain_of};
-ghost use Rattle.table_tree.specs.Newest.{newest_version, chain_at, newest_among};
+ghost use Rattle.table_tree.specs.Newest.{newest_version, chain_at};
 ghost use Rattle.table_tree.specs.Shapes.{chains_below};
 
 use crate::front::Front;
 use crate::page::Page;
 use crate::places::place_of;
-use table_nodes::{Node, Nodes};
+use table_nodes::Node;
 
 /// The newest version of a family's key up to a sequence, if there is one below the root.
 pub(crate) fn newest_below<'t>(
@@ -19,7 +19,8 @@ pub(crate) fn newest_below<'t>(
     key: &[u8],
     at: u64,
 ) -> Option<&'t Node>
-    requires { AreKeyed (chains_below root.now) }
+    requires keyed { AreKeyed (chains_below root.now) }
+    requires falling { AreFalling (chains_below root.now) }
     ensures { option_map version_of (option_copied result)
         ≡ newest_version (at_key family key.now) at (versions_of (chains_below root.now)) }
 {
@@ -52,27 +53,4 @@ impl Page {
             page = &page.below[at];
         }
     }
-}
-
-/// The newest version of a family's key up to a sequence, of one that was found and of those of a list.
-pub(crate) fn newest_of<'t>(
-    late: &'t Nodes,
-    found: Option<&'t Node>,
-    family: u32,
-    key: &[u8],
-    at: u64,
-) -> Option<&'t Node>
-    ensures { option_map version_of (option_copied result)
-        ≡ newest_among (at_key family key.now) at (option_map version_of (option_copied found.entry)) late.now }
-{
-    let mut newest = found;
-    let mut rest = late;
-    // `newest` is that of the version that was found and of those before `rest`.
-    while let Some((node, others)) = rest.split_first() {
-        if node.is_newer(newest, family, key, at) {
-            newest = Some(node);
-        }
-        rest = others;
-    }
-    newest
 }

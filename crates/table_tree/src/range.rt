@@ -2,7 +2,7 @@
 
 ghost use Rattle.std.specs.Prelude.{◌≡◌, ◌++◌, IfOk};
 ghost use Rattle.std.specs.List.{AllByRecursion};
-ghost use Rattle.table_nodes.specs.Chains.{AreSorted, chain_versions, key_of};
+ghost use Rattle.table_nodes.specs.Chains.{AreFalling, AreSorted, Falls, chain_versions, key_of};
 ghost use Rattle.table_nodes.specs.Newest.{first_up_to, said};
 ghost use Rattle.table_nodes.specs.Nodes.{at_key};
 ghost use Rattle.table_tree.specs.Places.{IsOfFamilies};
@@ -30,6 +30,7 @@ pub(crate) struct Range<'r> {
 impl Entry {
     /// Appends the row of its key to others, if the key has a value at the sequence.
     fn gather(&self, alloc: Global, at: u64, rows: &mut PairList) -> Result<(), NoMemory>
+        requires { Falls self.now.older }
         ensures { IfOk result (λ _. rows.new ≡ rows.old
             ++ rows_in (pair_of (key_of self.now) (said (first_up_to at (chain_versions self.now))))) }
     {
@@ -91,7 +92,8 @@ impl Page {
     /// Appends the rows of a range to others.
     #[cycle(gather)]
     fn gather(&self, alloc: Global, range: Range<'_>, rows: &mut PairList) -> Result<(), NoMemory>
-        requires { AreSorted self.now.chains }
+        requires sorted { AreSorted self.now.chains }
+        requires falling { AreFalling self.now.chains }
         ensures { IfOk result (λ _. rows.new ≡ rows.old
             ++ rows_in (pairs_at range.entry.at (between (at_key range.entry.family range.entry.lo.now)
             (at_key range.entry.family range.entry.hi.now) self.now.chains))) }
@@ -117,7 +119,8 @@ fn gather_at(
     range: Range<'_>,
     rows: &mut PairList,
 ) -> Result<(), NoMemory>
-    requires { AreSorted (page_at below.now at) }
+    requires sorted { AreSorted (page_at below.now at) }
+    requires falling { AreFalling (page_at below.now at) }
     ensures { IfOk result (λ _. rows.new ≡ rows.old
         ++ rows_in (pairs_at range.entry.at (between (at_key range.entry.family range.entry.lo.now)
         (at_key range.entry.family range.entry.hi.now) (page_at below.now at)))) }
@@ -146,7 +149,8 @@ pub(crate) fn gather_below(
     range: Range<'_>,
     rows: &mut PairList,
 ) -> Result<(), NoMemory>
-    requires { AreSorted (chains_below root.now) }
+    requires sorted { AreSorted (chains_below root.now) }
+    requires falling { AreFalling (chains_below root.now) }
     ensures { IfOk result (λ _. rows.new ≡ rows.old
         ++ rows_in (pairs_at range.entry.at (between (at_key range.entry.family range.entry.lo.now)
         (at_key range.entry.family range.entry.hi.now) (chains_below root.now)))) }

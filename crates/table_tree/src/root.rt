@@ -1,10 +1,10 @@
 //! The root of the tree: the page that is above all others, if there is one.
 
-ghost use Rattle.std.specs.Prelude.{◌≡◌, ◌<◌, is_ok, IfErr, IfSome, IsSome, OnOk, OnErr, if◌then◌else◌};
+ghost use Rattle.std.specs.Prelude.{◌≡◌, ◌<◌, true, is_ok, IfErr, IfSome, IsSome, OnOk, OnErr, if◌then◌else◌};
 ghost use Rattle.table_nodes.specs.Chains.{AreSorted, insert_in_chains};
 ghost use Rattle.table_nodes.specs.Nodes.{version_of};
 ghost use Rattle.table_tree.specs.Pages.{IsDense};
-ghost use Rattle.table_tree.specs.Shapes.{chains_below, HasDense};
+ghost use Rattle.table_tree.specs.Shapes.{chains_below, height_below, HasDense, IsOpenLeaf};
 
 use crate::entry::Families;
 use crate::front::Front;
@@ -22,6 +22,8 @@ fn make_room(alloc: Global, root: &mut Option<Page>) -> Result<(), NoMemory>
     ensures room { OnOk result (IfSome root.new (λ page. page.own < 31) × IsSome root.new) }
     ensures same { chains_below root.new ≡ chains_below root.old }
     ensures dense { HasDense root.new }
+    ensures at_once { IsOpenLeaf (height_below root.old) (chains_below root.old)
+        → (is_ok result ≡ true) × (height_below root.new ≡ 0) }
 {
     let Some(page) = root else {
         *root = Some(Page::leaf(alloc)?);
@@ -73,6 +75,7 @@ pub(crate) fn insert_below(root: &mut Option<Page>, node: Box<Node>) -> Result<(
         else chains_below root.old) }
     ensures dense { HasDense root.new }
     ensures back { IfErr result (λ back. back ≡ node) }
+    ensures at_once { IsOpenLeaf (height_below root.old) (chains_below root.old) → is_ok result ≡ true }
 {
     let alloc = node.alloc();
     if make_room(alloc, root).is_err() {

@@ -1,16 +1,16 @@
 //! The multi-version tree.
 
-ghost use Rattle.std.specs.Prelude.{◌≡◌, ℕ, List, IfOk};
+ghost use Rattle.std.specs.Prelude.{◌≡◌, ℕ, ◌≤◌, List, [], ◌∷◌, ◌++◌, drop, length, true, IfOk, if◌then◌else◌};
 ghost use Rattle.std.specs.Option.{option_copied};
 ghost use Rattle.model_base.specs.Map.{value_at, rows_within};
 ghost use Rattle.table_rule.specs.declared.content.Version.{Version};
 ghost use Rattle.table_rule.specs.Histories.{IsOrderUpTo, map_of};
 ghost use Rattle.table_tree.specs.Versions.{IsNew, insert_version, AreOrdered};
-ghost use Rattle.table_tree.specs.Shapes.{leaf, chains_in, versions_in, IsLow};
+ghost use Rattle.table_tree.specs.Shapes.{leaf, chains_in, versions_in, IsLow, AreLeft, IsOpenLeaf};
 ghost use Rattle.table_nodes.specs.Chains.{AreKeyed};
 ghost use Rattle.table_nodes.specs.Nodes.{at_key, version_of};
 
-use crate::lookup::{newest_below, newest_of};
+use crate::lookup::newest_below;
 use crate::page::Page;
 use crate::range::{Range, count_below, gather_below};
 use crate::root::insert_below;
@@ -56,8 +56,9 @@ impl Tree {
     }
 
     /// Inserts a version. Its key must have no other version of this sequence. It never fails: where there is no memory
-    /// for a page that is needed, the version waits beside the tree until a later one is inserted.
-    pub fn insert(&mut self, node: Box<Node>)
+    /// for a page that is needed, the version waits beside the tree until a later one is inserted. Returns whether
+    /// there was memory for all pages that were needed.
+    pub fn insert(&mut self, node: Box<Node>) -> bool
         requires { IsNew (version_of node.value) (versions_in self.old) }
         ensures versions { versions_in self.new ≡ insert_version (versions_in self.old) (version_of node.value) }
         ensures ordered { AreOrdered (versions_in self.new) }
@@ -65,24 +66,36 @@ impl Tree {
         ensures keyed { AreKeyed (chains_in self.new) }
         // A tree of few keys is low, so that a look-up takes few steps.
         ensures low { IsLow self.new }
+        // Where there was memory none waits, or those that wait become fewer.
+        ensures waiting { AreLeft result (self.old.late ++ version_of node.value ∷ []) self.new.late }
+        // A version that goes into a leaf with room needs no page, so that it doesn't wait.
+        ensures at_once { self.old.late ≡ [] → IsOpenLeaf self.old.height self.old.chains → result ≡ true }
+        // Nor does the number of those that wait rise there.
+        ensures no_more { IsOpenLeaf self.old.height self.old.chains → length self.new.late ≤ length self.old.late }
     {
         self.late.push_back(node);
-        self.settle();
-        self.settle();
+        let first = self.settle();
+        let second = self.settle();
+        first && second
     }
 
     // Puts the first of the versions that wait into the tree, if there is one and there is memory. An insertion does so
-    // twice, so that those that wait become fewer once there is memory again.
-    fn settle(&mut self)
+    // twice, so that those that wait become fewer once there is memory again. Returns whether there was.
+    fn settle(&mut self) -> bool
         ensures versions { versions_in self.new ≡ versions_in self.old }
         ensures kept { AreKeyed (chains_in self.new) × IsLow self.new }
+        ensures waiting { self.new.late ≡ (if result then drop 1 self.old.late else self.old.late) }
+        ensures none { self.old.late ≡ [] → result ≡ true }
+        ensures at_once { IsOpenLeaf self.old.height self.old.chains → result ≡ true }
     {
         let Some(node) = self.late.pop() else {
-            return;
+            return true;
         };
         if let Err(node) = insert_below(&mut self.root, node) {
             self.late.push_front(node);
+            return false;
         }
+        true
     }
 
     /// The value of a family's key at a sequence, if it has one there: what the key's newest version up to the
@@ -92,7 +105,7 @@ impl Tree {
             → option_copied result ≡ value_at (map_of history) (at_key family key.now) }
     {
         let found = newest_below(&self.root, family, key, at);
-        match newest_of(&self.late, found, family, key, at) {
+        match self.late.newest_among(found, family, key, at) {
             Some(newest) => newest.value(),
             None => None,
         }

@@ -1,7 +1,7 @@
 //! The tree, by hand and against a plain list, and a batch's nodes as parts of a group.
 //!
-//! That the tree is low for the keys in its pages is proved, and has no test. That versions go into the pages, and don't
-//! wait next to them while there is memory, is seen here: the ranges of these trees are answered.
+//! That the tree is low for the keys in its pages is proved, and has no test. It is proved too which versions wait next
+//! to the pages, by what an insertion says of memory. That there is memory for all pages of these trees is seen here.
 
 ghost use Rattle.std.specs.Prelude.{◌+◌, ◌<◌, ◌≤◌, ◌^◌, length};
 ghost use Rattle.table_tree.specs.Versions.{AreBelow};
@@ -39,7 +39,7 @@ fn put(
     let Some(node) = nodes.pop() else {
         panic!(rt; "no node")
     };
-    tree.insert(node);
+    assert!(rt; tree.insert(node), "a version waits");
 }
 
 // A tree of these versions of families' keys, with sequences from 1 on.

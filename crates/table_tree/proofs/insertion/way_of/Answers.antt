@@ -1,5 +1,5 @@
 -- Where a full page below is split, the place is sought once more, and is on one of the two sides of the new entry.
-use Rattle.std.proofs.Common.{◌≡◌, ◌≤◌, sym, ◌∙◌, subst}
+use Rattle.std.proofs.Common.{◌≡◌, ◌<◌, ◌≤◌, [], length, sym, ◌∙◌, subst, arith}
 use Rattle.std.specs.List.{AllByRecursion}
 use Rattle.model_base.specs.declared.key.Key.{Key}
 use Rattle.table_nodes.specs.Chains.{AreSorted}
@@ -8,6 +8,7 @@ use Rattle.table_tree.specs.Places.{IsOfFamilies, IsPlace}
 use Rattle.table_tree.proofs.SearchSteps.{sorted_entries}
 use Rattle.table_tree.proofs.SplitPages.{same_chains, height_split}
 use Rattle.table_tree.proofs.Kept.{split_page}
+use Rattle.table_tree.proofs.PageAt.{lower_of}
 use Rattle.table_tree.proofs.Ways.{middle_at, way_again}
 use Rattle.table_tree.proofs.insertion.way_of.Goals as goal
 
@@ -56,3 +57,11 @@ returns-then-is_full-clause-way c =
     subst (λ (k : Key). IsPlace k c.args.entries.now.items c.in-Err.at) first (subst (λ l. IsPlace (at_key c.family.result c.key.result.now) l c.in-Err.at) c.deref.ensures.value found) in
     way_again own (at_key c.family-then-is_full-2.result c.key-then-is_full.result.now) c.args.entries.now.items c.args.below.now.items c.in-Err.at c.split_below.new.entries.items c.deref-then-is_full.result.now c.split_below.new.below.items
     (c.in_ok-split_below.ensures {u = tt}).ok place again c.deref-then-is_full.ensures.value c.place_of-then-is_full.result c.place_of-then-is_full.ensures
+
+-- a page is split only where there are pages below
+pub returns-in_err-split_below-clause-at_once : goal.returns-in_err-split_below-clause-at_once
+returns-in_err-split_below-clause-at_once c leaf =
+    let at = c.if-at-len.true in let len = c.len.ensures in let ok = c.args.below.now.ok.0 in
+    let less : c.in-Err.at < length c.args.below.now.items = omega (arith, at, len, ok) in
+    let lower = lower_of c.args.below.now.items c.in-Err.at (record { chains = []; own = 0; height = 0 }) less in
+    absurd (omega (arith, lower, leaf))

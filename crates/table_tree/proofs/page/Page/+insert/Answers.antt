@@ -107,6 +107,16 @@ returns-then-at-len-clause-dense t c =
     (levels_set (length news) c.in-Err.at others d new c.way_of.ensures.page.levels less (c.insert.ensures.height ∙ ap (λ (b : Branch). b.height) is)
     (subst (λ (b : Branch). b.own ≤ new.own) is c.insert.ensures.own.0) c.insert.ensures.dense).0
 
+pub returns-then-at-len-clause-at_once : goal.returns-then-at-len-clause-at_once
+returns-then-at-len-clause-at_once t c leaf =
+    let news = c.way_of.new.entries.items in let others = c.way_of.new.below.items in
+    let d = c.index_mut-then-at-len.result.now in
+    let below = c.if-at-len.true in let len = c.len.ensures in let ok = c.way_of.new.below.ok.0 in
+    let less : c.in-Err.at < length others = omega (arith, below, len, ok) in
+    let lower = lower_below news others c.in-Err.at d c.way_of.ensures.page.levels less in
+    let same : height_of others ≡ c.args.self.now.height = c.way_of.ensures.height ∙ ap (λ (b : Branch). b.height) c.self.view_is in
+    absurd (omega (arith, lower, same, leaf))
+
 pub invariant_of-self-2 : goal.invariant_of-self-2
 invariant_of-self-2 t c =
     let news = c.way_of.new.entries.items in let others = c.way_of.new.below.items in

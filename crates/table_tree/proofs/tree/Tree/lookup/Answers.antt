@@ -9,6 +9,7 @@ use Rattle.table_tree.specs.Shapes.{Shape, chains_below, versions_in, with_versi
 use Rattle.table_tree.specs.Newest.{newest_among}
 use Rattle.table_tree.proofs.Folding.{value_is_newest}
 use Rattle.table_tree.proofs.Waiting.{with_ordered, newest_of_all}
+use Rattle.table_tree.proofs.Falling.{falling_of}
 use Rattle.table_tree.proofs.tree.Tree.lookup.Goals as goal
 
 pub returns-in-Some : goal.returns-in-Some
@@ -31,3 +32,6 @@ returns-in-None c history h =
     ap said (c.in-None.ensures {u = tt} ∙ ap (λ (o : Option Version). newest_among key c.args.at o late) c.newest_below-found.ensures
     ∙ newest_of_all key c.args.at versions late c.self.invariant.ordered c.self.invariant.apart)
     ∙ sym (value_is_newest key c.args.at (with_versions versions late) history (with_ordered versions late c.self.invariant.ordered) over)
+
+pub newest_below-found-requires-clause-falling : goal.newest_below-found-requires-clause-falling
+newest_below-found-requires-clause-falling c = falling_of (chains_below c.self.inside.root) c.self.invariant.ordered c.self.invariant.keyed.each
