@@ -8,10 +8,7 @@ use Rattle.model_base.specs.Map.{Pairs}
 use Rattle.model_base.specs.Text as model
 use Rattle.model_base.specs.Generator.{summary_text}
 use Rattle.model_base.specs.declared.memory.NoMemory.{NoMemory}
-use Rattle.model_core.specs.Step as core
-use Rattle.model_core.specs.ReplayText.{replay_text}
 use Rattle.replay_schedules.specs.declared.replaying.Replayed.{Replayed}
-use Rattle.replay_schedules.specs.Replayed.{ShowsReplayed}
 use Rattle.run_outcome.specs.declared.outcome.Outcome.{Outcome}
 use Rattle.program_call.specs.declared.reading.ReadError.{ReadError}
 use Rattle.program_call.specs.declared.reading.ReadError.TheVariants as read
@@ -21,17 +18,14 @@ use Rattle.program_call.specs.declared.report.Form.{Form}
 use Rattle.program_call.specs.declared.report.Form.TheVariants as form
 use Rattle.program_call.specs.declared.report.Status.{Status}
 use Rattle.program_call.specs.declared.report.Status.TheVariants as status
-use Rattle.log_recovery.specs.declared.recovery.Recovered.{Recovered}
+use Rattle.program_printing.specs.declared.error.PrintError.{PrintError}
+use Rattle.program_printing.specs.declared.error.PrintError.TheVariants as print
 use Rattle.log_recovery.specs.declared.recovery.RecoverError.{RecoverError}
 use Rattle.log_recovery.specs.declared.recovery.RecoverError.TheVariants as none
-use Rattle.model_base.specs.Recovery as recovery
-use Rattle.model_base.specs.RecoveredLogs as recovered_logs
 use Rattle.model_base.specs.declared.log.EndReason.{EndReason}
-use Rattle.log_recovery.specs.Recovering.{ShowsRecovered}
-use Rattle.log_recovery.specs.RecoveringLogs.{ShowsLogs}
-use Rattle.log_recovery.specs.declared.many.RecoveredMany.{RecoveredMany}
 use Rattle.run_outcome.specs.Shows.{ShowsOutcome, has_read_fault, ran_short}
 use Rattle.program_call.specs.Texts.{SaysTo}
+pub use Rattle.program_text.specs.Results.{IsTextOf, IsTextOfLogs, IsReplayText}
 use Rattle.program_text.specs.Refusals.{damage, high_family, logs_damage, script_fault, source_fault, disk_fault, not_empty}
 
 -- the refusal's text was printed, and the status goes with it
@@ -107,14 +101,6 @@ EndsWithText old new failed fails Is status.Sink = Rose failed fails × (text : 
 EndsWithText old new failed fails Is status.Memory = (new ≡ old) × (fails ≡ failed)
 EndsWithText old new failed fails Is other = ⊥
 
--- the text is that of whatever recovery the values show
-abbrev pub IsTextOf : Recovered → List ℕ → Type 0
-IsTextOf shown text = (r : recovery.Recovered) → ShowsRecovered shown r → text ≡ model.recovered_text r
-
--- the text is that of whatever recovery of several logs the values show
-abbrev pub IsTextOfLogs : RecoveredMany → List ℕ → Type 0
-IsTextOfLogs shown text = (r : recovered_logs.RecoveredLogs) → ShowsLogs shown r → text ≡ model.recovered_logs_text r
-
 -- the refusal of an end of recovery that isn't accepted, of several logs or of one
 abbrev pub damage_of : Bool → ℕ → ℕ → EndReason → List ℕ
 damage_of true log at why = logs_damage log at why
@@ -134,14 +120,22 @@ abbrev pub TellsFound : {T : Type 0} → (T → List ℕ → Type 0) → Bool �
 TellsFound Is several old new failed fails (Ok shown) given = EndsWithText old new failed fails (Is shown) given
 TellsFound Is several old new failed fails (Err why) given = TellsRecoverError several old new failed fails why given
 
--- the text is that of whatever result of a schedule the values show
-abbrev pub IsReplayText : Replayed → List ℕ → Type 0
-IsReplayText shown text = (r : core.Replayed) → ShowsReplayed shown r → text ≡ replay_text r
-
 -- the status of a schedule's text, or there was no memory for the result itself
 abbrev pub TellsReplay : Option (List ℕ) → Option (List ℕ) → ℕ → ℕ → Result Replayed NoMemory → Status → Type 0
 TellsReplay old new failed fails (Ok shown) given = EndsWithText old new failed fails (IsReplayText shown) given
 TellsReplay old new failed fails (Err why) given = SaysNothing old new failed fails given
+
+-- the status of a text that tells a result, by how it was printed
+abbrev pub print_status : {T : Type 0} → Result T PrintError → Status
+print_status (Ok _) = status.Done
+print_status (Err print.Failed) = status.Sink
+print_status (Err print.NoMemory) = status.Memory
+
+-- the status of a refusal, by how it was printed: its own, unless there was no memory for it
+abbrev pub refusal_status : {T : Type 0} → Status → Result T PrintError → Status
+refusal_status own (Ok _) = own
+refusal_status own (Err print.Failed) = own
+refusal_status own (Err print.NoMemory) = status.Memory
 
 -- a status's number
 abbrev pub code : Status → ℕ

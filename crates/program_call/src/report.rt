@@ -1,25 +1,26 @@
 //! What a call prints, and the status that it ends with.
 
-ghost use Rattle.std.specs.Prelude.{◌≡◌, ◌≤◌, ℕ, true, false, [], ◌∷◌, ◌++◌, decimal, IfOk, OnErr};
+ghost use Rattle.std.specs.Prelude.{◌≡◌, ◌≤◌, ℕ, true, false, [], ◌∷◌, ◌++◌, decimal};
 ghost use Rattle.base_devices.specs.Faults.{HasCause};
 ghost use Rattle.base_devices.specs.Streams.{WritesAll};
 ghost use Rattle.model_base.specs.Calls as calls;
 ghost use Rattle.model_base.specs.History.{IsHistory};
 ghost use Rattle.run_outcome.specs.Shows.{ShowsOutcome};
+ghost use Rattle.program_printing.specs.Printing.{Prints};
 ghost use Rattle.program_call.specs.Texts.{SaysTo};
 ghost use Rattle.program_call.specs.Reports as reports;
-ghost use Rattle.program_call.specs.Reports.{SaysNothing, TellsReadError, TellsEnd, TellsOutcome, TellsFound, TellsRecoverError, TellsReplay, EndsWithText, IsTextOf, IsTextOfLogs, damage_of, ran_status};
+ghost use Rattle.program_call.specs.Reports.{TellsReadError, TellsEnd, TellsOutcome, TellsFound, TellsRecoverError, TellsReplay, IsTextOf, IsTextOfLogs, damage_of, print_status, ran_status, refusal_status};
 
 use crate::reading::ReadError;
-use base_bytes::Bytes;
 use base_devices::{Failed, Sink, write_all};
 use base_maps::FamilyMap;
 use itoa::Buffer;
 use log_recovery::{RecoverError, Recovered, RecoveredMany};
 use model_base::{EndReason, NoMemory};
+use program_printing::PrintError;
 use program_text::{
-    high_family, log_damage, log_not_empty, logs_damage, outcome_text, recovered_logs_text,
-    recovered_text, replayed_text, script_fault, summary_text,
+    print_damage, print_high_family, print_logs_damage, print_not_empty, print_outcome,
+    print_recovered, print_recovered_logs, print_replayed, print_script_fault, print_summary,
 };
 use replay_schedules::Replayed;
 use run_execution::RunEnd;
@@ -57,24 +58,18 @@ pub fn refuse<K: Sink>(sink: &mut K, text: &[u8])
     let _ = write_all(sink, text);
 }
 
-/// Prints a refusal, if there was memory to make its text.
-fn refuse_with<K: Sink>(sink: &mut K, text: Result<Bytes, NoMemory>, status: Status) -> Status
-    ensures made { IfOk text (λ t. (result ≡ status) × SaysTo (K.taken sink.old) (K.taken sink.new) t
-        (K.faults sink.old) (K.faults sink.new)) }
-    ensures none { OnErr text (SaysNothing (K.taken sink.old) (K.taken sink.new) (K.faults sink.old)
-        (K.faults sink.new) result) }
+/// The status of a refusal, by how its text was printed. It stays that of the refusal, even if the sink fails at the text.
+fn refused(printed: Result<(), PrintError>, status: Status) -> Status
+    ensures { result ≡ refusal_status status printed }
 {
-    match text {
-        Ok(text) => {
-            refuse(sink, text.as_slice());
-            status
-        }
-        Err(NoMemory) => Status::Memory,
+    match printed {
+        Ok(()) | Err(PrintError::Failed) => status,
+        Err(PrintError::NoMemory) => Status::Memory,
     }
 }
 
 /// Prints the refusal of a device's fault: these words, how often the device has failed, and a line feed. This takes no
-/// memory, so that no fault is answered as want of memory.
+/// memory, so that no fault is answered as no memory.
 fn refuse_fault<K: Sink>(sink: &mut K, words: &[u8], count: u64)
     ensures { SaysTo (K.taken sink.old) (K.taken sink.new) (words.now ++ decimal count ++ 10 ∷ [])
         (K.faults sink.old) (K.faults sink.new) }
@@ -103,7 +98,8 @@ pub fn tell_read_error<K: Sink>(alloc: Global, sink: &mut K, why: ReadError) -> 
             Status::Source
         }
         ReadError::Script { line, kind } => {
-            refuse_with(sink, script_fault(alloc, line, kind), Status::Script)
+            let printed = print_script_fault(alloc, sink, line, kind);
+            refused(printed, Status::Script)
         }
         ReadError::NoMemory => Status::Memory,
     }
@@ -119,12 +115,12 @@ pub fn tell_end<K: Sink>(alloc: Global, sink: &mut K, form: Form, end: &RunEnd) 
             refuse_fault(sink, b"disk fault ", *count);
             Status::Disk
         }
-        RunEnd::NotEmpty { len } => refuse_with(sink, log_not_empty(alloc, *len), Status::NotEmpty),
+        RunEnd::NotEmpty { len } => refused(print_not_empty(alloc, sink, *len), Status::NotEmpty),
         RunEnd::Damage { at, why } => {
-            refuse_with(sink, log_damage(alloc, *at, *why), Status::Damage)
+            refused(print_damage(alloc, sink, *at, *why), Status::Damage)
         }
         RunEnd::Family { family } => {
-            refuse_with(sink, high_family(alloc, *family), Status::Family)
+            refused(print_high_family(alloc, sink, *family), Status::Family)
         }
         RunEnd::NoMemory | RunEnd::NoOutcome => Status::Memory,
         RunEnd::Ran(outcome) => tell_outcome(alloc, sink, form, outcome),
@@ -141,26 +137,29 @@ fn tell_outcome<K: Sink>(
     ensures { TellsOutcome form (K.taken sink.old) (K.taken sink.new) (K.faults sink.old)
         (K.faults sink.new) outcome.now result }
 {
-    let Ok(text) = text_of(alloc, form, outcome) else {
-        return Status::Memory;
-    };
-    match write_all(sink, text.as_slice()) {
-        Err(_) => Status::Sink,
+    match print_in(alloc, sink, form, outcome) {
         Ok(()) => status_of(outcome),
+        Err(PrintError::Failed) => Status::Sink,
+        Err(PrintError::NoMemory) => Status::Memory,
     }
 }
 
-/// The text of an outcome in a form.
-fn text_of(alloc: Global, form: Form, outcome: &Outcome<FamilyMap>) -> Result<Bytes, NoMemory>
+/// Prints the text of an outcome in a form.
+fn print_in<K: Sink>(
+    alloc: Global,
+    sink: &mut K,
+    form: Form,
+    outcome: &Outcome<FamilyMap>,
+) -> Result<(), PrintError>
     ensures { (o : calls.Outcome) (start : ℕ) → IsHistory start o.history → ShowsOutcome outcome.now o
-        → IfOk result (λ t. t ≡ reports.text_of form o) }
+        → Prints ⟦<K as Sink>⟧ sink.old sink.new result (reports.text_of form o) }
 {
     match form {
-        Form::Whole => outcome_text(alloc, outcome),
+        Form::Whole => print_outcome(alloc, sink, outcome),
         Form::Summary => {
             // All values of a generated script are small numbers, so there is a sum.
             let sum = sum_of(&outcome.state).ok_or(NoMemory)?;
-            summary_text(alloc, outcome, sum)
+            print_summary(alloc, sink, outcome, sum)
         }
     }
 }
@@ -178,19 +177,14 @@ fn status_of(outcome: &Outcome<FamilyMap>) -> Status
     }
 }
 
-/// Prints a text that tells a result, if there was memory to make it.
-fn tell_text<K: Sink>(sink: &mut K, text: Result<Bytes, NoMemory>) -> Status
-    ensures made { IfOk text (λ t. EndsWithText (K.taken sink.old) (K.taken sink.new) (K.faults sink.old)
-        (K.faults sink.new) (λ told. told ≡ t) result) }
-    ensures none { OnErr text (SaysNothing (K.taken sink.old) (K.taken sink.new) (K.faults sink.old)
-        (K.faults sink.new) result) }
+/// The status of a text that tells a result, by how it was printed.
+fn told(printed: Result<(), PrintError>) -> Status
+    ensures { result ≡ print_status printed }
 {
-    match text {
-        Ok(text) => match write_all(sink, text.as_slice()) {
-            Ok(()) => Status::Done,
-            Err(_) => Status::Sink,
-        },
-        Err(NoMemory) => Status::Memory,
+    match printed {
+        Ok(()) => Status::Done,
+        Err(PrintError::Failed) => Status::Sink,
+        Err(PrintError::NoMemory) => Status::Memory,
     }
 }
 
@@ -204,7 +198,7 @@ pub fn tell_recovery<K: Sink>(
         (K.faults sink.new) found.now result }
 {
     match found {
-        Ok(recovered) => tell_text(sink, recovered_text(alloc, recovered)),
+        Ok(recovered) => told(print_recovered(alloc, sink, recovered)),
         Err(why) => tell_recover_error(alloc, sink, *why, false),
     }
 }
@@ -219,7 +213,7 @@ pub fn tell_logs<K: Sink>(
         (K.faults sink.new) found.now result }
 {
     match found {
-        Ok(recovered) => tell_text(sink, recovered_logs_text(alloc, recovered)),
+        Ok(recovered) => told(print_recovered_logs(alloc, sink, recovered)),
         Err(why) => tell_recover_error(alloc, sink, *why, true),
     }
 }
@@ -241,26 +235,27 @@ fn tell_recover_error<K: Sink>(
         }
         RecoverError::NoMemory => Status::Memory,
         RecoverError::Damage { log, at, why } => {
-            let text = damage_text(alloc, several, log, at, why);
-            refuse_with(sink, text, Status::Damage)
+            let printed = print_damage_of(alloc, sink, several, log, at, why);
+            refused(printed, Status::Damage)
         }
     }
 }
 
-/// The refusal of an end of recovery that isn't accepted, of several logs or of one.
-fn damage_text(
+/// Prints the refusal of an end of recovery that isn't accepted, of several logs or of one.
+fn print_damage_of<K: Sink>(
     alloc: Global,
+    sink: &mut K,
     several: bool,
     log: u64,
     at: u64,
     why: EndReason,
-) -> Result<Bytes, NoMemory>
-    ensures { IfOk result (λ t. t ≡ damage_of several log at why) }
+) -> Result<(), PrintError>
+    ensures { Prints ⟦<K as Sink>⟧ sink.old sink.new result (damage_of several log at why) }
 {
     if several {
-        logs_damage(alloc, log, at, why)
+        print_logs_damage(alloc, sink, log, at, why)
     } else {
-        log_damage(alloc, at, why)
+        print_damage(alloc, sink, at, why)
     }
 }
 
@@ -274,7 +269,7 @@ pub fn tell_replay<K: Sink>(
         (K.faults sink.new) replayed.now result }
 {
     match replayed {
-        Ok(replayed) => tell_text(sink, replayed_text(alloc, replayed)),
+        Ok(replayed) => told(print_replayed(alloc, sink, replayed)),
         Err(NoMemory) => Status::Memory,
     }
 }

@@ -1,6 +1,9 @@
 mod Pairs
 mod Words
 mod Clients
+mod Spaced
+mod Loops
+mod Printed
 mod Shown
 mod ShownRecovered
 mod ReplayTexts

@@ -107,3 +107,8 @@ joined text a b c d f h s e = simp (append_assoc, append-nil)
 -- the pieces of a batch's line
 pub entry_pieces : (text a b c d f h : List ℕ) → ((((((text ++ a) ++ ((32 ∷ b) ++ ((32 ∷ c) ++ ((32 ∷ d) ++ [])))) ++ (32 ∷ [])) ++ f) ++ (32 ∷ [])) ++ h) ++ (10 ∷ []) ≡ text ++ line (a ∷ b ∷ c ∷ d ∷ f ∷ h ∷ [])
 entry_pieces text a b c d f h = joined text a b c d f h (32 ∷ []) (10 ∷ [])
+
+-- the digits of a piece and of what comes after it
+pub hex_parts : (done piece rest both all : List ℕ) → both ≡ piece ++ rest → done ++ hex both ≡ hex all → (done ++ hex piece) ++ hex rest ≡ hex all
+hex_parts done piece rest both all is whole =
+    append_assoc done (hex piece) (hex rest) ∙ ap (λ t. done ++ t) (sym (flat_map-append (λ b. digit_glyph false (b / 16) ∷ digit_glyph false (b % 16) ∷ []) piece rest) ∙ ap hex (sym is)) ∙ whole

@@ -12,7 +12,7 @@ mod states;
 mod summary;
 mod texts;
 
-pub use recovered::{log_damage, logs_damage, recovered_logs_text, recovered_text};
-pub use replayed::replayed_text;
-pub use summary::summary_text;
-pub use texts::{high_family, log_not_empty, outcome_text, script_fault, usage};
+pub use recovered::{print_damage, print_logs_damage, print_recovered, print_recovered_logs};
+pub use replayed::print_replayed;
+pub use summary::print_summary;
+pub use texts::{print_high_family, print_not_empty, print_outcome, print_script_fault, usage};

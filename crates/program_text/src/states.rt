@@ -2,40 +2,43 @@
 //! values of a script are printing characters, and are printed as they are. The number of a key's family comes before
 //! the key, unless it is the default family.
 
-ghost use Rattle.std.specs.Prelude.{◌≡◌, ◌++◌, OnOk};
 ghost use Rattle.model_base.specs.Text.{state_text};
 ghost use Rattle.model_base.specs.Map.{key_at};
+ghost use Rattle.program_printing.specs.Printing.{Puts};
 ghost use Rattle.program_text.specs.ShownText.{plain, row_line, pair_line};
 
 use crate::lines::{put_family, put_line};
-use base_bytes::Bytes;
+use base_devices::Sink;
 use base_maps::FamilyMap;
-use model_base::NoMemory;
+use program_printing::Printer;
 
-fn put_pair(text: &mut Bytes, family: u32, key: &[u8], value: &[u8]) -> Result<(), NoMemory>
-    ensures { OnOk result (text.new ≡ text.old ++ pair_line plain (key_at family key.now, value.now)) }
+fn put_pair<K: Sink>(printer: &mut Printer, sink: &mut K, family: u32, key: &[u8], value: &[u8])
+    ensures { Puts ⟦<K as Sink>⟧ printer.old sink.old printer.new sink.new
+        (pair_line plain (key_at family key.now, value.now)) }
 {
-    put_family(text, family)?;
-    put_row(text, key, value)
+    put_family(printer, sink, family);
+    put_row(printer, sink, key, value);
 }
 
-fn put_row(text: &mut Bytes, key: &[u8], value: &[u8]) -> Result<(), NoMemory>
-    ensures { OnOk result (text.new ≡ text.old ++ row_line plain (key.now, value.now)) }
+fn put_row<K: Sink>(printer: &mut Printer, sink: &mut K, key: &[u8], value: &[u8])
+    ensures { Puts ⟦<K as Sink>⟧ printer.old sink.old printer.new sink.new (row_line plain (key.now, value.now)) }
 {
-    text.append(key)?;
-    text.append(b" ")?;
-    text.append(value)?;
-    text.append(b"\n")
+    printer.put(sink, key);
+    printer.put(sink, b" ");
+    printer.put(sink, value);
+    printer.put(sink, b"\n");
 }
 
-/// Appends the state of a map to the text.
-pub fn put_map(text: &mut Bytes, last: u64, map: &FamilyMap) -> Result<(), NoMemory>
-    ensures { OnOk result (text.new ≡ text.old ++ state_text plain last map.now) }
+/// Puts the state of a map.
+pub fn put_map<K: Sink>(printer: &mut Printer, sink: &mut K, last: u64, map: &FamilyMap)
+    ensures { Puts ⟦<K as Sink>⟧ printer.old sink.old printer.new sink.new (state_text plain last map.now) }
 {
-    put_line(text, b"state", &[last, map.len() as u64])?;
-    // With the lines of the pairs that are left, those of all pairs would be appended to the text.
+    put_line(printer, sink, b"state", &[last, map.len() as u64]);
+    // With the lines of the pairs that are left those of all pairs would be put.
     for (family, key, value) in map.iter() {
-        put_pair(text, family, key, value)?;
+        if printer.has_failed() {
+            return;
+        }
+        put_pair(printer, sink, family, key, value);
     }
-    Ok(())
 }

@@ -1,40 +1,58 @@
 //! The summary of a generated script's outcome: six lines, each a word and a number. It is the same for every order of
 //! the clients' batches, since no two clients have a key in common.
 
-ghost use Rattle.std.specs.Prelude.{◌≡◌, ◌++◌, ℕ, sum_by, OnOk, IfOk};
+ghost use Rattle.std.specs.Prelude.{◌≡◌, ℕ, sum_by};
 ghost use Rattle.model_base.specs.Batch.{count_of};
 ghost use Rattle.model_base.specs.Calls as calls;
 ghost use Rattle.model_base.specs.Generator.{number_line};
 ghost use Rattle.model_base.specs.Generator as model;
 ghost use Rattle.model_base.specs.History.{IsHistory};
 ghost use Rattle.model_base.specs.Script.{value_of_digits};
+ghost use Rattle.program_printing.specs.Printing.{Prints, Puts};
 ghost use Rattle.run_outcome.specs.Shows.{ShowsOutcome};
 
-use base_bytes::Bytes;
+use base_devices::Sink;
 use base_maps::FamilyMap;
 use itoa::Buffer;
-use model_base::NoMemory;
+use program_printing::{PrintError, Printer};
 use run_outcome::{History, Outcome};
 use std::alloc::Global;
 
-/// The summary of an outcome. `sum` is the sum of its map's values, read as numbers.
-pub fn summary_text(
+/// Prints the summary of an outcome. `sum` is the sum of its map's values, read as numbers.
+pub fn print_summary<K: Sink>(
     alloc: Global,
+    sink: &mut K,
     outcome: &Outcome<FamilyMap>,
     sum: u128,
-) -> Result<Bytes, NoMemory>
+) -> Result<(), PrintError>
     // It is said only of outcomes whose history is one (`IsHistory`), and whose values have the sum that is handed in.
     ensures { (o : calls.Outcome) (start : ℕ) → IsHistory start o.history → ShowsOutcome outcome.now o
-        → sum ≡ sum_by (λ p. value_of_digits p.1) o.state → IfOk result (λ t. t ≡ model.summary_text o) }
+        → sum ≡ sum_by (λ p. value_of_digits p.1) o.state
+        → Prints ⟦<K as Sink>⟧ sink.old sink.new result (model.summary_text o) }
 {
-    let mut text = Bytes::new(alloc);
-    put_number_line(&mut text, b"clients", outcome.transcripts.len() as u128)?;
-    put_number_line(&mut text, b"batches", outcome.history.len() as u128)?;
-    put_number_line(&mut text, b"records", record_count(&outcome.history))?;
-    put_number_line(&mut text, b"last", u128::from(outcome.last))?;
-    put_number_line(&mut text, b"keys", outcome.state.len() as u128)?;
-    put_number_line(&mut text, b"sum", sum)?;
-    Ok(text)
+    let mut printer = Printer::new(alloc)?;
+    put_number_line(
+        &mut printer,
+        sink,
+        b"clients",
+        outcome.transcripts.len() as u128,
+    );
+    put_number_line(
+        &mut printer,
+        sink,
+        b"batches",
+        outcome.history.len() as u128,
+    );
+    put_number_line(
+        &mut printer,
+        sink,
+        b"records",
+        record_count(&outcome.history),
+    );
+    put_number_line(&mut printer, sink, b"last", u128::from(outcome.last));
+    put_number_line(&mut printer, sink, b"keys", outcome.state.len() as u128);
+    put_number_line(&mut printer, sink, b"sum", sum);
+    printer.finish(sink)
 }
 
 /// How many records of a history's batches count, in all.
@@ -49,13 +67,13 @@ fn record_count(history: &History) -> u128
     count
 }
 
-/// Appends a line to the text: a word and a number.
-fn put_number_line(text: &mut Bytes, word: &[u8], number: u128) -> Result<(), NoMemory>
-    ensures { OnOk result (text.new ≡ text.old ++ number_line word.now number) }
+/// Puts a line: a word and a number.
+fn put_number_line<K: Sink>(printer: &mut Printer, sink: &mut K, word: &[u8], number: u128)
+    ensures { Puts ⟦<K as Sink>⟧ printer.old sink.old printer.new sink.new (number_line word.now number) }
 {
     let mut buffer = Buffer::new();
-    text.append(word)?;
-    text.append(b" ")?;
-    text.append(buffer.format(number).as_bytes())?;
-    text.append(b"\n")
+    printer.put(sink, word);
+    printer.put(sink, b" ");
+    printer.put(sink, buffer.format(number).as_bytes());
+    printer.put(sink, b"\n");
 }

@@ -1,9 +1,10 @@
 //! What a call prints: the outcome of a run, or why it refused. Numbers are decimal, and each line ends with a line
 //! feed.
 
-ghost use Rattle.std.specs.Prelude.{◌≡◌, IfOk};
+ghost use Rattle.std.specs.Prelude.{◌≡◌};
 ghost use Rattle.model_base.specs.Calls as calls;
 ghost use Rattle.model_base.specs.Text.{outcome_text};
+ghost use Rattle.program_printing.specs.Printing.{Prints};
 ghost use Rattle.run_outcome.specs.Shows.{ShowsOutcome};
 ghost use Rattle.model_base.specs.Script as model;
 ghost use Rattle.program_text.specs.Refusals as texts;
@@ -11,28 +12,35 @@ ghost use Rattle.program_text.specs.Refusals as texts;
 use crate::lines::{put_line, put_numbers};
 use crate::parts::{put_clients, put_history, put_log};
 use crate::states::put_map;
-use base_bytes::Bytes;
+use base_devices::Sink;
 use base_maps::FamilyMap;
-use model_base::{NoMemory, ScriptFault};
+use model_base::ScriptFault;
+use program_printing::{PrintError, Printer};
 use run_outcome::Outcome;
 use std::alloc::Global;
 
-/// The text of an outcome: each client's replies, the history, the published state, the log.
-pub fn outcome_text(alloc: Global, outcome: &Outcome<FamilyMap>) -> Result<Bytes, NoMemory>
-    // Want of memory is the only error, here and of each other text.
-    ensures { (o : calls.Outcome) → ShowsOutcome outcome.now o → IfOk result (λ t. t ≡ outcome_text o) }
+/// Prints an outcome: each client's replies, the history, the published state, the log.
+pub fn print_outcome<K: Sink>(
+    alloc: Global,
+    sink: &mut K,
+    outcome: &Outcome<FamilyMap>,
+) -> Result<(), PrintError>
+    // The errors are a write that failed and no memory, here and of each other text.
+    ensures { (o : calls.Outcome) → ShowsOutcome outcome.now o
+        → Prints ⟦<K as Sink>⟧ sink.old sink.new result (outcome_text o) }
 {
-    let mut text = Bytes::new(alloc);
-    put_clients(&mut text, &outcome.transcripts)?;
-    put_history(&mut text, &outcome.history)?;
-    put_map(&mut text, outcome.last, &outcome.state)?;
+    let mut printer = Printer::new(alloc)?;
+    put_clients(&mut printer, sink, &outcome.transcripts);
+    put_history(&mut printer, sink, &outcome.history);
+    put_map(&mut printer, sink, outcome.last, &outcome.state);
     put_log(
-        &mut text,
+        &mut printer,
+        sink,
         &outcome.full_lens,
         outcome.log_len,
         outcome.fault,
-    )?;
-    Ok(text)
+    );
+    printer.finish(sink)
 }
 
 /// The refusal of words that aren't lawful.
@@ -42,17 +50,23 @@ pub fn usage() -> &'static [u8]
     b"usage\n"
 }
 
-/// The refusal of a text that isn't a script: its first fault, and the number of the fault's line.
-pub fn script_fault(alloc: Global, line: u64, kind: ScriptFault) -> Result<Bytes, NoMemory>
-    ensures { IfOk result (λ t. t ≡ texts.script_fault (record { line = line; kind = kind })) }
+/// Prints the refusal of a text that isn't a script: its first fault, and the number of the fault's line.
+pub fn print_script_fault<K: Sink>(
+    alloc: Global,
+    sink: &mut K,
+    line: u64,
+    kind: ScriptFault,
+) -> Result<(), PrintError>
+    ensures { Prints ⟦<K as Sink>⟧ sink.old sink.new result
+        (texts.script_fault (record { line = line; kind = kind })) }
 {
-    let mut text = Bytes::new(alloc);
-    text.append(b"script")?;
-    put_numbers(&mut text, &[line])?;
-    text.append(b" ")?;
-    text.append(fault_word(kind))?;
-    text.append(b"\n")?;
-    Ok(text)
+    let mut printer = Printer::new(alloc)?;
+    printer.put(sink, b"script");
+    put_numbers(&mut printer, sink, &[line]);
+    printer.put(sink, b" ");
+    printer.put(sink, fault_word(kind));
+    printer.put(sink, b"\n");
+    printer.finish(sink)
 }
 
 fn fault_word(kind: ScriptFault) -> &'static [u8]
@@ -70,20 +84,24 @@ fn fault_word(kind: ScriptFault) -> &'static [u8]
     }
 }
 
-/// The refusal of a log that has `len` bytes already.
-pub fn log_not_empty(alloc: Global, len: u64) -> Result<Bytes, NoMemory>
-    ensures { IfOk result (λ t. t ≡ texts.not_empty len) }
+/// Prints the refusal of a log that has `len` bytes already.
+pub fn print_not_empty<K: Sink>(alloc: Global, sink: &mut K, len: u64) -> Result<(), PrintError>
+    ensures { Prints ⟦<K as Sink>⟧ sink.old sink.new result (texts.not_empty len) }
 {
-    let mut text = Bytes::new(alloc);
-    put_line(&mut text, b"log not empty", &[len])?;
-    Ok(text)
+    let mut printer = Printer::new(alloc)?;
+    put_line(&mut printer, sink, b"log not empty", &[len]);
+    printer.finish(sink)
 }
 
-/// The refusal of a log that recovers a key in a family that no run is set up for: the greatest such family.
-pub fn high_family(alloc: Global, family: u32) -> Result<Bytes, NoMemory>
-    ensures { IfOk result (λ t. t ≡ texts.high_family family) }
+/// Prints the refusal of a log that recovers a key in a family that no run is set up for: the greatest such family.
+pub fn print_high_family<K: Sink>(
+    alloc: Global,
+    sink: &mut K,
+    family: u32,
+) -> Result<(), PrintError>
+    ensures { Prints ⟦<K as Sink>⟧ sink.old sink.new result (texts.high_family family) }
 {
-    let mut text = Bytes::new(alloc);
-    put_line(&mut text, b"family", &[u64::from(family)])?;
-    Ok(text)
+    let mut printer = Printer::new(alloc)?;
+    put_line(&mut printer, sink, b"family", &[u64::from(family)]);
+    printer.finish(sink)
 }

@@ -1,9 +1,11 @@
 //! Texts that no call of the program gives.
 
 use base_bytes::{Bytes, RecordList};
+use base_devices::MemSink;
 use base_maps::FamilyMap;
 use model_base::{NoMemory, Refusal};
-use program_text::{outcome_text, summary_text};
+use program_printing::PrintError;
+use program_text::{print_outcome, print_summary};
 use run_batches::BatchList;
 use run_outcome::{History, Outcome, Reply};
 use std::alloc::Global;
@@ -38,18 +40,9 @@ fn one_fault(alloc: Global) -> Result<Outcome<FamilyMap>, NoMemory> {
     })
 }
 
-fn check(rt: &impl Abort, text: Result<Bytes, NoMemory>, want: &str) -> Result<(), Fail> {
-    let text = text?;
-    assert_eq!(rt; text.as_slice(), want.as_bytes());
-    Ok(())
-}
-
-fn outcome(alloc: Global) -> Result<Bytes, NoMemory> {
-    outcome_text(alloc, &one_fault(alloc)?)
-}
-
-fn summary(alloc: Global) -> Result<Bytes, NoMemory> {
-    summary_text(alloc, &one_fault(alloc)?, 18_446_744_073_709_551_616)
+/// A sink that takes 7 bytes a write, and whose writes with these numbers fail.
+fn sink(alloc: Global, fails: &[u64]) -> Result<MemSink, NoMemory> {
+    MemSink::new(alloc, 1000, 7, fails)
 }
 
 const OUTCOME: &str =
@@ -61,6 +54,22 @@ const SUMMARY: &str = "clients 1\nbatches 0\nrecords 0\nlast 0\nkeys 2\nsum 1844
 #[test]
 fn prints_what_no_call_comes_to(rt: HostRuntime) -> Result<(), Fail> {
     let alloc = rt.alloc();
-    check(&rt, outcome(alloc), OUTCOME)?;
-    check(&rt, summary(alloc), SUMMARY)
+    let outcome = one_fault(alloc)?;
+    let mut whole = sink(alloc, &[])?;
+    assert!(rt; print_outcome(alloc, &mut whole, &outcome).is_ok());
+    assert_eq!(rt; whole.taken(), OUTCOME.as_bytes());
+    let mut summary = sink(alloc, &[])?;
+    assert!(rt; print_summary(alloc, &mut summary, &outcome, 18_446_744_073_709_551_616).is_ok());
+    assert_eq!(rt; summary.taken(), SUMMARY.as_bytes());
+    Ok(())
+}
+
+#[test]
+fn prints_a_prefix_where_the_sink_fails(rt: HostRuntime) -> Result<(), Fail> {
+    let alloc = rt.alloc();
+    let mut front = sink(alloc, &[3])?;
+    let printed = print_outcome(alloc, &mut front, &one_fault(alloc)?);
+    assert_eq!(rt; printed, Err(PrintError::Failed));
+    assert_eq!(rt; front.taken(), "client 1\nno lo".as_bytes());
+    Ok(())
 }

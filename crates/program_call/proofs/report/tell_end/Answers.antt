@@ -1,4 +1,4 @@
--- A refusal's text was made and printed, or there was no memory for it. A fault's was printed.
+-- A refusal's text was printed, or there was no memory for it. A fault's was printed.
 use Rattle.std.proofs.Common.{refl}
 use Rattle.program_call.proofs.Refusing.{refuses}
 use Rattle.program_call.proofs.report.tell_end.Goals as goal
@@ -7,10 +7,10 @@ pub returns-in-DiskFault : goal.returns-in-DiskFault
 returns-in-DiskFault g c = rw c.in-DiskFault.is (refl, c.refuse_fault.ensures)
 
 pub returns-in-NotEmpty : goal.returns-in-NotEmpty
-returns-in-NotEmpty g c = rw c.in-NotEmpty.is (refuses _ _ _ _ _ _ _ _ c.log_not_empty.ensures c.refuse_with.ensures.made c.refuse_with.ensures.none)
+returns-in-NotEmpty g c = rw c.in-NotEmpty.is (refuses g.K.Sink _ _ _ _ _ _ c.refused.ensures c.print_not_empty.ensures)
 
 pub returns-in-Damage : goal.returns-in-Damage
-returns-in-Damage g c = rw c.in-Damage.is (refuses _ _ _ _ _ _ _ _ c.log_damage.ensures c.refuse_with-in-Damage.ensures.made c.refuse_with-in-Damage.ensures.none)
+returns-in-Damage g c = rw c.in-Damage.is (refuses g.K.Sink _ _ _ _ _ _ c.refused-in-Damage.ensures c.print_damage.ensures)
 
 pub returns-in-Family : goal.returns-in-Family
-returns-in-Family g c = rw c.in-Family.is (refuses _ _ _ _ _ _ _ _ c.high_family.ensures c.refuse_with-in-Family.ensures.made c.refuse_with-in-Family.ensures.none)
+returns-in-Family g c = rw c.in-Family.is (refuses g.K.Sink _ _ _ _ _ _ c.refused-in-Family.ensures c.print_high_family.ensures)

@@ -3,4 +3,4 @@ use Rattle.program_call.proofs.Refusing.{tells_text}
 use Rattle.program_call.proofs.report.tell_recovery.Goals as goal
 
 pub returns-in-Ok : goal.returns-in-Ok
-returns-in-Ok g c = rw c.in-Ok.is (tells_text _ _ _ _ _ _ _ c.recovered_text.ensures c.tell_text.ensures.made c.tell_text.ensures.none)
+returns-in-Ok g c = rw c.in-Ok.is (tells_text g.K.Sink _ _ _ _ _ c.told.ensures c.print_recovered.ensures)

@@ -1,6 +1,7 @@
-use Rattle.std.proofs.Common.{◌≡◌, ◌∷◌, ◌++◌, take, flat_map, decimal}
+use Rattle.std.proofs.Common.{◌∷◌, take, flat_map, decimal}
+use Rattle.program_printing.specs.Printing.{Puts}
 use Rattle.program_text.proofs.lines.put_numbers.Given as goal
 
--- the numbers so far are appended to the text
+-- the numbers so far are put
 abbrev pub invariant-loop-number : goal.invariant-loop-number
-invariant-loop-number l = l.text ≡ l.initial.text ++ flat_map (λ n. 32 ∷ decimal n) (take l.number-index l.numbers)
+invariant-loop-number g l = Puts g.K.Sink l.initial.printer l.initial.sink l.printer l.sink (flat_map (λ n. 32 ∷ decimal n) (take l.number-index l.numbers))
